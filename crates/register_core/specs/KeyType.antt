@@ -1,0 +1,13 @@
+-- The types of keys: SP 800-57 Part 1 Revision 5, section 5.1.1, those that this register keeps. The texts are its own.
+use Rattle.std.specs.Prelude.{ℕ, List, codes}
+use Rattle.register_core.specs.declared.key_type.KeyType.{KeyType}
+use Rattle.register_core.specs.declared.key_type.KeyType.TheVariants.{DataEncryption, Authentication, KeyWrapping, PrivateSignature, PrivateAuthentication, PrivateTransport, Master}
+
+abbrev pub key_type_text : KeyType → List ℕ
+key_type_text DataEncryption = codes "data-encryption"
+key_type_text Authentication = codes "authentication"
+key_type_text KeyWrapping = codes "key-wrapping"
+key_type_text PrivateSignature = codes "private-signature"
+key_type_text PrivateAuthentication = codes "private-authentication"
+key_type_text PrivateTransport = codes "private-transport"
+key_type_text Master = codes "master"

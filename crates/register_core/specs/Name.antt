@@ -1,0 +1,13 @@
+-- Names of callers, owners and custodians. The rule is this register's own.
+use Rattle.std.specs.Prelude.{ℕ, ◌≤◌, ◌==◌, nat_le, Bool, ◌&&◌, ◌||◌, List, length, IsTrue}
+use Rattle.std.specs.List.{list_all}
+use Rattle.register_core.specs.declared.name.TheConstants.{NAME_LIMIT}
+
+-- an ASCII letter, a digit, or one of - _ . @
+abbrev pub is_name_byte : ℕ → Bool
+is_name_byte b =
+    (nat_le 97 b && nat_le b 122) || (nat_le 65 b && nat_le b 90) || (nat_le 48 b && nat_le b 57)
+    || (b == 45) || (b == 95) || (b == 46) || (b == 64)
+
+abbrev pub IsName : List ℕ → Type 0
+IsName bytes = (1 ≤ length bytes) × (length bytes ≤ NAME_LIMIT) × IsTrue (list_all is_name_byte bytes)

@@ -1,0 +1,36 @@
+-- Refusals and replies, and the line of each. All of it is this register's own.
+use Rattle.std.specs.Prelude.{ℕ, List, [], ◌++◌, codes, decimal, Option, None, Some, Result, Ok, Err}
+use Rattle.lifecycle_core.specs.declared.state.State.{State}
+use Rattle.lifecycle_core.specs.State.{state_text}
+use Rattle.register_core.specs.declared.reply.Reply.{Reply}
+use Rattle.register_core.specs.declared.reply.Refusal.{Refusal}
+use Rattle.register_core.specs.declared.reply.Refusal.TheVariants.{BadLine, MomentBehind, DateOrder, Full}
+
+abbrev pub refusal_number : Refusal → ℕ
+refusal_number BadLine = 1
+refusal_number (MomentBehind latest) = 3
+refusal_number DateOrder = 9
+refusal_number Full = 20
+
+abbrev pub refusal_name : Refusal → List ℕ
+refusal_name BadLine = codes "BadLine"
+refusal_name (MomentBehind latest) = codes "MomentBehind"
+refusal_name DateOrder = codes "DateOrder"
+refusal_name Full = codes "Full"
+
+-- what stands behind the name
+abbrev pub refusal_detail : Refusal → List ℕ
+refusal_detail BadLine = []
+refusal_detail (MomentBehind latest) = codes " latest=" ++ decimal latest
+refusal_detail DateOrder = []
+refusal_detail Full = []
+
+-- a state, or - where there is none
+abbrev pub reply_state : Option State → List ℕ
+reply_state None = codes "-"
+reply_state (Some state) = state_text state
+
+-- the line of an answer, without its LF
+abbrev pub reply_text : Result Reply Refusal → List ℕ
+reply_text (Ok reply) = codes "ok " ++ decimal reply.key ++ codes " " ++ reply_state reply.state ++ codes " " ++ decimal reply.moment
+reply_text (Err refusal) = codes "refused " ++ decimal (refusal_number refusal) ++ codes " " ++ refusal_name refusal ++ refusal_detail refusal

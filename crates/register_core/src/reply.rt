@@ -1,0 +1,56 @@
+ghost use Rattle.std.specs.Prelude.{◌≡◌};
+
+use lifecycle_core::State;
+use moment_core::Moment;
+
+/// What an accepted request is answered.
+#[derive(Clone, Copy, Debug, PartialEq, Eq)]
+pub struct Reply {
+    /// The key that was made or named; 0 for `Advance`.
+    pub key: u32,
+    /// The key's state at the moment; `None` for `Advance`.
+    pub state: Option<State>,
+    /// The request's moment.
+    pub moment: Moment,
+}
+
+/// Why a request is refused. A refused request changes nothing.
+#[derive(Clone, Copy, Debug, PartialEq, Eq)]
+pub enum Refusal {
+    /// 1: the line is no request.
+    BadLine,
+    /// 3: the moment is below that of the latest accepted request.
+    MomentBehind { latest: Moment },
+    /// 9: the dates are out of order.
+    DateOrder,
+    /// 20: there are as many keys as the register takes.
+    Full,
+}
+
+impl Refusal {
+    ghost use Rattle.register_core.specs.Reply.{refusal_number, refusal_name};
+
+    /// The refusal's number.
+    pub fn number(&self) -> u8
+        ensures { result ≡ refusal_number self.now }
+    {
+        match self {
+            Refusal::BadLine => 1,
+            Refusal::MomentBehind { .. } => 3,
+            Refusal::DateOrder => 9,
+            Refusal::Full => 20,
+        }
+    }
+
+    /// The refusal's name.
+    pub fn name(&self) -> &'static str
+        ensures { result.now ≡ refusal_name self.now }
+    {
+        match self {
+            Refusal::BadLine => "BadLine",
+            Refusal::MomentBehind { .. } => "MomentBehind",
+            Refusal::DateOrder => "DateOrder",
+            Refusal::Full => "Full",
+        }
+    }
+}
