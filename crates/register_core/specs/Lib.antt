@@ -5,3 +5,6 @@ pub mod Purpose
 pub mod KeyType
 pub mod Reply
 pub mod Request
+pub mod History
+pub mod Verdict
+pub mod Fold

@@ -3,6 +3,7 @@
 #![tactic(auto)]
 
 mod key_type;
+mod limits;
 mod name;
 mod number;
 mod purpose;
@@ -11,6 +12,7 @@ mod request;
 mod text;
 
 pub use key_type::KeyType;
+pub use limits::KEY_LIMIT;
 pub use name::{NAME_LIMIT, Name};
 pub use number::{LAST_NUMBER, RequestNumber};
 pub use purpose::{PURPOSE_LIMIT, Purpose};

@@ -1,0 +1,2 @@
+pub mod Grows
+pub mod Records

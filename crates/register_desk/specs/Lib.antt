@@ -1,0 +1,4 @@
+pub mod End
+pub mod Register
+pub mod Step
+pub mod Answer

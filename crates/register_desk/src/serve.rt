@@ -1,0 +1,182 @@
+//! One request over the records that are kept: its verdict, then its change.
+ghost use Rattle.std.specs.Prelude.{◌≡◌, ◌<◌, ◌≤◌, ◌↔◌, ◌+◌, ◌^◌, ◌++◌, ℕ, IsSome, IsTrue, IfOk, IfErr, OnOk, OnErr, IfSome, None, length, map, is_none};
+ghost use Rattle.std.specs.List.{AllByRecursion};
+ghost use Rattle.register_core.specs.History.{made_by};
+ghost use Rattle.register_core.specs.Verdict.{judge, breaks_order, in_order};
+ghost use Rattle.register_core.specs.declared.limits.TheConstants.{KEY_LIMIT};
+ghost use Rattle.register_desk.specs.Answer.{answered};
+ghost use Rattle.register_desk.specs.Step.{register, record_made, option_list, reply_with, records_after, advanced, answer_at, judge_at, register_after, IsRightBy, IsSound};
+
+use crate::desk::Answer;
+use crate::end::End;
+use crate::record::Record;
+use lifecycle_core::{Dates, Row, advance, state_of};
+use moment_core::Moment;
+use register_core::{Command, KEY_LIMIT, Refusal, Reply, Request};
+
+/// Whether the first date is not after the second, where both are set.
+fn are_in_order(first: Option<Moment>, second: Option<Moment>) -> bool
+    ensures { result ≡ in_order first second }
+{
+    match (first, second) {
+        (Some(first), Some(second)) => first <= second,
+        _ => true,
+    }
+}
+
+/// Whether the dates that the command sets are out of order.
+fn has_broken_order(command: &Command) -> bool
+    ensures { result ≡ breaks_order command.now }
+{
+    match command {
+        Command::Register {
+            activation,
+            protect_stop,
+            deactivation,
+            ..
+        } => {
+            !(are_in_order(*activation, *protect_stop)
+                && are_in_order(*protect_stop, *deactivation)
+                && are_in_order(*activation, *deactivation))
+        }
+        Command::Advance => false,
+    }
+}
+
+/// The first refusal that holds, where the latest moment and the number of keys are these.
+fn refusal_of(latest: Moment, keys: u32, request: &Request) -> Option<Refusal>
+    ensures { result ≡ judge latest keys request.now }
+{
+    if request.moment < latest {
+        return Some(Refusal::MomentBehind { latest });
+    }
+    if has_broken_order(&request.command) {
+        return Some(Refusal::DateOrder);
+    }
+    if matches!(request.command, Command::Register { .. }) && keys >= KEY_LIMIT {
+        return Some(Refusal::Full);
+    }
+    None
+}
+
+/// The record of the key that the command makes at the moment, if it makes one.
+fn record_of(at: Moment, command: &Command) -> Option<Record>
+    ensures { result ≡ record_made at command.now }
+{
+    match *command {
+        Command::Register {
+            kind,
+            owner,
+            activation,
+            protect_stop,
+            deactivation,
+            purpose,
+        } => {
+            let dates = Dates {
+                initial: at,
+                activation,
+                protect_stop,
+                deactivation,
+                destroy: None,
+                compromise: None,
+                compromise_occurrence: None,
+            };
+            let state = state_of(&dates, at);
+            Some(Record {
+                kind,
+                owner,
+                purpose,
+                row: Row { dates, state },
+            })
+        }
+        Command::Advance => None,
+    }
+}
+
+/// Moves each record to its state at a moment that is not before the one at which it is right.
+fn advance_all(records: &mut [Record], at: Moment)
+    requires { AllByRecursion (IsRightBy at) records.old }
+    ensures { records.new ≡ map (advanced at) records.old }
+{
+    for record in records.iter_mut() {
+        advance(&mut record.row, at);
+    }
+}
+
+/// The reply where so many keys were made before, and the request makes this record, if any.
+fn reply_of(keys: u32, at: Moment, made: &Option<Record>) -> Reply
+    requires { keys < 2 ^ 31 }
+    ensures { result ≡ reply_with keys at made.now }
+{
+    match made {
+        Some(record) => Reply {
+            key: keys + 1,
+            state: Some(record.row.state),
+            moment: at,
+        },
+        None => Reply {
+            key: 0,
+            state: None,
+            moment: at,
+        },
+    }
+}
+
+/// Adds the record of the key that the command makes at the moment, if it makes one, and gives that record.
+fn add(records: &mut Vec<Record>, at: Moment, command: &Command) -> Result<Option<Record>, End>
+    ensures ok { OnOk result (records.new.items ≡ records.old.items ++ option_list (record_made at command.now)) }
+    ensures made { IfOk result (λ made. made ≡ record_made at command.now) }
+    ensures err { OnErr result (records.new.items ≡ records.old.items) }
+    ensures only_memory { IfErr result (λ end. (end ≡ End.Memory) × IsSome (record_made at command.now)) }
+{
+    let made = record_of(at, command);
+    if let Some(record) = &made {
+        records.push(*record)?;
+    }
+    Ok(made)
+}
+
+/// Makes the change of an accepted request, and answers it. Growth comes first, so that want of memory leaves
+/// all as it was.
+fn accept(latest: &mut Moment, records: &mut Vec<Record>, request: &Request) -> Result<Reply, End>
+    requires sound { IsSound (register latest.old records.old.items) }
+    requires accepted { judge_at (register latest.old records.old.items) request.now ≡ None }
+    ensures reply { IfOk result (λ reply. reply ≡ reply_with (length records.old.items) request.now.moment
+        (record_made request.now.moment request.now.command)) }
+    ensures latest { OnOk result (latest.new ≡ request.now.moment) }
+    ensures records { OnOk result (records.new.items ≡ records_after records.old.items request.now) }
+    ensures sound { IsSound (register latest.new records.new.items) }
+    ensures only_memory { IfErr result (λ end. (end ≡ End.Memory) × (made_by request.now.command ≡ 1)) }
+    ensures err { OnErr result (register latest.new records.new.items ≡ register latest.old records.old.items) }
+{
+    let keys = records.len() as u32;
+    let made = add(records, request.moment, &request.command)?;
+    advance_all(records, request.moment);
+    *latest = request.moment;
+    Ok(reply_of(keys, request.moment, &made))
+}
+
+/// Applies the request to what is kept.
+pub(crate) fn serve(
+    latest: &mut Moment,
+    records: &mut Vec<Record>,
+    request: &Request,
+) -> Result<Answer, End>
+    requires { IsSound (register latest.old records.old.items) }
+    ensures answer { IfOk result (λ given. answered given ≡ answer_at (register latest.old records.old.items) request.now) }
+    ensures after { OnOk result (register latest.new records.new.items
+        ≡ register_after (register latest.old records.old.items) request.now) }
+    ensures sound { IsSound (register latest.new records.new.items) }
+    ensures only_memory { IfErr result (λ end. end ≡ End.Memory) }
+    ensures grows { OnErr result ((judge_at (register latest.old records.old.items) request.now ≡ None)
+        × (made_by request.now.command ≡ 1)) }
+    ensures err { OnErr result (register latest.new records.new.items ≡ register latest.old records.old.items) }
+{
+    match refusal_of(*latest, records.len() as u32, request) {
+        Some(refusal) => Ok(Answer::Refused(refusal)),
+        None => {
+            let reply = accept(latest, records, request)?;
+            Ok(Answer::Accepted(reply))
+        }
+    }
+}
