@@ -8,3 +8,4 @@ pub mod Request
 pub mod History
 pub mod Verdict
 pub mod Fold
+pub mod Reading

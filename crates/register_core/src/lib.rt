@@ -3,18 +3,27 @@
 #![tactic(auto)]
 
 mod key_type;
+pub mod laws;
 mod limits;
+mod line;
 mod name;
 mod number;
+pub mod plain;
 mod purpose;
 mod reply;
 mod request;
 mod text;
+mod verdict;
 
 pub use key_type::KeyType;
 pub use limits::KEY_LIMIT;
+pub use line::{LINE_LIMIT, REPLY_LIMIT, ReplyLine, read_request, reply_line};
 pub use name::{NAME_LIMIT, Name};
 pub use number::{LAST_NUMBER, RequestNumber};
 pub use purpose::{PURPOSE_LIMIT, Purpose};
 pub use reply::{Refusal, Reply};
 pub use request::{Command, Request};
+pub use verdict::judge;
+
+#[cfg(test)]
+mod tests;

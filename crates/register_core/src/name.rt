@@ -1,15 +1,17 @@
 ghost use Rattle.std.specs.Prelude.{◌≡◌, ◌↔◌, IsSome, IfSome};
-ghost use Rattle.register_core.specs.Name.{IsName};
+ghost use Rattle.std.specs.List.{list_all};
+ghost use Rattle.register_core.specs.Name.{IsName, is_name_byte};
 
 use crate::text::Text;
 use std::marker::Model;
+use std::{fmt, str};
 
 /// How many bytes a name has at most.
 pub const NAME_LIMIT: usize = 64;
 
 /// A caller, owner or custodian: 1 to 64 bytes, each an ASCII letter, a digit or one of `-_.@` (this register's
 /// own). In a contract it is the list of its bytes.
-#[derive(Clone, Copy)]
+#[derive(Clone, Copy, PartialEq, Eq)]
 pub struct Name {
     text: Text<64>,
 }
@@ -25,4 +27,46 @@ impl Model for Name {
     ghost invariant = { λ n. IsName n.text };
 
     ghost inverse = { λ xs. record { text = xs } };
+}
+
+/// Whether a name may have each of the bytes.
+fn has_name_bytes(bytes: &[u8]) -> bool
+    ensures { result ≡ list_all is_name_byte bytes.now }
+{
+    bytes.iter().all(
+        |byte| matches!(*byte, b'a'..=b'z' | b'A'..=b'Z' | b'0'..=b'9' | b'-' | b'_' | b'.' | b'@'),
+    )
+}
+
+impl Name {
+    /// The name of these bytes, or `None` where they are no name.
+    pub fn new(bytes: &[u8]) -> Option<Self>
+        ensures in_range { IsSome result ↔ IsName bytes.now }
+        ensures value { IfSome result (λ n. n ≡ bytes.now) }
+    {
+        if (1..=NAME_LIMIT).contains(&bytes.len()) && has_name_bytes(bytes) {
+            Some(Name {
+                text: Text::new(bytes),
+            })
+        } else {
+            None
+        }
+    }
+
+    /// The name's text, which is ASCII.
+    pub fn text(&self) -> &str
+        ensures value { result.now ≡ self.now }
+        ensures in_range { IsName result.now }
+    {
+        let Ok(text) = str::from_utf8(self.text.as_bytes()) else {
+            unreachable!();
+        };
+        text
+    }
+}
+
+impl fmt::Debug for Name {
+    fn fmt<W: fmt::Write>(&self, f: &mut fmt::Formatter<W>) -> fmt::Result {
+        fmt::Debug::fmt(&self.text(), f)
+    }
 }

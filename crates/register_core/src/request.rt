@@ -5,7 +5,7 @@ use crate::purpose::Purpose;
 use moment_core::Moment;
 
 /// What a request asks for.
-#[derive(Clone, Copy)]
+#[derive(Clone, Copy, Debug, PartialEq, Eq)]
 pub enum Command {
     /// A new key, with its dates as given.
     Register {
@@ -21,7 +21,7 @@ pub enum Command {
 }
 
 /// One request: its moment, who makes it, the caller's own number for it, and what it asks for.
-#[derive(Clone, Copy)]
+#[derive(Clone, Copy, Debug, PartialEq, Eq)]
 pub struct Request {
     pub moment: Moment,
     pub caller: Name,

@@ -1,0 +1,32 @@
+-- One item more behind a list of items.
+use Rattle.std.proofs.Common.{◌≡◌, ℕ, ◌+◌, ◌≤◌, ◌<◌, Bool, true, false, cond, List, [], ◌∷◌, ◌++◌, length, get_or, take, Option, None, Some, refl, sym, ap, ◌∙◌, arith}
+use Rattle.std.specs.Prelude.{is_none}
+use Rattle.std.proofs.lemmas.List.{length-append, take_more}
+use Rattle.std.proofs.lemmas.List.Sums.{fold-append}
+use Rattle.register_core.specs.declared.request.Request.{Request}
+use Rattle.register_core.specs.Verdict.{verdict}
+use Rattle.register_core.specs.Fold.{history_after, history, answer_to, answers}
+
+next_front : (items : List (Option Request)) (i : ℕ) (item : Option Request) → i < length items → item ≡ get_or items i item → take (i + 1) items ≡ take i items ++ item ∷ []
+next_front items i item lt is = take_more items i item lt ∙ ap (λ (x : Option Request). take i items ++ x ∷ []) (sym is)
+
+pub history_next : (h : List Request) (items : List (Option Request)) (i : ℕ) (item : Option Request) → i < length items → item ≡ get_or items i item →
+    history h (take (i + 1) items) ≡ history_after (history h (take i items)) item
+history_next h items i item lt is = ap (history h) (next_front items i item lt is) ∙ fold-append history_after h (take i items) (item ∷ [])
+
+answers_push : (h : List Request) (items : List (Option Request)) (item : Option Request) → answers h (items ++ item ∷ []) ≡ answers h items ++ answer_to (history h items) item ∷ []
+answers_push h [] item = refl
+answers_push h (x ∷ items) item = ap (λ l. answer_to h x ∷ l) (answers_push (history_after h x) items item)
+
+pub answers_next : (h : List Request) (items : List (Option Request)) (i : ℕ) (item : Option Request) → i < length items → item ≡ get_or items i item →
+    answers h (take (i + 1) items) ≡ answers h (take i items) ++ answer_to (history h (take i items)) item ∷ []
+answers_next h items i item lt is = ap (answers h) (next_front items i item lt is) ∙ answers_push h (take i items) item
+
+-- an item makes a history at most one request longer
+pub history_within : (h : List Request) (item : Option Request) → length (history_after h item) ≤ length h + 1
+history_within h None = omega arith
+history_within h (Some q) = within (is_none (verdict h q))
+  where
+    within : (b : Bool) → length (cond b (h ++ q ∷ []) h) ≤ length h + 1
+    within true = omega (arith, length-append h (q ∷ []))
+    within false = omega arith

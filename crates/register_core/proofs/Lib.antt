@@ -1,0 +1,6 @@
+pub mod Histories
+pub mod Folds
+pub mod Names
+pub mod Fields
+pub mod Readers
+pub mod Lines

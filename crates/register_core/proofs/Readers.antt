@@ -1,0 +1,177 @@
+-- Each field's reader reads exactly the texts of its values, and finds what the code finds.
+use Rattle.std.proofs.Common.{◌≡◌, ◌≢◌, ℕ, ◌-◌, ◌<◌, ◌≤◌, ◌^◌, nat_le, Bool, true, false, not, ◌&&◌, cond, List, [], ◌∷◌, length, get_or, Option, Some, None, IfSome, IsSome, ◌↔◌, ◌⊎◌, inl, inr, refl, sym, ap, subst, ◌∙◌, arith}
+use Rattle.std.specs.Prelude.{decimal, find}
+use Rattle.std.specs.List.{list_all}
+use Rattle.std.specs.Str.{bytes_eq, is_utf8}
+use Rattle.std.specs.Str.Parse.{digits_value}
+use Rattle.std.proofs.lemmas.Bool.{and_parts, and_from, leb-true, le-leb}
+use Rattle.std.proofs.lemmas.Bool.Decides.{nat_tests}
+use Rattle.std.proofs.lemmas.Option.{cond_some}
+use Rattle.std.proofs.lemmas.Fmt.{decimal_is_IsNumeral, decimal_injective}
+use Rattle.std.proofs.lemmas.Slice.Eq.{bytes_eq-Decides}
+use Rattle.std.proofs.lemmas.Str.{IsUtf8-from_is_utf8, is_utf8-from_IsUtf8}
+use Rattle.moment_core.specs.declared.moment.TheConstants.{LAST_SECOND}
+use Rattle.moment_core.specs.Moment.{IsMoment}
+use Rattle.register_core.specs.declared.name.TheConstants.{NAME_LIMIT}
+use Rattle.register_core.specs.declared.number.TheConstants.{LAST_NUMBER}
+use Rattle.register_core.specs.declared.purpose.TheConstants.{PURPOSE_LIMIT}
+use Rattle.register_core.specs.declared.key_type.KeyType.{KeyType}
+use Rattle.register_core.specs.declared.key_type.KeyType.TheVariants.{DataEncryption, Authentication, KeyWrapping, PrivateSignature, PrivateAuthentication, PrivateTransport, Master}
+use Rattle.register_core.specs.Name.{IsName, is_name_byte}
+use Rattle.register_core.specs.Number.{IsNumber}
+use Rattle.register_core.specs.Purpose.{IsPurpose, is_purpose_byte}
+use Rattle.register_core.specs.KeyType.{key_type_text}
+use Rattle.register_core.specs.Reading.{number_at, moment_at, request_number_at, name_at, purpose_at, key_types, key_type_at, is_space, is_trimmed}
+use Rattle.register_core.proofs.Fields.{IsReader, is_read}
+
+-- ---- numbers
+
+abbrev IsWithin : ℕ → ℕ → ℕ → Type 0
+IsWithin least most n = (least ≤ n) × (n ≤ most)
+
+number_takes : (least most : ℕ) (field : List ℕ) (n : ℕ) → number_at least most field ≡ Some n → IsWithin least most n × (field ≡ decimal n)
+number_takes least most field n e =
+    let v = digits_value 10 field in
+    let got = cond_some (nat_le least v && nat_le v most && bytes_eq (decimal v) field) v n e in
+    let outer = and_parts (nat_le least v && nat_le v most) (bytes_eq (decimal v) field) got.0 in
+    let bounds = and_parts (nat_le least v) (nat_le v most) outer.0 in
+    let written : decimal v ≡ field = (bytes_eq-Decides (decimal v) field).0 outer.1 in
+    subst (λ (m : ℕ). IsWithin least most m × (field ≡ decimal m)) got.1 ((leb-true least v bounds.0, leb-true v most bounds.1), sym written)
+
+number_again : (least most : ℕ) → most < 2 ^ 64 → (n : ℕ) → IsWithin least most n → number_at least most (decimal n) ≡ Some n
+number_again least most small n within =
+    let value : digits_value 10 (decimal n) ≡ n = (decimal_is_IsNumeral n (omega arith)).1 in
+    let low : nat_le least n ≡ true = le-leb least n within.0 in
+    let high : nat_le n most ≡ true = le-leb n most within.1 in
+    let written : bytes_eq (decimal n) (decimal n) ≡ true = (bytes_eq-Decides (decimal n) (decimal n)).1 refl in
+    rw (value, low, high, written) refl
+
+pub moment_reader : IsReader moment_at decimal IsMoment
+unfolding moment_at
+moment_reader = record {
+  takes = λ field n e. let taken = number_takes 0 LAST_SECOND field n e in (taken.0.1, taken.1);
+  again = λ n in_range. number_again 0 LAST_SECOND (omega arith) n (omega arith, in_range);
+}
+
+pub request_number_reader : IsReader request_number_at decimal IsNumber
+unfolding request_number_at
+request_number_reader = record {
+  takes = λ field n e. number_takes 1 LAST_NUMBER field n e;
+  again = λ n in_range. number_again 1 LAST_NUMBER (omega arith) n in_range;
+}
+
+-- a number that was made of the number in the field
+pub made_of_number : {read_by : List ℕ → Option ℕ} {P : ℕ → Type 0} → IsReader read_by decimal P → ((x : ℕ) → P x → x < 2 ^ 64) → (field : List ℕ) (o : Option ℕ) (n : ℕ) → n < 2 ^ 64
+    → field ≡ decimal n → (IsSome o ↔ P n) → IfSome o (λ m. m ≡ n) → o ≡ read_by field
+made_of_number {read_by} {P} own small field (Some m) n lt e in_range value =
+    is_read own field (Some m) (subst P (sym value) (in_range.0 refl), e ∙ ap decimal (sym value)) tt
+made_of_number {read_by} {P} own small field None n lt e in_range value =
+    is_read own field None tt (λ x px ex. let same : x ≡ n = decimal_injective x n (small x px) lt (sym ex ∙ e) in absurd (cc (in_range.1 (subst P same px))))
+
+-- no number is in the field
+pub no_number : {read_by : List ℕ → Option ℕ} {P : ℕ → Type 0} → IsReader read_by decimal P → ((x : ℕ) → P x → x < 2 ^ 64) → (field : List ℕ)
+    → ((n : ℕ) → n < 2 ^ 64 → field ≢ decimal n) → None ≡ read_by field
+no_number {read_by} {P} own small field none = is_read own field None tt (λ x px ex. none x (small x px) ex)
+
+pub moment_small : (n : ℕ) → IsMoment n → n < 2 ^ 64
+moment_small n in_range = omega arith
+
+pub request_number_small : (n : ℕ) → IsNumber n → n < 2 ^ 64
+request_number_small n in_range = omega arith
+
+-- ---- texts
+
+abbrev itself : List ℕ → List ℕ
+itself bytes = bytes
+
+-- a text that was made of the field
+pub made_of_text : {read_by : List ℕ → Option (List ℕ)} {P : List ℕ → Type 0} → IsReader read_by itself P → (field : List ℕ) (o : Option (List ℕ))
+    → (IsSome o ↔ P field) → IfSome o (λ n. n ≡ field) → o ≡ read_by field
+made_of_text {read_by} {P} own field (Some n) in_range value = is_read own field (Some n) (subst P (sym value) (in_range.0 refl), sym value) tt
+made_of_text {read_by} {P} own field None in_range value = is_read own field None tt (λ x px ex. absurd (cc (in_range.1 (subst P (sym ex) px))))
+
+pub name_reader : IsReader name_at itself IsName
+unfolding name_at
+name_reader = record {
+  takes = λ field x e.
+      let got = cond_some (nat_le 1 (length field) && nat_le (length field) NAME_LIMIT && list_all is_name_byte field) field x e in
+      let outer = and_parts (nat_le 1 (length field) && nat_le (length field) NAME_LIMIT) (list_all is_name_byte field) got.0 in
+      let bounds = and_parts (nat_le 1 (length field)) (nat_le (length field) NAME_LIMIT) outer.0 in
+      (subst IsName got.1 (leb-true 1 (length field) bounds.0, leb-true (length field) NAME_LIMIT bounds.1, outer.1), got.1);
+  again = λ x name.
+      let low : nat_le 1 (length x) ≡ true = le-leb 1 (length x) name.0 in
+      let high : nat_le (length x) NAME_LIMIT ≡ true = le-leb (length x) NAME_LIMIT name.1 in
+      rw (low, high, name.2) refl;
+}
+
+space_not : (b : ℕ) → not (is_space b) ≡ true → b ≢ 32
+space_not b e = grind (arith, nat_tests)
+
+pub not_space : (b : ℕ) → b ≢ 32 → not (is_space b) ≡ true
+not_space b other = grind (arith, nat_tests)
+
+trimmed_ends : (bytes : List ℕ) → is_trimmed bytes ≡ true → (get_or bytes 0 0 ≢ 32) × (get_or bytes (length bytes - 1) 0 ≢ 32)
+trimmed_ends bytes e =
+    let both = and_parts (not (is_space (get_or bytes 0 0))) (not (is_space (get_or bytes (length bytes - 1) 0))) e in
+    (space_not (get_or bytes 0 0) both.0, space_not (get_or bytes (length bytes - 1) 0) both.1)
+
+ends_trimmed : (bytes : List ℕ) → (get_or bytes 0 0 ≢ 32) → (get_or bytes (length bytes - 1) 0 ≢ 32) → is_trimmed bytes ≡ true
+ends_trimmed bytes first last = and_from _ _ (not_space (get_or bytes 0 0) first) (not_space (get_or bytes (length bytes - 1) 0) last)
+
+pub purpose_reader : IsReader purpose_at itself IsPurpose
+unfolding purpose_at
+purpose_reader = record {
+  takes = λ bytes x e.
+      let n = length bytes in
+      let got = cond_some (nat_le 1 n && nat_le n PURPOSE_LIMIT && is_utf8 bytes && list_all is_purpose_byte bytes && is_trimmed bytes) bytes x e in
+      let p4 = and_parts (nat_le 1 n && nat_le n PURPOSE_LIMIT && is_utf8 bytes && list_all is_purpose_byte bytes) (is_trimmed bytes) got.0 in
+      let p3 = and_parts (nat_le 1 n && nat_le n PURPOSE_LIMIT && is_utf8 bytes) (list_all is_purpose_byte bytes) p4.0 in
+      let p2 = and_parts (nat_le 1 n && nat_le n PURPOSE_LIMIT) (is_utf8 bytes) p3.0 in
+      let p1 = and_parts (nat_le 1 n) (nat_le n PURPOSE_LIMIT) p2.0 in
+      let ends = trimmed_ends bytes p4.1 in
+      let whole : IsPurpose bytes = record {
+        some = leb-true 1 n p1.0;
+        within = leb-true n PURPOSE_LIMIT p1.1;
+        utf8 = IsUtf8-from_is_utf8 bytes p2.1;
+        printable = p3.1;
+        first = ends.0;
+        last = ends.1;
+      } in
+      (subst IsPurpose got.1 whole, got.1);
+  again = λ x purpose.
+      let low : nat_le 1 (length x) ≡ true = le-leb 1 (length x) purpose.some in
+      let high : nat_le (length x) PURPOSE_LIMIT ≡ true = le-leb (length x) PURPOSE_LIMIT purpose.within in
+      let utf8 : is_utf8 x ≡ true = is_utf8-from_IsUtf8 x purpose.utf8 in
+      let ends : is_trimmed x ≡ true = ends_trimmed x purpose.first purpose.last in
+      rw (low, high, utf8, purpose.printable, ends) refl;
+}
+
+-- ---- types of keys
+
+find_step : (b : Bool) (x : KeyType) (o : Option KeyType) (k : KeyType) → cond b (Some x) o ≡ Some k → ((b ≡ true) × (x ≡ k)) ⊎ (o ≡ Some k)
+find_step true x o k e = inl (refl, cc)
+find_step false x o k e = inr e
+
+find_passes : (p : KeyType → Bool) (ks : List KeyType) (k : KeyType) → find p ks ≡ Some k → p k ≡ true
+find_passes p [] k e = absurd cc
+find_passes p (x ∷ ks) k e = elim (find_step (p x) x (find p ks) k e) [
+  | inl here ↦ subst (λ (y : KeyType). p y ≡ true) here.1 here.0
+  | inr behind ↦ find_passes p ks k behind
+]
+
+key_type_again : (k : KeyType) → key_type_at (key_type_text k) ≡ Some k
+unfolding key_type_at
+key_type_again DataEncryption = refl
+key_type_again Authentication = refl
+key_type_again KeyWrapping = refl
+key_type_again PrivateSignature = refl
+key_type_again PrivateAuthentication = refl
+key_type_again PrivateTransport = refl
+key_type_again Master = refl
+
+key_type_takes : (field : List ℕ) (k : KeyType) → key_type_at field ≡ Some k → field ≡ key_type_text k
+unfolding key_type_at
+key_type_takes field k e = sym ((bytes_eq-Decides (key_type_text k) field).0 (find_passes (λ kind. bytes_eq (key_type_text kind) field) key_types k e))
+
+pub key_type_reader : IsReader key_type_at key_type_text (λ _. Unit {0})
+key_type_reader = record { takes = λ field k e. (tt, key_type_takes field k e); again = λ k _. key_type_again k }

@@ -1,0 +1,120 @@
+-- Reading a request line from left to right, each step a function on lists.
+use Rattle.std.specs.Prelude.{◌≡◌, ℕ, ◌+◌, ◌-◌, ◌==◌, nat_le, nat_lt, Bool, ◌&&◌, not, List, [], ◌∷◌, length, take, drop, codes, decimal, Option, None, Some, slice_index, if◌then◌else◌, find}
+use Rattle.std.specs.List.{list_all, position}
+use Rattle.std.specs.Str.{bytes_eq, is_utf8}
+use Rattle.std.specs.Str.Parse.{digits_value}
+use Rattle.moment_core.specs.declared.moment.TheConstants.{LAST_SECOND}
+use Rattle.register_core.specs.declared.name.TheConstants.{NAME_LIMIT}
+use Rattle.register_core.specs.declared.number.TheConstants.{LAST_NUMBER}
+use Rattle.register_core.specs.declared.purpose.TheConstants.{PURPOSE_LIMIT}
+use Rattle.register_core.specs.declared.line.TheConstants.{LINE_LIMIT}
+use Rattle.register_core.specs.declared.key_type.KeyType.{KeyType}
+use Rattle.register_core.specs.declared.key_type.KeyType.TheVariants.{DataEncryption, Authentication, KeyWrapping, PrivateSignature, PrivateAuthentication, PrivateTransport, Master}
+use Rattle.register_core.specs.declared.request.Request.{Request}
+use Rattle.register_core.specs.declared.request.Command.{Command}
+use Rattle.register_core.specs.declared.request.Command.TheVariants.{Register, Advance}
+use Rattle.register_core.specs.Name.{is_name_byte}
+use Rattle.register_core.specs.Purpose.{is_purpose_byte}
+use Rattle.register_core.specs.KeyType.{key_type_text}
+
+-- one step, and then the next, unless the first gives none
+infixl 10 ◌>>=◌
+abbrev pub ◌>>=◌ : {A B : Type 0} → Option A → (A → Option B) → Option B
+None >>= f = None
+(Some x) >>= f = f x
+
+-- What a function returned, seen by view, is what reading gives.
+abbrev pub Gives : {X Y : Type 0} → (X → Y) → Option X → Option Y → Type 0
+Gives view None read = read ≡ None
+Gives view (Some x) read = read ≡ Some (view x)
+
+-- ---- fields
+
+abbrev pub is_space : ℕ → Bool
+is_space byte = byte == 32
+
+-- what stands before the first space, and what stands behind it
+unfoldable pub field_at : List ℕ → Option (List ℕ × List ℕ)
+field_at bytes = do
+  place ← position is_space bytes
+  Some (take place bytes, drop (place + 1) bytes)
+
+-- the number from least to most that the field writes
+abbrev pub number_at : ℕ → ℕ → List ℕ → Option ℕ
+number_at least most field =
+    let number = digits_value 10 field in
+    if nat_le least number && nat_le number most && bytes_eq (decimal number) field then Some number else None
+
+-- the moment that the field writes
+unfoldable pub moment_at : List ℕ → Option ℕ
+moment_at field = number_at 0 LAST_SECOND field
+
+-- a request's number that the field writes
+unfoldable pub request_number_at : List ℕ → Option ℕ
+request_number_at field = number_at 1 LAST_NUMBER field
+
+-- the name that the field is
+unfoldable pub name_at : List ℕ → Option (List ℕ)
+name_at field =
+    if nat_le 1 (length field) && nat_le (length field) NAME_LIMIT && list_all is_name_byte field then Some field else None
+
+-- neither the first nor the last byte is a space
+abbrev pub is_trimmed : List ℕ → Bool
+is_trimmed bytes = not (is_space (slice_index bytes 0)) && not (is_space (slice_index bytes (length bytes - 1)))
+
+-- the purpose that the bytes are
+unfoldable pub purpose_at : List ℕ → Option (List ℕ)
+purpose_at bytes =
+    if nat_le 1 (length bytes) && nat_le (length bytes) PURPOSE_LIMIT && is_utf8 bytes && list_all is_purpose_byte bytes && is_trimmed bytes
+    then Some bytes else None
+
+-- each type once
+abbrev pub key_types : List KeyType
+key_types = DataEncryption ∷ Authentication ∷ KeyWrapping ∷ PrivateSignature ∷ PrivateAuthentication ∷ PrivateTransport ∷ Master ∷ []
+
+-- the type whose text the field is
+unfoldable pub key_type_at : List ℕ → Option KeyType
+key_type_at field = find (λ kind. bytes_eq (key_type_text kind) field) key_types
+
+-- ---- the line
+
+-- a field that read_by reads, and what stands behind its space
+abbrev pub field_as : {A : Type 0} → (List ℕ → Option A) → List ℕ → Option (A × List ℕ)
+field_as read_by bytes = do
+  field ← field_at bytes
+  value ← read_by field.0
+  Some (value, field.1)
+
+-- what stands behind the word register
+unfoldable pub register_at : List ℕ → Option Command
+register_at bytes = do
+  kind ← field_as key_type_at bytes
+  owner ← field_as name_at kind.1
+  activation ← field_as moment_at owner.1
+  protect_stop ← field_as moment_at activation.1
+  deactivation ← field_as moment_at protect_stop.1
+  purpose ← purpose_at deactivation.1
+  Some (Register kind.0 owner.0 (Some activation.0) (Some protect_stop.0) (Some deactivation.0) purpose)
+
+-- a command that begins with its word
+unfoldable pub worded_at : List ℕ → Option Command
+worded_at bytes = do
+  word ← field_at bytes
+  if bytes_eq word.0 (codes "register") then register_at word.1 else None
+
+-- a command, with its fields where it has any
+unfoldable pub command_at : List ℕ → Option Command
+command_at bytes = if bytes_eq bytes (codes "advance") then Some Advance else worded_at bytes
+
+-- all fields of a line, whatever its length
+unfoldable pub fields_at : List ℕ → Option Request
+fields_at line = do
+  moment ← field_as moment_at line
+  caller ← field_as name_at moment.1
+  number ← field_as request_number_at caller.1
+  command ← command_at number.1
+  Some (record { moment = moment.0; caller = caller.0; number = number.0; command = command })
+
+-- the request whose line it is
+unfoldable pub request_at : List ℕ → Option Request
+request_at line = if nat_lt LINE_LIMIT (length line) then None else fields_at line
