@@ -1,11 +1,9 @@
 -- The register of a history with one more request is one step from the register of the history.
-use Rattle.std.proofs.Common.{◌≡◌, ℕ, ◌+◌, ◌≤◌, ◌<◌, Bool, true, false, cond, List, [], ◌∷◌, ◌++◌, length, Option, Some, refl, sym, ap, subst, ◌∙◌, arith, append_assoc, zero-add}
-use Rattle.std.specs.Prelude.{◌⊎◌, map, fold, nat_eq, is_none}
+use Rattle.std.proofs.Common.{◌≡◌, ℕ, ◌+◌, ◌≤◌, ◌<◌, Bool, true, false, cond, List, [], ◌∷◌, ◌++◌, length, Option, Some, refl, sym, ap, subst, ◌∙◌, arith}
+use Rattle.std.specs.Prelude.{◌⊎◌, map, fold, is_none}
 use Rattle.std.specs.List.{enumerate_from}
-use Rattle.std.proofs.Common.{inl, inr, eq-eqb}
-use Rattle.std.proofs.lemmas.Bool.Decides.{eqb_tells}
-use Rattle.std.proofs.lemmas.List.{map-append, length-append, length-map, append-nil}
-use Rattle.std.proofs.lemmas.List.Elements.{filter_map-append}
+use Rattle.std.proofs.Common.{inl, inr}
+use Rattle.std.proofs.lemmas.List.{map-append, length-map}
 use Rattle.std.proofs.lemmas.List.Sums.{fold-append}
 use Rattle.std.proofs.lemmas.List.FromFn.{length-enumerate_from}
 use Rattle.lifecycle_core.specs.declared.dates.Dates.{Dates}
@@ -14,64 +12,13 @@ use Rattle.register_core.specs.declared.request.Request.{Request}
 use Rattle.register_core.specs.declared.request.Command.{Command}
 use Rattle.register_core.specs.declared.request.Command.TheVariants.{Register as Registers, Advance}
 use Rattle.register_core.specs.declared.reply.Refusal.{Refusal}
-use Rattle.register_core.specs.History.{latest, Registration, registration_of, registrations, count, key_of, made_by, is_key, own_from, own, no_dates, dates_after, owner_after, owner}
+use Rattle.register_core.specs.History.{latest, Registration, registrations, count, own, no_dates, dates_after, owner_after, owner}
+use Rattle.register_core.proofs.Histories.{latest_grows, registrations_grow, own_same, own_made}
 use Rattle.register_core.specs.Verdict.{judge, verdict, reply, answer_by, answer}
 use Rattle.register_core.specs.Fold.{history_after, history, IsLawful}
 use Rattle.register_desk.specs.declared.record.Record.{Record}
 use Rattle.register_desk.specs.Register.{Register, record_of, register_of, StandsFor}
 use Rattle.register_desk.specs.Step.{record_made, advanced, option_list, records_after, reply_with, judge_at, answer_at, register_after}
-
--- ---- lists with one more
-
-latest_grows : (h : List Request) (q : Request) → latest (h ++ q ∷ []) ≡ q.moment
-latest_grows h q = fold-append (λ (before : ℕ) (p : Request). p.moment) 0 h (q ∷ [])
-
-registrations_grow : (h : List Request) (q : Request) → registrations (h ++ q ∷ []) ≡ registrations h ++ registrations (q ∷ [])
-registrations_grow h q = filter_map-append (λ (p : Request). registration_of p.command) h (q ∷ [])
-
-count_one : (q : Request) → (c : Command) → length (registrations (record q { command = c } ∷ [])) ≡ made_by c
-count_one q (Registers kind owner activation protect_stop deactivation purpose) = refl
-count_one q Advance = refl
-
-made_one : (q : Request) → count (q ∷ []) ≡ made_by q.command
-made_one q = count_one q q.command
-
-count_grows : (h : List Request) (q : Request) → count (h ++ q ∷ []) ≡ count h + made_by q.command
-count_grows h q = ap length (registrations_grow h q) ∙ length-append (registrations h) (registrations (q ∷ [])) ∙ ap (λ (n : ℕ). count h + n) (made_one q)
-
-count_cons : (q : Request) (h : List Request) → count (q ∷ h) ≡ made_by q.command + count h
-count_cons q h = ap length (filter_map-append (λ (p : Request). registration_of p.command) (q ∷ []) h) ∙ length-append (registrations (q ∷ [])) (registrations h) ∙ ap (λ (n : ℕ). n + count h) (made_one q)
-
--- the request, where it makes or names key k behind so many keys
-abbrev concerning : ℕ → Request → ℕ → List Request
-concerning made q k = cond (is_key k (key_of made q.command)) (q ∷ []) []
-
-own_grows_from : (made : ℕ) (h : List Request) (q : Request) (k : ℕ) → own_from made (h ++ q ∷ []) k ≡ own_from made h k ++ concerning (made + count h) q k
-own_grows_from made [] q k = append-nil _ ∙ ap (λ (n : ℕ). concerning n q k) (omega arith)
-own_grows_from made (p ∷ h) q k =
-    let front = concerning made p k in
-    let rest = own_from (made + made_by p.command) h k in
-    let same : made + made_by p.command + count h ≡ made + count (p ∷ h) = omega (arith, count_cons p h) in
-    ap (λ (l : List Request). front ++ l) (own_grows_from (made + made_by p.command) h q k)
-    ∙ sym (append_assoc front rest (concerning (made + made_by p.command + count h) q k))
-    ∙ ap (λ (n : ℕ). (front ++ rest) ++ concerning n q k) same
-
-own_grows : (h : List Request) (q : Request) (k : ℕ) → own (h ++ q ∷ []) k ≡ own h k ++ concerning (count h) q k
-own_grows h q k = own_grows_from 0 h q k ∙ ap (λ (n : ℕ). own h k ++ concerning n q k) (zero-add (count h))
-
-not_same : (m n : ℕ) → n < m → nat_eq m n ≡ false
-not_same m n lt = elim (eqb_tells m n) [ inl both ↦ absurd (omega (arith, both.1)) | inr apart ↦ apart.0 ]
-
--- no command of today names a key that was there before
-not_concerned : (c : Command) (keys k : ℕ) → k ≤ keys → is_key k (key_of keys c) ≡ false
-not_concerned (Registers kind owner activation protect_stop deactivation purpose) keys k le = not_same (keys + 1) k (omega arith)
-not_concerned Advance keys k le = refl
-
-concerning_none : (q : Request) (keys k : ℕ) → k ≤ keys → concerning keys q k ≡ []
-concerning_none q keys k le = ap (λ (b : Bool). cond b (q ∷ []) []) (not_concerned q.command keys k le)
-
-own_same : (h : List Request) (q : Request) (k : ℕ) → k ≤ count h → own (h ++ q ∷ []) k ≡ own h k
-own_same h q k le = own_grows h q k ∙ ap (λ (l : List Request). own h k ++ l) (concerning_none q (count h) k le) ∙ append-nil (own h k)
 
 -- ---- records
 
@@ -112,13 +59,6 @@ map_numbered f g after n (x ∷ xs) same =
     ∙ ap (λ l. after (g (n, x)) ∷ l) (map_numbered f g after (n + 1) xs (λ k y low high. same k y (omega arith) (omega arith)))
 
 -- ---- the key that a request makes
-
--- the requests of the key that a registration makes end with it
-own_made : (h : List Request) (q : Request) → key_of (count h) q.command ≡ Some (count h + 1) → own (h ++ q ∷ []) (count h + 1) ≡ own h (count h + 1) ++ q ∷ []
-own_made h q makes =
-    own_grows h q (count h + 1)
-    ∙ ap (λ (key : Option ℕ). own h (count h + 1) ++ cond (is_key (count h + 1) key) (q ∷ []) []) makes
-    ∙ ap (λ (b : Bool). own h (count h + 1) ++ cond b (q ∷ []) []) (eq-eqb (count h + 1) (count h + 1) refl)
 
 -- the record that a registration makes, whatever came before
 made_record : (before : List Request) (q : Request) (c : Command) (keys : ℕ) →

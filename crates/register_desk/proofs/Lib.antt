@@ -1,2 +1,5 @@
 pub mod Grows
 pub mod Records
+pub mod LinesLemmas
+pub mod InputLemmas
+pub mod ServingLemmas

@@ -2,3 +2,8 @@ pub mod End
 pub mod Register
 pub mod Step
 pub mod Answer
+pub mod Watched
+pub mod Lines
+pub mod Input
+pub mod Run
+pub mod Serving

@@ -27,6 +27,21 @@ pub struct Desk {
     records: Vec<Record>,
 }
 
+impl Answer {
+    ghost use Rattle.std.specs.Prelude.{◌≡◌};
+    ghost use Rattle.register_desk.specs.Answer.{answered};
+
+    /// The reply or the refusal.
+    pub fn outcome(&self) -> Result<Reply, Refusal>
+        ensures { result ≡ answered self.now }
+    {
+        match self {
+            Answer::Accepted(reply) => Ok(*reply),
+            Answer::Refused(refusal) => Err(*refusal),
+        }
+    }
+}
+
 impl Model for Desk {
     ghost use Rattle.register_desk.specs.Register.{Register};
     ghost use Rattle.register_desk.specs.Step.{IsSound};
@@ -41,6 +56,7 @@ impl Model for Desk {
 impl Desk {
     ghost use Rattle.register_desk.specs.Register.{Register};
     ghost use Rattle.register_desk.specs.Answer.{answered};
+    ghost use Rattle.register_desk.specs.Step.{answer_at, judge_at, register_after};
 
     /// The desk of an empty register.
     pub fn new(alloc: Global) -> Self
@@ -78,6 +94,17 @@ impl Desk {
         // Memory alone ends it, where a key is to be made, and leaves all as it was.
         ensures only_memory { IfErr result (λ end. end ≡ End.Memory) }
         ensures grows { (h : List Request) → StandsFor self.old h → OnErr result ((verdict h request.now ≡ None) × (made_by request.now.command ≡ 1)) }
+        ensures err { OnErr result (self.new ≡ self.old) }
+    {
+        self.step(request)
+    }
+
+    /// The same, over the records that are kept.
+    pub(crate) fn step(&mut self, request: &Request) -> Result<Answer, End>
+        ensures answer { IfOk result (λ given. answered given ≡ answer_at self.old request.now) }
+        ensures after { OnOk result (self.new ≡ register_after self.old request.now) }
+        ensures only_memory { IfErr result (λ end. end ≡ End.Memory) }
+        ensures grows { OnErr result ((judge_at self.old request.now ≡ None) × (made_by request.now.command ≡ 1)) }
         ensures err { OnErr result (self.new ≡ self.old) }
     {
         serve(&mut self.latest, &mut self.records, request)

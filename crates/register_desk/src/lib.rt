@@ -3,8 +3,14 @@
 
 mod desk;
 mod end;
+mod lines;
 mod record;
+mod runs;
 mod serve;
+mod watched;
 
 pub use desk::{Answer, Desk};
 pub use end::End;
+pub use lines::MOST_READ_TURNS;
+pub use runs::{Finish, MOST_IDLE_TURNS, Outcome, run};
+pub use watched::{ReadFault, Watched, WriteFault};

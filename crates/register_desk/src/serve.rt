@@ -2,7 +2,6 @@
 ghost use Rattle.std.specs.Prelude.{◌≡◌, ◌<◌, ◌≤◌, ◌↔◌, ◌+◌, ◌^◌, ◌++◌, ℕ, IsSome, IsTrue, IfOk, IfErr, OnOk, OnErr, IfSome, None, length, map, is_none};
 ghost use Rattle.std.specs.List.{AllByRecursion};
 ghost use Rattle.register_core.specs.History.{made_by};
-ghost use Rattle.register_core.specs.Verdict.{judge, breaks_order, in_order};
 ghost use Rattle.register_core.specs.declared.limits.TheConstants.{KEY_LIMIT};
 ghost use Rattle.register_desk.specs.Answer.{answered};
 ghost use Rattle.register_desk.specs.Step.{register, record_made, option_list, reply_with, records_after, advanced, answer_at, judge_at, register_after, IsRightBy, IsSound};
@@ -12,52 +11,7 @@ use crate::end::End;
 use crate::record::Record;
 use lifecycle_core::{Dates, Row, advance, state_of};
 use moment_core::Moment;
-use register_core::{Command, KEY_LIMIT, Refusal, Reply, Request};
-
-/// Whether the first date is not after the second, where both are set.
-fn are_in_order(first: Option<Moment>, second: Option<Moment>) -> bool
-    ensures { result ≡ in_order first second }
-{
-    match (first, second) {
-        (Some(first), Some(second)) => first <= second,
-        _ => true,
-    }
-}
-
-/// Whether the dates that the command sets are out of order.
-fn has_broken_order(command: &Command) -> bool
-    ensures { result ≡ breaks_order command.now }
-{
-    match command {
-        Command::Register {
-            activation,
-            protect_stop,
-            deactivation,
-            ..
-        } => {
-            !(are_in_order(*activation, *protect_stop)
-                && are_in_order(*protect_stop, *deactivation)
-                && are_in_order(*activation, *deactivation))
-        }
-        Command::Advance => false,
-    }
-}
-
-/// The first refusal that holds, where the latest moment and the number of keys are these.
-fn refusal_of(latest: Moment, keys: u32, request: &Request) -> Option<Refusal>
-    ensures { result ≡ judge latest keys request.now }
-{
-    if request.moment < latest {
-        return Some(Refusal::MomentBehind { latest });
-    }
-    if has_broken_order(&request.command) {
-        return Some(Refusal::DateOrder);
-    }
-    if matches!(request.command, Command::Register { .. }) && keys >= KEY_LIMIT {
-        return Some(Refusal::Full);
-    }
-    None
-}
+use register_core::{Command, Reply, Request, judge};
 
 /// The record of the key that the command makes at the moment, if it makes one.
 fn record_of(at: Moment, command: &Command) -> Option<Record>
@@ -172,7 +126,7 @@ pub(crate) fn serve(
         × (made_by request.now.command ≡ 1)) }
     ensures err { OnErr result (register latest.new records.new.items ≡ register latest.old records.old.items) }
 {
-    match refusal_of(*latest, records.len() as u32, request) {
+    match judge(*latest, records.len() as u32, request) {
         Some(refusal) => Ok(Answer::Refused(refusal)),
         None => {
             let reply = accept(latest, records, request)?;

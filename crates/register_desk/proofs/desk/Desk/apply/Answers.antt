@@ -1,4 +1,4 @@
-use Rattle.std.proofs.Common.{◌≡◌, List, Some, None, Result, Ok, Err, sym, ap, ◌∙◌, subst}
+use Rattle.std.proofs.Common.{◌≡◌, List, Some, None, Result, Ok, Err, sym, ◌∙◌, subst}
 use Rattle.std.specs.Prelude.{IfOk, OnOk, OnErr}
 use Rattle.register_core.specs.declared.request.Request.{Request}
 use Rattle.register_core.specs.History.{made_by}
@@ -13,27 +13,26 @@ use Rattle.register_desk.proofs.Grows.{answer_stands, stands_after, verdict_stan
 use Rattle.register_desk.proofs.desk.Desk.apply.Goals as goal
 
 -- the three clauses, of what is kept before and after
-answers_so : (r : Result Answer End) (kept before : Register) (q : Request) (h : List Request) → kept ≡ before → StandsFor before h →
+answers_so : (r : Result Answer End) (kept : Register) (q : Request) (h : List Request) → StandsFor kept h →
     IfOk r (λ given. answered given ≡ answer_at kept q) → IfOk r (λ given. answered given ≡ answer h q)
-answers_so (Ok given) kept before q h same stands e = e ∙ ap (λ k. answer_at k q) same ∙ answer_stands before h q stands
-answers_so (Err end) kept before q h same stands e = tt
+answers_so (Ok given) kept q h stands e = e ∙ answer_stands kept h q stands
+answers_so (Err end) kept q h stands e = tt
 
-stands_so : (r : Result Answer End) (kept before after : Register) (q : Request) (h : List Request) → kept ≡ before → StandsFor before h →
+stands_so : (r : Result Answer End) (kept after : Register) (q : Request) (h : List Request) → StandsFor kept h →
     OnOk r (after ≡ register_after kept q) → OnOk r (StandsFor after (history_after h (Some q)))
-stands_so (Ok given) kept before after q h same stands e =
-    subst (λ (k : Register). StandsFor k (history_after h (Some q))) (sym (e ∙ ap (λ k. register_after k q) same)) (stands_after before h q stands)
-stands_so (Err end) kept before after q h same stands e = tt
+stands_so (Ok given) kept after q h stands e = subst (λ (k : Register). StandsFor k (history_after h (Some q))) (sym e) (stands_after kept h q stands)
+stands_so (Err end) kept after q h stands e = tt
 
-grows_so : (r : Result Answer End) (kept before : Register) (q : Request) (h : List Request) → kept ≡ before → StandsFor before h →
+grows_so : (r : Result Answer End) (kept : Register) (q : Request) (h : List Request) → StandsFor kept h →
     OnErr r ((judge_at kept q ≡ None) × (made_by q.command ≡ 1)) → OnErr r ((verdict h q ≡ None) × (made_by q.command ≡ 1))
-grows_so (Ok given) kept before q h same stands e = tt
-grows_so (Err end) kept before q h same stands e = (sym (ap (λ k. judge_at k q) same ∙ verdict_stands before h q stands) ∙ e.0, e.1)
+grows_so (Ok given) kept q h stands e = tt
+grows_so (Err end) kept q h stands e = (sym (verdict_stands kept h q stands) ∙ e.0, e.1)
 
 pub returns-clause-answer : goal.returns-clause-answer
-returns-clause-answer c h stands = answers_so c.serve.result _ c.args.self.now c.args.request.now h c.self.view_is stands c.serve.ensures.answer
+returns-clause-answer c h stands = answers_so c.step.result c.args.self.now c.args.request.now h stands c.step.ensures.answer
 
 pub returns-clause-stands : goal.returns-clause-stands
-returns-clause-stands c h stands = stands_so c.serve.result _ c.args.self.now _ c.args.request.now h c.self.view_is stands c.serve.ensures.after
+returns-clause-stands c h stands = stands_so c.step.result c.args.self.now c.step.new.self c.args.request.now h stands c.step.ensures.after
 
 pub returns-clause-grows : goal.returns-clause-grows
-returns-clause-grows c h stands = grows_so c.serve.result _ c.args.self.now c.args.request.now h c.self.view_is stands c.serve.ensures.grows
+returns-clause-grows c h stands = grows_so c.step.result c.args.self.now c.args.request.now h stands c.step.ensures.grows

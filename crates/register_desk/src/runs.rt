@@ -1,0 +1,178 @@
+//! A run over request lines: each line is read, applied and answered before the next one is looked at.
+ghost use Rattle.std.specs.Prelude.{◌≡◌, ◌⊎◌, ◌+◌, ◌*◌, ◌≤◌, ◌<◌, ℕ, List, [], ◌∷◌, length, Some, None, Option, true, false, IfOk, IfErr, OnOk, OnErr};
+ghost use Rattle.std.specs.Io.KnownBytes.{Appends, Consumes, prepend_known};
+ghost use Rattle.register_core.specs.declared.request.Request.{Request};
+ghost use Rattle.register_core.specs.declared.line.TheConstants.{LINE_LIMIT, REPLY_LIMIT};
+ghost use Rattle.register_core.specs.Request.{IsItem};
+ghost use Rattle.register_desk.specs.declared.lines.TheConstants.{PIECE, MOST_READ_TURNS};
+ghost use Rattle.register_desk.specs.Lines.{work_left};
+ghost use Rattle.register_desk.specs.Input.{HasItems};
+ghost use Rattle.register_desk.specs.Register.{StandsFor};
+ghost use Rattle.register_desk.specs.Run.{answer_line, RunsOver, IsFaulted};
+ghost use Rattle.register_desk.specs.Serving.{item_answer, after_item, MakesKey, LeavesItem, ServesTo, Wrote, TookBytes};
+
+use crate::desk::Desk;
+use crate::end::End;
+use crate::lines::{Lines, Next};
+use crate::watched::{ReadFault, Watched};
+use register_core::laws::one_request;
+use register_core::{Refusal, ReplyLine, Request, read_request, reply_line};
+use std::io::{Read, Write};
+
+/// The most interrupted turns in a row at its writer that a call takes.
+pub const MOST_IDLE_TURNS: u64 = 10_000;
+
+/// How a run ended.
+#[derive(Clone, Copy, Debug, PartialEq, Eq)]
+pub enum Finish {
+    /// The input is at its end; so many bytes stood behind its last line feed, and are no line.
+    AtEnd { rest: u64 },
+    /// The run ended before that.
+    Ended(End),
+}
+
+/// What a run did.
+#[derive(Clone, Copy, Debug, PartialEq, Eq)]
+pub struct Outcome {
+    /// The bytes that were taken from the reader.
+    pub read: u64,
+    /// The bytes that were written.
+    pub written: u64,
+    /// The reply lines that were written whole and flushed.
+    pub replies: u64,
+    /// How it ended.
+    pub end: Finish,
+}
+
+/// Why an item's answer was not written whole, and how many bytes of its line were.
+#[derive(Drop)]
+struct Stop {
+    end: End,
+    written: usize,
+}
+
+/// What the line that was cut off last stands for. No line longer than the limit is one of a request.
+fn item_of(lines: &Lines) -> Option<Request>
+    ensures { (line : List ℕ) → lines.now.line_length ≡ length line
+        → (length line ≤ LINE_LIMIT → lines.now.line ≡ line) → IsItem line result }
+{
+    read_request(lines.line()?)
+}
+
+/// Applies the item, and gives the line of its answer.
+fn answer_item(desk: &mut Desk, item: &Option<Request>) -> Result<ReplyLine, End>
+    ensures line { IfOk result (λ line. line ≡ answer_line (item_answer desk.old item.now)) }
+    ensures short { IfOk result (λ line. length line ≤ REPLY_LIMIT) }
+    ensures after { OnOk result (desk.new ≡ after_item desk.old item.now) }
+    ensures err { OnErr result (desk.new ≡ desk.old) }
+    ensures memory { IfErr result (λ end. (end ≡ End.Memory) × MakesKey desk.old item.now) }
+{
+    let outcome = match item {
+        Some(request) => desk.step(request)?.outcome(),
+        None => Err(Refusal::BadLine),
+    };
+    Ok(reply_line(&outcome))
+}
+
+/// Applies the item and writes its answer, whole and flushed. Gives how many bytes that were.
+fn serve_item<W: Write>(
+    item: &Option<Request>,
+    writer: &mut Watched<W>,
+    desk: &mut Desk,
+) -> Result<usize, Stop>
+    ensures written { OnOk result (Appends (W.contents writer.old.inner) (W.contents writer.new.inner)
+        (answer_line (item_answer desk.old item.now))) }
+    ensures applied { OnOk result (desk.new ≡ after_item desk.old item.now) }
+    ensures count { IfOk result (λ count. count ≡ length (answer_line (item_answer desk.old item.now))) }
+    ensures short { IfOk result (λ count. count ≤ REPLY_LIMIT) }
+    ensures stop { IfErr result (λ stop. LeavesItem desk.old desk.new (W.contents writer.old.inner)
+        (W.contents writer.new.inner) item.now stop.end stop.written) }
+    ensures cause { IfErr result (λ stop. stop.end ≡ End.WriteFault →
+        IsFaulted writer.new.failed MOST_IDLE_TURNS writer.new.idle) }
+    ensures within { IfErr result (λ stop. stop.written ≤ REPLY_LIMIT) }
+{
+    let line = match answer_item(desk, item) {
+        Ok(line) => line,
+        Err(end) => return Err(Stop { end, written: 0 }),
+    };
+    match writer.write_flushed(MOST_IDLE_TURNS, line.as_bytes()) {
+        Ok(()) => Ok(line.as_bytes().len()),
+        Err(fault) => Err(Stop {
+            end: End::WriteFault,
+            written: fault.written,
+        }),
+    }
+}
+
+/// Serves the lines that come, up to the end of the input or to what ends the run before.
+fn serve_lines<R: Read, W: Write>(
+    reader: &mut Watched<R>,
+    writer: &mut Watched<W>,
+    desk: &mut Desk,
+) -> Outcome
+    ensures serves { ServesTo (R.remaining reader.old.inner) (W.contents writer.old.inner)
+        (W.contents writer.new.inner) desk.old desk.new result.replies result.end }
+    ensures read { TookBytes (R.remaining reader.old.inner) (R.remaining reader.new.inner) result.read }
+    ensures written { Wrote (W.contents writer.old.inner) (W.contents writer.new.inner) result.written }
+    ensures read_fault { result.end ≡ Finish.Ended End.ReadFault →
+        IsFaulted reader.new.failed MOST_READ_TURNS reader.new.turns }
+    ensures write_fault { result.end ≡ Finish.Ended End.WriteFault →
+        IsFaulted writer.new.failed MOST_IDLE_TURNS writer.new.idle }
+{
+    let mut lines = Lines::new();
+    let mut written: u64 = 0;
+    let mut replies: u64 = 0;
+    let end = loop {
+        match lines.next(reader) {
+            Ok(Next::Line) => match serve_item(&item_of(&lines), writer, desk) {
+                Ok(count) => {
+                    written += count as u64;
+                    replies += 1;
+                }
+                Err(stop) => {
+                    written += stop.written as u64;
+                    break Finish::Ended(stop.end);
+                }
+            },
+            Ok(Next::End) => {
+                let rest = lines.length();
+                break Finish::AtEnd { rest };
+            }
+            Err(ReadFault) => break Finish::Ended(End::ReadFault),
+        }
+    };
+    Outcome {
+        read: lines.taken(),
+        written,
+        replies,
+        end,
+    }
+}
+
+/// Runs over the request lines of a reader: each line is applied and its reply line written and flushed before
+/// the next line is applied. A line that is no request is answered `refused 1 BadLine`. Bytes behind the last
+/// line feed are no line.
+pub fn run<R: Read, W: Write>(
+    reader: &mut Watched<R>,
+    writer: &mut Watched<W>,
+    desk: &mut Desk,
+) -> Outcome
+    requires reader { reader.old.failed ≡ false }
+    requires writer { writer.old.failed ≡ false }
+    // Where the reader's bytes are known, what is written is the lines of the answers, and the desk then stands
+    // for the history of the items that were answered.
+    ensures agrees { (h : List Request) (bytes : List ℕ) (items : List (Option Request)) (rest : List ℕ) →
+        StandsFor desk.old h → R.remaining reader.old.inner ≡ Some bytes → HasItems bytes items rest →
+        RunsOver h items rest result.end result.replies (W.contents writer.old.inner) (W.contents writer.new.inner) desk.new }
+    ensures read { TookBytes (R.remaining reader.old.inner) (R.remaining reader.new.inner) result.read }
+    ensures written { Wrote (W.contents writer.old.inner) (W.contents writer.new.inner) result.written }
+    ensures read_fault { result.end ≡ Finish.Ended End.ReadFault →
+        IsFaulted reader.new.failed MOST_READ_TURNS reader.new.turns }
+    ensures write_fault { result.end ≡ Finish.Ended End.WriteFault →
+        IsFaulted writer.new.failed MOST_IDLE_TURNS writer.new.idle }
+{
+    reader.begin();
+    writer.begin();
+    one_request();
+    serve_lines(reader, writer, desk)
+}
