@@ -1,12 +1,12 @@
 -- Lines that were taken one after the other are those that the whole input is cut into.
-use Rattle.std.proofs.Common.{◌≡◌, ℕ, List, [], ◌∷◌, ◌++◌, Option, None, Some, refl, sym, ap, ◌∙◌, append_assoc}
+use Rattle.std.proofs.Common.{subst, ◌≡◌, ℕ, List, [], ◌∷◌, ◌++◌, Option, None, Some, refl, sym, ap, ◌∙◌, append_assoc}
 use Rattle.std.specs.List.{AllByRecursion}
 use Rattle.std.proofs.lemmas.List.{append-nil}
 use Rattle.register_core.specs.declared.request.Request.{Request}
 use Rattle.register_core.specs.Request.{IsLineOf, IsItem}
 use Rattle.register_desk.specs.declared.lines.TheConstants.{LINE_FEED}
 use Rattle.register_desk.specs.Lines.{HasNoLineFeed}
-use Rattle.register_desk.specs.Input.{with_line_feeds, AreItems}
+use Rattle.register_desk.specs.Input.{with_line_feeds, AreItems, HasItems}
 
 -- what is cut off at the first line feed
 pub record SameCut (a b x y : List ℕ) : Type 0 where
@@ -112,3 +112,12 @@ pub with_line_feeds_more : (lines : List (List ℕ)) (line : List ℕ) → with_
 with_line_feeds_more [] line = append-nil (line ++ LINE_FEED ∷ [])
 with_line_feeds_more (l ∷ lines) line =
     ap (λ (bytes : List ℕ). (l ++ LINE_FEED ∷ []) ++ bytes) (with_line_feeds_more lines line) ∙ sym (append_assoc (l ++ LINE_FEED ∷ []) (with_line_feeds lines) (line ++ LINE_FEED ∷ []))
+
+-- an input has one list of items, and one rest
+pub same_input : OneRequest → (bytes : List ℕ) (items others : List (Option Request)) (rest other : List ℕ) → HasItems bytes items rest → HasItems bytes others other → (items ≡ others) × (rest ≡ other)
+same_input one bytes items others rest other p q =
+    let begun = lines_begin q.0 p.0 rest other q.1.unbroken p.1.unbroken q.1.rest_unbroken (sym p.1.whole ∙ q.1.whole) in
+    let none = none_left begun.more rest other p.1.rest_unbroken begun.left in
+    let begin = items_begin one p.0 begun.more others items (subst (λ ls. AreItems ls others) begun.parts q.2) p.2 in
+    let empty : begin.more ≡ [] = no_more_items begin.more (subst (λ ls. AreItems ls begin.more) none.0 begin.each) in
+    (sym (begin.parts ∙ ap (λ more. items ++ more) empty ∙ append-nil items), none.1)

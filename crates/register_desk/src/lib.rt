@@ -3,6 +3,7 @@
 
 mod desk;
 mod end;
+pub mod laws;
 mod lines;
 mod record;
 mod runs;
