@@ -1,0 +1,23 @@
+//! The register's program: it reads request lines from standard input and writes their reply lines to standard
+//! output, over a new register in memory.
+#![tactic(auto)]
+
+mod act;
+
+use act::{act, told};
+use register_desk::End;
+use std::env;
+use std::process::ExitCode;
+
+fn main(rt: HostRuntime) -> ExitCode {
+    let status = match env::args(&rt) {
+        // The first word is the program's own name.
+        Ok(words) => {
+            let words = words.count().saturating_sub(1);
+            act(rt.alloc(), words, rt.stdin(), rt.stdout(), &mut rt.stderr())
+        }
+        // Want of memory, or a word that is no text.
+        Err(_) => told(End::Memory, &mut rt.stderr()),
+    };
+    ExitCode::from(status)
+}
