@@ -1,12 +1,10 @@
 //! What the program does, over the streams that it is given.
-ghost use Rattle.std.specs.Prelude.{◌≡◌};
-
 use register_desk::{Desk, End, Finish, Watched, run};
 use std::alloc::Global;
 use std::io::{Read, Write};
 
 /// The exit status where there is any word.
-const USAGE: u8 = 1;
+pub const USAGE: u8 = 1;
 
 /// The exit status after the end 30.
 const ENDED: u8 = 3;

@@ -4,9 +4,10 @@
 
 mod act;
 
-use act::{act, told};
+use act::{USAGE, act, told};
 use register_desk::End;
 use std::env;
+use std::io::ErrorKind;
 use std::process::ExitCode;
 
 fn main(rt: HostRuntime) -> ExitCode {
@@ -16,8 +17,11 @@ fn main(rt: HostRuntime) -> ExitCode {
             let words = words.count().saturating_sub(1);
             act(rt.alloc(), words, rt.stdin(), rt.stdout(), &mut rt.stderr())
         }
-        // Want of memory, or a word that is no text.
-        Err(_) => told(End::Memory, &mut rt.stderr()),
+        Err(error) if error.kind() == ErrorKind::OutOfMemory => {
+            told(End::Memory, &mut rt.stderr())
+        }
+        // A word that is no text is a word.
+        Err(_) => USAGE,
     };
     ExitCode::from(status)
 }

@@ -1,7 +1,6 @@
 -- Names of callers, owners and custodians. The rule is this register's own.
 use Rattle.std.specs.Prelude.{ℕ, ◌≤◌, ◌==◌, nat_le, Bool, ◌&&◌, ◌||◌, List, length, IsTrue}
 use Rattle.std.specs.List.{list_all}
-use Rattle.register_core.specs.declared.name.TheConstants.{NAME_LIMIT}
 
 -- an ASCII letter, a digit, or one of - _ . @
 abbrev pub is_name_byte : ℕ → Bool
@@ -10,4 +9,4 @@ is_name_byte b =
     || (b == 45) || (b == 95) || (b == 46) || (b == 64)
 
 abbrev pub IsName : List ℕ → Type 0
-IsName bytes = (1 ≤ length bytes) × (length bytes ≤ NAME_LIMIT) × IsTrue (list_all is_name_byte bytes)
+IsName bytes = (1 ≤ length bytes) × (length bytes ≤ 64) × IsTrue (list_all is_name_byte bytes)

@@ -5,14 +5,13 @@ use Rattle.register_core.specs.Name.{IsName}
 use Rattle.register_core.specs.Number.{IsNumber}
 use Rattle.register_core.specs.Purpose.{IsPurpose}
 use Rattle.register_core.specs.KeyType.{key_type_text}
-use Rattle.register_core.specs.declared.line.TheConstants.{LINE_LIMIT}
 use Rattle.register_core.specs.declared.request.Request.{Request}
 use Rattle.register_core.specs.declared.request.Command.{Command}
 use Rattle.register_core.specs.declared.request.Command.TheVariants.{Register, Advance}
 
 -- how many bytes a request line has at most
 abbrev pub line_limit : ℕ
-line_limit = LINE_LIMIT
+line_limit = 1024
 
 -- ---- ranges
 

@@ -2,7 +2,6 @@
 use Rattle.std.specs.Prelude.{ℕ, nat_lt, nat_le, Bool, true, false, not, ◌&&◌, List, [], ◌∷◌, ◌++◌, Option, None, Some, Result, Ok, Err, unwrap_or, if◌then◌else◌}
 use Rattle.std.specs.Option.{option_map}
 use Rattle.lifecycle_core.specs.State.{state_at}
-use Rattle.register_core.specs.declared.limits.TheConstants.{KEY_LIMIT}
 use Rattle.register_core.specs.declared.request.Request.{Request}
 use Rattle.register_core.specs.declared.request.Command.{Command}
 use Rattle.register_core.specs.declared.request.Command.TheVariants.{Register, Advance}
@@ -25,9 +24,13 @@ breaks_order (Register kind owner activation protect_stop deactivation purpose) 
     not (in_order activation protect_stop && in_order protect_stop deactivation && in_order activation deactivation)
 breaks_order Advance = false
 
+-- how many keys the register takes
+abbrev pub key_limit : ℕ
+key_limit = 1_000_000
+
 -- the command makes a key, and there are as many as the register takes
 abbrev pub passes_limit : ℕ → Command → Bool
-passes_limit keys (Register kind owner activation protect_stop deactivation purpose) = nat_le KEY_LIMIT keys
+passes_limit keys (Register kind owner activation protect_stop deactivation purpose) = nat_le key_limit keys
 passes_limit keys Advance = false
 
 -- each refusal of a request, in order, with whether its condition holds

@@ -58,6 +58,13 @@ RunsOver h items rest (Ended WriteFault) replies old new kept = AnsweredInPart h
 
 -- ---- faults
 
+-- the bound on the reads of a run, and that on the interrupted turns in a row at its writer
+abbrev pub most_reads : ℕ
+most_reads = 2_000_000_000
+
+abbrev pub most_idle : ℕ
+most_idle = 10_000
+
 -- a turn failed, or the bound on turns was met
 abbrev pub IsFaulted : Bool → ℕ → ℕ → Type 0
 IsFaulted failed most turns = (failed ≡ true) ⊎ (most ≤ turns)

@@ -1,14 +1,14 @@
 //! A run over request lines: each line is read, applied and answered before the next one is looked at.
-ghost use Rattle.std.specs.Prelude.{◌≡◌, ◌⊎◌, ◌+◌, ◌*◌, ◌≤◌, ◌<◌, ℕ, List, [], ◌∷◌, length, Some, None, Option, true, false, IfOk, IfErr, OnOk, OnErr};
-ghost use Rattle.std.specs.Io.KnownBytes.{Appends, Consumes, prepend_known};
+ghost use Rattle.std.specs.Prelude.{◌≡◌, ◌≢◌, ◌⊎◌, ◌+◌, ◌*◌, ◌≤◌, ◌<◌, ℕ, List, [], ◌∷◌, length, Some, None, Option, true, false, IfOk, IfErr, OnOk, OnErr};
+ghost use Rattle.std.specs.Io.KnownBytes.{Appends, IsAtEnd, prepend_known};
 ghost use Rattle.register_core.specs.declared.request.Request.{Request};
 ghost use Rattle.register_core.specs.declared.line.TheConstants.{LINE_LIMIT, REPLY_LIMIT};
 ghost use Rattle.register_core.specs.Request.{IsItem};
-ghost use Rattle.register_desk.specs.declared.lines.TheConstants.{PIECE, MOST_READ_TURNS};
+ghost use Rattle.register_desk.specs.declared.lines.TheConstants.{PIECE};
 ghost use Rattle.register_desk.specs.Lines.{work_left};
 ghost use Rattle.register_desk.specs.Input.{HasItems};
 ghost use Rattle.register_desk.specs.Register.{StandsFor};
-ghost use Rattle.register_desk.specs.Run.{answer_line, RunsOver, IsFaulted};
+ghost use Rattle.register_desk.specs.Run.{answer_line, RunsOver, IsFaulted, most_reads, most_idle};
 ghost use Rattle.register_desk.specs.Serving.{item_answer, after_item, MakesKey, LeavesItem, ServesTo, Wrote, TookBytes};
 
 use crate::desk::Desk;
@@ -88,8 +88,10 @@ fn serve_item<W: Write>(
     ensures stop { IfErr result (λ stop. LeavesItem desk.old desk.new (W.contents writer.old.inner)
         (W.contents writer.new.inner) item.now stop.end stop.written) }
     ensures cause { IfErr result (λ stop. stop.end ≡ End.WriteFault →
-        IsFaulted writer.new.failed MOST_IDLE_TURNS writer.new.idle) }
+        IsFaulted writer.new.failed most_idle writer.new.idle) }
     ensures within { IfErr result (λ stop. stop.written ≤ REPLY_LIMIT) }
+    ensures flushed { OnOk result (writer.new.unflushed ≡ false) }
+    ensures untouched { IfErr result (λ stop. stop.end ≢ End.WriteFault → writer.new ≡ writer.old) }
 {
     let line = match answer_item(desk, item) {
         Ok(line) => line,
@@ -110,14 +112,20 @@ fn serve_lines<R: Read, W: Write>(
     writer: &mut Watched<W>,
     desk: &mut Desk,
 ) -> Outcome
+    // The bounds are on the turns of this run alone.
+    requires reads { reader.old.turns ≡ 0 }
+    requires idles { writer.old.idle ≡ 0 }
     ensures serves { ServesTo (R.remaining reader.old.inner) (W.contents writer.old.inner)
         (W.contents writer.new.inner) desk.old desk.new result.replies result.end }
     ensures read { TookBytes (R.remaining reader.old.inner) (R.remaining reader.new.inner) result.read }
     ensures written { Wrote (W.contents writer.old.inner) (W.contents writer.new.inner) result.written }
     ensures read_fault { result.end ≡ Finish.Ended End.ReadFault →
-        IsFaulted reader.new.failed MOST_READ_TURNS reader.new.turns }
+        IsFaulted reader.new.failed most_reads reader.new.turns }
     ensures write_fault { result.end ≡ Finish.Ended End.WriteFault →
-        IsFaulted writer.new.failed MOST_IDLE_TURNS writer.new.idle }
+        IsFaulted writer.new.failed most_idle writer.new.idle }
+    // At the end of the input the reader has no more, and whatever was written is flushed unless the writer failed.
+    ensures at_end { (rest : ℕ) → result.end ≡ Finish.AtEnd rest → IsAtEnd (R.remaining reader.new.inner) }
+    ensures flushed { result.end ≢ Finish.Ended End.WriteFault → writer.old.unflushed ≡ false → writer.new.unflushed ≡ false }
 {
     let mut lines = Lines::new();
     let mut written: u64 = 0;
@@ -167,9 +175,12 @@ pub fn run<R: Read, W: Write>(
     ensures read { TookBytes (R.remaining reader.old.inner) (R.remaining reader.new.inner) result.read }
     ensures written { Wrote (W.contents writer.old.inner) (W.contents writer.new.inner) result.written }
     ensures read_fault { result.end ≡ Finish.Ended End.ReadFault →
-        IsFaulted reader.new.failed MOST_READ_TURNS reader.new.turns }
+        IsFaulted reader.new.failed most_reads reader.new.turns }
     ensures write_fault { result.end ≡ Finish.Ended End.WriteFault →
-        IsFaulted writer.new.failed MOST_IDLE_TURNS writer.new.idle }
+        IsFaulted writer.new.failed most_idle writer.new.idle }
+    // At the end of the input the reader has no more, and whatever was written is flushed unless the writer failed.
+    ensures at_end { (rest : ℕ) → result.end ≡ Finish.AtEnd rest → IsAtEnd (R.remaining reader.new.inner) }
+    ensures flushed { result.end ≢ Finish.Ended End.WriteFault → writer.old.unflushed ≡ false → writer.new.unflushed ≡ false }
 {
     reader.begin();
     writer.begin();

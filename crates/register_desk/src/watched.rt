@@ -16,6 +16,7 @@ pub struct Watched<T> {
     failed: bool,
     turns: u64,
     idle: u64,
+    unflushed: bool,
 }
 
 /// The reader failed, or it has had all the turns that it may have.
@@ -39,13 +40,14 @@ enum Turn<V> {
 impl<T> Watched<T> {
     /// Begins with no turn counted and no failure.
     pub fn new(inner: T) -> Self
-        ensures { result ≡ record { inner = inner; failed = false; turns = 0; idle = 0 } }
+        ensures { result ≡ record { inner = inner; failed = false; turns = 0; idle = 0; unflushed = false } }
     {
         Watched {
             inner,
             failed: false,
             turns: 0,
             idle: 0,
+            unflushed: false,
         }
     }
 
@@ -79,6 +81,7 @@ impl<T> Watched<T> {
             failed: _,
             turns: _,
             idle: _,
+            unflushed: _,
         } = self;
         inner
     }
@@ -182,7 +185,8 @@ impl<W: Write> Watched<W> {
         ensures sound { OnOk result (self.new.failed ≡ self.old.failed) }
 
         // A flush takes a turn, and bytes take one before it.
-        ensures flushed { OnOk result (one_more self.old.turns ≤ self.new.turns) }
+        ensures flushed { OnOk result (self.new.unflushed ≡ false) }
+        ensures turned { OnOk result (one_more self.old.turns ≤ self.new.turns) }
         ensures wrote { OnOk result (0 < length bytes.now → one_more (one_more self.old.turns) ≤ self.new.turns) }
 
         // At an error these bytes were taken and no others. It comes of a failure or of too many interruptions.
@@ -233,7 +237,8 @@ impl<W: Write> Watched<W> {
     fn flush_once(&mut self, most_idle: u64) -> bool
         ensures bytes { Keeps (W.contents self.old.inner) (W.contents self.new.inner) }
         ensures sound { OnTrue result (self.new.failed ≡ self.old.failed) }
-        ensures flushed { OnTrue result (one_more self.old.turns ≤ self.new.turns) }
+        ensures flushed { OnTrue result (self.new.unflushed ≡ false) }
+        ensures turned { OnTrue result (one_more self.old.turns ≤ self.new.turns) }
         ensures err { OnFalse result ((self.new.failed ≡ true) ⊎ (most_idle ≤ self.new.idle)) }
         ensures turns { self.old.turns ≤ self.new.turns }
         ensures failed { self.old.failed ≡ true → self.new.failed ≡ true }
@@ -257,6 +262,7 @@ impl<W: Write> Watched<W> {
         ensures bound { OnDone result (λ n. (0 < n) × (n ≤ length bytes.now)) }
         ensures bytes { OnDone result (λ n. Appends (W.contents self.old.inner) (W.contents self.new.inner) (take n bytes.now)) }
         ensures kept { OnUndone result (Keeps (W.contents self.old.inner) (W.contents self.new.inner)) }
+        ensures unflushed { OnDone result (λ _. self.new.unflushed ≡ true) }
     {
         match self.inner.write(bytes) {
             Ok(0) => {
@@ -265,6 +271,7 @@ impl<W: Write> Watched<W> {
             }
             Ok(taken) => {
                 self.count_done();
+                self.unflushed = true;
                 Turn::Done(taken)
             }
             Err(error) => self.count_error(&error),
@@ -276,10 +283,12 @@ impl<W: Write> Watched<W> {
         ensures idle { self.new.idle ≡ idle_after result self.old.idle }
         ensures failed { self.new.failed ≡ failed_after result self.old.failed }
         ensures bytes { Keeps (W.contents self.old.inner) (W.contents self.new.inner) }
+        ensures flushed { OnDone result (λ _. self.new.unflushed ≡ false) }
     {
         match self.inner.flush() {
             Ok(()) => {
                 self.count_done();
+                self.unflushed = false;
                 Turn::Done(())
             }
             Err(error) => self.count_error(&error),

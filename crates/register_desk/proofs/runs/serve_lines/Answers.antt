@@ -1,4 +1,5 @@
-use Rattle.std.proofs.Common.{◌+◌, ap, refl, ◌∙◌, arith}
+use Rattle.std.proofs.Common.{◌≡◌, sym, ◌+◌, ap, refl, ◌∙◌, arith}
+use Rattle.register_desk.specs.declared.end.End.{End}
 use Rattle.register_desk.specs.declared.end.End.TheVariants.{ReadFault}
 use Rattle.register_desk.specs.declared.runs.Finish.TheVariants.{AtEnd, Ended}
 use Rattle.register_desk.specs.Lines.{Cut, work_left}
@@ -17,6 +18,7 @@ loop-lines-init g c =
       within = omega (arith, taken);
       some = omega (arith, ap (work_left c.args.reader.now.turns) unread);
       short = omega arith;
+      flushed = λ e. e;
     }
 
 pub loop-lines-preserved : goal.loop-lines-preserved
@@ -33,6 +35,7 @@ loop-lines-preserved g c =
       within = c.in-Ok-Line.ensures.within;
       some = omega (arith, less, invariant.some);
       short = omega (arith, invariant.short, c.in-Ok.ensures.short);
+      flushed = λ e. c.in-Ok.ensures.flushed;
     }
 
 pub returns-clause-serves : goal.returns-clause-serves
@@ -76,4 +79,22 @@ returns-clause-written g c =
           (wrote_part old _ _ c.loop-lines.desk w.serve_item.new.desk w.item_of.result w.in-Err-serve_item.stop.end c.loop-lines.written w.in-Err-serve_item.stop.written wrote w.in-Err-serve_item.ensures.stop)
       | in-Ok-End w ↦ wrote_same old _ _ c.match-next.written c.loop-lines.written w.written-is (ap (λ x. g.W.Write.contents x.inner) w.writer-is) wrote
       | in-Err w ↦ wrote_same old _ _ c.match-next.written c.loop-lines.written w.written-is (ap (λ x. g.W.Write.contents x.inner) w.writer-is) wrote
+    ]
+
+pub returns-clause-at_end : goal.returns-clause-at_end
+returns-clause-at_end g c rest e = elim c.match-next.branch [
+    | in-Ok-Line+in-Err-serve_item w ↦ let apart : Ended w.in-Err-serve_item.stop.end ≡ AtEnd rest = sym w.end-is ∙ e in absurd cc
+    | in-Ok-End w ↦ w.in-Ok-End.ensures.at_end w.in-Ok-End.field-0-is
+    | in-Err w ↦ let apart : Ended ReadFault ≡ AtEnd rest = sym w.end-is ∙ e in absurd cc
+  ]
+
+pub returns-clause-flushed : goal.returns-clause-flushed
+returns-clause-flushed g c sound before =
+    let kept = c.loop-lines.invariant.flushed before in
+    elim c.match-next.branch [
+      | in-Ok-Line+in-Err-serve_item w ↦
+          let untouched = w.in-Err-serve_item.ensures.untouched (λ fault. sound (w.end-is ∙ ap (λ (end : End). Ended end) fault)) in
+          ap (λ x. x.unflushed) w.writer-is ∙ ap (λ x. x.unflushed) untouched ∙ kept
+      | in-Ok-End w ↦ ap (λ x. x.unflushed) w.writer-is ∙ kept
+      | in-Err w ↦ ap (λ x. x.unflushed) w.writer-is ∙ kept
     ]

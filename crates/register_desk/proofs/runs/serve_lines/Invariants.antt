@@ -1,4 +1,4 @@
-use Rattle.std.proofs.Common.{◌+◌, ◌*◌, ◌≤◌, []}
+use Rattle.std.proofs.Common.{◌≡◌, false, ◌+◌, ◌*◌, ◌≤◌, []}
 use Rattle.std.specs.Io.KnownBytes.{prepend_known}
 use Rattle.register_core.specs.declared.line.TheConstants.{REPLY_LIMIT}
 use Rattle.register_desk.specs.declared.lines.TheConstants.{PIECE}
@@ -15,6 +15,7 @@ invariant-loop-lines g l = record {
   within : l.lines.taken ≤ PIECE * l.reader.turns;
   some : l.replies + work_left l.reader.turns l.lines.unread ≤ work_left l.fn.reader.turns [];
   short : l.written ≤ REPLY_LIMIT * l.replies;
+  flushed : l.fn.writer.unflushed ≡ false → l.writer.unflushed ≡ false;
 }
 
 abbrev pub decreases-loop-lines : goal.decreases-loop-lines
