@@ -83,10 +83,10 @@ returns-clause-written g c =
 
 pub returns-clause-at_end : goal.returns-clause-at_end
 returns-clause-at_end g c rest e = elim c.match-next.branch [
-    | in-Ok-Line+in-Err-serve_item w ↦ let apart : Ended w.in-Err-serve_item.stop.end ≡ AtEnd rest = sym w.end-is ∙ e in absurd cc
-    | in-Ok-End w ↦ w.in-Ok-End.ensures.at_end w.in-Ok-End.field-0-is
-    | in-Err w ↦ let apart : Ended ReadFault ≡ AtEnd rest = sym w.end-is ∙ e in absurd cc
-  ]
+  | in-Ok-Line+in-Err-serve_item w ↦ let apart : Ended w.in-Err-serve_item.stop.end ≡ AtEnd rest = sym w.end-is ∙ e in absurd cc
+  | in-Ok-End w ↦ w.in-Ok-End.ensures.at_end w.in-Ok-End.field-0-is
+  | in-Err w ↦ let apart : Ended ReadFault ≡ AtEnd rest = sym w.end-is ∙ e in absurd cc
+]
 
 pub returns-clause-flushed : goal.returns-clause-flushed
 returns-clause-flushed g c sound before =
