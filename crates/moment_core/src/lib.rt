@@ -1,6 +1,12 @@
 //! Moments: whole seconds of UTC.
 #![tactic(auto)]
 
+mod calendar;
+pub mod laws;
 mod moment;
+mod text;
 
 pub use moment::{LAST_SECOND, Moment};
+
+#[cfg(test)]
+mod tests;

@@ -4,3 +4,4 @@ pub mod Names
 pub mod Fields
 pub mod Readers
 pub mod Lines
+pub mod Filling

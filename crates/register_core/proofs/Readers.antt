@@ -1,9 +1,9 @@
 -- Each field's reader reads exactly the texts of its values, and finds what the code finds.
 use Rattle.std.proofs.Common.{◌≡◌, ◌≢◌, ℕ, ◌-◌, ◌<◌, ◌≤◌, ◌^◌, nat_le, Bool, true, false, not, ◌&&◌, cond, List, [], ◌∷◌, length, get_or, Option, Some, None, IfSome, IsSome, ◌↔◌, ◌⊎◌, inl, inr, refl, sym, ap, subst, ◌∙◌, arith}
-use Rattle.std.specs.Prelude.{decimal, find}
+use Rattle.std.specs.Prelude.{decimal, find, codes}
 use Rattle.std.specs.List.{list_all}
 use Rattle.std.specs.Str.{bytes_eq, is_utf8}
-use Rattle.std.specs.Str.Parse.{digits_value}
+use Rattle.std.specs.Str.Parse.{digits_value, AllDigits}
 use Rattle.std.proofs.lemmas.Bool.{and_parts, and_from, leb-true, le-leb}
 use Rattle.std.proofs.lemmas.Bool.Decides.{nat_tests}
 use Rattle.std.proofs.lemmas.Option.{cond_some}
@@ -15,14 +15,15 @@ use Rattle.moment_core.specs.Moment.{IsMoment}
 use Rattle.register_core.specs.declared.name.TheConstants.{NAME_LIMIT}
 use Rattle.register_core.specs.declared.number.TheConstants.{LAST_NUMBER}
 use Rattle.register_core.specs.declared.purpose.TheConstants.{PURPOSE_LIMIT}
-use Rattle.register_core.specs.declared.key_type.KeyType.{KeyType}
-use Rattle.register_core.specs.declared.key_type.KeyType.TheVariants.{DataEncryption, Authentication, KeyWrapping, PrivateSignature, PrivateAuthentication, PrivateTransport, Master}
+use Rattle.period_core.specs.declared.key_type.KeyType.{KeyType}
+use Rattle.period_core.specs.declared.key_type.KeyType.TheVariants.{DataEncryption, Authentication, KeyWrapping, PrivateSignature, PrivateAuthentication, PrivateTransport, Master}
 use Rattle.register_core.specs.Name.{IsName, is_name_byte}
 use Rattle.register_core.specs.Number.{IsNumber}
 use Rattle.register_core.specs.Purpose.{IsPurpose, is_purpose_byte}
-use Rattle.register_core.specs.KeyType.{key_type_text}
-use Rattle.register_core.specs.Reading.{number_at, moment_at, request_number_at, name_at, purpose_at, key_types, key_type_at, is_space, is_trimmed}
-use Rattle.register_core.proofs.Fields.{IsReader, is_read}
+use Rattle.period_core.specs.KeyType.{key_type_text}
+use Rattle.register_core.specs.Reading.{◌>>=◌, number_at, moment_at, date_at, request_number_at, name_at, purpose_at, key_types, key_type_at, is_space, is_trimmed}
+use Rattle.register_core.specs.Request.{IsDate, date_text}
+use Rattle.register_core.proofs.Fields.{IsReader, is_read, bind_some}
 
 -- ---- numbers
 
@@ -52,6 +53,49 @@ moment_reader = record {
   takes = λ field n e. let taken = number_takes 0 LAST_SECOND field n e in (taken.0.1, taken.1);
   again = λ n in_range. number_again 0 LAST_SECOND (omega arith) n (omega arith, in_range);
 }
+
+either : (b : Bool) → (b ≡ true) ⊎ (b ≡ false)
+either true = inl refl
+either false = inr refl
+
+-- no moment is written as a dash
+dash_no_moment : (m : ℕ) → m < 2 ^ 64 → bytes_eq (decimal m) (codes "-") ≡ false
+dash_no_moment m lt = elim (either (bytes_eq (decimal m) (codes "-"))) [
+  | inl same ↦
+      let text : decimal m ≡ codes "-" = (bytes_eq-Decides (decimal m) (codes "-")).0 same in
+      let digits : AllDigits 10 (codes "-") = subst (AllDigits 10) text (decimal_is_IsNumeral m lt).0.1 in
+      absurd (omega (arith, digits.0))
+  | inr other ↦ other
+]
+
+chosen : {A : Type 0} (b : Bool) (y z : Option A) (x : A) → cond b y z ≡ Some x → ((b ≡ true) × (y ≡ Some x)) ⊎ ((b ≡ false) × (z ≡ Some x))
+chosen true y z x e = inl (refl, e)
+chosen false y z x e = inr (refl, e)
+
+date_of_none : (field : List ℕ) (x : Option ℕ) → field ≡ codes "-" → Some None ≡ Some x → IsDate x × (field ≡ date_text x)
+date_of_none field None text e = (tt, text)
+date_of_none field (Some m) text e = absurd cc
+
+date_of_moment : (field : List ℕ) (m : ℕ) (x : Option ℕ) → moment_at field ≡ Some m → Some (Some m) ≡ Some x → IsDate x × (field ≡ date_text x)
+date_of_moment field m None read e = absurd cc
+date_of_moment field m (Some n) read e =
+    let same : m ≡ n = cc in
+    subst (λ (k : ℕ). IsMoment k × (field ≡ decimal k)) same (moment_reader.takes field m read)
+
+date_takes : (field : List ℕ) (x : Option ℕ) → date_at field ≡ Some x → IsDate x × (field ≡ date_text x)
+unfolding date_at
+date_takes field x e = elim (chosen (bytes_eq field (codes "-")) (Some None) (moment_at field >>= λ m. Some (Some m)) x e) [
+  | inl none ↦ date_of_none field x ((bytes_eq-Decides field (codes "-")).0 none.0) none.1
+  | inr some ↦ let m = bind_some (moment_at field) (λ m. Some (Some m)) x some.1 in date_of_moment field m.0 x m.1 m.2
+]
+
+date_again : (x : Option ℕ) → IsDate x → date_at (date_text x) ≡ Some x
+unfolding date_at
+date_again None in_range = refl
+date_again (Some m) in_range = rw (dash_no_moment m (omega (arith, in_range)), moment_reader.again m in_range) refl
+
+pub date_reader : IsReader date_at date_text IsDate
+date_reader = record { takes = date_takes; again = date_again }
 
 pub request_number_reader : IsReader request_number_at decimal IsNumber
 unfolding request_number_at

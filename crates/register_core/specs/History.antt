@@ -3,7 +3,8 @@
 use Rattle.std.specs.Prelude.{ℕ, ◌+◌, ◌==◌, Bool, false, List, [], ◌∷◌, ◌++◌, length, fold, Option, None, Some, if◌then◌else◌}
 use Rattle.std.specs.List.{filter_map}
 use Rattle.lifecycle_core.specs.declared.dates.Dates.{Dates}
-use Rattle.register_core.specs.declared.key_type.KeyType.{KeyType}
+use Rattle.period_core.specs.declared.key_type.KeyType.{KeyType}
+use Rattle.period_core.specs.Fitting.{filled}
 use Rattle.register_core.specs.declared.request.Request.{Request}
 use Rattle.register_core.specs.declared.request.Command.{Command}
 use Rattle.register_core.specs.declared.request.Command.TheVariants.{Register, Advance}
@@ -60,10 +61,14 @@ own h k = own_from 0 h k
 abbrev pub no_dates : Dates
 no_dates = record { initial = 0; activation = None; protect_stop = None; deactivation = None; destroy = None; compromise = None; compromise_occurrence = None }
 
--- the dates after a command at the moment t
-abbrev pub dates_after : Dates → ℕ → Command → Dates
-dates_after d t (Register kind owner activation protect_stop deactivation purpose) =
+-- the dates that a registration at the moment t gives, before Fill
+abbrev pub given_dates : ℕ → Option ℕ → Option ℕ → Option ℕ → Dates
+given_dates t activation protect_stop deactivation =
     record no_dates { initial = t; activation = activation; protect_stop = protect_stop; deactivation = deactivation }
+
+-- the dates after a command at the moment t: those that it gives, with the defaults of Fill
+abbrev pub dates_after : Dates → ℕ → Command → Dates
+dates_after d t (Register kind owner activation protect_stop deactivation purpose) = filled kind (given_dates t activation protect_stop deactivation)
 dates_after d t Advance = d
 
 -- the dates that the requests of key k give it, one after the other

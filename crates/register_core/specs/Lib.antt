@@ -2,7 +2,6 @@ pub mod Text
 pub mod Name
 pub mod Number
 pub mod Purpose
-pub mod KeyType
 pub mod Reply
 pub mod Request
 pub mod History

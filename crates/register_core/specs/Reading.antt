@@ -8,14 +8,14 @@ use Rattle.register_core.specs.declared.name.TheConstants.{NAME_LIMIT}
 use Rattle.register_core.specs.declared.number.TheConstants.{LAST_NUMBER}
 use Rattle.register_core.specs.declared.purpose.TheConstants.{PURPOSE_LIMIT}
 use Rattle.register_core.specs.declared.line.TheConstants.{LINE_LIMIT}
-use Rattle.register_core.specs.declared.key_type.KeyType.{KeyType}
-use Rattle.register_core.specs.declared.key_type.KeyType.TheVariants.{DataEncryption, Authentication, KeyWrapping, PrivateSignature, PrivateAuthentication, PrivateTransport, Master}
+use Rattle.period_core.specs.declared.key_type.KeyType.{KeyType}
+use Rattle.period_core.specs.declared.key_type.KeyType.TheVariants.{DataEncryption, Authentication, KeyWrapping, PrivateSignature, PrivateAuthentication, PrivateTransport, Master}
 use Rattle.register_core.specs.declared.request.Request.{Request}
 use Rattle.register_core.specs.declared.request.Command.{Command}
 use Rattle.register_core.specs.declared.request.Command.TheVariants.{Register, Advance}
 use Rattle.register_core.specs.Name.{is_name_byte}
 use Rattle.register_core.specs.Purpose.{is_purpose_byte}
-use Rattle.register_core.specs.KeyType.{key_type_text}
+use Rattle.period_core.specs.KeyType.{key_type_text}
 
 -- one step, and then the next, unless the first gives none
 infixl 10 ◌>>=◌
@@ -48,6 +48,10 @@ number_at least most field =
 -- the moment that the field writes
 unfoldable pub moment_at : List ℕ → Option ℕ
 moment_at field = number_at 0 LAST_SECOND field
+
+-- the date that the field writes, - for none
+unfoldable pub date_at : List ℕ → Option (Option ℕ)
+date_at field = if bytes_eq field (codes "-") then Some None else (moment_at field >>= λ moment. Some (Some moment))
 
 -- a request's number that the field writes
 unfoldable pub request_number_at : List ℕ → Option ℕ
@@ -90,11 +94,11 @@ unfoldable pub register_at : List ℕ → Option Command
 register_at bytes = do
   kind ← field_as key_type_at bytes
   owner ← field_as name_at kind.1
-  activation ← field_as moment_at owner.1
-  protect_stop ← field_as moment_at activation.1
-  deactivation ← field_as moment_at protect_stop.1
+  activation ← field_as date_at owner.1
+  protect_stop ← field_as date_at activation.1
+  deactivation ← field_as date_at protect_stop.1
   purpose ← purpose_at deactivation.1
-  Some (Register kind.0 owner.0 (Some activation.0) (Some protect_stop.0) (Some deactivation.0) purpose)
+  Some (Register kind.0 owner.0 activation.0 protect_stop.0 deactivation.0 purpose)
 
 -- a command that begins with its word
 unfoldable pub worded_at : List ℕ → Option Command

@@ -4,7 +4,7 @@ use Rattle.moment_core.specs.Moment.{IsMoment}
 use Rattle.register_core.specs.Name.{IsName}
 use Rattle.register_core.specs.Number.{IsNumber}
 use Rattle.register_core.specs.Purpose.{IsPurpose}
-use Rattle.register_core.specs.KeyType.{key_type_text}
+use Rattle.period_core.specs.KeyType.{key_type_text}
 use Rattle.register_core.specs.declared.request.Request.{Request}
 use Rattle.register_core.specs.declared.request.Command.{Command}
 use Rattle.register_core.specs.declared.request.Command.TheVariants.{Register, Advance}
@@ -47,16 +47,9 @@ command_text Advance = codes "advance"
 abbrev pub request_text : Request → List ℕ
 request_text q = decimal q.moment ++ codes " " ++ q.caller ++ codes " " ++ decimal q.number ++ codes " " ++ command_text q.command
 
--- a command whose dates are all given: only such a one has a line for now
-abbrev pub HasDates : Command → Type 0
-HasDates (Register kind owner activation protect_stop deactivation purpose) =
-    IsSome activation × IsSome protect_stop × IsSome deactivation
-HasDates Advance = Unit {0}
-
 -- the bytes, which have no LF behind them, are the line of the request
 pub record IsLineOf (bytes : List ℕ) (q : Request) : Type 0 where
   pub request : IsRequest q
-  pub dates : HasDates q.command
   pub within : length bytes ≤ line_limit
   pub text : bytes ≡ request_text q
 

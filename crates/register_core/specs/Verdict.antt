@@ -7,43 +7,50 @@ use Rattle.register_core.specs.declared.request.Command.{Command}
 use Rattle.register_core.specs.declared.request.Command.TheVariants.{Register, Advance}
 use Rattle.register_core.specs.declared.reply.Reply.{Reply}
 use Rattle.register_core.specs.declared.reply.Refusal.{Refusal}
-use Rattle.register_core.specs.declared.reply.Refusal.TheVariants.{MomentBehind, DateOrder, Full}
-use Rattle.register_core.specs.History.{latest, count, key_of, dates}
+use Rattle.register_core.specs.declared.reply.Refusal.TheVariants.{MomentBehind, DateOrder, PeriodTooLong, DateRange, Full}
+use Rattle.lifecycle_core.specs.declared.dates.Dates.{Dates}
+use Rattle.period_core.specs.declared.filling.DateRefusal.{DateRefusal}
+use Rattle.period_core.specs.declared.filling.DateRefusal.TheVariants as dates
+use Rattle.period_core.specs.Fitting.{fill_of}
+use Rattle.register_core.specs.History.{latest, count, key_of, given_dates, dates as dates_of_key}
 
--- the first date is not after the second, where both are set
-abbrev pub in_order : Option ℕ → Option ℕ → Bool
-in_order (Some first) (Some second) = nat_le first second
-in_order (Some first) None = true
-in_order None second = true
+-- ---- the refusals, each where its condition holds
 
--- ---- the conditions of the refusals
+-- the moment is below the latest
+abbrev pub behind : ℕ → ℕ → Option Refusal
+behind last t = if nat_lt t last then Some (MomentBehind last) else None
 
--- the dates that a command sets are out of order: Activation, Protect Stop, Deactivation
-abbrev pub breaks_order : Command → Bool
-breaks_order (Register kind owner activation protect_stop deactivation purpose) =
-    not (in_order activation protect_stop && in_order protect_stop deactivation && in_order activation deactivation)
-breaks_order Advance = false
+abbrev pub refusal_of_dates : DateRefusal → Refusal
+refusal_of_dates dates.DateOrder = DateOrder
+refusal_of_dates (dates.PeriodTooLong limit) = PeriodTooLong limit
+refusal_of_dates dates.DateRange = DateRange
+
+abbrev pub refused_dates : Result Dates DateRefusal → Option Refusal
+refused_dates (Ok d) = None
+refused_dates (Err refusal) = Some (refusal_of_dates refusal)
+
+-- Fill refuses the dates that the command gives at t
+abbrev pub unfit : ℕ → Command → Option Refusal
+unfit t (Register kind owner activation protect_stop deactivation purpose) = refused_dates (fill_of kind (given_dates t activation protect_stop deactivation))
+unfit t Advance = None
 
 -- how many keys the register takes
 abbrev pub key_limit : ℕ
 key_limit = 1_000_000
 
 -- the command makes a key, and there are as many as the register takes
-abbrev pub passes_limit : ℕ → Command → Bool
-passes_limit keys (Register kind owner activation protect_stop deactivation purpose) = nat_le key_limit keys
-passes_limit keys Advance = false
+abbrev pub too_many : ℕ → Command → Option Refusal
+too_many keys (Register kind owner activation protect_stop deactivation purpose) = if nat_le key_limit keys then Some Full else None
+too_many keys Advance = None
 
--- each refusal of a request, in order, with whether its condition holds
-abbrev pub refusals : ℕ → ℕ → Request → List (Bool × Refusal)
-refusals last keys q =
-    (nat_lt q.moment last, MomentBehind last)
-    ∷ (breaks_order q.command, DateOrder)
-    ∷ (passes_limit keys q.command, Full)
-    ∷ []
+-- each refusal of a request, in order, where its condition holds
+abbrev pub refusals : ℕ → ℕ → Request → List (Option Refusal)
+refusals last keys q = behind last q.moment ∷ unfit q.moment q.command ∷ too_many keys q.command ∷ []
 
-abbrev pub first_that_holds : List (Bool × Refusal) → Option Refusal
+abbrev pub first_that_holds : List (Option Refusal) → Option Refusal
 first_that_holds [] = None
-first_that_holds (line ∷ lines) = if line.0 then Some line.1 else first_that_holds lines
+first_that_holds (None ∷ others) = first_that_holds others
+first_that_holds (Some refusal ∷ others) = Some refusal
 
 -- the refusal of a request where the latest moment and the number of keys are these, or none: accepted
 abbrev pub judge : ℕ → ℕ → Request → Option Refusal
@@ -60,7 +67,7 @@ reply h q =
     let key = key_of (count h) q.command in
     record {
       key = unwrap_or key 0;
-      state = option_map (λ k. state_at (dates (h ++ q ∷ []) k) q.moment) key;
+      state = option_map (λ k. state_at (dates_of_key (h ++ q ∷ []) k) q.moment) key;
       moment = q.moment;
     }
 

@@ -2,7 +2,6 @@
 //! the register as the list of the requests that it accepted.
 #![tactic(auto)]
 
-mod key_type;
 pub mod laws;
 mod limits;
 mod line;
@@ -15,7 +14,6 @@ mod request;
 mod text;
 mod verdict;
 
-pub use key_type::KeyType;
 pub use limits::KEY_LIMIT;
 pub use line::{LINE_LIMIT, REPLY_LIMIT, ReplyLine, read_request, reply_line};
 pub use name::{NAME_LIMIT, Name};
@@ -23,7 +21,7 @@ pub use number::{LAST_NUMBER, RequestNumber};
 pub use purpose::{PURPOSE_LIMIT, Purpose};
 pub use reply::{Refusal, Reply};
 pub use request::{Command, Request};
-pub use verdict::judge;
+pub use verdict::{given_dates, judge};
 
 #[cfg(test)]
 mod tests;

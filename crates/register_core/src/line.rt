@@ -3,9 +3,8 @@ ghost use Rattle.std.specs.Prelude.{◌≡◌, ◌≢◌, ℕ, ◌+◌, ◌<◌,
 ghost use Rattle.arrayvec.specs.ArrayString.{array_string_len};
 ghost use Rattle.register_core.specs.Request.{IsItem};
 ghost use Rattle.register_core.specs.Reply.{reply_text, reply_state};
-ghost use Rattle.register_core.specs.Reading.{Gives, is_space, field_at, moment_at, request_number_at, name_at, key_type_at, purpose_at, register_at, worded_at, command_at, fields_at, request_at};
+ghost use Rattle.register_core.specs.Reading.{Gives, is_space, field_at, moment_at, date_at, request_number_at, name_at, key_type_at, purpose_at, register_at, worded_at, command_at, fields_at, request_at};
 
-use crate::key_type::KeyType;
 use crate::name::Name;
 use crate::number::RequestNumber;
 use crate::purpose::Purpose;
@@ -15,6 +14,7 @@ use arrayvec::ArrayString;
 use itoa::Buffer;
 use lifecycle_core::State;
 use moment_core::Moment;
+use period_core::KeyType;
 use std::marker::Model;
 use std::str;
 
@@ -69,6 +69,18 @@ fn moment_of(field: &[u8]) -> Option<Moment>
 }
 
 /// The request's number that the field writes.
+/// The date that the field writes, `-` for none.
+#[tactic(auto, unfolding(crate::specs::Reading::date_at))]
+fn date_of(field: &[u8]) -> Option<Option<Moment>>
+    ensures { result ≡ date_at field.now }
+{
+    if field == b"-".as_slice() {
+        return Some(None);
+    }
+    let moment = moment_of(field)?;
+    Some(Some(moment))
+}
+
 fn request_number_of(field: &[u8]) -> Option<RequestNumber>
     ensures { result ≡ request_number_at field.now }
 {
@@ -96,7 +108,7 @@ fn purpose_of(bytes: &[u8]) -> Option<Purpose>
     Purpose::new(bytes)
 }
 
-/// The command behind the word `register`. Each date has to be given.
+/// The command behind the word `register`.
 #[tactic(auto, unfolding(crate::specs::Reading::register_at))]
 fn register_of(bytes: &[u8]) -> Option<Command>
     ensures { result ≡ register_at bytes.now }
@@ -106,18 +118,18 @@ fn register_of(bytes: &[u8]) -> Option<Command>
     let (field, rest) = split_field(rest)?;
     let owner = name_of(field)?;
     let (field, rest) = split_field(rest)?;
-    let activation = moment_of(field)?;
+    let activation = date_of(field)?;
     let (field, rest) = split_field(rest)?;
-    let protect_stop = moment_of(field)?;
+    let protect_stop = date_of(field)?;
     let (field, rest) = split_field(rest)?;
-    let deactivation = moment_of(field)?;
+    let deactivation = date_of(field)?;
     let purpose = purpose_of(rest)?;
     Some(Command::Register {
         kind,
         owner,
-        activation: Some(activation),
-        protect_stop: Some(protect_stop),
-        deactivation: Some(deactivation),
+        activation,
+        protect_stop,
+        deactivation,
         purpose,
     })
 }
@@ -266,9 +278,16 @@ fn refused_line(refusal: &Refusal) -> ArrayString<REPLY_LIMIT>
     put_number(&mut line, u64::from(refusal.number()));
     line.push_str(" ");
     line.push_str(refusal.name());
-    if let Refusal::MomentBehind { latest } = refusal {
-        line.push_str(" latest=");
-        put_number(&mut line, latest.seconds());
+    match refusal {
+        Refusal::MomentBehind { latest } => {
+            line.push_str(" latest=");
+            put_number(&mut line, latest.seconds());
+        }
+        Refusal::PeriodTooLong { limit } => {
+            line.push_str(" limit=");
+            put_number(&mut line, limit.seconds());
+        }
+        _ => {}
     }
     line
 }

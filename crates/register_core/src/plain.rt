@@ -7,9 +7,10 @@ ghost use Rattle.register_core.specs.Fold.{history_after, history, answer_to, an
 
 use crate::reply::{Refusal, Reply};
 use crate::request::{Command, Request};
-use crate::verdict::judge;
+use crate::verdict::{given_dates, judge};
 use lifecycle_core::{Dates, state_of};
 use moment_core::Moment;
+use period_core::filled;
 use std::alloc::{AllocError, Global};
 
 /// The latest moment of a history.
@@ -77,19 +78,15 @@ fn dates_with(before: Dates, key: u32, made: u32, request: &Request) -> Dates
     }
     match request.command {
         Command::Register {
+            kind,
             activation,
             protect_stop,
             deactivation,
             ..
-        } => Dates {
-            initial: request.moment,
-            activation,
-            protect_stop,
-            deactivation,
-            destroy: None,
-            compromise: None,
-            compromise_occurrence: None,
-        },
+        } => {
+            let given = given_dates(request.moment, activation, protect_stop, deactivation);
+            filled(kind, given)
+        }
         Command::Advance => before,
     }
 }

@@ -2,6 +2,7 @@ ghost use Rattle.std.specs.Prelude.{◌≡◌};
 
 use lifecycle_core::State;
 use moment_core::Moment;
+use period_core::DateRefusal;
 
 /// What an accepted request is answered.
 #[derive(Clone, Copy, Debug, PartialEq, Eq)]
@@ -23,6 +24,10 @@ pub enum Refusal {
     MomentBehind { latest: Moment },
     /// 9: the dates are out of order.
     DateOrder,
+    /// 10: a usage period is longer than the key type's, with the limit that is passed.
+    PeriodTooLong { limit: Moment },
+    /// 11: a date that is not given would be past the last moment.
+    DateRange,
     /// 20: there are as many keys as the register takes.
     Full,
 }
@@ -38,6 +43,8 @@ impl Refusal {
             Refusal::BadLine => 1,
             Refusal::MomentBehind { .. } => 3,
             Refusal::DateOrder => 9,
+            Refusal::PeriodTooLong { .. } => 10,
+            Refusal::DateRange => 11,
             Refusal::Full => 20,
         }
     }
@@ -50,7 +57,24 @@ impl Refusal {
             Refusal::BadLine => "BadLine",
             Refusal::MomentBehind { .. } => "MomentBehind",
             Refusal::DateOrder => "DateOrder",
+            Refusal::PeriodTooLong { .. } => "PeriodTooLong",
+            Refusal::DateRange => "DateRange",
             Refusal::Full => "Full",
+        }
+    }
+}
+
+impl From<DateRefusal> for Refusal {
+    ghost use Rattle.std.specs.Prelude.{◌≡◌};
+    ghost use Rattle.register_core.specs.Verdict.{refusal_of_dates};
+
+    ghost from_gives = { λ dates refusal. refusal ≡ refusal_of_dates dates };
+
+    fn from(dates: DateRefusal) -> Refusal {
+        match dates {
+            DateRefusal::DateOrder => Refusal::DateOrder,
+            DateRefusal::PeriodTooLong { limit } => Refusal::PeriodTooLong { limit },
+            DateRefusal::DateRange => Refusal::DateRange,
         }
     }
 }

@@ -1,8 +1,8 @@
-use crate::key_type::KeyType;
 use crate::name::Name;
 use crate::number::RequestNumber;
 use crate::purpose::Purpose;
 use moment_core::Moment;
+use period_core::KeyType;
 
 /// What a request asks for.
 #[derive(Clone, Copy, Debug, PartialEq, Eq)]

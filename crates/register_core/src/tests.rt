@@ -2,31 +2,8 @@
 use super::*;
 use lifecycle_core::State;
 use moment_core::Moment;
+use period_core::KeyType;
 use std::test::Fail;
-
-#[test]
-fn key_types_by_text(rt: HostRuntime) {
-    let texts = [
-        "data-encryption",
-        "authentication",
-        "key-wrapping",
-        "private-signature",
-        "private-authentication",
-        "private-transport",
-        "master",
-    ];
-    for (text, kind) in texts.iter().zip(KeyType::ALL.iter()) {
-        assert_eq!(rt; KeyType::from_text(text.as_bytes()), Some(*kind));
-    }
-    assert_eq!(rt; KeyType::from_text(b"Master"), None);
-}
-
-#[test]
-fn key_type_is_printed(rt: HostRuntime) -> Result<(), Fail> {
-    let text = format!(in rt.alloc(); "{}", KeyType::KeyWrapping)?;
-    assert_eq!(rt; text.as_str(), "key-wrapping");
-    Ok(())
-}
 
 #[test]
 fn names_and_purposes_are_printed(rt: HostRuntime) -> Result<(), Fail> {
@@ -58,6 +35,7 @@ fn full_request(rt: HostRuntime) -> Result<(), Fail> {
     assert!(rt; read_request(line) == Some(expected));
     assert!(rt; read_request(b"100 alice 8 advance").is_some());
     assert!(rt; read_request(b"0100 alice 8 advance").is_none());
+    assert!(rt; read_request(b"100 alice 8 register master bob - 20 - x").is_some());
     Ok(())
 }
 
@@ -87,7 +65,48 @@ fn refusals(rt: HostRuntime) -> Result<(), Fail> {
     assert_eq!(rt; bad.as_str(), "refused 1 BadLine\n");
     let order = reply_line(&Err(Refusal::DateOrder));
     assert_eq!(rt; order.as_bytes(), b"refused 9 DateOrder\n".as_slice());
+    let limit = Moment::new(63072000).ok_or("a moment")?;
+    let long = reply_line(&Err(Refusal::PeriodTooLong { limit }));
+    assert_eq!(rt; long.as_str(), "refused 10 PeriodTooLong limit=63072000\n");
+    let range = reply_line(&Err(Refusal::DateRange));
+    assert_eq!(rt; range.as_str(), "refused 11 DateRange\n");
     let full = reply_line(&Err(Refusal::Full));
     assert_eq!(rt; full.as_str(), "refused 20 Full\n");
+    Ok(())
+}
+
+/// The dates that the specification gives the key of a registration line.
+#[test]
+fn dates_of_registrations(rt: HostRuntime) -> Result<(), Fail> {
+    let rows: [(&[u8], Option<u64>, Option<u64>); 5] = [
+        (
+            b"100 ann 1 register data-encryption bob 0 - - x",
+            Some(63072000),
+            Some(157766400),
+        ),
+        (
+            b"1709164800 ann 1 register private-signature eve 1709164800 - - x",
+            Some(1803772800),
+            Some(1803772800),
+        ),
+        (
+            b"100 ann 1 register master bob 50 - 50 x",
+            Some(50),
+            Some(50),
+        ),
+        (
+            b"300 ann 1 register data-encryption bob 500 - - x",
+            Some(63072500),
+            Some(157766900),
+        ),
+        (b"100 ann 1 register master bob - 10 - x", Some(10), None),
+    ];
+    for (line, protect_stop, deactivation) in rows {
+        let request = read_request(line).ok_or("a request")?;
+        assert_eq!(rt; plain::verdict(&[], &request), None);
+        let dates = plain::dates(&[request], 1);
+        assert_eq!(rt; dates.protect_stop.map(|date| date.seconds()), protect_stop);
+        assert_eq!(rt; dates.deactivation.map(|date| date.seconds()), deactivation);
+    }
     Ok(())
 }

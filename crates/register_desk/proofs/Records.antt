@@ -1,5 +1,5 @@
 -- Moving the records of a list on, one after the other.
-use Rattle.std.proofs.Common.{Bool, true, false, cond, Option, None, Some, ◌≡◌, ℕ, zero, suc, ◌+◌, ◌<◌, ◌≤◌, List, [], ◌∷◌, ◌++◌, length, get_or, take, drop, set, map, refl, sym, ap, subst, ◌∙◌, arith}
+use Rattle.std.proofs.Common.{nat_le, Bool, true, false, cond, Option, None, Some, ◌≡◌, ℕ, zero, suc, ◌+◌, ◌<◌, ◌≤◌, List, [], ◌∷◌, ◌++◌, length, get_or, take, drop, set, map, refl, sym, ap, subst, ◌∙◌, arith}
 use Rattle.std.specs.Prelude.{nat_lt}
 use Rattle.std.specs.List.{AllByRecursion}
 use Rattle.std.proofs.lemmas.Bool.{ltb-false, leb-false}
@@ -8,8 +8,9 @@ use Rattle.register_core.specs.declared.limits.TheConstants.{KEY_LIMIT}
 use Rattle.register_core.specs.declared.request.Request.{Request}
 use Rattle.register_core.specs.declared.request.Command.{Command}
 use Rattle.register_core.specs.declared.request.Command.TheVariants.{Register as Registers, Advance}
-use Rattle.register_core.specs.declared.reply.Refusal.TheVariants.{MomentBehind, DateOrder, Full}
-use Rattle.register_core.specs.Verdict.{judge, breaks_order, passes_limit}
+use Rattle.register_core.specs.declared.reply.Refusal.{Refusal}
+use Rattle.register_core.specs.declared.reply.Refusal.TheVariants.{MomentBehind, Full}
+use Rattle.register_core.specs.Verdict.{judge, behind, unfit, too_many, key_limit, first_that_holds}
 use Rattle.std.proofs.lemmas.List.Edits.{map_over_more}
 use Rattle.lifecycle_core.specs.declared.dates.Dates.{Dates}
 use Rattle.lifecycle_core.specs.declared.row.Row.{Row}
@@ -56,18 +57,22 @@ one_moved t xs ys i x r lt so_far is same right =
 -- the tests that an accepted request passed
 record Passed (last keys : ℕ) (q : Request) : Type 0 where
   moment : last ≤ q.moment
-  room : passes_limit keys q.command ≡ false
+  room : too_many keys q.command ≡ None
 
-chosen : {A : Type 0} (b : Bool) (x : A) (rest : Option A) → cond b (Some x) rest ≡ None → (b ≡ false) × (rest ≡ None)
-chosen true x rest e = absurd cc
-chosen false x rest e = (refl, e)
+none_first : (o : Option Refusal) (others : List (Option Refusal)) → first_that_holds (o ∷ others) ≡ None → (o ≡ None) × (first_that_holds others ≡ None)
+none_first None others e = (refl, e)
+none_first (Some refusal) others e = absurd cc
+
+unless : (b : Bool) (refusal : Refusal) → cond b (Some refusal) None ≡ None → b ≡ false
+unless true refusal e = absurd cc
+unless false refusal e = refl
 
 passed : (last keys : ℕ) (q : Request) → judge last keys q ≡ None → Passed last keys q
 passed last keys q accepted =
-    let first = chosen (nat_lt q.moment last) (MomentBehind last) _ accepted in
-    let second = chosen (breaks_order q.command) DateOrder _ first.1 in
-    let third = chosen (passes_limit keys q.command) Full _ second.1 in
-    record { moment = ltb-false q.moment last first.0; room = third.0 }
+    let first = none_first (behind last q.moment) (unfit q.moment q.command ∷ too_many keys q.command ∷ []) accepted in
+    let second = none_first (unfit q.moment q.command) (too_many keys q.command ∷ []) first.1 in
+    let third = none_first (too_many keys q.command) [] second.1 in
+    record { moment = ltb-false q.moment last (unless (nat_lt q.moment last) (MomentBehind last) first.0); room = third.0 }
 
 -- what is right at an earlier moment is right by a later one
 right_by : (last t : ℕ) (records : List Record) → last ≤ t → AllByRecursion (λ (r : Record). IsRightAt r.row last) records → AllByRecursion (IsRightBy t) records
@@ -97,8 +102,8 @@ advanced_right : (t : ℕ) (records : List Record) → AllByRecursion (λ (r : R
 advanced_right t [] = tt
 advanced_right t (r ∷ rs) = (refl, advanced_right t rs)
 
-made_within : (keys t : ℕ) (c : Command) → passes_limit keys c ≡ false → keys ≤ KEY_LIMIT → keys + length (option_list (record_made t c)) ≤ KEY_LIMIT
-made_within keys t (Registers kind owner activation protect_stop deactivation purpose) room le = let below = leb-false KEY_LIMIT keys room in omega arith
+made_within : (keys t : ℕ) (c : Command) → too_many keys c ≡ None → keys ≤ KEY_LIMIT → keys + length (option_list (record_made t c)) ≤ KEY_LIMIT
+made_within keys t (Registers kind owner activation protect_stop deactivation purpose) room le = let below = leb-false key_limit keys (unless (nat_le key_limit keys) Full room) in omega arith
 made_within keys t Advance room le = omega arith
 
 -- after an accepted request what is kept is sound again

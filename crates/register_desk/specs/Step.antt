@@ -9,7 +9,8 @@ use Rattle.register_core.specs.declared.request.Command.{Command}
 use Rattle.register_core.specs.declared.request.Command.TheVariants.{Register as Registers, Advance}
 use Rattle.register_core.specs.declared.reply.Reply.{Reply}
 use Rattle.register_core.specs.declared.reply.Refusal.{Refusal}
-use Rattle.register_core.specs.History.{no_dates}
+use Rattle.register_core.specs.History.{given_dates}
+use Rattle.period_core.specs.Fitting.{filled}
 use Rattle.register_core.specs.Verdict.{judge, answer_by}
 use Rattle.register_desk.specs.declared.record.Record.{Record}
 use Rattle.register_desk.specs.Register.{Register}
@@ -20,7 +21,7 @@ register moment records = record { latest = moment; records = records }
 -- the record of a key that this command makes at t
 abbrev pub record_made : ℕ → Command → Option Record
 record_made t (Registers kind owner activation protect_stop deactivation purpose) =
-    let dates = record no_dates { initial = t; activation = activation; protect_stop = protect_stop; deactivation = deactivation } in
+    let dates = filled kind (given_dates t activation protect_stop deactivation) in
     Some (record { kind = kind; owner = owner; purpose = purpose; row = record { dates = dates; state = state_at dates t } })
 record_made t Advance = None
 

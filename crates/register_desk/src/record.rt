@@ -1,10 +1,6 @@
-ghost use Rattle.std.specs.Prelude.{◌≡◌, ◌-◌, ℕ, map};
-ghost use Rattle.std.specs.List.{AllByRecursion};
-ghost use Rattle.std.specs.Option.{IfSome};
-
-use lifecycle_core::{Dates, Row, State, advance, state_of};
-use moment_core::Moment;
-use register_core::{Command, KeyType, Name, Purpose, Request};
+use lifecycle_core::Row;
+use period_core::KeyType;
+use register_core::{Name, Purpose};
 
 /// What the desk keeps of a key. The key's number is the record's place, from 1.
 #[derive(Clone, Copy)]

@@ -9,9 +9,10 @@ ghost use Rattle.register_desk.specs.Step.{register, record_made, option_list, r
 use crate::desk::Answer;
 use crate::end::End;
 use crate::record::Record;
-use lifecycle_core::{Dates, Row, advance, state_of};
+use lifecycle_core::{Row, advance, state_of};
 use moment_core::Moment;
-use register_core::{Command, Reply, Request, judge};
+use period_core::filled;
+use register_core::{Command, Reply, Request, given_dates, judge};
 
 /// The record of the key that the command makes at the moment, if it makes one.
 fn record_of(at: Moment, command: &Command) -> Option<Record>
@@ -26,15 +27,8 @@ fn record_of(at: Moment, command: &Command) -> Option<Record>
             deactivation,
             purpose,
         } => {
-            let dates = Dates {
-                initial: at,
-                activation,
-                protect_stop,
-                deactivation,
-                destroy: None,
-                compromise: None,
-                compromise_occurrence: None,
-            };
+            let given = given_dates(at, activation, protect_stop, deactivation);
+            let dates = filled(kind, given);
             let state = state_of(&dates, at);
             Some(Record {
                 kind,

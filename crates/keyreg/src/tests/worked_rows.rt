@@ -54,13 +54,103 @@ const DATES_OUT_OF_ORDER: WorkedRow = WorkedRow {
     rest: 0,
 };
 
+const DEFAULTS: WorkedRow = WorkedRow {
+    name: "defaults",
+    input: "100 ann 1 register data-encryption bob 0 - - payroll disks\n",
+    output: "ok 1 Active 100\n",
+    replies: 1,
+    rest: 0,
+};
+
+const LEAP_DAY: WorkedRow = WorkedRow {
+    name: "leap day",
+    input: "1709164800 ann 1 register private-signature eve 1709164800 - - code signing\n",
+    output: "ok 1 Active 1709164800\n",
+    replies: 1,
+    rest: 0,
+};
+
+const PERIOD_TOO_LONG: WorkedRow = WorkedRow {
+    name: "period too long",
+    input: "100 ann 1 register data-encryption bob 0 63072001 - x\n100 ann 2 register data-encryption bob 0 63072000 - x\n",
+    output: "refused 10 PeriodTooLong limit=63072000\nok 1 Active 100\n",
+    replies: 2,
+    rest: 0,
+};
+
+const STOP_AT_THE_END: WorkedRow = WorkedRow {
+    name: "protect stop at the deactivation",
+    input: "100 ann 1 register master bob 50 - 50 spare\n",
+    output: "ok 1 Deactivated 100\n",
+    replies: 1,
+    rest: 0,
+};
+
+const PAST_THE_RANGE: WorkedRow = WorkedRow {
+    name: "past the range",
+    input: "253402300799 ann 1 register data-encryption bob 253402300799 - - x\n253402300799 ann 2 register data-encryption bob 253402300799 253402300799 253402300799 x\n",
+    output: "refused 11 DateRange\nok 1 Deactivated 253402300799\n",
+    replies: 2,
+    rest: 0,
+};
+
+const ORDER_FIRST: WorkedRow = WorkedRow {
+    name: "order before period",
+    input: "100 ann 1 register master bob 0 40000000 30000000 x\n",
+    output: "refused 9 DateOrder\n",
+    replies: 1,
+    rest: 0,
+};
+
+const ORIGINATORS_LIMIT: WorkedRow = WorkedRow {
+    name: "originator's limit",
+    input: "100 ann 1 register master bob 0 40000000 - x\n",
+    output: "refused 10 PeriodTooLong limit=31536000\n",
+    replies: 1,
+    rest: 0,
+};
+
+const RECIPIENTS_LIMIT: WorkedRow = WorkedRow {
+    name: "recipient's limit",
+    input: "100 ann 1 register data-encryption bob 0 - 157766401 x\n",
+    output: "refused 10 PeriodTooLong limit=157766400\n",
+    replies: 1,
+    rest: 0,
+};
+
+const WITHOUT_ACTIVATION: WorkedRow = WorkedRow {
+    name: "recipient's limit without activation",
+    input: "100 ann 1 register master bob - 10 11 x\n",
+    output: "refused 10 PeriodTooLong limit=10\n",
+    replies: 1,
+    rest: 0,
+};
+
+const STOP_ALONE: WorkedRow = WorkedRow {
+    name: "protect stop alone",
+    input: "100 ann 1 register master bob - 10 - x\n",
+    output: "ok 1 Pre-Active 100\n",
+    replies: 1,
+    rest: 0,
+};
+
 /// Each worked row.
-pub const WORKED_ROWS: [WorkedRow; 5] = [
+pub const WORKED_ROWS: [WorkedRow; 15] = [
     FIRST_DAY,
     NOTHING,
     NOT_A_REQUEST,
     TWO_SPACES,
     DATES_OUT_OF_ORDER,
+    DEFAULTS,
+    LEAP_DAY,
+    PERIOD_TOO_LONG,
+    STOP_AT_THE_END,
+    PAST_THE_RANGE,
+    ORDER_FIRST,
+    ORIGINATORS_LIMIT,
+    RECIPIENTS_LIMIT,
+    WITHOUT_ACTIVATION,
+    STOP_ALONE,
 ];
 
 /// How many lines of the bytes are whole.

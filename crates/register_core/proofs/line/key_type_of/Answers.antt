@@ -1,6 +1,6 @@
 use Rattle.std.proofs.Common.{◌≡◌, ◌≢◌, List, Option, Some, None, IfSome, IfNone, ℕ}
-use Rattle.register_core.specs.declared.key_type.KeyType.{KeyType}
-use Rattle.register_core.specs.KeyType.{key_type_text}
+use Rattle.period_core.specs.declared.key_type.KeyType.{KeyType}
+use Rattle.period_core.specs.KeyType.{key_type_text}
 use Rattle.register_core.specs.Reading.{key_type_at}
 use Rattle.register_core.proofs.Fields.{is_read}
 use Rattle.register_core.proofs.Readers.{key_type_reader}

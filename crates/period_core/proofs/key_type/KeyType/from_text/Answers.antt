@@ -1,9 +1,9 @@
 use Rattle.std.proofs.Common.{◌≢◌, List, [], ◌∷◌, arith}
 use Rattle.std.specs.Prelude.{All, IfNone, Option, Some, None}
-use Rattle.register_core.specs.declared.key_type.KeyType.{KeyType}
-use Rattle.register_core.specs.declared.key_type.KeyType.TheVariants.{DataEncryption, Authentication, KeyWrapping, PrivateSignature, PrivateAuthentication, PrivateTransport, Master}
-use Rattle.register_core.specs.KeyType.{key_type_text}
-use Rattle.register_core.proofs.key_type.KeyType.from_text.Goals as goal
+use Rattle.period_core.specs.declared.key_type.KeyType.{KeyType}
+use Rattle.period_core.specs.declared.key_type.KeyType.TheVariants.{DataEncryption, Authentication, KeyWrapping, PrivateSignature, PrivateAuthentication, PrivateTransport, Master}
+use Rattle.period_core.specs.KeyType.{key_type_text}
+use Rattle.period_core.proofs.key_type.KeyType.from_text.Goals as goal
 
 abbrev types : List KeyType
 types = DataEncryption ∷ Authentication ∷ KeyWrapping ∷ PrivateSignature ∷ PrivateAuthentication ∷ PrivateTransport ∷ Master ∷ []

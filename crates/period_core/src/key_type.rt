@@ -15,9 +15,9 @@ pub enum KeyType {
 }
 
 impl KeyType {
-    ghost use Rattle.std.specs.Prelude.{◌≢◌, IfSome, IfNone, All};
-    ghost use Rattle.register_core.specs.declared.key_type.KeyType.{KeyType};
-    ghost use Rattle.register_core.specs.KeyType.{key_type_text};
+    ghost use Rattle.std.specs.Prelude.{◌≢◌, ◌<◌, ◌⊎◌, IfSome, IfNone, All};
+    ghost use Rattle.period_core.specs.declared.key_type.KeyType.{KeyType};
+    ghost use Rattle.period_core.specs.KeyType.{key_type_text, key_type_code};
 
     /// Each type once.
     pub const ALL: [KeyType; 7] = [
@@ -53,6 +53,38 @@ impl KeyType {
         KeyType::first_with_text(&KeyType::ALL, bytes)
     }
 
+    /// The type's code, from 1 to 7.
+    pub fn code(self) -> u8
+        ensures { result ≡ key_type_code self }
+    {
+        match self {
+            KeyType::DataEncryption => 1,
+            KeyType::Authentication => 2,
+            KeyType::KeyWrapping => 3,
+            KeyType::PrivateSignature => 4,
+            KeyType::PrivateAuthentication => 5,
+            KeyType::PrivateTransport => 6,
+            KeyType::Master => 7,
+        }
+    }
+
+    /// The type with this code, or `None` below 1 and above 7.
+    pub fn from_code(code: u8) -> Option<Self>
+        ensures found { IfSome result (λ k. key_type_code k ≡ code) }
+        ensures none { IfNone result ((code < 1) ⊎ (7 < code)) }
+    {
+        match code {
+            1 => Some(KeyType::DataEncryption),
+            2 => Some(KeyType::Authentication),
+            3 => Some(KeyType::KeyWrapping),
+            4 => Some(KeyType::PrivateSignature),
+            5 => Some(KeyType::PrivateAuthentication),
+            6 => Some(KeyType::PrivateTransport),
+            7 => Some(KeyType::Master),
+            _ => None,
+        }
+    }
+
     /// The first of these types that has this text.
     fn first_with_text(types: &[KeyType], bytes: &[u8]) -> Option<Self>
         ensures found { IfSome result (λ k. bytes.now ≡ key_type_text k) }
@@ -67,7 +99,7 @@ impl KeyType {
 
 impl fmt::Display for KeyType {
     ghost use Rattle.std.specs.Prelude.{Some};
-    ghost use Rattle.register_core.specs.KeyType.{key_type_text};
+    ghost use Rattle.period_core.specs.KeyType.{key_type_text};
 
     ghost output = { λ k. Some (key_type_text k) };
 

@@ -1,0 +1,3 @@
+pub mod Civils
+pub mod Dates
+pub mod Texts

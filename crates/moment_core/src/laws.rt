@@ -1,0 +1,15 @@
+//! Laws of the calendar and of the texts of moments.
+ghost use Rattle.std.specs.Prelude.{◌≡◌, ℕ};
+ghost use Rattle.moment_core.specs.Calendar.{civil, day_number};
+ghost use Rattle.moment_core.specs.Moment.{IsMoment};
+ghost use Rattle.moment_core.specs.Text.{moment_text};
+
+/// Moments with one text are one moment, so that what is written is read again.
+pub fn one_text()
+    ensures { (m n : ℕ) → IsMoment m → IsMoment n → moment_text m ≡ moment_text n → m ≡ n }
+{}
+
+/// The number of a day's date is the day.
+pub fn day_numbers()
+    ensures { (n : ℕ) → day_number (civil n) ≡ n }
+{}

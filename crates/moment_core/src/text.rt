@@ -1,0 +1,113 @@
+//! The text of a moment, as YYYY-MM-DDTHH:MM:SSZ.
+ghost use Rattle.std.specs.Prelude.{◌≡◌, ◌≢◌, ℕ, ◌+◌, ◌/◌, ◌%◌, ◌<◌, ◌++◌, Some, IfSome, IfNone};
+ghost use Rattle.moment_core.specs.Moment.{IsMoment};
+ghost use Rattle.moment_core.specs.Text.{two_digits, moment_text};
+ghost use Rattle.moment_core.specs.Parts.{date_text, time_text};
+
+use crate::calendar::{self, DAY_SECONDS};
+use crate::moment::Moment;
+
+/// The digit of a number's tens.
+fn tens(n: u32) -> u8
+    ensures { result ≡ 48 + n / 10 % 10 }
+{
+    b'0' + (n / 10 % 10) as u8
+}
+
+/// The digit of a number's ones.
+fn ones(n: u32) -> u8
+    ensures { result ≡ 48 + n % 10 }
+{
+    b'0' + (n % 10) as u8
+}
+
+/// The text of a date's year, month and day and a second of the day.
+fn text_of(year: u32, month: u32, day: u32, second: u32) -> [u8; 20]
+    ensures { result ≡ date_text year month day ++ time_text second }
+{
+    let (century, hour, minute) = (year / 100, second / 3600, second / 60 % 60);
+    let (year, second) = (year % 100, second % 60);
+    [
+        tens(century),
+        ones(century),
+        tens(year),
+        ones(year),
+        b'-',
+        tens(month),
+        ones(month),
+        b'-',
+        tens(day),
+        ones(day),
+        b'T',
+        tens(hour),
+        ones(hour),
+        b':',
+        tens(minute),
+        ones(minute),
+        b':',
+        tens(second),
+        ones(second),
+        b'Z',
+    ]
+}
+
+/// The number of two digits, or `None` where there are not two digits.
+fn number(digits: &[u8]) -> Option<u8>
+    ensures value { (n : ℕ) → n < 100 → digits.now ≡ two_digits n → result ≡ Some n }
+    ensures within { IfSome result (λ n. n < 100) }
+{
+    match digits {
+        [tens @ b'0'..=b'9', ones @ b'0'..=b'9'] => Some((*tens - b'0') * 10 + (*ones - b'0')),
+        _ => None,
+    }
+}
+
+/// The moment whose text this is, if it is a moment's. Of another text it is some moment, or `None`.
+fn candidate(text: &[u8]) -> Option<Moment>
+    ensures { (m : ℕ) → IsMoment m → text.now ≡ moment_text m → result ≡ Some m }
+{
+    if text.len() != 20 {
+        return None;
+    }
+    let year = u32::from(number(&text[0..2])?) * 100 + u32::from(number(&text[2..4])?);
+    let day = calendar::day_of(year, number(&text[5..7])?, number(&text[8..10])?)?;
+    let (hour, minute, second) = (
+        number(&text[11..13])?,
+        number(&text[14..16])?,
+        number(&text[17..19])?,
+    );
+    Moment::new(
+        day * DAY_SECONDS + u64::from(hour) * 3600 + u64::from(minute) * 60 + u64::from(second),
+    )
+}
+
+impl Moment {
+    /// The moment whose text is `text`, or `None` where no moment has this text: [`Moment::write`] says which form a text
+    /// has, and each part has to be in its range, as a day that its month has, an hour below 24 or a year from 1970 on.
+    pub fn read(text: &[u8]) -> Option<Moment>
+        ensures found { IfSome result (λ m. text.now ≡ moment_text m) }
+        ensures none { IfNone result ((m : ℕ) → IsMoment m → text.now ≢ moment_text m) }
+    {
+        let moment = candidate(text)?;
+        if &moment.write()[..] == text {
+            Some(moment)
+        } else {
+            None
+        }
+    }
+
+    /// The moment's text in UTC, as `1970-01-01T00:00:00Z`: 4 digits of the year, then 2 digits of each other part.
+    pub fn write(self) -> [u8; 20]
+        ensures { result ≡ moment_text self }
+    {
+        let seconds = self.seconds();
+        let date = calendar::date_of(seconds / DAY_SECONDS);
+        let (month, day) = (u32::from(date.month), u32::from(date.day));
+        text_of(
+            calendar::year_of(&date),
+            month,
+            day,
+            (seconds % DAY_SECONDS) as u32,
+        )
+    }
+}

@@ -1,0 +1,9 @@
+use Rattle.std.proofs.Common.{sym, subst}
+use Rattle.lifecycle_core.specs.declared.dates.Dates.{Dates}
+use Rattle.period_core.specs.Fitting.{KeepsGiven}
+use Rattle.period_core.proofs.Keeping.{filled_keeps}
+use Rattle.period_core.proofs.filling.fill.Goals as goal
+
+pub returns-clause-keeps : goal.returns-clause-keeps
+returns-clause-keeps c =
+    subst (λ (new : Dates). KeepsGiven c.args.dates.now new) (sym c.filled-full.ensures) (filled_keeps c.args.kind c.args.dates.now)

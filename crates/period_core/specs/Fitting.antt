@@ -1,0 +1,137 @@
+-- Which dates fit a type of key, and what Fill and Trim make of dates. All of it is this register's own.
+use Rattle.std.specs.Prelude.{◌≡◌, ℕ, nat_lt, nat_le, min, Bool, true, ◌&&◌, ◌||◌, List, [], ◌∷◌, Option, None, Some, is_some, is_none, Result, Ok, Err, IsTrue, if◌then◌else◌}
+use Rattle.lifecycle_core.specs.declared.dates.Dates.{Dates}
+use Rattle.moment_core.specs.Calendar.{months_after}
+use Rattle.period_core.specs.declared.key_type.KeyType.{KeyType}
+use Rattle.period_core.specs.declared.filling.DateRefusal.{DateRefusal}
+use Rattle.period_core.specs.declared.filling.DateRefusal.TheVariants.{DateOrder, PeriodTooLong, DateRange}
+use Rattle.period_core.specs.Period.{periods}
+
+-- the first date is not after the second, where both are set
+abbrev pub in_order : Option ℕ → Option ℕ → Bool
+in_order (Some first) (Some second) = nat_le first second
+in_order (Some first) None = true
+in_order None second = true
+
+-- so many months after a date, where the date is set and the sum is a moment
+abbrev pub months_on_date : Option ℕ → ℕ → Option ℕ
+months_on_date None months = None
+months_on_date (Some date) months = months_after date months
+
+-- the last moment of originator use, and of recipient use, by the months of the type
+abbrev pub originator_limit : KeyType → Dates → Option ℕ
+originator_limit kind d = months_on_date d.activation (periods kind).originator
+
+abbrev pub recipient_limit : KeyType → Dates → Option ℕ
+recipient_limit kind d = months_on_date d.protect_stop (periods kind).recipient
+
+-- Activation, Protect Stop and Deactivation are in this order
+abbrev pub are_in_order : Dates → Bool
+are_in_order d = in_order d.activation d.protect_stop && in_order d.protect_stop d.deactivation && in_order d.activation d.deactivation
+
+-- dates fit a type: they are in order, and neither usage period is longer than the type's. A limit past the range limits nothing
+pub record Fits (kind : KeyType) (d : Dates) : Type 0 where
+  pub order : IsTrue (are_in_order d)
+  pub originator : IsTrue (in_order d.protect_stop (originator_limit kind d))
+  pub recipient : IsTrue (in_order d.deactivation (recipient_limit kind d))
+
+-- ---- defaults
+
+-- the earlier of two dates; one that has no value counts as later than every moment
+abbrev pub earlier : Option ℕ → Option ℕ → Option ℕ
+earlier None second = second
+earlier (Some first) None = Some first
+earlier (Some first) (Some second) = Some (min first second)
+
+-- step 1: Protect Stop, where Activation is set and it is not
+abbrev pub with_protect_stop : KeyType → Dates → Dates
+with_protect_stop kind d =
+    if is_some d.activation && is_none d.protect_stop then record d { protect_stop = earlier (originator_limit kind d) d.deactivation } else d
+
+-- step 2: Deactivation, where Activation is set and it is not
+abbrev pub with_deactivation : KeyType → Dates → Dates
+with_deactivation kind d =
+    if is_some d.activation && is_none d.deactivation then record d { deactivation = recipient_limit kind d } else d
+
+-- the date, but no later than the limit
+abbrev pub cut : Option ℕ → Option ℕ → Option ℕ
+cut None limit = None
+cut (Some date) None = Some date
+cut (Some date) (Some limit) = Some (min date limit)
+
+abbrev pub filled : KeyType → Dates → Dates
+filled kind d = with_deactivation kind (with_protect_stop kind d)
+
+-- the dates of an activation: each step's date cut to its limit
+abbrev pub trimmed : KeyType → Dates → Dates
+trimmed kind d =
+    let first = with_protect_stop kind d in
+    let stopped = record first { protect_stop = cut first.protect_stop (originator_limit kind first) } in
+    let second = with_deactivation kind stopped in
+    record second { deactivation = cut second.deactivation (recipient_limit kind second) }
+
+-- ---- refusals
+
+-- a date past its limit, with the limit
+abbrev pub over_limit : Option ℕ → Option ℕ → Option DateRefusal
+over_limit (Some date) (Some limit) = if nat_lt limit date then Some (PeriodTooLong limit) else None
+over_limit (Some date) None = None
+over_limit None limit = None
+
+abbrev pub out_of_order : Dates → Option DateRefusal
+out_of_order d = if are_in_order d then None else Some DateOrder
+
+-- a default was past the range, and its date is still unset
+abbrev pub out_of_range : Dates → Option DateRefusal
+out_of_range d = if is_some d.activation && (is_none d.protect_stop || is_none d.deactivation) then Some DateRange else None
+
+abbrev pub first_refusal : List (Option DateRefusal) → Option DateRefusal
+first_refusal [] = None
+first_refusal (None ∷ others) = first_refusal others
+first_refusal (Some refusal ∷ others) = Some refusal
+
+-- the dates, unless a refusal holds of them
+abbrev pub unless_refused : Option DateRefusal → Dates → Result Dates DateRefusal
+unless_refused None d = Ok d
+unless_refused (Some refusal) d = Err refusal
+
+-- Fill: the first that holds of the dates with their defaults refuses them
+abbrev pub fill_of : KeyType → Dates → Result Dates DateRefusal
+fill_of kind d =
+    let full = filled kind d in
+    unless_refused (first_refusal (
+    out_of_order full
+    ∷ over_limit full.protect_stop (originator_limit kind full)
+    ∷ over_limit full.deactivation (recipient_limit kind full)
+    ∷ out_of_range full
+    ∷ [])) full
+
+-- Trim: no period is too long after it, so it refuses for the order and the range alone
+abbrev pub trim_of : KeyType → Dates → Result Dates DateRefusal
+trim_of kind d =
+    let full = trimmed kind d in
+    unless_refused (first_refusal (out_of_order full ∷ out_of_range full ∷ [])) full
+
+-- ---- what they owe
+
+-- a date that was set stays as it was
+abbrev pub KeepsDate : Option ℕ → Option ℕ → Type 0
+KeepsDate None new = Unit {0}
+KeepsDate (Some date) new = new ≡ Some date
+
+-- what was given is kept, and the other dates are as they were
+pub record KeepsGiven (old new : Dates) : Type 0 where
+  pub activation : new.activation ≡ old.activation
+  pub protect_stop : KeepsDate old.protect_stop new.protect_stop
+  pub deactivation : KeepsDate old.deactivation new.deactivation
+  pub initial : new.initial ≡ old.initial
+  pub destroy : new.destroy ≡ old.destroy
+  pub compromise : new.compromise ≡ old.compromise
+  pub compromise_occurrence : new.compromise_occurrence ≡ old.compromise_occurrence
+
+-- what a call answered and left is this outcome: at a refusal the dates are as they were
+abbrev pub Gives : Result Dates DateRefusal → Result (Unit {0}) DateRefusal → Dates → Dates → Type 0
+Gives (Ok dates) (Ok done) old new = new ≡ dates
+Gives (Ok dates) (Err refusal) old new = ⊥
+Gives (Err refusal) (Ok done) old new = ⊥
+Gives (Err refusal) (Err given) old new = (given ≡ refusal) × (new ≡ old)

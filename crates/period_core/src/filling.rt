@@ -1,0 +1,104 @@
+ghost use Rattle.std.specs.Prelude.{◌≡◌, ◌≢◌, ℕ, IsSome, IfErr, OnOk};
+ghost use Rattle.period_core.specs.Fitting.{out_of_order, over_limit, out_of_range, fill_of, trim_of, Fits, KeepsGiven, Gives};
+
+use crate::dates::{are_in_order, filled, originator_limit, recipient_limit, trimmed};
+use crate::key_type::KeyType;
+use lifecycle_core::Dates;
+use moment_core::Moment;
+
+/// Why dates are refused.
+#[derive(Clone, Copy, Debug, PartialEq, Eq)]
+pub enum DateRefusal {
+    /// Activation is after Protect Stop, Protect Stop after Deactivation, or Activation after Deactivation.
+    DateOrder,
+    /// A usage period is longer than the type's: the originator's first, with the limit that is passed.
+    PeriodTooLong { limit: Moment },
+    /// A date that is not given would be past the last moment.
+    DateRange,
+}
+
+fn out_of_order(dates: &Dates) -> Option<DateRefusal>
+    ensures { result ≡ out_of_order dates.now }
+{
+    if are_in_order(dates) {
+        None
+    } else {
+        Some(DateRefusal::DateOrder)
+    }
+}
+
+fn over_limit(date: Option<Moment>, limit: Option<Moment>) -> Option<DateRefusal>
+    ensures { result ≡ over_limit date limit }
+{
+    match (date, limit) {
+        (Some(date), Some(limit)) => {
+            if limit < date {
+                Some(DateRefusal::PeriodTooLong { limit })
+            } else {
+                None
+            }
+        }
+        _ => None,
+    }
+}
+
+fn out_of_range(dates: &Dates) -> Option<DateRefusal>
+    ensures { result ≡ out_of_range dates.now }
+{
+    if dates.activation.is_some()
+        && (dates.protect_stop.is_none() || dates.deactivation.is_none())
+    {
+        Some(DateRefusal::DateRange)
+    } else {
+        None
+    }
+}
+
+/// Fill: gives Protect Stop and Deactivation their defaults where Activation is set and they are not. A Protect Stop
+/// becomes Activation plus the originator months, or the Deactivation if that is earlier; a Deactivation becomes
+/// Protect Stop plus the recipient months.
+///
+/// # Errors
+/// The first that holds of the dates with their defaults, which leaves them as they were.
+pub fn fill(kind: KeyType, dates: &mut Dates) -> Result<(), DateRefusal>
+    ensures gives { Gives (fill_of kind dates.old) result dates.old dates.new }
+    ensures fits { OnOk result (Fits kind dates.new) }
+    ensures keeps { OnOk result (KeepsGiven dates.old dates.new) }
+{
+    let full = filled(kind, *dates);
+    if let Some(refusal) = out_of_order(&full) {
+        return Err(refusal);
+    }
+    if let Some(refusal) = over_limit(full.protect_stop, originator_limit(kind, &full)) {
+        return Err(refusal);
+    }
+    if let Some(refusal) = over_limit(full.deactivation, recipient_limit(kind, &full)) {
+        return Err(refusal);
+    }
+    if let Some(refusal) = out_of_range(&full) {
+        return Err(refusal);
+    }
+    *dates = full;
+    Ok(())
+}
+
+/// Trim, for an activation: as [`fill`], but a date past its limit becomes the limit, so that no period is too long.
+///
+/// # Errors
+/// [`DateRefusal::DateOrder`] or [`DateRefusal::DateRange`], which leaves the dates as they were.
+pub fn trim(kind: KeyType, dates: &mut Dates) -> Result<(), DateRefusal>
+    requires { IsSome dates.old.activation }
+    ensures gives { Gives (trim_of kind dates.old) result dates.old dates.new }
+    ensures fits { OnOk result (Fits kind dates.new) }
+    ensures never_too_long { IfErr result (λ refusal. (limit : ℕ) → refusal ≢ DateRefusal.PeriodTooLong limit) }
+{
+    let full = trimmed(kind, *dates);
+    if let Some(refusal) = out_of_order(&full) {
+        return Err(refusal);
+    }
+    if let Some(refusal) = out_of_range(&full) {
+        return Err(refusal);
+    }
+    *dates = full;
+    Ok(())
+}
