@@ -1,12 +1,16 @@
 //! What the program does, over the streams that it is given.
-use register_desk::{Desk, End, Finish, Watched, run};
+use register_desk::{Desk, End, Finish, OpenRefusal, Watched, run};
+use sqlite::{Connection, MemStore};
 use std::alloc::Global;
 use std::io::{Read, Write};
 
 /// The exit status where there is any word.
 pub const USAGE: u8 = 1;
 
-/// The exit status after the end 30.
+/// The exit status where the register cannot be made.
+const UNOPENED: u8 = 2;
+
+/// The exit status after the ends 30, 31 and 32.
 const ENDED: u8 = 3;
 
 /// The exit status after the ends 35 and 36.
@@ -17,13 +21,32 @@ pub fn told(end: End, faults: &mut impl Write) -> u8 {
     // Nobody is left to be told of a fault in telling of one.
     let _ = writeln!(faults, "keyreg: {}", end.name());
     match end {
-        End::Memory => ENDED,
+        End::Memory | End::Store | End::Broken => ENDED,
         End::ReadFault | End::WriteFault => FAULTED,
     }
 }
 
+/// Names the refusal on `faults`, and gives its exit status.
+pub fn told_unopened(refusal: OpenRefusal, faults: &mut impl Write) -> u8 {
+    let _ = writeln!(faults, "keyreg: {}", refusal.name());
+    UNOPENED
+}
+
+/// A new register in memory.
+pub fn in_memory(alloc: Global) -> Result<Desk<MemStore>, OpenRefusal> {
+    let connection = match Connection::open_in_memory(alloc) {
+        Ok(connection) => connection,
+        Err(_) => return Err(OpenRefusal::Memory),
+    };
+    match Desk::create(alloc, connection) {
+        Ok(desk) => Ok(desk),
+        Err(unopened) => Err(unopened.refusal),
+    }
+}
+
 /// Runs over the request lines of `input`. Gives the exit status: 0 at the end of the input, 1 where there is any
-/// word, 3 for want of memory and 4 after a fault of a stream; for 3 and 4 it names the end on `faults`.
+/// word, 2 where the register could not be made, 3 after an end of the register and 4 after a fault of a stream; for
+/// 2 to 4 it names the cause on `faults`.
 pub fn act<R: Read + Drop, W: Write + Drop>(
     alloc: Global,
     words: usize,
@@ -34,9 +57,12 @@ pub fn act<R: Read + Drop, W: Write + Drop>(
     if words > 0 {
         return USAGE;
     }
+    let mut desk = match in_memory(alloc) {
+        Ok(desk) => desk,
+        Err(refusal) => return told_unopened(refusal, faults),
+    };
     let mut reader = Watched::new(input);
     let mut writer = Watched::new(output);
-    let mut desk = Desk::new(alloc);
     match run(&mut reader, &mut writer, &mut desk).end {
         Finish::AtEnd { .. } => 0,
         Finish::Ended(end) => told(end, faults),

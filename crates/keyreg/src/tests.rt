@@ -6,4 +6,5 @@ mod long_lines;
 mod memory_streams;
 mod rows;
 mod served;
+mod tables;
 mod worked_rows;

@@ -1,2 +1,5 @@
 pub mod State
 pub mod Row
+pub mod Reason
+pub mod Usage
+pub mod Transition

@@ -13,6 +13,15 @@ state_text Compromised = codes "Compromised"
 state_text Destroyed = codes "Destroyed"
 state_text DestroyedCompromised = codes "Destroyed-Compromised"
 
+-- the value of a state in KMIP 1.2: the State Enumeration of section 9.1.3.2
+abbrev pub state_code : State → ℕ
+state_code PreActive = 1
+state_code Active = 2
+state_code Deactivated = 3
+state_code Compromised = 4
+state_code Destroyed = 5
+state_code DestroyedCompromised = 6
+
 -- a date is reached at t where it is set and at most t
 abbrev pub is_reached_at : Option ℕ → ℕ → Bool
 is_reached_at None t = false

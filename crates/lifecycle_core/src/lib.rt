@@ -1,11 +1,22 @@
-//! The lifecycle of a key: its states, its dates, and the state that the dates give at a moment. The states,
-//! their transitions and the dates are those of the State attribute of OASIS KMIP 1.2, section 3.22.
+//! The lifecycle of a key: its states and the transitions between them, its dates, the state that the dates give at a
+//! moment, what the key may be used for then, and the reasons of a revocation. The states, their transitions and the
+//! dates are those of the State attribute of OASIS KMIP 1.2, section 3.22.
 #![tactic(auto)]
 
 mod dates;
+pub mod laws;
+mod reason;
 mod row;
 mod state;
+mod transition;
+mod usage;
 
 pub use dates::Dates;
+pub use reason::Reason;
 pub use row::{Row, advance, state_of};
 pub use state::State;
+pub use transition::may;
+pub use usage::{Process, Usage, usage_of};
+
+#[cfg(test)]
+mod tests;

@@ -1,5 +1,7 @@
-pub mod Grows
-pub mod Records
-pub mod LinesLemmas
 pub mod InputLemmas
+pub mod LinesLemmas
+pub mod Requests
+pub mod Grows
+pub mod Standing
+pub mod Beginnings
 pub mod ServingLemmas

@@ -6,25 +6,25 @@ use Rattle.std.specs.Io.KnownBytes.{Consumes, Appends, IsAtEnd, prepend_known}
 use Rattle.std.proofs.lemmas.List.{append-nil, length-append, take_at, take-append-drop, length-take}
 use Rattle.std.proofs.lemmas.List.Sums.{fold-append}
 use Rattle.std.proofs.lemmas.Grind.{flat_map-append}
+use Rattle.sqlite_trees.specs.declared.store.Store.{Ghosts}
+use Rattle.sqlite.specs.Held.{state}
 use Rattle.register_core.specs.declared.request.Request.{Request}
 use Rattle.register_core.specs.declared.reply.Reply.{Reply}
 use Rattle.register_core.specs.declared.reply.Refusal.{Refusal}
 use Rattle.register_core.specs.Request.{IsItem}
-use Rattle.register_core.specs.History.{made_by}
 use Rattle.register_core.specs.Verdict.{verdict}
 use Rattle.register_core.specs.Fold.{history, history_after, answers, answer_to}
 use Rattle.register_desk.specs.declared.lines.TheConstants.{LINE_FEED}
 use Rattle.register_desk.specs.declared.end.End.{End}
-use Rattle.register_desk.specs.declared.end.End.TheVariants.{Memory, ReadFault, WriteFault}
+use Rattle.register_desk.specs.declared.end.End.TheVariants.{Memory, Store, Broken, ReadFault, WriteFault}
 use Rattle.register_desk.specs.declared.runs.Finish.{Finish}
 use Rattle.register_desk.specs.declared.runs.Finish.TheVariants.{AtEnd, Ended}
+use Rattle.register_desk.specs.declared.desk.Desk.{Desk}
 use Rattle.register_desk.specs.Lines.{Cut, HasNoLineFeed, Takes}
 use Rattle.register_desk.specs.Input.{with_line_feeds, AreItems, HasItems}
-use Rattle.register_desk.specs.Register.{Register, StandsFor}
-use Rattle.register_desk.specs.Run.{answer_line, answer_lines, Answered, AnsweredInPart, NextMakesKey, RunsOver}
-use Rattle.register_desk.specs.Step.{judge_at}
-use Rattle.register_desk.specs.Serving.{item_answer, after_item, after_items, item_answers, Took, Served, IsNextLine, LeavesItem, ServesTo, ServedAll, Wrote, TookBytes}
-use Rattle.register_desk.proofs.Grows.{answer_stands, stands_after, verdict_stands}
+use Rattle.register_desk.specs.Register.{StandsFor, LeavesOneOf}
+use Rattle.register_desk.specs.Run.{answer_line, answer_lines, Answered, AnsweredInPart, RunsOver}
+use Rattle.register_desk.specs.Serving.{AnswersItem, ServesItem, LeavesItem, WritesInPart, Took, Served, IsNextLine, ServesTo, ServedAll, Wrote, TookBytes}
 use Rattle.register_desk.proofs.InputLemmas.{lines_begin, none_left, OneRequest, items_begin, no_more_items, are_items_more, all_more, with_line_feeds_more}
 
 -- ---- known bytes
@@ -51,73 +51,8 @@ appends_none (Some a) = sym (append-nil a)
 
 -- ---- one item more
 
-answers_more : (kept : Register) (items : List (Option Request)) (item : Option Request) → item_answers kept (items ++ item ∷ []) ≡ item_answers kept items ++ item_answer (after_items kept items) item ∷ []
-answers_more kept [] item = refl
-answers_more kept (i ∷ items) item = ap (λ l. item_answer kept i ∷ l) (answers_more (after_item kept i) items item)
-
-after_more : (kept : Register) (items : List (Option Request)) (item : Option Request) → after_items kept (items ++ item ∷ []) ≡ after_item (after_items kept items) item
-after_more kept items item = fold-append after_item kept items (item ∷ [])
-
 lines_more : (given : List (Result Reply Refusal)) (answer : Result Reply Refusal) → answer_lines (given ++ answer ∷ []) ≡ answer_lines given ++ answer_line answer
 lines_more given answer = flat_map-append answer_line given (answer ∷ []) ∙ ap (λ (l : List ℕ). answer_lines given ++ l) (append-nil (answer_line answer))
-
-item_lines_more : (kept : Register) (items : List (Option Request)) (item : Option Request) →
-    answer_lines (item_answers kept (items ++ item ∷ [])) ≡ answer_lines (item_answers kept items) ++ answer_line (item_answer (after_items kept items) item)
-item_lines_more kept items item = ap answer_lines (answers_more kept items item) ∙ lines_more (item_answers kept items) (item_answer (after_items kept items) item)
-
-took_more : (a b c : Option (List ℕ)) (lines : List (List ℕ)) (items : List (Option Request)) (line : List ℕ) (item : Option Request) →
-    Took a b lines items → HasNoLineFeed line → Consumes b c (line ++ LINE_FEED ∷ []) → IsItem line item → Took a c (lines ++ line ∷ []) (items ++ item ∷ [])
-took_more a b c lines items line item took unbroken consumed is = record {
-  unbroken = all_more HasNoLineFeed lines line took.unbroken unbroken;
-  each = are_items_more lines items line item took.each is;
-  consumed = subst (Consumes a c) (sym (with_line_feeds_more lines line)) (consumes_then a b c (with_line_feeds lines) (line ++ LINE_FEED ∷ []) took.consumed consumed);
-}
-
-pub served_none : (a w : Option (List ℕ)) (kept : Register) → Served a a w w kept kept 0
-served_none a w kept = record {
-  lines = [];
-  items = [];
-  took = record { unbroken = tt; each = tt; consumed = consumes_none a };
-  counted = refl;
-  written = appends_none w;
-  applied = refl;
-}
-
--- one line more: its item was answered by its whole line and applied
-pub served_more : (a b c v w x : Option (List ℕ)) (kept mid now : Register) (replies : ℕ) (line : List ℕ) (item : Option Request) →
-    Served a b v w kept mid replies → HasNoLineFeed line → Consumes b c (line ++ LINE_FEED ∷ []) → IsItem line item →
-    Appends w x (answer_line (item_answer mid item)) → now ≡ after_item mid item → Served a c v x kept now (replies + 1)
-served_more a b c v w x kept mid now replies line item served unbroken consumed is written applied =
-    let answer-is : answer_line (item_answer mid item) ≡ answer_line (item_answer (after_items kept served.items) item) = ap (λ (k : Register). answer_line (item_answer k item)) served.applied in
-    record {
-      lines = served.lines ++ line ∷ [];
-      items = served.items ++ item ∷ [];
-      took = took_more a b c served.lines served.items line item served.took unbroken consumed is;
-      counted = length-append served.items (item ∷ []) ∙ ap (λ (n : ℕ). n + 1) served.counted;
-      written = subst (Appends v x) (sym (item_lines_more kept served.items item))
-          (appends_then v w x (answer_lines (item_answers kept served.items)) _ served.written (subst (Appends w x) answer-is written));
-      applied = applied ∙ ap (λ (k : Register). after_item k item) served.applied ∙ sym (after_more kept served.items item);
-    }
-
--- ---- what the history says of the items
-
-pub item_stands : (kept : Register) (h : List Request) (item : Option Request) → StandsFor kept h → StandsFor (after_item kept item) (history_after h item)
-item_stands kept h None stands = stands
-item_stands kept h (Some q) stands = stands_after kept h q stands
-
-pub items_stand : (kept : Register) (h : List Request) (items : List (Option Request)) → StandsFor kept h → StandsFor (after_items kept items) (history h items)
-items_stand kept h [] stands = stands
-items_stand kept h (item ∷ items) stands = items_stand (after_item kept item) (history_after h item) items (item_stands kept h item stands)
-
-item_answer_stands : (kept : Register) (h : List Request) (item : Option Request) → StandsFor kept h → item_answer kept item ≡ answer_to h item
-item_answer_stands kept h None stands = refl
-item_answer_stands kept h (Some q) stands = answer_stands kept h q stands
-
-pub answers_stand : (kept : Register) (h : List Request) (items : List (Option Request)) → StandsFor kept h → item_answers kept items ≡ answers h items
-answers_stand kept h [] stands = refl
-answers_stand kept h (item ∷ items) stands =
-    ap (λ a. a ∷ item_answers (after_item kept item) items) (item_answer_stands kept h item stands)
-    ∙ ap (λ l. answer_to h item ∷ l) (answers_stand (after_item kept item) (history_after h item) items (item_stands kept h item stands))
 
 answers-append : (h : List Request) (items more : List (Option Request)) → answers h (items ++ more) ≡ answers h items ++ answers (history h items) more
 answers-append h [] more = refl
@@ -133,6 +68,55 @@ first_items all items more n parts counted = ap (take n) parts ∙ take_at items
 first_answers : (h : List Request) (all items more : List (Option Request)) (n : ℕ) → all ≡ items ++ more → length items ≡ n → take n (answers h all) ≡ answers h items
 first_answers h all items more n parts counted =
     ap (λ is. take n (answers h is)) parts ∙ ap (take n) (answers-append h items more) ∙ take_at (answers h items) (answers (history h items) more) n (length-answers h items ∙ counted)
+
+answer_lines_more : (h : List Request) (items : List (Option Request)) (item : Option Request) →
+    answer_lines (answers h (items ++ item ∷ [])) ≡ answer_lines (answers h items) ++ answer_line (answer_to (history h items) item)
+answer_lines_more h items item = ap answer_lines (answers-append h items (item ∷ [])) ∙ lines_more (answers h items) (answer_to (history h items) item)
+
+history_more : (h : List Request) (items : List (Option Request)) (item : Option Request) → history h (items ++ item ∷ []) ≡ history_after (history h items) item
+history_more h items item = fold-append history_after h items (item ∷ [])
+
+took_more : (a b c : Option (List ℕ)) (lines : List (List ℕ)) (items : List (Option Request)) (line : List ℕ) (item : Option Request) →
+    Took a b lines items → HasNoLineFeed line → Consumes b c (line ++ LINE_FEED ∷ []) → IsItem line item → Took a c (lines ++ line ∷ []) (items ++ item ∷ [])
+took_more a b c lines items line item took unbroken consumed is = record {
+  unbroken = all_more HasNoLineFeed lines line took.unbroken unbroken;
+  each = are_items_more lines items line item took.each is;
+  consumed = subst (Consumes a c) (sym (with_line_feeds_more lines line)) (consumes_then a b c (with_line_feeds lines) (line ++ LINE_FEED ∷ []) took.consumed consumed);
+}
+
+module _ {S : Type 0} (g : Ghosts S) where
+  pub served_none : (a w : Option (List ℕ)) (kept : Desk S g) → Served g a a w w kept kept 0
+  served_none a w kept = record {
+    lines = [];
+    items = [];
+    took = record { unbroken = tt; each = tt; consumed = consumes_none a };
+    counted = refl;
+    answered = λ h stands. (appends_none w, stands);
+  }
+
+  -- the answers, with that of one item more
+  answered_more : (v w x : Option (List ℕ)) (kept mid now : Desk S g) (items : List (Option Request)) (item : Option Request) (line : List ℕ)
+      → ((h : List Request) → StandsFor g kept h → Appends v w (answer_lines (answers h items)) × StandsFor g mid (history h items))
+      → Appends w x line → AnswersItem g mid now item line
+      → (h : List Request) → StandsFor g kept h → Appends v x (answer_lines (answers h (items ++ item ∷ []))) × StandsFor g now (history h (items ++ item ∷ []))
+  answered_more v w x kept mid now items item line so_far written answers_it h stands =
+      let before = so_far h stands in
+      let it = answers_it (history h items) before.1 in (
+        subst (Appends v x) (sym (answer_lines_more h items item)) (appends_then v w x (answer_lines (answers h items)) _ before.0 (subst (Appends w x) it.0 written)),
+        subst (StandsFor g now) (sym (history_more h items item)) it.1,
+      )
+
+  -- one line more: its item was answered by its whole line and applied
+  pub served_more : (a b c v w x : Option (List ℕ)) (kept mid now : Desk S g) (replies count : ℕ) (line : List ℕ) (item : Option Request) →
+      Served g a b v w kept mid replies → HasNoLineFeed line → Consumes b c (line ++ LINE_FEED ∷ []) → IsItem line item →
+      ServesItem g mid now w x item count → Served g a c v x kept now (replies + 1)
+  served_more a b c v w x kept mid now replies count line item served unbroken consumed is serves = record {
+    lines = served.lines ++ line ∷ [];
+    items = served.items ++ item ∷ [];
+    took = took_more a b c served.lines served.items line item served.took unbroken consumed is;
+    counted = length-append served.items (item ∷ []) ∙ ap (λ (n : ℕ). n + 1) served.counted;
+    answered = answered_more v w x kept mid now served.items item serves.line served.answered serves.written serves.answers;
+  }
 
 -- ---- what was taken is the front of the input
 
@@ -158,102 +142,93 @@ splits one bytes left all rest lines items has unbroken each parts =
 
 -- ---- the ends of a run
 
-pub answered_so : OneRequest → (h : List Request) (bytes : List ℕ) (all : List (Option Request)) (rest : List ℕ) (b v w : Option (List ℕ)) (kept now : Register) (replies : ℕ) →
-    HasItems bytes all rest → StandsFor kept h → Served (Some bytes) b v w kept now replies → Answered h all replies v w now
-answered_so one h bytes all rest b v w kept now replies has stands served =
-    let known = known_left bytes (with_line_feeds served.lines) b served.took.consumed in
-    let split = splits one bytes known.0 all rest served.lines served.items has served.took.unbroken served.took.each known.2 in
-    let same : take replies all ≡ served.items = first_items all served.items split.more replies split.parts served.counted in
-    let given : item_answers kept served.items ≡ take replies (answers h all) = answers_stand kept h served.items stands ∙ sym (first_answers h all served.items split.more replies split.parts served.counted) in
-    record {
-      some = omega (arith, served.counted, ap length split.parts, length-append served.items split.more);
-      written = subst (λ l. Appends v w (answer_lines l)) given served.written;
-      stands = subst (λ is. StandsFor now (history h is)) (sym same) (subst (λ k. StandsFor k (history h served.items)) (sym served.applied) (items_stand kept h served.items stands));
-    }
-
 all_left : (b c : Option (List ℕ)) (x left : List ℕ) → b ≡ Some x → Consumes b c left → IsAtEnd c → x ≡ left
 all_left None c x left same consumed end = absurd cc
 all_left (Some y) None x left same consumed end = absurd consumed
 all_left (Some y) (Some z) x left same consumed end =
     let is : y ≡ x = cc in sym is ∙ consumed ∙ ap (λ (l : List ℕ). left ++ l) end ∙ append-nil left
 
--- at the end of the input every item was served, and the rest is what is left
-pub ended_so : OneRequest → (bytes : List ℕ) (all : List (Option Request)) (rest left : List ℕ) (b c v w : Option (List ℕ)) (kept now : Register) (replies : ℕ) →
-    HasItems bytes all rest → Served (Some bytes) b v w kept now replies → HasNoLineFeed left → Consumes b c left → IsAtEnd c →
-    (replies ≡ length all) × (length left ≡ length rest)
-ended_so one bytes all rest left b c v w kept now replies has served unbroken consumed end =
-    let known = known_left bytes (with_line_feeds served.lines) b served.took.consumed in
-    let split = splits one bytes known.0 all rest served.lines served.items has served.took.unbroken served.took.each known.2 in
-    let is : known.0 ≡ left = all_left b c known.0 left known.1 consumed end in
-    let none = none_left split.more_lines left rest unbroken (sym is ∙ split.left_is) in
-    let empty : split.more ≡ [] = no_more_items split.more (subst (λ ls. AreItems ls split.more) none.0 split.each) in
-    let whole : all ≡ served.items = split.parts ∙ ap (λ l. served.items ++ l) empty ∙ append-nil served.items in
-    (sym served.counted ∙ ap length (sym whole), ap length none.1)
-
 slice_get_at : {X : Type 0} (xs : List X) (x : X) (ys : List X) → slice_get (xs ++ x ∷ ys) (length xs) ≡ Some x
 slice_get_at [] x ys = refl
 slice_get_at (z ∷ xs) x ys = slice_get_at xs x ys
 
--- the item of the line in hand, behind those that were served
-record InHand (h : List Request) (all : List (Option Request)) (kept now : Register) (replies : ℕ) (item : Option Request) (items : List (Option Request)) : Type 0 where
-  more : List (Option Request)
-  parts : all ≡ (items ++ item ∷ []) ++ more
-  counted : length items ≡ replies
-  served : take replies all ≡ items
-  stands : StandsFor now (history h items)
+module _ {S : Type 0} (g : Ghosts S) (one : OneRequest) (h : List Request) (bytes : List ℕ) (all : List (Option Request)) (rest : List ℕ) (has : HasItems bytes all rest) where
+  module _ (b v w : Option (List ℕ)) (kept now : Desk S g) (replies : ℕ) (served : Served g (Some bytes) b v w kept now replies) where
+    known : (x : List ℕ) × (b ≡ Some x) × (bytes ≡ with_line_feeds served.lines ++ x)
+    known = known_left bytes (with_line_feeds served.lines) b served.took.consumed
 
-in_hand : OneRequest → (h : List Request) (bytes : List ℕ) (all : List (Option Request)) (rest : List ℕ) (b c v w : Option (List ℕ)) (kept now : Register) (replies : ℕ) (line : List ℕ) (item : Option Request) →
-    HasItems bytes all rest → StandsFor kept h → (served : Served (Some bytes) b v w kept now replies) → HasNoLineFeed line → Consumes b c (line ++ LINE_FEED ∷ []) → IsItem line item →
-    InHand h all kept now replies item served.items
-in_hand one h bytes all rest b c v w kept now replies line item has stands served unbroken consumed is =
-    let took = took_more (Some bytes) b c served.lines served.items line item served.took unbroken consumed is in
-    let known = known_left bytes (with_line_feeds (served.lines ++ line ∷ [])) c took.consumed in
-    let split = splits one bytes known.0 all rest (served.lines ++ line ∷ []) (served.items ++ item ∷ []) has took.unbroken took.each known.2 in
-    record {
-      more = split.more;
-      parts = split.parts;
-      counted = served.counted;
-      served = first_items all served.items (item ∷ split.more) replies (split.parts ∙ append_assoc served.items (item ∷ []) split.more) served.counted;
-      stands = subst (λ k. StandsFor k (history h served.items)) (sym served.applied) (items_stand kept h served.items stands);
-    }
+    split : Splits all served.items known.0 rest
+    split = splits one bytes known.0 all rest served.lines served.items has served.took.unbroken served.took.each known.2
 
-pub memory_so : OneRequest → (h : List Request) (bytes : List ℕ) (all : List (Option Request)) (rest : List ℕ) (b c v w : Option (List ℕ)) (kept now : Register) (replies : ℕ) (line : List ℕ) (q : Request) →
-    HasItems bytes all rest → StandsFor kept h → Served (Some bytes) b v w kept now replies → HasNoLineFeed line → Consumes b c (line ++ LINE_FEED ∷ []) → IsItem line (Some q) →
-    judge_at now q ≡ None → made_by q.command ≡ 1 → NextMakesKey h all replies
-memory_so one h bytes all rest b c v w kept now replies line q has stands served unbroken consumed is accepted makes =
-    let hand = in_hand one h bytes all rest b c v w kept now replies line (Some q) has stands served unbroken consumed is in
-    let parts : all ≡ served.items ++ Some q ∷ hand.more = hand.parts ∙ append_assoc served.items (Some q ∷ []) hand.more in
-    let there : slice_get all replies ≡ Some (Some q) =
-    ap (λ (n : ℕ). slice_get all n) (sym hand.counted) ∙ ap (λ is. slice_get is (length served.items)) parts ∙ slice_get_at served.items (Some q) hand.more in
-    let judged : verdict (history h (take replies all)) q ≡ None =
-    ap (λ is. verdict (history h is) q) hand.served ∙ sym (verdict_stands now (history h served.items) q hand.stands) ∙ accepted in
-    (q, there, judged, makes)
+    first : take replies all ≡ served.items
+    first = first_items all served.items split.more replies split.parts served.counted
 
--- the line in hand was written in part, and its item applied
-pub in_part_so : OneRequest → (h : List Request) (bytes : List ℕ) (all : List (Option Request)) (rest : List ℕ) (b c v w x : Option (List ℕ)) (kept mid now : Register) (replies n : ℕ) (line : List ℕ) (item : Option Request) →
-    HasItems bytes all rest → StandsFor kept h → Served (Some bytes) b v w kept mid replies → HasNoLineFeed line → Consumes b c (line ++ LINE_FEED ∷ []) → IsItem line item →
-    Appends w x (take n (answer_line (item_answer mid item))) → now ≡ after_item mid item → AnsweredInPart h all replies v x now
-in_part_so one h bytes all rest b c v w x kept mid now replies n line item has stands served unbroken consumed is written applied =
-    let hand = in_hand one h bytes all rest b c v w kept mid replies line item has stands served unbroken consumed is in
-    let parts : all ≡ served.items ++ (item ∷ hand.more) = hand.parts ∙ append_assoc served.items (item ∷ []) hand.more in
-    let text = answer_line (item_answer mid item) in
-    let whole = answer_lines (item_answers kept served.items) in
-    let counted : length (served.items ++ item ∷ []) ≡ replies + 1 = length-append served.items (item ∷ []) ∙ ap (λ (k : ℕ). k + 1) served.counted in
-    let one_more : take (replies + 1) all ≡ served.items ++ item ∷ [] = first_items all (served.items ++ item ∷ []) hand.more (replies + 1) hand.parts counted in
-    let all_answers : item_answers kept (served.items ++ item ∷ []) ≡ take (replies + 1) (answers h all) =
-    answers_stand kept h (served.items ++ item ∷ []) stands ∙ sym (first_answers h all (served.items ++ item ∷ []) hand.more (replies + 1) hand.parts counted) in
-    let all_lines : whole ++ text ≡ answer_lines (take (replies + 1) (answers h all)) =
-    ap (λ (k : Register). whole ++ answer_line (item_answer k item)) served.applied ∙ sym (item_lines_more kept served.items item) ∙ ap answer_lines all_answers in
-    record {
-      some = omega (arith, ap length parts, length-append served.items (item ∷ hand.more), served.counted);
-      whole = whole;
-      part = take n text;
-      lines = ap answer_lines (answers_stand kept h served.items stands ∙ sym (first_answers h all served.items (item ∷ hand.more) replies parts served.counted));
-      front = (drop n text, append_assoc whole (take n text) (drop n text) ∙ ap (λ (l : List ℕ). whole ++ l) (take-append-drop n text) ∙ all_lines);
-      written = appends_then v w x whole (take n text) served.written written;
-      stands = subst (λ is. StandsFor now (history h is)) (sym one_more)
-          (subst (λ k. StandsFor k (history h (served.items ++ item ∷ []))) (sym (applied ∙ ap (λ (k : Register). after_item k item) served.applied ∙ sym (after_more kept served.items item))) (items_stand kept h (served.items ++ item ∷ []) stands));
-    }
+    pub answered_so : StandsFor g kept h → Answered g h all replies v w now
+    answered_so stands =
+        let it = served.answered h stands in
+        record {
+          some = omega (arith, served.counted, ap length split.parts, length-append served.items split.more);
+          written = subst (λ l. Appends v w (answer_lines l)) (sym (first_answers h all served.items split.more replies split.parts served.counted)) it.0;
+          stands = subst (λ is. StandsFor g now (history h is)) (sym first) it.1;
+        }
+
+    -- at the end of the input every item was served, and the rest is what is left
+    pub ended_so : (c : Option (List ℕ)) (left : List ℕ) → HasNoLineFeed left → Consumes b c left → IsAtEnd c → (replies ≡ length all) × (length left ≡ length rest)
+    ended_so c left unbroken consumed end =
+        let is : known.0 ≡ left = all_left b c known.0 left known.1 consumed end in
+        let none = none_left split.more_lines left rest unbroken (sym is ∙ split.left_is) in
+        let empty : split.more ≡ [] = no_more_items split.more (subst (λ ls. AreItems ls split.more) none.0 split.each) in
+        let whole : all ≡ served.items = split.parts ∙ ap (λ l. served.items ++ l) empty ∙ append-nil served.items in
+        (sym served.counted ∙ ap length (sym whole), ap length none.1)
+
+    -- the item of the line in hand stands behind those that were served
+    module _ (c : Option (List ℕ)) (line : List ℕ) (item : Option Request) (next : IsNextLine b c line item) where
+      took_next : Took (Some bytes) c (served.lines ++ line ∷ []) (served.items ++ item ∷ [])
+      took_next = took_more (Some bytes) b c served.lines served.items line item served.took next.unbroken next.consumed next.stands_for
+
+      beyond : Splits all (served.items ++ item ∷ []) (known_left bytes (with_line_feeds (served.lines ++ line ∷ [])) c took_next.consumed).0 rest
+      beyond =
+          let left = known_left bytes (with_line_feeds (served.lines ++ line ∷ [])) c took_next.consumed in
+          splits one bytes left.0 all rest (served.lines ++ line ∷ []) (served.items ++ item ∷ []) has took_next.unbroken took_next.each left.2
+
+      parts : all ≡ served.items ++ (item ∷ beyond.more)
+      parts = beyond.parts ∙ append_assoc served.items (item ∷ []) beyond.more
+
+      counted : length (served.items ++ item ∷ []) ≡ replies + 1
+      counted = length-append served.items (item ∷ []) ∙ ap (λ (k : ℕ). k + 1) served.counted
+
+      one_more : take (replies + 1) all ≡ served.items ++ item ∷ []
+      one_more = first_items all (served.items ++ item ∷ []) beyond.more (replies + 1) beyond.parts counted
+
+      pub there : slice_get all replies ≡ Some item
+      there =
+          ap (λ (n : ℕ). slice_get all n) (sym served.counted) ∙ ap (λ is. slice_get is (length served.items)) parts ∙ slice_get_at served.items item beyond.more
+
+      -- the histories before and after it
+      pub before_it : history h (take replies all) ≡ history h served.items
+      before_it = ap (history h) first
+
+      pub with_it : history h (take (replies + 1) all) ≡ history_after (history h served.items) item
+      with_it = ap (history h) one_more ∙ history_more h served.items item
+
+      -- the line in hand was written in part, and its item applied
+      pub in_part_so : (x : Option (List ℕ)) (after : Desk S g) (n : ℕ) → StandsFor g kept h → WritesInPart g now after w x item n → AnsweredInPart g h all replies v x after
+      in_part_so x after n stands wrote =
+          let before = served.answered h stands in
+          let it = wrote.answers (history h served.items) before.1 in
+          let whole = answer_lines (answers h served.items) in
+          let lines : whole ++ wrote.line ≡ answer_lines (take (replies + 1) (answers h all)) =
+          ap (λ (l : List ℕ). whole ++ l) it.0 ∙ sym (answer_lines_more h served.items item)
+          ∙ ap answer_lines (sym (first_answers h all (served.items ++ item ∷ []) beyond.more (replies + 1) beyond.parts counted)) in
+          record {
+            some = omega (arith, ap length parts, length-append served.items (item ∷ beyond.more), served.counted);
+            whole = whole;
+            part = take n wrote.line;
+            lines = ap answer_lines (sym (first_answers h all served.items (item ∷ beyond.more) replies parts served.counted));
+            front = (drop n wrote.line, append_assoc whole (take n wrote.line) (drop n wrote.line) ∙ ap (λ (l : List ℕ). whole ++ l) (take-append-drop n wrote.line) ∙ lines);
+            written = appends_then v w x whole (take n wrote.line) before.0 wrote.written;
+            stands = subst (StandsFor g after) (sym with_it) it.1;
+          }
 
 -- ---- the loop over the lines
 
@@ -261,8 +236,8 @@ prepend_none : (unread : List ℕ) (a : Option (List ℕ)) → unread ≡ [] →
 prepend_none unread None e = refl
 prepend_none unread (Some xs) e = ap (λ (front : List ℕ). Some (front ++ xs)) (sym e)
 
-pub served_begin : (a w : Option (List ℕ)) (unread : List ℕ) (kept : Register) → unread ≡ [] → Served a (prepend_known unread a) w w kept kept 0
-served_begin a w unread kept e = subst (λ b. Served a b w w kept kept 0) (prepend_none unread a e) (served_none a w kept)
+pub served_begin : {S : Type 0} (g : Ghosts S) (a w : Option (List ℕ)) (unread : List ℕ) (kept : Desk S g) → unread ≡ [] → Served g a (prepend_known unread a) w w kept kept 0
+served_begin g a w unread kept e = subst (λ b. Served g a b w w kept kept 0) (prepend_none unread a e) (served_none g a w kept)
 
 pub took_begin : (a : Option (List ℕ)) (taken : ℕ) → taken ≡ 0 → TookBytes a a taken
 took_begin a taken e = ([], consumes_none a, e)
@@ -278,31 +253,39 @@ pub wrote_then : (v w x : Option (List ℕ)) (written count : ℕ) (bytes : List
 wrote_then v w x written count bytes wrote appends counted =
     (wrote.0 ++ bytes, appends_then v w x wrote.0 bytes wrote.1 appends, omega (arith, wrote.2, counted, length-append wrote.0 bytes))
 
--- what an item leaves, as bytes written
-pub wrote_part : (v w x : Option (List ℕ)) (kept now : Register) (item : Option Request) (end : End) (written part : ℕ) → Wrote v w written → LeavesItem kept now w x item end part → Wrote v x (written + part)
-wrote_part v w x kept now item Memory written part wrote leaves = wrote_then v w x written part [] wrote leaves.1 leaves.2
-wrote_part v w x kept now item WriteFault written part wrote leaves =
-    let text = answer_line (item_answer kept item) in
-    wrote_then v w x written part (take part text) wrote leaves.1 (omega (arith, length-take part text, leaves.2))
-wrote_part v w x kept now item ReadFault written part wrote leaves = absurd leaves
+module _ {S : Type 0} (g : Ghosts S) where
+  -- what an item leaves, as bytes written
+  pub wrote_part : (v w x : Option (List ℕ)) (kept now : Desk S g) (item : Option Request) (end : End) (written part : ℕ) → Wrote v w written → LeavesItem g kept now w x item end part → Wrote v x (written + part)
+  wrote_part v w x kept now item Memory written part wrote leaves = absurd leaves
+  wrote_part v w x kept now item Store written part wrote leaves = wrote_then v w x written part [] wrote leaves.1 leaves.2
+  wrote_part v w x kept now item Broken written part wrote leaves = wrote_then v w x written part [] wrote leaves.1 leaves.2
+  wrote_part v w x kept now item WriteFault written part wrote leaves =
+      wrote_then v w x written part (take part leaves.line) wrote leaves.written (omega (arith, length-take part leaves.line, leaves.within))
+  wrote_part v w x kept now item ReadFault written part wrote leaves = absurd leaves
 
-pub stopped_so : (before middle after old so_far new : Option (List ℕ)) (kept mid now : Register) (replies : ℕ) (line : List ℕ) (item : Option Request) (end : End) (part : ℕ) →
-    Served before middle old so_far kept mid replies → IsNextLine middle after line item → LeavesItem mid now so_far new item end part →
-    ServesTo before old new kept now replies (Ended end)
-stopped_so before middle after old so_far new kept mid now replies line item Memory part served next leaves =
-    record { middle = middle; after = after; so_far = so_far; mid = mid; line = line; item = item; part = part; served = served; next = next; leaves = leaves }
-stopped_so before middle after old so_far new kept mid now replies line item WriteFault part served next leaves =
-    record { middle = middle; after = after; so_far = so_far; mid = mid; line = line; item = item; part = part; served = served; next = next; leaves = leaves }
-stopped_so before middle after old so_far new kept mid now replies line item ReadFault part served next leaves = absurd leaves
+  pub wrote_item : (v w x : Option (List ℕ)) (kept now : Desk S g) (item : Option Request) (written count : ℕ) → Wrote v w written → ServesItem g kept now w x item count → Wrote v x (written + count)
+  wrote_item v w x kept now item written count wrote serves = wrote_then v w x written count serves.line wrote serves.written serves.counted
+
+  pub stopped_so : (before middle after old so_far new : Option (List ℕ)) (kept mid now : Desk S g) (replies : ℕ) (line : List ℕ) (item : Option Request) (end : End) (part : ℕ) →
+      Served g before middle old so_far kept mid replies → IsNextLine middle after line item → LeavesItem g mid now so_far new item end part →
+      ServesTo g before old new kept now replies (Ended end)
+  stopped_so before middle after old so_far new kept mid now replies line item Memory part served next leaves = absurd leaves
+  stopped_so before middle after old so_far new kept mid now replies line item Store part served next leaves =
+      record { middle = middle; after = after; so_far = so_far; mid = mid; line = line; item = item; part = part; served = served; next = next; leaves = leaves }
+  stopped_so before middle after old so_far new kept mid now replies line item Broken part served next leaves =
+      record { middle = middle; after = after; so_far = so_far; mid = mid; line = line; item = item; part = part; served = served; next = next; leaves = leaves }
+  stopped_so before middle after old so_far new kept mid now replies line item WriteFault part served next leaves =
+      record { middle = middle; after = after; so_far = so_far; mid = mid; line = line; item = item; part = part; served = served; next = next; leaves = leaves }
+  stopped_so before middle after old so_far new kept mid now replies line item ReadFault part served next leaves = absurd leaves
 
 at_end_known : (unread : List ℕ) (a : Option (List ℕ)) → unread ≡ [] → IsAtEnd a → IsAtEnd (prepend_known unread a)
 at_end_known unread None e end = tt
 at_end_known unread (Some xs) e end = ap (λ (front : List ℕ). front ++ xs) e ∙ end
 
-pub all_so : (before middle known old new : Option (List ℕ)) (kept now : Register) (replies left : ℕ) (unread rest : List ℕ) →
-    Served before middle old new kept now replies → HasNoLineFeed rest → Consumes middle (prepend_known unread known) rest → IsAtEnd known → unread ≡ [] → left ≡ length rest →
-    ServedAll before old new kept now replies left
-all_so before middle known old new kept now replies left unread rest served unbroken consumed end none counted = record {
+pub all_so : {S : Type 0} (g : Ghosts S) (before middle known old new : Option (List ℕ)) (kept now : Desk S g) (replies left : ℕ) (unread rest : List ℕ) →
+    Served g before middle old new kept now replies → HasNoLineFeed rest → Consumes middle (prepend_known unread known) rest → IsAtEnd known → unread ≡ [] → left ≡ length rest →
+    ServedAll g before old new kept now replies left
+all_so g before middle known old new kept now replies left unread rest served unbroken consumed end none counted = record {
   middle = middle;
   after = prepend_known unread known;
   rest = rest;
@@ -318,48 +301,64 @@ all_so before middle known old new kept now replies left unread rest served unbr
 appends_nothing : (v w x : Option (List ℕ)) (bytes : List ℕ) → Appends v w bytes → Appends w x [] → Appends v x bytes
 appends_nothing v w x bytes p q = subst (Appends v x) (append-nil bytes) (appends_then v w x bytes [] p q)
 
--- want of memory: nothing was written or applied of the line in hand
-memory_runs : OneRequest → (h : List Request) (bytes : List ℕ) (all : List (Option Request)) (rest : List ℕ) (b c v w x : Option (List ℕ)) (kept mid now : Register) (replies : ℕ) (line : List ℕ) (item : Option Request) (part : ℕ) →
-    HasItems bytes all rest → StandsFor kept h → Served (Some bytes) b v w kept mid replies → IsNextLine b c line item → LeavesItem mid now w x item Memory part →
-    Answered h all replies v x now × NextMakesKey h all replies
-memory_runs one h bytes all rest b c v w x kept mid now replies line None part has stands served next leaves = absurd leaves.3
-memory_runs one h bytes all rest b c v w x kept mid now replies line (Some q) part has stands served next leaves =
-    let same : Served (Some bytes) b v x kept now replies = record {
-      lines = served.lines;
-      items = served.items;
-      took = served.took;
-      counted = served.counted;
-      written = appends_nothing v w x (answer_lines (item_answers kept served.items)) served.written leaves.1;
-      applied = leaves.0 ∙ served.applied;
-    } in (
-      answered_so one h bytes all rest b v x kept now replies has stands same,
-      memory_so one h bytes all rest b c v w kept mid replies line q has stands served next.unbroken next.consumed next.stands_for leaves.3.0 leaves.3.1,
-    )
+module _ {S : Type 0} (g : Ghosts S) where
+  -- the same items, where the line in hand wrote nothing and the desk goes on to stand for what it stood for
+  served_still : (a b v w x : Option (List ℕ)) (kept mid now : Desk S g) (replies : ℕ) → Served g a b v w kept mid replies → Appends w x [] → ((h : List Request) → StandsFor g mid h → StandsFor g now h)
+      → Served g a b v x kept now replies
+  served_still a b v w x kept mid now replies served nothing still = record {
+    lines = served.lines;
+    items = served.items;
+    took = served.took;
+    counted = served.counted;
+    answered = λ h stands. let it = served.answered h stands in (appends_nothing v w x (answer_lines (answers h served.items)) it.0 nothing, still (history h served.items) it.1);
+  }
 
-pub runs_so : OneRequest → (h : List Request) (bytes : List ℕ) (all : List (Option Request)) (rest : List ℕ) (before old new : Option (List ℕ)) (kept now : Register) (replies : ℕ) (end : Finish) →
-    before ≡ Some bytes → HasItems bytes all rest → StandsFor kept h → ServesTo before old new kept now replies end → RunsOver h all rest end replies old new now
-runs_so one h bytes all rest before old new kept now replies (AtEnd left) known has stands serves =
-    let served : Served (Some bytes) serves.middle old new kept now replies = subst (λ b. Served b serves.middle old new kept now replies) known serves.served in
-    let ended = ended_so one bytes all rest serves.rest serves.middle serves.after old new kept now replies has served serves.unbroken serves.consumed serves.at_end in
-    (answered_so one h bytes all rest serves.middle old new kept now replies has stands served, ended.0, serves.counted ∙ ended.1)
-runs_so one h bytes all rest before old new kept now replies (Ended ReadFault) known has stands serves =
-    answered_so one h bytes all rest serves.middle old new kept now replies has stands (subst (λ b. Served b serves.middle old new kept now replies) known serves.served)
-runs_so one h bytes all rest before old new kept now replies (Ended Memory) known has stands serves =
-    memory_runs one h bytes all rest serves.middle serves.after old serves.so_far new kept serves.mid now replies serves.line serves.item serves.part has stands
-    (subst (λ b. Served b serves.middle old serves.so_far kept serves.mid replies) known serves.served) serves.next serves.leaves
-runs_so one h bytes all rest before old new kept now replies (Ended WriteFault) known has stands serves =
-    let served : Served (Some bytes) serves.middle old serves.so_far kept serves.mid replies = subst (λ b. Served b serves.middle old serves.so_far kept serves.mid replies) known serves.served in
-    in_part_so one h bytes all rest serves.middle serves.after old serves.so_far new kept serves.mid now replies serves.part serves.line serves.item has stands served
-    serves.next.unbroken serves.next.consumed serves.next.stands_for serves.leaves.1 serves.leaves.0
+  runs_known : OneRequest → (h : List Request) (bytes : List ℕ) (all : List (Option Request)) (rest : List ℕ) (old new : Option (List ℕ)) (kept now : Desk S g) (replies : ℕ) (end : Finish) →
+      HasItems bytes all rest → StandsFor g kept h → ServesTo g (Some bytes) old new kept now replies end → RunsOver g h all rest end replies old new now
+  runs_known one h bytes all rest old new kept now replies (AtEnd left) has stands serves =
+      let ended = ended_so g one h bytes all rest has serves.middle old new kept now replies serves.served serves.after serves.rest serves.unbroken serves.consumed serves.at_end in
+      (answered_so g one h bytes all rest has serves.middle old new kept now replies serves.served stands, ended.0, serves.counted ∙ ended.1)
+  runs_known one h bytes all rest old new kept now replies (Ended ReadFault) has stands serves = answered_so g one h bytes all rest has serves.middle old new kept now replies serves.served stands
+  runs_known one h bytes all rest old new kept now replies (Ended Memory) has stands serves = absurd serves.leaves
+  runs_known one h bytes all rest old new kept now replies (Ended Store) has stands serves =
+      let stop = serves.leaves.0 in
+      let still = served_still (Some bytes) serves.middle old serves.so_far new kept serves.mid now replies serves.served serves.leaves.1 stop.stands in
+      let behind = before_it g one h bytes all rest has serves.middle old serves.so_far kept serves.mid replies serves.served serves.after serves.line serves.item serves.next in
+      let ahead = with_it g one h bytes all rest has serves.middle old serves.so_far kept serves.mid replies serves.served serves.after serves.line serves.item serves.next in
+      let at = there g one h bytes all rest has serves.middle old serves.so_far kept serves.mid replies serves.served serves.after serves.line serves.item serves.next in
+      let items = serves.served.items in
+      let leaves = stop.leaves (history h items) (serves.served.answered h stands).1 in (
+        answered_so g one h bytes all rest has serves.middle old new kept now replies still stands,
+        record { request = stop.request; next = at ∙ ap (λ i. Some i) stop.is; broken = stop.broken },
+        λ clean. let it = leaves clean in (
+          ap (λ (k : List Request). verdict k stop.request) behind ∙ it.0,
+          subst (λ (k : List Request). LeavesOneOf k (history h (take (replies + 1) all)) (state g now.connection)) (sym behind)
+              (subst (λ (k : List Request). LeavesOneOf (history h items) k (state g now.connection)) (sym (ahead ∙ ap (history_after (history h items)) stop.is)) it.1),
+        ),
+      )
+  runs_known one h bytes all rest old new kept now replies (Ended Broken) has stands serves =
+      let stop = serves.leaves.0 in
+      let still = served_still (Some bytes) serves.middle old serves.so_far new kept serves.mid now replies serves.served serves.leaves.1 (λ k it. subst (λ (d : Desk S g). StandsFor g d k) (sym stop.same) it) in
+      let at = there g one h bytes all rest has serves.middle old serves.so_far kept serves.mid replies serves.served serves.after serves.line serves.item serves.next in (
+        answered_so g one h bytes all rest has serves.middle old new kept now replies still stands,
+        record { request = stop.request; next = at ∙ ap (λ i. Some i) stop.is; broken = stop.broken },
+      )
+  runs_known one h bytes all rest old new kept now replies (Ended WriteFault) has stands serves =
+      in_part_so g one h bytes all rest has serves.middle old serves.so_far kept serves.mid replies serves.served serves.after serves.line serves.item serves.next new now serves.part stands serves.leaves
 
--- ---- the same, of values that are equal
+  pub runs_so : OneRequest → (h : List Request) (bytes : List ℕ) (all : List (Option Request)) (rest : List ℕ) (before old new : Option (List ℕ)) (kept now : Desk S g) (replies : ℕ) (end : Finish) →
+      before ≡ Some bytes → HasItems bytes all rest → StandsFor g kept h → ServesTo g before old new kept now replies end → RunsOver g h all rest end replies old new now
+  runs_so one h bytes all rest before old new kept now replies end known has stands serves =
+      runs_known one h bytes all rest old new kept now replies end has stands (subst (λ b. ServesTo g b old new kept now replies end) known serves)
 
-pub serves_same : (before old new new' : Option (List ℕ)) (kept now now' : Register) (replies : ℕ) (end end' : Finish) → end ≡ end' → now ≡ now' → new ≡ new' →
-    ServesTo before old new' kept now' replies end' → ServesTo before old new kept now replies end
-serves_same before old new new' kept now now' replies end end' e n w serves =
-    subst (λ (x : Finish). ServesTo before old new kept now replies x) (sym e)
-    (subst (λ (x : Register). ServesTo before old new kept x replies end') (sym n)
-    (subst (λ (x : Option (List ℕ)). ServesTo before old x kept now' replies end') (sym w) serves))
+  -- ---- the same, of values that are equal
+
+  pub serves_same : (before old new new' : Option (List ℕ)) (kept now now' : Desk S g) (replies : ℕ) (end end' : Finish) → end ≡ end' → now ≡ now' → new ≡ new' →
+      ServesTo g before old new' kept now' replies end' → ServesTo g before old new kept now replies end
+  serves_same before old new new' kept now now' replies end end' e n w serves =
+      subst (λ (x : Finish). ServesTo g before old new kept now replies x) (sym e)
+      (subst (λ (x : Desk S g). ServesTo g before old new kept x replies end') (sym n)
+      (subst (λ (x : Option (List ℕ)). ServesTo g before old x kept now' replies end') (sym w) serves))
 
 pub wrote_same : (old new new' : Option (List ℕ)) (written written' : ℕ) → written ≡ written' → new ≡ new' → Wrote old new' written' → Wrote old new written
 wrote_same old new new' written written' e w wrote =

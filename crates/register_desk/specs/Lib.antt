@@ -1,6 +1,8 @@
 pub mod End
 pub mod Register
 pub mod Step
+pub mod Shown
+pub mod Opening
 pub mod Answer
 pub mod Watched
 pub mod Lines

@@ -1,33 +1,54 @@
--- The register that a history makes: the latest moment, and a record for each key.
-use Rattle.std.specs.Prelude.{◌≡◌, ℕ, List, map}
+-- The tables that a history makes, and when a desk stands for a history.
+use Rattle.std.specs.Prelude.{◌≡◌, ◌⊎◌, ℕ, false, List, map, IsTrue}
 use Rattle.std.specs.List.{enumerate_from}
+use Rattle.sqlite_trees.specs.declared.store.Store.{Ghosts}
+use Rattle.sqlite.specs.Tree.{Trees}
+use Rattle.sqlite.specs.Effect.{Database}
+use Rattle.sqlite.specs.State.{State, HasCleanDisk}
+use Rattle.sqlite.specs.Held.{state}
 use Rattle.lifecycle_core.specs.State.{state_at}
 use Rattle.register_core.specs.declared.request.Request.{Request}
-use Rattle.register_core.specs.History.{latest, Registration, registrations, dates, owner}
+use Rattle.register_core.specs.History.{latest, Registration, registrations, count, dates, owner}
 use Rattle.register_core.specs.Fold.{IsLawful}
-use Rattle.register_desk.specs.declared.record.Record.{Record}
+use Rattle.register_store.specs.declared.key.Key.{Key}
+use Rattle.register_store.specs.Tables.{Tables, Holds}
+use Rattle.register_desk.specs.declared.desk.Desk.{Desk}
 
--- the latest accepted moment, and the keys' records in order of their numbers
-pub record Register : Type 0 where
-  pub latest : ℕ
-  pub records : List Record
-
--- the record of key k, which this registration made: its state is the one that its dates give at the latest moment
-abbrev pub record_of : List Request → ℕ → Registration → Record
-record_of h k made = record {
+-- what is kept of key k, which this registration made: its state is the one that its dates give at the latest moment
+abbrev pub key_of : List Request → ℕ → Registration → Key
+key_of h k made = record {
   kind = made.kind;
   owner = owner h k;
   purpose = made.purpose;
   row = record { dates = dates h k; state = state_at (dates h k) (latest h) };
 }
 
-abbrev pub register_of : List Request → Register
-register_of h = record {
+abbrev pub tables : List Request → Tables
+tables h = record {
   latest = latest h;
-  records = map (λ key. record_of h key.0 key.1) (enumerate_from 1 (registrations h));
+  key_count = count h;
+  keys = map (λ key. key_of h key.0 key.1) (enumerate_from 1 (registrations h));
 }
 
--- what is kept is the register of this history
-pub record StandsFor (kept : Register) (h : List Request) : Type 0 where
+-- a stop leaves these tables: each content that may be found after it is that of a database that holds them
+abbrev pub Leaves : Tables → State → Type 0
+Leaves t s = (trees : Trees) → s.may_leave trees → (db : Database) × Holds t db × (trees ≡ db.trees)
+
+-- a stop leaves the tables of one of these two histories
+abbrev pub LeavesOneOf : List Request → List Request → State → Type 0
+LeavesOneOf h g s = (trees : Trees) → s.may_leave trees → (db : Database) × (Holds (tables h) db ⊎ Holds (tables g) db) × (trees ≡ db.trees)
+
+-- the connection is open and sees these tables, which are committed
+pub record Keeps (t : Tables) (s : State) : Type 0 where
+  pub is_open : IsTrue s.is_open
+  pub holds : Holds t s.now
+  pub committed : s.committed ≡ s.now
+  pub leaves : Leaves t s
+
+-- The desk is that of this history. Its database holds the history's tables as long as the desk is whole, and the disk
+-- has given back what was written.
+pub record StandsFor {S : Type 0} (g : Ghosts S) (desk : Desk S g) (h : List Request) : Type 0 where
   pub lawful : IsLawful h
-  pub same : kept ≡ register_of h
+  pub latest_is : desk.latest ≡ latest h
+  pub keys_are : desk.keys ≡ count h
+  pub keeps : desk.is_broken ≡ false → HasCleanDisk (state g desk.connection) → Keeps (tables h) (state g desk.connection)

@@ -1,18 +1,21 @@
 -- What a run over an input writes and leaves.
 use Rattle.std.specs.Prelude.{◌≡◌, ◌⊎◌, ℕ, ◌+◌, ◌≤◌, Bool, true, List, [], ◌∷◌, ◌++◌, length, take, flat_map, Option, None, Some, Result, slice_get}
 use Rattle.std.specs.Io.KnownBytes.{Appends}
+use Rattle.sqlite_trees.specs.declared.store.Store.{Ghosts}
+use Rattle.sqlite.specs.State.{HasCleanDisk}
+use Rattle.sqlite.specs.Held.{state}
 use Rattle.register_core.specs.declared.request.Request.{Request}
 use Rattle.register_core.specs.declared.reply.Reply.{Reply}
 use Rattle.register_core.specs.declared.reply.Refusal.{Refusal}
 use Rattle.register_core.specs.Reply.{reply_text}
-use Rattle.register_core.specs.History.{made_by}
 use Rattle.register_core.specs.Verdict.{verdict}
 use Rattle.register_core.specs.Fold.{history, answers}
 use Rattle.register_desk.specs.declared.lines.TheConstants.{LINE_FEED}
-use Rattle.register_desk.specs.declared.end.End.TheVariants.{Memory, ReadFault, WriteFault}
+use Rattle.register_desk.specs.declared.end.End.TheVariants.{Memory, Store, Broken, ReadFault, WriteFault}
 use Rattle.register_desk.specs.declared.runs.Finish.{Finish}
 use Rattle.register_desk.specs.declared.runs.Finish.TheVariants.{AtEnd, Ended}
-use Rattle.register_desk.specs.Register.{Register, StandsFor}
+use Rattle.register_desk.specs.declared.desk.Desk.{Desk}
+use Rattle.register_desk.specs.Register.{StandsFor, LeavesOneOf}
 
 -- the line of an answer, with its line feed
 abbrev pub answer_line : Result Reply Refusal → List ℕ
@@ -26,35 +29,45 @@ answer_lines given = flat_map answer_line given
 abbrev pub IsFrontOf : List ℕ → List ℕ → Type 0
 IsFrontOf part bytes = (more : List ℕ) × (part ++ more ≡ bytes)
 
--- the first so many items were answered, each by its whole line, and no more was written or applied
-pub record Answered (h : List Request) (items : List (Option Request)) (replies : ℕ) (old new : Option (List ℕ)) (kept : Register) : Type 0 where
+-- the first so many items were answered, each by its whole line, and no more was written
+pub record Answered {S : Type 0} (g : Ghosts S) (h : List Request) (items : List (Option Request)) (replies : ℕ) (old new : Option (List ℕ)) (desk : Desk S g) : Type 0 where
   pub some : replies ≤ length items
   pub written : Appends old new (answer_lines (take replies (answers h items)))
-  pub stands : StandsFor kept (history h (take replies items))
+  pub stands : StandsFor g desk (history h (take replies items))
 
 -- beside the whole lines a part of the next answer's line was written, and its item was applied
-pub record AnsweredInPart (h : List Request) (items : List (Option Request)) (replies : ℕ) (old new : Option (List ℕ)) (kept : Register) : Type 0 where
+pub record AnsweredInPart {S : Type 0} (g : Ghosts S) (h : List Request) (items : List (Option Request)) (replies : ℕ) (old new : Option (List ℕ)) (desk : Desk S g) : Type 0 where
   pub some : replies + 1 ≤ length items
   pub whole : List ℕ
   pub part : List ℕ
   pub lines : whole ≡ answer_lines (take replies (answers h items))
   pub front : IsFrontOf (whole ++ part) (answer_lines (take (replies + 1) (answers h items)))
   pub written : Appends old new (whole ++ part)
-  pub stands : StandsFor kept (history h (take (replies + 1) items))
+  pub stands : StandsFor g desk (history h (take (replies + 1) items))
 
--- the item that comes next is an accepted request that makes a key
-abbrev pub NextMakesKey : List Request → List (Option Request) → ℕ → Type 0
-NextMakesKey h items replies =
-    (q : Request) × (slice_get items replies ≡ Some (Some q)) × (verdict (history h (take replies items)) q ≡ None) × (made_by q.command ≡ 1)
+-- the desk is broken, and the item that comes next is a request
+pub record StopsAtRequest {S : Type 0} {g : Ghosts S} (items : List (Option Request)) (replies : ℕ) (desk : Desk S g) : Type 0 where
+  pub request : Request
+  pub next : slice_get items replies ≡ Some (Some request)
+  pub broken : desk.is_broken ≡ true
+
+-- the request that comes next is one to accept, and a stop leaves the register without it or with it
+abbrev pub LeavesNext : {S : Type 0} → (g : Ghosts S) → List Request → List (Option Request) → ℕ → Desk S g → Request → Type 0
+LeavesNext g h items replies desk q = HasCleanDisk (state g desk.connection)
+    → (verdict (history h (take replies items)) q ≡ None)
+    × LeavesOneOf (history h (take replies items)) (history h (take (replies + 1) items)) (state g desk.connection)
 
 -- how a run over these items leaves things, by how it ended
-abbrev pub RunsOver : List Request → List (Option Request) → List ℕ → Finish → ℕ → Option (List ℕ) → Option (List ℕ) → Register → Type 0
-RunsOver h items rest (AtEnd left) replies old new kept =
-    Answered h items replies old new kept × (replies ≡ length items) × (left ≡ length rest)
-RunsOver h items rest (Ended Memory) replies old new kept =
-    Answered h items replies old new kept × NextMakesKey h items replies
-RunsOver h items rest (Ended ReadFault) replies old new kept = Answered h items replies old new kept
-RunsOver h items rest (Ended WriteFault) replies old new kept = AnsweredInPart h items replies old new kept
+abbrev pub RunsOver : {S : Type 0} → (g : Ghosts S) → List Request → List (Option Request) → List ℕ → Finish → ℕ → Option (List ℕ) → Option (List ℕ) → Desk S g → Type 0
+RunsOver g h items rest (AtEnd left) replies old new desk =
+    Answered g h items replies old new desk × (replies ≡ length items) × (left ≡ length rest)
+RunsOver g h items rest (Ended Memory) replies old new desk = Answered g h items replies old new desk
+RunsOver g h items rest (Ended Store) replies old new desk =
+    Answered g h items replies old new desk × (stop : StopsAtRequest items replies desk) × LeavesNext g h items replies desk stop.request
+RunsOver g h items rest (Ended Broken) replies old new desk =
+    Answered g h items replies old new desk × StopsAtRequest items replies desk
+RunsOver g h items rest (Ended ReadFault) replies old new desk = Answered g h items replies old new desk
+RunsOver g h items rest (Ended WriteFault) replies old new desk = AnsweredInPart g h items replies old new desk
 
 -- ---- faults
 

@@ -1,30 +1,22 @@
-ghost use Rattle.std.specs.Prelude.{◌≡◌, List, [], ◌∷◌, Some, IfOk, IfErr, OnOk, OnErr};
-ghost use Rattle.register_core.specs.History.{latest, count, made_by};
-ghost use Rattle.register_core.specs.Verdict.{verdict, answer};
-ghost use Rattle.register_core.specs.Fold.{history};
-ghost use Rattle.register_core.specs.declared.request.Request.{Request};
-ghost use Rattle.register_desk.specs.Register.{StandsFor};
+ghost use Rattle.std.specs.Prelude.{◌≡◌, ◌≤◌, false};
+ghost use Rattle.register_core.specs.declared.limits.TheConstants.{KEY_LIMIT};
 
 use crate::end::End;
-use crate::record::Record;
-use crate::serve::serve;
+use crate::opening::{OpenRefusal, Unopened};
+use crate::record::{Names, Record};
+use crate::serve::{commit_request, key_of, keys_with, reply_of};
+use lifecycle_core::{Usage, usage_of};
 use moment_core::Moment;
-use register_core::{KEY_LIMIT, Refusal, Reply, Request};
+use register_core::{KEY_LIMIT, Refusal, Reply, Request, judge};
+use register_store::{Key, create, find_key, has_tables};
+use sqlite::{Alter, Connection};
 use std::alloc::Global;
-use std::marker::Model;
 
 /// What a request is answered.
 #[derive(Clone, Copy, Debug, PartialEq, Eq)]
 pub enum Answer {
     Accepted(Reply),
     Refused(Refusal),
-}
-
-/// The register, and the only way to change it. In a contract it is the latest moment and the keys' records.
-#[derive(Drop)]
-pub struct Desk {
-    latest: Moment,
-    records: Vec<Record>,
 }
 
 impl Answer {
@@ -42,71 +34,257 @@ impl Answer {
     }
 }
 
-impl Model for Desk {
-    ghost use Rattle.register_desk.specs.Register.{Register};
-    ghost use Rattle.register_desk.specs.Step.{IsSound};
-
-    ghost Value = { Register };
-
-    ghost view = { λ d. record { latest = d.latest; records = d.records.items } };
-
-    ghost invariant = { λ d. IsSound (record { latest = d.latest; records = d.records.items }) };
+/// The register over a database, and the only way to change it.
+///
+/// A call that the database refuses breaks the desk: what was accepted before stands, and the request in hand whole or
+/// not at all. From then on every call of the desk that uses the database is [`End::Broken`].
+#[derive(Drop)]
+pub struct Desk<S: Alter> {
+    alloc: Global,
+    connection: Connection<S>,
+    latest: Moment,
+    keys: u32,
+    is_broken: bool,
+    ghost idle: { connection.in_transaction ≡ false },
+    ghost within: { keys ≤ KEY_LIMIT },
 }
 
-impl Desk {
-    ghost use Rattle.register_desk.specs.Register.{Register};
+impl<S: Alter> Desk<S> {
+    ghost use Rattle.std.specs.Prelude.{◌≡◌, ◌≤◌, ◌⊎◌, ◌+◌, ℕ, length, true, false, List, [], ◌∷◌, Some, None, Err, IfOk, IfErr, OnOk, OnErr};
+    ghost use Rattle.std.specs.Option.{option_map};
+    ghost use Rattle.sqlite.specs.State.{HasCleanDisk};
+    ghost use Rattle.sqlite.specs.Held.{state};
+    ghost use Rattle.register_core.specs.declared.request.Request.{Request};
+    ghost use Rattle.register_core.specs.History.{latest, count};
+    ghost use Rattle.register_core.specs.Verdict.{verdict, answer, judge};
+    ghost use Rattle.register_core.specs.Fold.{history};
     ghost use Rattle.register_desk.specs.Answer.{answered};
-    ghost use Rattle.register_desk.specs.Step.{answer_at, judge_at, register_after};
+    ghost use Rattle.sql_steps.specs.Steps.{TransactsBy};
+    ghost use Rattle.register_store.specs.Tables.{Makes, HasKeys, key_at};
+    ghost use Rattle.register_store.specs.Found.{HasTable};
+    ghost use Rattle.register_store.specs.Schema.{no_schema};
+    ghost use Rattle.register_desk.specs.Register.{StandsFor, LeavesOneOf, Leaves, tables};
+    ghost use Rattle.register_desk.specs.Shown.{shown, usage, record_with};
+    ghost use Rattle.register_desk.specs.Step.{key_made, option_list, with_request, reply_with};
 
-    /// The desk of an empty register.
-    pub fn new(alloc: Global) -> Self
-        ensures { StandsFor result [] }
+    /// Makes an empty register in the database, which has none yet.
+    ///
+    /// # Errors
+    /// [`OpenRefusal::NotARegister`] where one of the register's tables is there; it changed nothing.
+    /// [`OpenRefusal::Store`] where the database refused; it is as it was, or has an empty register.
+    pub fn create(alloc: Global, mut connection: Connection<S>) -> Result<Desk<S>, Unopened<S>>
+        requires { connection.in_transaction ≡ false }
+        // In an empty database the register is that of no request.
+        ensures stands { (state S.Store connection).committed.schema ≡ no_schema → IfOk result (λ desk. StandsFor S.Store desk []) }
+        ensures whole { IfOk result (λ desk. desk.is_broken ≡ false) }
+        ensures idle { IfErr result (λ unopened. unopened.connection.in_transaction ≡ false) }
+        ensures refused { IfErr result (λ unopened. (unopened.refusal ≡ OpenRefusal.Store) ⊎ (unopened.refusal ≡ OpenRefusal.NotARegister)) }
+        ensures there { IfErr result (λ unopened. unopened.refusal ≡ OpenRefusal.NotARegister → HasCleanDisk (state S.Store unopened.connection)
+            → HasTable (state S.Store connection).now.schema) }
     {
-        Desk {
-            latest: Moment::new(0).unwrap(),
-            records: Vec::new(alloc),
+        if has_tables(&mut connection) {
+            return Err(Unopened {
+                refusal: OpenRefusal::NotARegister,
+                connection,
+            });
+        }
+        match create(&mut connection) {
+            Ok(()) => Ok(Desk {
+                alloc,
+                connection,
+                latest: Moment::new(0).unwrap(),
+                keys: 0,
+                is_broken: false,
+            }),
+            Err(_) => Err(Unopened {
+                refusal: OpenRefusal::Store,
+                connection,
+            }),
         }
     }
 
-    /// The moment of the latest accepted request, 0 before the first.
+    /// Gives back the connection, in which no transaction is open.
+    pub fn into_connection(self) -> Connection<S>
+        ensures same { result ≡ self.connection }
+        ensures idle { result.in_transaction ≡ false }
+    {
+        let Desk {
+            alloc: _,
+            connection,
+            latest: _,
+            keys: _,
+            is_broken: _,
+        } = self;
+        connection
+    }
+
+    /// The moment of the latest accepted request, 0 before the first. Of a broken desk it is the one before the call
+    /// that broke it.
     pub fn latest(&self) -> Moment
-        ensures { (h : List Request) → StandsFor self.now h → result ≡ latest h }
+        ensures { (h : List Request) → StandsFor S.Store self.now h → result ≡ latest h }
     {
         self.latest
     }
 
-    /// How many keys were registered.
+    /// How many keys were registered. Of a broken desk it is their number before the call that broke it.
     pub fn count(&self) -> u32
-        ensures { (h : List Request) → StandsFor self.now h → result ≡ count h }
+        ensures { (h : List Request) → StandsFor S.Store self.now h → result ≡ count h }
     {
-        self.records.len() as u32
+        self.keys
     }
 
     /// Applies a request: it is accepted, and then acts and is kept, or refused, and then changes nothing.
     ///
     /// # Errors
-    /// [`End::Memory`] where there was no memory for the key that the request makes; it changed nothing.
+    /// [`End::Store`] where the database refused, which breaks the desk: the register is as before or has the whole
+    /// request. [`End::Broken`] on a broken desk; nothing changed.
     pub fn apply(&mut self, request: &Request) -> Result<Answer, End>
         // The answer is the verdict over the history that the desk stands for.
-        ensures answer { (h : List Request) → StandsFor self.old h → IfOk result (λ given. answered given ≡ answer h request.now) }
+        ensures answer { (h : List Request) → StandsFor S.Store self.old h → IfOk result (λ given. answered given ≡ answer h request.now) }
         // The desk then stands for the history with the request at its end, if that was accepted.
-        ensures stands { (h : List Request) → StandsFor self.old h → OnOk result (StandsFor self.new (history h (Some request.now ∷ []))) }
-        // Memory alone ends it, where a key is to be made, and leaves all as it was.
-        ensures only_memory { IfErr result (λ end. end ≡ End.Memory) }
-        ensures grows { (h : List Request) → StandsFor self.old h → OnErr result ((verdict h request.now ≡ None) × (made_by request.now.command ≡ 1)) }
-        ensures err { OnErr result (self.new ≡ self.old) }
+        ensures stands { (h : List Request) → StandsFor S.Store self.old h → OnOk result (StandsFor S.Store self.new (history h (Some request.now ∷ []))) }
+        ensures whole { OnOk result (self.new.is_broken ≡ false) }
+        // An end leaves the desk broken, with the latest moment and the number of keys as before.
+        ensures ends { IfErr result (λ end. ((end ≡ End.Store) × (self.old.is_broken ≡ false)) ⊎ ((end ≡ End.Broken) × (self.new ≡ self.old))) }
+        ensures broken { OnErr result (self.new.is_broken ≡ true) }
+        ensures err { (h : List Request) → StandsFor S.Store self.old h → OnErr result (StandsFor S.Store self.new h) }
+        // The end 32 comes exactly on a broken desk.
+        ensures when_broken { self.old.is_broken ≡ true → result ≡ Err End.Broken }
+        // The end 31 comes of an accepted request alone, and a stop then leaves the register without it or with it.
+        ensures store { (h : List Request) → StandsFor S.Store self.old h → IfErr result (λ end. end ≡ End.Store → HasCleanDisk (state S.Store self.new.connection)
+            → (verdict h request.now ≡ None) × LeavesOneOf h (history h (Some request.now ∷ [])) (state S.Store self.new.connection)) }
     {
-        self.step(request)
+        if self.is_broken {
+            return Err(End::Broken);
+        }
+        match judge(self.latest, self.keys, request) {
+            Some(refusal) => Ok(Answer::Refused(refusal)),
+            None => {
+                let reply = self.accept(request)?;
+                Ok(Answer::Accepted(reply))
+            }
+        }
     }
 
-    /// The same, over the records that are kept.
-    pub(crate) fn step(&mut self, request: &Request) -> Result<Answer, End>
-        ensures answer { IfOk result (λ given. answered given ≡ answer_at self.old request.now) }
-        ensures after { OnOk result (self.new ≡ register_after self.old request.now) }
-        ensures only_memory { IfErr result (λ end. end ≡ End.Memory) }
-        ensures grows { OnErr result ((judge_at self.old request.now ≡ None) × (made_by request.now.command ≡ 1)) }
-        ensures err { OnErr result (self.new ≡ self.old) }
+    /// Makes the change of an accepted request, and answers it.
+    fn accept(&mut self, request: &Request) -> Result<Reply, End>
+        requires accepted { judge self.old.latest self.old.keys request.now ≡ None }
+        ensures reply { IfOk result (λ reply. reply ≡ reply_with self.old.keys request.now.moment (key_made request.now.moment request.now.command)) }
+        ensures written { TransactsBy (Makes (HasKeys self.old.keys) (with_request self.old.keys request.now.moment (key_made request.now.moment request.now.command)))
+            (state S.Store self.old.connection) (state S.Store self.new.connection) result }
+        ensures latest { OnOk result (self.new.latest ≡ request.now.moment) }
+        ensures keys { OnOk result (self.new.keys ≡ self.old.keys + length (option_list (key_made request.now.moment request.now.command))) }
+        ensures whole { OnOk result (self.new.is_broken ≡ self.old.is_broken) }
+        ensures ends { IfErr result (λ end. end ≡ End.Store) }
+        ensures err { OnErr result ((self.new.latest ≡ self.old.latest) × (self.new.keys ≡ self.old.keys) × (self.new.is_broken ≡ true)) }
     {
-        serve(&mut self.latest, &mut self.records, request)
+        let made = key_of(request.moment, &request.command);
+        match commit_request(
+            &mut self.connection,
+            self.keys,
+            self.latest,
+            request.moment,
+            &made,
+        ) {
+            Ok(()) => {
+                let reply = reply_of(self.keys, request.moment, &made);
+                self.keys = keys_with(self.keys, &made);
+                self.latest = request.moment;
+                Ok(reply)
+            }
+            Err(_) => Err(self.break_off()),
+        }
+    }
+
+    /// The key with this number as of the latest accepted moment, or `None` where there is none. It changes nothing.
+    ///
+    /// # Errors
+    /// [`End::Store`] where the database refused or the row is one that no register holds, which breaks the desk;
+    /// [`End::Broken`] on a broken desk.
+    pub fn show(&mut self, number: u32) -> Result<Option<Record>, End>
+        ensures shown { (h : List Request) → StandsFor S.Store self.old h → HasCleanDisk (state S.Store self.new.connection)
+            → IfOk result (λ found. found ≡ shown h number) }
+        ensures same { (h : List Request) → StandsFor S.Store self.old h → StandsFor S.Store self.new h }
+        ensures whole { OnOk result (self.new.is_broken ≡ false) }
+        ensures ends { IfErr result (λ end. ((end ≡ End.Store) × (self.old.is_broken ≡ false)) ⊎ ((end ≡ End.Broken) × (self.new ≡ self.old))) }
+        ensures broken { OnErr result (self.new.is_broken ≡ true) }
+        ensures when_broken { self.old.is_broken ≡ true → result ≡ Err End.Broken }
+        ensures stop { (h : List Request) → StandsFor S.Store self.old h → self.old.is_broken ≡ false → HasCleanDisk (state S.Store self.new.connection)
+            → Leaves (tables h) (state S.Store self.new.connection) }
+    {
+        let found = self.look(number)?;
+        Ok(self.record(number, &found))
+    }
+
+    /// What the key with this number may be used for at the latest accepted moment, or `None` where there is no such
+    /// key. It changes nothing.
+    ///
+    /// # Errors
+    /// As [`show`](Desk::show).
+    pub fn usage(&mut self, number: u32) -> Result<Option<Usage>, End>
+        ensures used { (h : List Request) → StandsFor S.Store self.old h → HasCleanDisk (state S.Store self.new.connection)
+            → IfOk result (λ found. found ≡ usage h number) }
+        ensures same { (h : List Request) → StandsFor S.Store self.old h → StandsFor S.Store self.new h }
+        ensures whole { OnOk result (self.new.is_broken ≡ false) }
+        ensures ends { IfErr result (λ end. ((end ≡ End.Store) × (self.old.is_broken ≡ false)) ⊎ ((end ≡ End.Broken) × (self.new ≡ self.old))) }
+        ensures broken { OnErr result (self.new.is_broken ≡ true) }
+        ensures when_broken { self.old.is_broken ≡ true → result ≡ Err End.Broken }
+        ensures stop { (h : List Request) → StandsFor S.Store self.old h → self.old.is_broken ≡ false → HasCleanDisk (state S.Store self.new.connection)
+            → Leaves (tables h) (state S.Store self.new.connection) }
+    {
+        match self.look(number)? {
+            Some(key) => Ok(Some(usage_of(&key.row.dates, self.latest))),
+            None => Ok(None),
+        }
+    }
+
+    /// The key with this number as it stands in the tables.
+    fn look(&mut self, number: u32) -> Result<Option<Key>, End>
+        ensures found { (h : List Request) → StandsFor S.Store self.old h → HasCleanDisk (state S.Store self.new.connection)
+            → IfOk result (λ found. found ≡ key_at (tables h).keys number) }
+        ensures same { (h : List Request) → StandsFor S.Store self.old h → StandsFor S.Store self.new h }
+        ensures fields { OnOk result ((self.new.latest ≡ self.old.latest) × (self.new.keys ≡ self.old.keys) × (self.new.is_broken ≡ false)) }
+        ensures ends { IfErr result (λ end. ((end ≡ End.Store) × (self.old.is_broken ≡ false)) ⊎ ((end ≡ End.Broken) × (self.new ≡ self.old))) }
+        ensures broken { OnErr result (self.new.is_broken ≡ true) }
+        ensures when_broken { self.old.is_broken ≡ true → result ≡ Err End.Broken }
+        ensures clean { HasCleanDisk (state S.Store self.new.connection) → HasCleanDisk (state S.Store self.old.connection) }
+        ensures stop { (h : List Request) → StandsFor S.Store self.old h → self.old.is_broken ≡ false → HasCleanDisk (state S.Store self.new.connection)
+            → Leaves (tables h) (state S.Store self.new.connection) }
+    {
+        if self.is_broken {
+            return Err(End::Broken);
+        }
+        match find_key(&mut self.connection, number) {
+            Ok(found) => Ok(found),
+            Err(_) => Err(self.break_off()),
+        }
+    }
+
+    /// Breaks the desk, and gives the end of the call that did.
+    fn break_off(&mut self) -> End
+        ensures end { result ≡ End.Store }
+        ensures broken { self.new.is_broken ≡ true }
+        ensures same { (self.new.connection ≡ self.old.connection) × (self.new.latest ≡ self.old.latest) × (self.new.keys ≡ self.old.keys) }
+    {
+        self.is_broken = true;
+        End::Store
+    }
+
+    /// The key that was found, as a reader is shown it.
+    fn record(&self, number: u32, found: &Option<Key>) -> Option<Record>
+        ensures { result ≡ option_map (record_with number) found.now }
+    {
+        match found {
+            Some(key) => Some(Record {
+                number,
+                kind: key.kind,
+                owner: key.owner,
+                purpose: key.purpose,
+                row: key.row,
+                custodians: Names::new(self.alloc),
+                approvals: Names::new(self.alloc),
+            }),
+            None => None,
+        }
     }
 }

@@ -1,13 +1,15 @@
 ghost use Rattle.std.specs.Prelude.{◌≡◌};
-ghost use Rattle.register_desk.specs.declared.end.End.TheVariants.{Memory};
-
-use std::alloc::AllocFailed;
 
 /// What ends a call before its work is done.
 #[derive(Clone, Copy, Debug, PartialEq, Eq, Hash)]
 pub enum End {
     /// 30: a growth was refused. What was accepted before stands, and the request in hand changed nothing.
     Memory,
+    /// 31: a call of the database was refused, or a row is one that no register holds. The register is as before or
+    /// has the whole request, and the desk is broken.
+    Store,
+    /// 32: the desk was broken by an earlier end 31. Nothing changed.
+    Broken,
     /// 35: a read failed, or the bound on a reader's turns was met.
     ReadFault,
     /// 36: a write failed or took no byte, or the bound on a writer's idle turns was met.
@@ -23,6 +25,8 @@ impl End {
     {
         match self {
             End::Memory => 30,
+            End::Store => 31,
+            End::Broken => 32,
             End::ReadFault => 35,
             End::WriteFault => 36,
         }
@@ -34,16 +38,10 @@ impl End {
     {
         match self {
             End::Memory => "Memory",
+            End::Store => "Store",
+            End::Broken => "Broken",
             End::ReadFault => "ReadFault",
             End::WriteFault => "WriteFault",
         }
-    }
-}
-
-impl<T: Drop> From<AllocFailed<T>> for End {
-    ghost from_gives = { λ _ end. end ≡ Memory };
-
-    fn from(_refused: AllocFailed<T>) -> End {
-        End::Memory
     }
 }

@@ -8,8 +8,8 @@ ghost use Rattle.register_desk.specs.declared.lines.TheConstants.{PIECE};
 ghost use Rattle.register_desk.specs.Lines.{work_left};
 ghost use Rattle.register_desk.specs.Input.{HasItems};
 ghost use Rattle.register_desk.specs.Register.{StandsFor};
-ghost use Rattle.register_desk.specs.Run.{answer_line, RunsOver, IsFaulted, most_reads, most_idle};
-ghost use Rattle.register_desk.specs.Serving.{item_answer, after_item, MakesKey, LeavesItem, ServesTo, Wrote, TookBytes};
+ghost use Rattle.register_desk.specs.Run.{RunsOver, IsFaulted, most_reads, most_idle};
+ghost use Rattle.register_desk.specs.Serving.{AnswersItem, ServesItem, StopsItem, LeavesItem, ServesTo, Wrote, TookBytes};
 
 use crate::desk::Desk;
 use crate::end::End;
@@ -17,6 +17,7 @@ use crate::lines::{Lines, Next};
 use crate::watched::{ReadFault, Watched};
 use register_core::laws::one_request;
 use register_core::{Refusal, ReplyLine, Request, read_request, reply_line};
+use sqlite::Alter;
 use std::io::{Read, Write};
 
 /// The most interrupted turns in a row at its writer that a call takes.
@@ -60,32 +61,28 @@ fn item_of(lines: &Lines) -> Option<Request>
 }
 
 /// Applies the item, and gives the line of its answer.
-fn answer_item(desk: &mut Desk, item: &Option<Request>) -> Result<ReplyLine, End>
-    ensures line { IfOk result (λ line. line ≡ answer_line (item_answer desk.old item.now)) }
+fn answer_item<S: Alter>(desk: &mut Desk<S>, item: &Option<Request>) -> Result<ReplyLine, End>
+    ensures answers { IfOk result (λ line. AnswersItem S.Store desk.old desk.new item.now line) }
     ensures short { IfOk result (λ line. length line ≤ REPLY_LIMIT) }
-    ensures after { OnOk result (desk.new ≡ after_item desk.old item.now) }
-    ensures err { OnErr result (desk.new ≡ desk.old) }
-    ensures memory { IfErr result (λ end. (end ≡ End.Memory) × MakesKey desk.old item.now) }
+    ensures stop { IfErr result (λ end. StopsItem S.Store desk.old desk.new item.now end) }
 {
     let outcome = match item {
-        Some(request) => desk.step(request)?.outcome(),
+        Some(request) => desk.apply(request)?.outcome(),
         None => Err(Refusal::BadLine),
     };
     Ok(reply_line(&outcome))
 }
 
 /// Applies the item and writes its answer, whole and flushed. Gives how many bytes that were.
-fn serve_item<W: Write>(
+fn serve_item<W: Write, S: Alter>(
     item: &Option<Request>,
     writer: &mut Watched<W>,
-    desk: &mut Desk,
+    desk: &mut Desk<S>,
 ) -> Result<usize, Stop>
-    ensures written { OnOk result (Appends (W.contents writer.old.inner) (W.contents writer.new.inner)
-        (answer_line (item_answer desk.old item.now))) }
-    ensures applied { OnOk result (desk.new ≡ after_item desk.old item.now) }
-    ensures count { IfOk result (λ count. count ≡ length (answer_line (item_answer desk.old item.now))) }
+    ensures serves { IfOk result (λ count. ServesItem S.Store desk.old desk.new (W.contents writer.old.inner)
+        (W.contents writer.new.inner) item.now count) }
     ensures short { IfOk result (λ count. count ≤ REPLY_LIMIT) }
-    ensures stop { IfErr result (λ stop. LeavesItem desk.old desk.new (W.contents writer.old.inner)
+    ensures stop { IfErr result (λ stop. LeavesItem S.Store desk.old desk.new (W.contents writer.old.inner)
         (W.contents writer.new.inner) item.now stop.end stop.written) }
     ensures cause { IfErr result (λ stop. stop.end ≡ End.WriteFault →
         IsFaulted writer.new.failed most_idle writer.new.idle) }
@@ -107,15 +104,15 @@ fn serve_item<W: Write>(
 }
 
 /// Serves the lines that come, up to the end of the input or to what ends the run before.
-fn serve_lines<R: Read, W: Write>(
+fn serve_lines<R: Read, W: Write, S: Alter>(
     reader: &mut Watched<R>,
     writer: &mut Watched<W>,
-    desk: &mut Desk,
+    desk: &mut Desk<S>,
 ) -> Outcome
     // The bounds are on the turns of this run alone.
     requires reads { reader.old.turns ≡ 0 }
     requires idles { writer.old.idle ≡ 0 }
-    ensures serves { ServesTo (R.remaining reader.old.inner) (W.contents writer.old.inner)
+    ensures serves { ServesTo S.Store (R.remaining reader.old.inner) (W.contents writer.old.inner)
         (W.contents writer.new.inner) desk.old desk.new result.replies result.end }
     ensures read { TookBytes (R.remaining reader.old.inner) (R.remaining reader.new.inner) result.read }
     ensures written { Wrote (W.contents writer.old.inner) (W.contents writer.new.inner) result.written }
@@ -160,18 +157,18 @@ fn serve_lines<R: Read, W: Write>(
 /// Runs over the request lines of a reader: each line is applied and its reply line written and flushed before
 /// the next line is applied. A line that is no request is answered `refused 1 BadLine`. Bytes behind the last
 /// line feed are no line.
-pub fn run<R: Read, W: Write>(
+pub fn run<R: Read, W: Write, S: Alter>(
     reader: &mut Watched<R>,
     writer: &mut Watched<W>,
-    desk: &mut Desk,
+    desk: &mut Desk<S>,
 ) -> Outcome
     requires reader { reader.old.failed ≡ false }
     requires writer { writer.old.failed ≡ false }
     // Where the reader's bytes are known, what is written is the lines of the answers, and the desk then stands
     // for the history of the items that were answered.
     ensures agrees { (h : List Request) (bytes : List ℕ) (items : List (Option Request)) (rest : List ℕ) →
-        StandsFor desk.old h → R.remaining reader.old.inner ≡ Some bytes → HasItems bytes items rest →
-        RunsOver h items rest result.end result.replies (W.contents writer.old.inner) (W.contents writer.new.inner) desk.new }
+        StandsFor S.Store desk.old h → R.remaining reader.old.inner ≡ Some bytes → HasItems bytes items rest →
+        RunsOver S.Store h items rest result.end result.replies (W.contents writer.old.inner) (W.contents writer.new.inner) desk.new }
     ensures read { TookBytes (R.remaining reader.old.inner) (R.remaining reader.new.inner) result.read }
     ensures written { Wrote (W.contents writer.old.inner) (W.contents writer.new.inner) result.written }
     ensures read_fault { result.end ≡ Finish.Ended End.ReadFault →

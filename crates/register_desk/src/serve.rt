@@ -1,22 +1,20 @@
-//! One request over the records that are kept: its verdict, then its change.
-ghost use Rattle.std.specs.Prelude.{◌≡◌, ◌<◌, ◌≤◌, ◌↔◌, ◌+◌, ◌^◌, ◌++◌, ℕ, IsSome, IsTrue, IfOk, IfErr, OnOk, OnErr, IfSome, None, length, map, is_none};
-ghost use Rattle.std.specs.List.{AllByRecursion};
-ghost use Rattle.register_core.specs.History.{made_by};
-ghost use Rattle.register_core.specs.declared.limits.TheConstants.{KEY_LIMIT};
-ghost use Rattle.register_desk.specs.Answer.{answered};
-ghost use Rattle.register_desk.specs.Step.{register, record_made, option_list, reply_with, records_after, advanced, answer_at, judge_at, register_after, IsRightBy, IsSound};
+//! The change of an accepted request: its key, its transaction, its reply.
+ghost use Rattle.std.specs.Prelude.{◌≡◌, ◌<◌, ◌≤◌, ◌^◌, ◌+◌, false, length};
+ghost use Rattle.sqlite.specs.Held.{state};
+ghost use Rattle.sql_steps.specs.Steps.{StepsBy, TransactsBy};
+ghost use Rattle.register_store.specs.Tables.{Makes, HasKeys};
+ghost use Rattle.register_desk.specs.Step.{key_made, option_list, with_made, with_request, reply_with};
 
-use crate::desk::Answer;
-use crate::end::End;
-use crate::record::Record;
-use lifecycle_core::{Row, advance, state_of};
+use lifecycle_core::{Row, state_of};
 use moment_core::Moment;
 use period_core::filled;
-use register_core::{Command, Reply, Request, given_dates, judge};
+use register_core::{Command, Reply, given_dates};
+use register_store::{Key, StoreError, add_key, advance_due, record_request};
+use sqlite::{Alter, Connection, Transaction};
 
-/// The record of the key that the command makes at the moment, if it makes one.
-fn record_of(at: Moment, command: &Command) -> Option<Record>
-    ensures { result ≡ record_made at command.now }
+/// The key that the command makes at the moment, if it makes one.
+pub(crate) fn key_of(at: Moment, command: &Command) -> Option<Key>
+    ensures { result ≡ key_made at command.now }
 {
     match *command {
         Command::Register {
@@ -30,7 +28,7 @@ fn record_of(at: Moment, command: &Command) -> Option<Record>
             let given = given_dates(at, activation, protect_stop, deactivation);
             let dates = filled(kind, given);
             let state = state_of(&dates, at);
-            Some(Record {
+            Some(Key {
                 kind,
                 owner,
                 purpose,
@@ -41,25 +39,15 @@ fn record_of(at: Moment, command: &Command) -> Option<Record>
     }
 }
 
-/// Moves each record to its state at a moment that is not before the one at which it is right.
-fn advance_all(records: &mut [Record], at: Moment)
-    requires { AllByRecursion (IsRightBy at) records.old }
-    ensures { records.new ≡ map (advanced at) records.old }
-{
-    for record in records.iter_mut() {
-        advance(&mut record.row, at);
-    }
-}
-
-/// The reply where so many keys were made before, and the request makes this record, if any.
-fn reply_of(keys: u32, at: Moment, made: &Option<Record>) -> Reply
+/// The reply where so many keys were made before, and the request makes this key, if any.
+pub(crate) fn reply_of(keys: u32, at: Moment, made: &Option<Key>) -> Reply
     requires { keys < 2 ^ 31 }
     ensures { result ≡ reply_with keys at made.now }
 {
     match made {
-        Some(record) => Reply {
+        Some(key) => Reply {
             key: keys + 1,
-            state: Some(record.row.state),
+            state: Some(key.row.state),
             moment: at,
         },
         None => Reply {
@@ -70,61 +58,68 @@ fn reply_of(keys: u32, at: Moment, made: &Option<Record>) -> Reply
     }
 }
 
-/// Adds the record of the key that the command makes at the moment, if it makes one, and gives that record.
-fn add(records: &mut Vec<Record>, at: Moment, command: &Command) -> Result<Option<Record>, End>
-    ensures ok { OnOk result (records.new.items ≡ records.old.items ++ option_list (record_made at command.now)) }
-    ensures made { IfOk result (λ made. made ≡ record_made at command.now) }
-    ensures err { OnErr result (records.new.items ≡ records.old.items) }
-    ensures only_memory { IfErr result (λ end. (end ≡ End.Memory) × IsSome (record_made at command.now)) }
+/// How many keys there are with the one that is made, if any.
+pub(crate) fn keys_with(keys: u32, made: &Option<Key>) -> u32
+    requires { keys < 2 ^ 31 }
+    ensures { result ≡ keys + length (option_list made.now) }
 {
-    let made = record_of(at, command);
-    if let Some(record) = &made {
-        records.push(*record)?;
+    match made {
+        Some(_) => keys + 1,
+        None => keys,
     }
-    Ok(made)
 }
 
-/// Makes the change of an accepted request, and answers it. Growth comes first, so that want of memory leaves
-/// all as it was.
-fn accept(latest: &mut Moment, records: &mut Vec<Record>, request: &Request) -> Result<Reply, End>
-    requires sound { IsSound (register latest.old records.old.items) }
-    requires accepted { judge_at (register latest.old records.old.items) request.now ≡ None }
-    ensures reply { IfOk result (λ reply. reply ≡ reply_with (length records.old.items) request.now.moment
-        (record_made request.now.moment request.now.command)) }
-    ensures latest { OnOk result (latest.new ≡ request.now.moment) }
-    ensures records { OnOk result (records.new.items ≡ records_after records.old.items request.now) }
-    ensures sound { IsSound (register latest.new records.new.items) }
-    ensures only_memory { IfErr result (λ end. (end ≡ End.Memory) × (made_by request.now.command ≡ 1)) }
-    ensures err { OnErr result (register latest.new records.new.items ≡ register latest.old records.old.items) }
+/// Adds the key that is made, if any, behind the others.
+fn add_made<S: Alter>(
+    tx: &mut Transaction<'_, S>,
+    keys: u32,
+    made: &Option<Key>,
+) -> Result<(), StoreError>
+    requires { keys < 2 ^ 31 }
+    ensures same_reference { tx.new.conn.ghost_name ≡ tx.old.conn.ghost_name }
+    ensures added { StepsBy (λ _. Makes (HasKeys keys) (with_made made.now)) (state S.Store tx.old.conn.now) (state S.Store tx.new.conn.now) result }
 {
-    let keys = records.len() as u32;
-    let made = add(records, request.moment, &request.command)?;
-    advance_all(records, request.moment);
-    *latest = request.moment;
-    Ok(reply_of(keys, request.moment, &made))
+    match made {
+        Some(key) => add_key(tx, keys + 1, key),
+        None => Ok(()),
+    }
 }
 
-/// Applies the request to what is kept.
-pub(crate) fn serve(
-    latest: &mut Moment,
-    records: &mut Vec<Record>,
-    request: &Request,
-) -> Result<Answer, End>
-    requires { IsSound (register latest.old records.old.items) }
-    ensures answer { IfOk result (λ given. answered given ≡ answer_at (register latest.old records.old.items) request.now) }
-    ensures after { OnOk result (register latest.new records.new.items
-        ≡ register_after (register latest.old records.old.items) request.now) }
-    ensures sound { IsSound (register latest.new records.new.items) }
-    ensures only_memory { IfErr result (λ end. end ≡ End.Memory) }
-    ensures grows { OnErr result ((judge_at (register latest.old records.old.items) request.now ≡ None)
-        × (made_by request.now.command ≡ 1)) }
-    ensures err { OnErr result (register latest.new records.new.items ≡ register latest.old records.old.items) }
+/// Makes the change of an accepted request in a transaction: each key that is due moves on, the key that is made comes
+/// in, and the latest moment and the number of keys are kept.
+fn write_request<S: Alter>(
+    tx: &mut Transaction<'_, S>,
+    keys: u32,
+    latest: Moment,
+    at: Moment,
+    made: &Option<Key>,
+) -> Result<(), StoreError>
+    requires within { keys < 2 ^ 31 }
+    requires later { latest ≤ at }
+    ensures same_reference { tx.new.conn.ghost_name ≡ tx.old.conn.ghost_name }
+    ensures written { StepsBy (λ _. Makes (HasKeys keys) (with_request keys at made.now)) (state S.Store tx.old.conn.now) (state S.Store tx.new.conn.now) result }
 {
-    match judge(*latest, records.len() as u32, request) {
-        Some(refusal) => Ok(Answer::Refused(refusal)),
-        None => {
-            let reply = accept(latest, records, request)?;
-            Ok(Answer::Accepted(reply))
-        }
-    }
+    advance_due(tx, keys, latest, at)?;
+    add_made(tx, keys, made)?;
+    record_request(tx, at, keys_with(keys, made))
+}
+
+/// The same as one transaction, so that a stop leaves all of it or nothing.
+pub(crate) fn commit_request<S: Alter>(
+    connection: &mut Connection<S>,
+    keys: u32,
+    latest: Moment,
+    at: Moment,
+    made: &Option<Key>,
+) -> Result<(), StoreError>
+    requires idle { connection.old.in_transaction ≡ false }
+    requires within { keys < 2 ^ 31 }
+    requires later { latest ≤ at }
+    ensures idle { connection.new.in_transaction ≡ false }
+    ensures written { TransactsBy (Makes (HasKeys keys) (with_request keys at made.now)) (state S.Store connection.old) (state S.Store connection.new) result }
+{
+    let mut tx = connection.transaction();
+    write_request(&mut tx, keys, latest, at, made)?;
+    tx.commit()?;
+    Ok(())
 }

@@ -1,19 +1,35 @@
 use super::memory_streams::{BrokenAfter, Trouble, Troubled};
 use super::worked_rows::{FIRST_DAY, WORKED_ROWS, first_lines};
-use crate::act::{act, told};
-use register_desk::End;
+use crate::act::{act, told, told_unopened};
+use register_desk::{End, OpenRefusal};
 use std::test::Fail;
 
 #[test]
 fn each_end_is_told(rt: HostRuntime) {
     let ends = [
         (End::Memory, 3, "keyreg: Memory\n"),
+        (End::Store, 3, "keyreg: Store\n"),
+        (End::Broken, 3, "keyreg: Broken\n"),
         (End::ReadFault, 4, "keyreg: ReadFault\n"),
         (End::WriteFault, 4, "keyreg: WriteFault\n"),
     ];
     for (end, status, line) in ends {
         let mut faults = Vec::new(rt.alloc());
         assert_eq!(rt; told(end, &mut faults), status, "{line}");
+        assert_eq!(rt; faults.as_slice(), line.as_bytes(), "{line}");
+    }
+}
+
+#[test]
+fn each_refusal_is_told(rt: HostRuntime) {
+    let refusals = [
+        (OpenRefusal::Memory, "keyreg: Memory\n"),
+        (OpenRefusal::Store, "keyreg: Store\n"),
+        (OpenRefusal::NotARegister, "keyreg: NotARegister\n"),
+    ];
+    for (refusal, line) in refusals {
+        let mut faults = Vec::new(rt.alloc());
+        assert_eq!(rt; told_unopened(refusal, &mut faults), 2, "{line}");
         assert_eq!(rt; faults.as_slice(), line.as_bytes(), "{line}");
     }
 }

@@ -2,13 +2,14 @@ use super::memory_streams::{BrokenAfter, Short, Trouble, Troubled};
 use super::served::serve;
 use super::worked_rows::{FIRST_DAY, first_lines, line_count};
 use register_desk::{Desk, End, Finish, MOST_IDLE_TURNS};
+use sqlite::MemStore;
 use std::test::Fail;
 
 /// The latest moment and the number of keys once so many lines of *first day* are applied.
 const AFTER_LINES: [(u64, u32); 5] = [(0, 0), (100, 1), (999, 1), (1000, 2), (1000, 2)];
 
 /// Whether the desk stands where so many lines of *first day* leave it.
-fn stands_after(desk: &Desk, lines: usize) -> bool {
+fn stands_after(desk: &Desk<MemStore>, lines: usize) -> bool {
     AFTER_LINES.get(lines) == Some(&(desk.latest().seconds(), desk.count()))
 }
 
@@ -18,7 +19,7 @@ fn a_failed_read_ends_the_run(rt: HostRuntime) -> Result<(), Fail> {
     for taken in 0..=input.len() {
         let given = &input[..taken];
         let lines = line_count(given);
-        let served = serve(rt.alloc(), BrokenAfter(given), Vec::new(rt.alloc()));
+        let served = serve(rt.alloc(), BrokenAfter(given), Vec::new(rt.alloc()))?;
         assert_eq!(rt;
             served.outcome.end,
             Finish::Ended(End::ReadFault),
@@ -55,7 +56,7 @@ fn a_troubled_writer_ends_the_run(rt: HostRuntime) -> Result<(), Fail> {
                 trouble,
                 good_turns: 2 * lines + writes,
             };
-            let served = serve(rt.alloc(), FIRST_DAY.input.as_bytes(), output);
+            let served = serve(rt.alloc(), FIRST_DAY.input.as_bytes(), output)?;
             let end = Finish::Ended(End::WriteFault);
             assert_eq!(rt; served.outcome.end, end, "{name} after {lines}");
             assert_eq!(rt;
@@ -67,10 +68,10 @@ fn a_troubled_writer_ends_the_run(rt: HostRuntime) -> Result<(), Fail> {
             let idle = if fails { 0 } else { MOST_IDLE_TURNS };
             assert_eq!(rt; served.writer.idle(), idle, "{name} after {lines}");
             assert!(rt;
-                stands_after(&served.desk, lines + 1),
+                stands_after(&served.desk, lines.saturating_add(1)),
                 "{name} after {lines}"
             );
-            let expected = first_lines(rt.alloc(), FIRST_DAY.output, lines + writes)?;
+            let expected = first_lines(rt.alloc(), FIRST_DAY.output, lines.saturating_add(writes))?;
             let written = served.writer.into_inner().inner;
             assert_eq!(rt;
                 served.outcome.written,
@@ -88,7 +89,7 @@ fn a_troubled_writer_ends_the_run(rt: HostRuntime) -> Result<(), Fail> {
 }
 
 #[test]
-fn a_write_fails_in_the_middle_of_a_line(rt: HostRuntime) {
+fn a_write_fails_in_the_middle_of_a_line(rt: HostRuntime) -> Result<(), Fail> {
     let output = FIRST_DAY.output.as_bytes();
     for taken in 0.."ok 1 Active 100\n".len() {
         let writer = Short {
@@ -99,7 +100,7 @@ fn a_write_fails_in_the_middle_of_a_line(rt: HostRuntime) {
             },
             most: 1,
         };
-        let served = serve(rt.alloc(), FIRST_DAY.input.as_bytes(), writer);
+        let served = serve(rt.alloc(), FIRST_DAY.input.as_bytes(), writer)?;
         assert_eq!(rt;
             served.outcome.end,
             Finish::Ended(End::WriteFault),
@@ -113,4 +114,5 @@ fn a_write_fails_in_the_middle_of_a_line(rt: HostRuntime) {
         let written = served.writer.into_inner().inner.inner;
         assert_eq!(rt; Some(written.as_slice()), output.get(..taken), "{taken}");
     }
+    Ok(())
 }

@@ -17,37 +17,40 @@ fn outcome_of(row: &WorkedRow) -> Outcome {
 }
 
 #[test]
-fn worked_rows(rt: HostRuntime) {
+fn worked_rows(rt: HostRuntime) -> Result<(), Fail> {
     for row in WORKED_ROWS {
         let name = row.name;
-        let served = serve(rt.alloc(), row.input.as_bytes(), Vec::new(rt.alloc()));
+        let served = serve(rt.alloc(), row.input.as_bytes(), Vec::new(rt.alloc()))?;
         assert_eq!(rt; served.outcome, outcome_of(&row), "{name}");
         let written = served.writer.into_inner();
         assert_eq!(rt; written.as_slice(), row.output.as_bytes(), "{name}");
     }
+    Ok(())
 }
 
 #[test]
-fn first_day_byte_by_byte(rt: HostRuntime) {
+fn first_day_byte_by_byte(rt: HostRuntime) -> Result<(), Fail> {
     let input = OneByte(FIRST_DAY.input.as_bytes());
-    let served = serve(rt.alloc(), input, Vec::new(rt.alloc()));
+    let served = serve(rt.alloc(), input, Vec::new(rt.alloc()))?;
     assert_eq!(rt; served.outcome, outcome_of(&FIRST_DAY));
     let written = served.writer.into_inner();
     assert_eq!(rt; written.as_slice(), FIRST_DAY.output.as_bytes());
+    Ok(())
 }
 
 #[test]
-fn first_day_interrupted(rt: HostRuntime) {
+fn first_day_interrupted(rt: HostRuntime) -> Result<(), Fail> {
     let input = Interrupted::new(OneByte(FIRST_DAY.input.as_bytes()));
     let output = Interrupted::new(Short {
         inner: Vec::new(rt.alloc()),
         most: 3,
     });
-    let served = serve(rt.alloc(), input, output);
+    let served = serve(rt.alloc(), input, output)?;
     assert_eq!(rt; served.outcome, outcome_of(&FIRST_DAY));
     assert!(rt; !served.reader.failed() && !served.writer.failed());
     let written = served.writer.into_inner().inner.inner;
     assert_eq!(rt; written.as_slice(), FIRST_DAY.output.as_bytes());
+    Ok(())
 }
 
 /// The item of each line that ends in LF.
@@ -91,7 +94,7 @@ fn worked_rows_by_the_plain_program(rt: HostRuntime) -> Result<(), Fail> {
             rt.alloc(),
             row.input.as_bytes(),
             Vec::new(rt.alloc()),
-        );
+        )?;
         let items = items_of(rt.alloc(), row.input)?;
         assert!(rt; items.len() < 10, "{name}");
         let answers = plain::answers(rt.alloc(), &items)?;

@@ -1,4 +1,6 @@
-use register_desk::{Desk, Outcome, Watched, run};
+use crate::act::in_memory;
+use register_desk::{Desk, OpenRefusal, Outcome, Watched, run};
+use sqlite::MemStore;
 use std::alloc::Global;
 use std::io::{Read, Write};
 
@@ -8,19 +10,23 @@ pub struct Served<R, W> {
     pub outcome: Outcome,
     pub reader: Watched<R>,
     pub writer: Watched<W>,
-    pub desk: Desk,
+    pub desk: Desk<MemStore>,
 }
 
 /// Runs over an empty register.
-pub fn serve<R: Read, W: Write>(alloc: Global, input: R, output: W) -> Served<R, W> {
+pub fn serve<R: Read + Drop, W: Write + Drop>(
+    alloc: Global,
+    input: R,
+    output: W,
+) -> Result<Served<R, W>, OpenRefusal> {
+    let mut desk = in_memory(alloc)?;
     let mut reader = Watched::new(input);
     let mut writer = Watched::new(output);
-    let mut desk = Desk::new(alloc);
     let outcome = run(&mut reader, &mut writer, &mut desk);
-    Served {
+    Ok(Served {
         outcome,
         reader,
         writer,
         desk,
-    }
+    })
 }

@@ -54,7 +54,7 @@ const DATES_OUT_OF_ORDER: WorkedRow = WorkedRow {
     rest: 0,
 };
 
-const DEFAULTS: WorkedRow = WorkedRow {
+pub const DEFAULTS: WorkedRow = WorkedRow {
     name: "defaults",
     input: "100 ann 1 register data-encryption bob 0 - - payroll disks\n",
     output: "ok 1 Active 100\n",

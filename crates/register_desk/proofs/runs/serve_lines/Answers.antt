@@ -3,7 +3,7 @@ use Rattle.register_desk.specs.declared.end.End.{End}
 use Rattle.register_desk.specs.declared.end.End.TheVariants.{ReadFault}
 use Rattle.register_desk.specs.declared.runs.Finish.TheVariants.{AtEnd, Ended}
 use Rattle.register_desk.specs.Lines.{Cut, work_left}
-use Rattle.register_desk.proofs.ServingLemmas.{served_begin, took_begin, took_then, wrote_then, wrote_part, wrote_begin, stopped_so, all_so, served_more, serves_same, wrote_same}
+use Rattle.register_desk.proofs.ServingLemmas.{served_begin, took_begin, took_then, wrote_item, wrote_part, wrote_begin, stopped_so, all_so, served_more, serves_same, wrote_same}
 use Rattle.register_desk.proofs.runs.serve_lines.Goals as goal
 use Rattle.register_desk.proofs.runs.serve_lines.Goals.{in-Ok-Line+in-Err-serve_item, in-Ok-End, in-Err}
 
@@ -12,7 +12,7 @@ loop-lines-init g c =
     let unread = ap (λ (cut : Cut). cut.unread) c.new-lines.ensures in
     let taken = ap (λ (cut : Cut). cut.taken) c.new-lines.ensures in
     record {
-      served = served_begin (g.R.Read.remaining c.args.reader.now.inner) (g.W.Write.contents c.args.writer.now.inner) c.new-lines.result.unread c.args.desk.now unread;
+      served = served_begin g.S.Store (g.R.Read.remaining c.args.reader.now.inner) (g.W.Write.contents c.args.writer.now.inner) c.new-lines.result.unread c.args.desk.now unread;
       took = took_begin (g.R.Read.remaining c.args.reader.now.inner) c.new-lines.result.taken taken;
       wrote = wrote_begin (g.W.Write.contents c.args.writer.now.inner);
       within = omega (arith, taken);
@@ -28,10 +28,10 @@ loop-lines-preserved g c =
     let less = c.in-Ok-Line.ensures.less c.in-Ok-Line.field-0-is in
     let item = c.item_of.ensures cut.0 cut.1.counted cut.1.kept in
     record {
-      served = served_more _ _ _ _ _ _ c.args.desk.now c.loop-lines.desk c.serve_item.new.desk c.loop-lines.replies cut.0 c.item_of.result
-          invariant.served cut.1.unbroken cut.1.consumed item c.in-Ok.ensures.written c.in-Ok.ensures.applied;
+      served = served_more g.S.Store _ _ _ _ _ _ c.args.desk.now c.loop-lines.desk c.serve_item.new.desk c.loop-lines.replies c.in-Ok.count cut.0 c.item_of.result
+          invariant.served cut.1.unbroken cut.1.consumed item c.in-Ok.ensures.serves;
       took = took_then _ _ _ c.loop-lines.lines.taken c.loop-lines.lines c.next.new.self invariant.took refl c.in-Ok-Line.ensures.taken;
-      wrote = wrote_then _ _ _ c.loop-lines.written c.in-Ok.count _ invariant.wrote c.in-Ok.ensures.written c.in-Ok.ensures.count;
+      wrote = wrote_item g.S.Store _ _ _ c.loop-lines.desk c.serve_item.new.desk c.item_of.result c.loop-lines.written c.in-Ok.count invariant.wrote c.in-Ok.ensures.serves;
       within = c.in-Ok-Line.ensures.within;
       some = omega (arith, less, invariant.some);
       short = omega (arith, invariant.short, c.in-Ok.ensures.short);
@@ -47,19 +47,19 @@ returns-clause-serves g c =
       | in-Ok-Line+in-Err-serve_item w ↦
           let cut = w.in-Ok-Line.ensures.line w.in-Ok-Line.field-0-is in
           let item = w.item_of.ensures cut.0 cut.1.counted cut.1.kept in
-          serves_same before old _ _ c.args.desk.now c.match-next.desk w.serve_item.new.desk c.loop-lines.replies c.match-next.end (Ended w.in-Err-serve_item.stop.end)
+          serves_same g.S.Store before old _ _ c.args.desk.now c.match-next.desk w.serve_item.new.desk c.loop-lines.replies c.match-next.end (Ended w.in-Err-serve_item.stop.end)
           w.end-is w.desk-is (ap (λ x. g.W.Write.contents x.inner) w.writer-is)
-          (stopped_so before _ _ old _ _ c.args.desk.now c.loop-lines.desk w.serve_item.new.desk c.loop-lines.replies cut.0 w.item_of.result w.in-Err-serve_item.stop.end w.in-Err-serve_item.stop.written
+          (stopped_so g.S.Store before _ _ old _ _ c.args.desk.now c.loop-lines.desk w.serve_item.new.desk c.loop-lines.replies cut.0 w.item_of.result w.in-Err-serve_item.stop.end w.in-Err-serve_item.stop.written
           served (record { unbroken = cut.1.unbroken; consumed = cut.1.consumed; stands_for = item }) w.in-Err-serve_item.ensures.stop)
       | in-Ok-End w ↦
           let cut = w.in-Ok-End.ensures.end w.in-Ok-End.field-0-is in
           let at_end = w.in-Ok-End.ensures.at_end w.in-Ok-End.field-0-is in
-          serves_same before old _ _ c.args.desk.now c.match-next.desk c.loop-lines.desk c.loop-lines.replies c.match-next.end (AtEnd w.length-rest.result)
+          serves_same g.S.Store before old _ _ c.args.desk.now c.match-next.desk c.loop-lines.desk c.loop-lines.replies c.match-next.end (AtEnd w.length-rest.result)
           w.end-is w.desk-is (ap (λ x. g.W.Write.contents x.inner) w.writer-is)
-          (all_so before _ _ old _ c.args.desk.now c.loop-lines.desk c.loop-lines.replies w.length-rest.result c.next.new.self.unread cut.0
+          (all_so g.S.Store before _ _ old _ c.args.desk.now c.loop-lines.desk c.loop-lines.replies w.length-rest.result c.next.new.self.unread cut.0
           served cut.1.unbroken cut.1.consumed at_end cut.1.none_left (w.length-rest.ensures ∙ cut.1.counted))
       | in-Err w ↦
-          serves_same before old _ _ c.args.desk.now c.match-next.desk c.loop-lines.desk c.loop-lines.replies c.match-next.end (Ended ReadFault)
+          serves_same g.S.Store before old _ _ c.args.desk.now c.match-next.desk c.loop-lines.desk c.loop-lines.replies c.match-next.end (Ended ReadFault)
           w.end-is w.desk-is (ap (λ x. g.W.Write.contents x.inner) w.writer-is)
           (record { middle = _; served = served })
     ]
@@ -76,7 +76,7 @@ returns-clause-written g c =
     elim c.match-next.branch [
       | in-Ok-Line+in-Err-serve_item w ↦
           wrote_same old _ _ c.match-next.written (c.loop-lines.written + w.in-Err-serve_item.stop.written) w.written-is (ap (λ x. g.W.Write.contents x.inner) w.writer-is)
-          (wrote_part old _ _ c.loop-lines.desk w.serve_item.new.desk w.item_of.result w.in-Err-serve_item.stop.end c.loop-lines.written w.in-Err-serve_item.stop.written wrote w.in-Err-serve_item.ensures.stop)
+          (wrote_part g.S.Store old _ _ c.loop-lines.desk w.serve_item.new.desk w.item_of.result w.in-Err-serve_item.stop.end c.loop-lines.written w.in-Err-serve_item.stop.written wrote w.in-Err-serve_item.ensures.stop)
       | in-Ok-End w ↦ wrote_same old _ _ c.match-next.written c.loop-lines.written w.written-is (ap (λ x. g.W.Write.contents x.inner) w.writer-is) wrote
       | in-Err w ↦ wrote_same old _ _ c.match-next.written c.loop-lines.written w.written-is (ap (λ x. g.W.Write.contents x.inner) w.writer-is) wrote
     ]

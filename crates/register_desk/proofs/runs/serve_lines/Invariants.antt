@@ -8,7 +8,7 @@ use Rattle.register_desk.proofs.runs.serve_lines.Given as goal
 
 abbrev pub invariant-loop-lines : goal.invariant-loop-lines
 invariant-loop-lines g l = record {
-  served : Served (g.R.Read.remaining l.fn.reader.inner) (prepend_known l.lines.unread (g.R.Read.remaining l.reader.inner))
+  served : Served g.S.Store (g.R.Read.remaining l.fn.reader.inner) (prepend_known l.lines.unread (g.R.Read.remaining l.reader.inner))
       (g.W.Write.contents l.fn.writer.inner) (g.W.Write.contents l.writer.inner) l.fn.desk l.desk l.replies;
   took : TookBytes (g.R.Read.remaining l.fn.reader.inner) (g.R.Read.remaining l.reader.inner) l.lines.taken;
   wrote : Wrote (g.W.Write.contents l.fn.writer.inner) (g.W.Write.contents l.writer.inner) l.written;

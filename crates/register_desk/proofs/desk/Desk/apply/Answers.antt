@@ -1,38 +1,34 @@
-use Rattle.std.proofs.Common.{◌≡◌, List, Some, None, Result, Ok, Err, sym, ◌∙◌, subst}
-use Rattle.std.specs.Prelude.{IfOk, OnOk, OnErr}
-use Rattle.register_core.specs.declared.request.Request.{Request}
-use Rattle.register_core.specs.History.{made_by}
-use Rattle.register_core.specs.Verdict.{verdict, answer}
-use Rattle.register_core.specs.Fold.{history_after}
-use Rattle.register_desk.specs.declared.desk.Answer.{Answer}
-use Rattle.register_desk.specs.declared.end.End.{End}
-use Rattle.register_desk.specs.Answer.{answered}
-use Rattle.register_desk.specs.Register.{Register, StandsFor}
-use Rattle.register_desk.specs.Step.{answer_at, judge_at, register_after}
-use Rattle.register_desk.proofs.Grows.{answer_stands, stands_after, verdict_stands}
+use Rattle.std.proofs.Common.{◌≡◌, Result, Ok, Err, sym, ap, ◌∙◌}
+use Rattle.std.specs.Prelude.{IfErr}
+use Rattle.register_core.specs.Verdict.{answer_by, reply}
+use Rattle.register_core.specs.declared.reply.Reply.{Reply}
+use Rattle.register_desk.specs.Step.{key_made, reply_with}
+use Rattle.register_desk.proofs.Grows.{reply_same}
+use Rattle.register_desk.proofs.Standing.{judged, leaves_one, stands_after}
 use Rattle.register_desk.proofs.desk.Desk.apply.Goals as goal
 
--- the three clauses, of what is kept before and after
-answers_so : (r : Result Answer End) (kept : Register) (q : Request) (h : List Request) → StandsFor kept h →
-    IfOk r (λ given. answered given ≡ answer_at kept q) → IfOk r (λ given. answered given ≡ answer h q)
-answers_so (Ok given) kept q h stands e = e ∙ answer_stands kept h q stands
-answers_so (Err end) kept q h stands e = tt
+-- what holds whatever the end is
+at_any_end : {A E : Type 0} (P : E → Type 0) (r : Result A E) → ((end : E) → P end) → IfErr r P
+at_any_end P (Ok x) all = tt
+at_any_end P (Err e) all = all e
 
-stands_so : (r : Result Answer End) (kept after : Register) (q : Request) (h : List Request) → StandsFor kept h →
-    OnOk r (after ≡ register_after kept q) → OnOk r (StandsFor after (history_after h (Some q)))
-stands_so (Ok given) kept after q h stands e = subst (λ (k : Register). StandsFor k (history_after h (Some q))) (sym e) (stands_after kept h q stands)
-stands_so (Err end) kept after q h stands e = tt
+pub returns-in_err-reply-in-None-clause-store : goal.returns-in_err-reply-in-None-clause-store
+returns-in_err-reply-in-None-clause-store g c h stands =
+    let accepted = sym c.in-None.ensures in
+    at_any_end _ c.from_residual.result (λ end is clean. (
+      judged g.S.Store c.args.self.now h c.args.request.now stands accepted,
+      leaves_one g.S.Store c.args.self.now h c.args.request.now stands accepted c.accept.new.self _ c.if-self.false c.in_err-reply-in-None.ensures.written clean,
+    ))
 
-grows_so : (r : Result Answer End) (kept : Register) (q : Request) (h : List Request) → StandsFor kept h →
-    OnErr r ((judge_at kept q ≡ None) × (made_by q.command ≡ 1)) → OnErr r ((verdict h q ≡ None) × (made_by q.command ≡ 1))
-grows_so (Ok given) kept q h stands e = tt
-grows_so (Err end) kept q h stands e = (sym (verdict_stands kept h q stands) ∙ e.0, e.1)
+pub returns-in_ok-reply-in-None-clause-answer : goal.returns-in_ok-reply-in-None-clause-answer
+returns-in_ok-reply-in-None-clause-answer g c h stands =
+    let q = c.args.request.now in
+    let accepted = judged g.S.Store c.args.self.now h q stands (sym c.in-None.ensures) in
+    let same : c.in_ok-reply-in-None.reply ≡ reply h q =
+    c.in_ok-reply-in-None.ensures.reply ∙ ap (λ n. reply_with n q.moment (key_made q.moment q.command)) stands.keys_are ∙ sym (reply_same h q) in
+    ap (λ (r : Reply). Ok r) same ∙ ap (λ v. answer_by v (reply h q)) (sym accepted)
 
-pub returns-clause-answer : goal.returns-clause-answer
-returns-clause-answer c h stands = answers_so c.step.result c.args.self.now c.args.request.now h stands c.step.ensures.answer
-
-pub returns-clause-stands : goal.returns-clause-stands
-returns-clause-stands c h stands = stands_so c.step.result c.args.self.now c.step.new.self c.args.request.now h stands c.step.ensures.after
-
-pub returns-clause-grows : goal.returns-clause-grows
-returns-clause-grows c h stands = grows_so c.step.result c.args.self.now c.args.request.now h stands c.step.ensures.grows
+pub returns-in_ok-reply-in-None-clause-stands : goal.returns-in_ok-reply-in-None-clause-stands
+returns-in_ok-reply-in-None-clause-stands g c h stands =
+    stands_after g.S.Store c.args.self.now h c.args.request.now stands (sym c.in-None.ensures) c.accept.new.self (Ok c.in_ok-reply-in-None.reply) c.if-self.false
+    c.in_ok-reply-in-None.ensures.written g.met.S.Store.settled c.in_ok-reply-in-None.ensures.latest c.in_ok-reply-in-None.ensures.keys

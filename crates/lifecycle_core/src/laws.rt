@@ -1,0 +1,10 @@
+//! Laws of the lifecycle.
+ghost use Rattle.std.specs.Prelude.{ℕ, ◌≤◌, Some};
+ghost use Rattle.lifecycle_core.specs.declared.dates.Dates.{Dates};
+ghost use Rattle.lifecycle_core.specs.State.{state_at};
+ghost use Rattle.lifecycle_core.specs.Transition.{Leads};
+
+/// While a key's dates stay, time takes it along the standard's transitions only.
+pub fn time_passes()
+    ensures { (d : Dates) (t u : ℕ) → t ≤ u → Leads (Some (state_at d t)) (Some (state_at d u)) }
+{}

@@ -1,0 +1,57 @@
+ghost use Rattle.std.specs.Prelude.{◌≡◌};
+
+/// A revocation reason of KMIP 1.2, section 3.31.
+#[derive(Clone, Copy, Debug, PartialEq, Eq, Hash)]
+pub enum Reason {
+    Unspecified,
+    KeyCompromise,
+    CaCompromise,
+    AffiliationChanged,
+    Superseded,
+    CessationOfOperation,
+    PrivilegeWithdrawn,
+}
+
+impl Reason {
+    ghost use Rattle.std.specs.Prelude.{◌<◌, ◌⊎◌, IfSome, IfNone};
+    ghost use Rattle.lifecycle_core.specs.Reason.{reason_code, is_compromise};
+
+    /// The reason's value in the Revocation Reason Code Enumeration of KMIP 1.2 (section 9.1.3.2), from 1 to 7.
+    pub fn code(self) -> u8
+        ensures { result ≡ reason_code self }
+    {
+        match self {
+            Reason::Unspecified => 1,
+            Reason::KeyCompromise => 2,
+            Reason::CaCompromise => 3,
+            Reason::AffiliationChanged => 4,
+            Reason::Superseded => 5,
+            Reason::CessationOfOperation => 6,
+            Reason::PrivilegeWithdrawn => 7,
+        }
+    }
+
+    /// The reason with this value, or `None` below 1 and above 7.
+    pub fn from_code(code: u8) -> Option<Self>
+        ensures found { IfSome result (λ reason. reason_code reason ≡ code) }
+        ensures none { IfNone result ((code < 1) ⊎ (7 < code)) }
+    {
+        match code {
+            1 => Some(Reason::Unspecified),
+            2 => Some(Reason::KeyCompromise),
+            3 => Some(Reason::CaCompromise),
+            4 => Some(Reason::AffiliationChanged),
+            5 => Some(Reason::Superseded),
+            6 => Some(Reason::CessationOfOperation),
+            7 => Some(Reason::PrivilegeWithdrawn),
+            _ => None,
+        }
+    }
+
+    /// Whether a key that is revoked for this reason is compromised. That both compromises count is this register's own.
+    pub fn is_compromise(self) -> bool
+        ensures { result ≡ is_compromise self }
+    {
+        matches!(self, Reason::KeyCompromise | Reason::CaCompromise)
+    }
+}

@@ -1,0 +1,79 @@
+-- A desk that stands for a history stands after an accepted request for the history with it.
+use Rattle.std.proofs.Common.{◌≡◌, inl, inr, ℕ, ◌+◌, false, cond, List, [], ◌∷◌, ◌++◌, length, Option, None, Some, Result, Ok, Err, IsTrue, sym, ap, subst, ◌∙◌, arith}
+use Rattle.std.specs.Prelude.{OnOk, is_none}
+use Rattle.sqlite_trees.specs.declared.store.Store as store
+use Rattle.sqlite.specs.Tree.{Trees}
+use Rattle.sqlite.specs.Effect.{Database}
+use Rattle.sqlite.specs.State.{HasCleanDisk}
+use Rattle.sqlite.specs.Held.{state}
+use Rattle.sql_steps.specs.Steps.{TransactsBy}
+use Rattle.sql_steps.proofs.Stepping.{leaves_alone}
+use Rattle.register_core.specs.declared.request.Request.{Request}
+use Rattle.register_core.specs.declared.reply.Refusal.{Refusal}
+use Rattle.register_core.specs.History.{latest, count}
+use Rattle.register_core.specs.Verdict.{judge, verdict}
+use Rattle.register_core.specs.Fold.{history_after}
+use Rattle.register_core.proofs.Histories.{latest_grows}
+use Rattle.register_store.specs.Tables.{Tables, Holds, Makes, HasKeys}
+use Rattle.register_desk.specs.declared.desk.Desk.{Desk}
+use Rattle.register_desk.specs.Register.{tables, StandsFor, LeavesOneOf}
+use Rattle.register_desk.specs.Step.{key_made, option_list, with_request}
+use Rattle.register_desk.proofs.Grows.{tables_grow, count_grows, keys_counted, lawful_after}
+
+module _ {S : Type 0} (g : store.Ghosts S) (old : Desk S g) (h : List Request) (q : Request) (stands : StandsFor g old h) (accepted : judge old.latest old.keys q ≡ None) where
+  abbrev grown : List Request
+  grown = h ++ q ∷ []
+
+  pub judged : verdict h q ≡ None
+  judged = ap (λ (t : ℕ). judge t (count h) q) (sym stands.latest_is) ∙ ap (λ (n : ℕ). judge old.latest n q) (sym stands.keys_are) ∙ accepted
+
+  pub after_is : history_after h (Some q) ≡ grown
+  after_is = ap (λ (v : Option Refusal). cond (is_none v) grown h) judged
+
+  abbrev Made : Database → Database → Type 0
+  Made = Makes (HasKeys old.keys) (with_request old.keys q.moment (key_made q.moment q.command))
+
+  -- what the request makes of the tables of the history are those of the history with it
+  made_holds : (before after : Database) → Holds (tables h) before → Made before after → Holds (tables grown) after
+  made_holds before after holds made =
+      let keys : length (tables h).keys ≡ old.keys = keys_counted h ∙ sym stands.keys_are in
+      let same : with_request old.keys q.moment (key_made q.moment q.command) (tables h) ≡ tables grown =
+      ap (λ (n : ℕ). with_request n q.moment (key_made q.moment q.command) (tables h)) stands.keys_are ∙ sym (tables_grow h q) in
+      subst (λ (t : Tables). Holds t after) same (made (tables h) holds keys)
+
+  module _ {A E : Type 0} (new : Desk S g) (r : Result A E) (whole : old.is_broken ≡ false) (written : TransactsBy Made (state g old.connection) (state g new.connection) r) where
+    early : HasCleanDisk (state g new.connection) → HasCleanDisk (state g old.connection)
+    early clean = omega (arith, written.stop.clean)
+
+    -- after a failure a stop leaves the one or the other
+    pub leaves_one : HasCleanDisk (state g new.connection) → LeavesOneOf h (history_after h (Some q)) (state g new.connection)
+    leaves_one clean trees may =
+        let kept = stands.keeps whole (early clean) in
+        elim (written.stop.crash clean trees may) [
+          | inl before ↦ let it = kept.leaves trees before in (it.0, inl it.1, it.2)
+          | inr after ↦
+              let holds = made_holds (state g old.connection).now after.0 kept.holds after.1 in
+              (after.0, inr (subst (λ (k : List Request). Holds (tables k) after.0) (sym after_is) holds), after.2)
+        ]
+
+  pub stands_after : {A E : Type 0} (new : Desk S g) (r : Result A E) → old.is_broken ≡ false → TransactsBy Made (state g old.connection) (state g new.connection) r
+      → ((s : S) (db : Trees) → IsTrue (g.view s).is_open → g.recovers s db → db ≡ (g.view s).committed)
+      → OnOk r (new.latest ≡ q.moment) → OnOk r (new.keys ≡ old.keys + length (option_list (key_made q.moment q.command))) → OnOk r (StandsFor g new (history_after h (Some q)))
+  stands_after new (Err e) whole written settled moment counted = tt
+  stands_after new (Ok x) whole written settled moment counted = record {
+    lawful = lawful_after h q stands.lawful;
+    latest_is = moment ∙ sym (latest_grows h q) ∙ ap latest (sym after_is);
+    keys_are = counted ∙ ap (λ (n : ℕ). n + length (option_list (key_made q.moment q.command))) stands.keys_are ∙ sym (count_grows h q) ∙ ap count (sym after_is);
+    keeps = λ still clean.
+        let clean_before : HasCleanDisk (state g old.connection) = omega (arith, written.stop.clean) in
+        let kept = stands.keeps whole clean_before in
+        let did = written.accepted clean in
+        let holds : Holds (tables grown) (state g new.connection).now = made_holds (state g old.connection).now (state g new.connection).now kept.holds did.0 in
+        let holds_after = subst (λ (k : List Request). Holds (tables k) (state g new.connection).now) (sym after_is) holds in
+        record {
+          is_open = did.3;
+          holds = holds_after;
+          committed = did.1;
+          leaves = λ trees may. ((state g new.connection).now, holds_after, leaves_alone g settled Made (state g old.connection) new.connection (Ok x) written clean trees may);
+        };
+  }

@@ -1,0 +1,108 @@
+-- The cells of a key determine it.
+use Rattle.std.proofs.Common.{◌≡◌, ◌==◌, if◌then◌else◌, ℕ, pos, List, Option, None, Some, refl, sym, ap, ◌∙◌, arith}
+use Rattle.sqlite.specs.declared.types.Value.{Value}
+use Rattle.sqlite.specs.declared.types.Value.TheVariants.{Int, Text as Words}
+use Rattle.sqlite.specs.Order.{Row as Cells, column}
+use Rattle.lifecycle_core.specs.declared.dates.Dates.{Dates}
+use Rattle.lifecycle_core.specs.declared.state.State.{State}
+use Rattle.lifecycle_core.specs.declared.state.State.TheVariants.{PreActive, Active, Deactivated, Compromised, Destroyed, DestroyedCompromised}
+use Rattle.lifecycle_core.specs.State.{state_code}
+use Rattle.period_core.specs.declared.key_type.KeyType.{KeyType}
+use Rattle.period_core.specs.declared.key_type.KeyType.TheVariants.{DataEncryption, Authentication, KeyWrapping, PrivateSignature, PrivateAuthentication, PrivateTransport, Master}
+use Rattle.period_core.specs.KeyType.{key_type_code}
+use Rattle.register_core.specs.Request.{IsDate}
+use Rattle.register_store.specs.declared.key.Key.{Key}
+use Rattle.register_store.specs.Tables.{IsKey, date_cell, key_cells}
+use Rattle.register_store.specs.Found.{ShowsDates}
+
+-- ---- a code has one meaning
+
+kind_of : ℕ → KeyType
+kind_of n =
+    if n == 1 then DataEncryption else
+    (if n == 2 then Authentication else
+    (if n == 3 then KeyWrapping else
+    (if n == 4 then PrivateSignature else
+    (if n == 5 then PrivateAuthentication else
+    (if n == 6 then PrivateTransport else
+    Master)))))
+
+kind_back : (kind : KeyType) → kind_of (key_type_code kind) ≡ kind
+unfolding kind_of
+kind_back DataEncryption = refl
+kind_back Authentication = refl
+kind_back KeyWrapping = refl
+kind_back PrivateSignature = refl
+kind_back PrivateAuthentication = refl
+kind_back PrivateTransport = refl
+kind_back Master = refl
+
+state_in : ℕ → State
+state_in n =
+    if n == 1 then PreActive else
+    (if n == 2 then Active else
+    (if n == 3 then Deactivated else
+    (if n == 4 then Compromised else
+    (if n == 5 then Destroyed else
+    DestroyedCompromised))))
+
+state_back : (state : State) → state_in (state_code state) ≡ state
+unfolding state_in
+state_back PreActive = refl
+state_back Active = refl
+state_back Deactivated = refl
+state_back Compromised = refl
+state_back Destroyed = refl
+state_back DestroyedCompromised = refl
+
+same_kind : (a b : KeyType) → key_type_code a ≡ key_type_code b → a ≡ b
+same_kind a b e = sym (kind_back a) ∙ ap kind_of e ∙ kind_back b
+
+same_state : (a b : State) → state_code a ≡ state_code b → a ≡ b
+same_state a b e = sym (state_back a) ∙ ap state_in e ∙ state_back b
+
+same_date : (a b : Option ℕ) → IsDate a → IsDate b → date_cell a ≡ date_cell b → a ≡ b
+same_date None None x y e = refl
+same_date None (Some b) x y e = absurd (omega arith)
+same_date (Some a) None x y e = absurd (omega arith)
+same_date (Some a) (Some b) x y e = ap Some e
+
+-- ---- a cell has one value
+
+same_number : (v : Value) (m n : ℕ) → v ≡ Int (pos m) → v ≡ Int (pos n) → m ≡ n
+same_number v m n x y = cc
+
+same_words : (v : Value) (s t : List ℕ) → v ≡ Words s → v ≡ Words t → s ≡ t
+same_words v s t x y = cc
+
+cell_date : (v : Value) (a b : Option ℕ) → (v ≡ Int (pos (date_cell a))) × IsDate a → v ≡ Int (pos (date_cell b)) → IsDate b → a ≡ b
+cell_date v a b x y is = same_date a b x.1 is (same_number v _ _ x.0 y)
+
+-- ---- the whole row
+
+module _ (row : Cells) (k : Key) (is : IsKey k) (shows : row ≡ key_cells k) where
+  at : (i : ℕ) → column row i ≡ column (key_cells k) i
+  at i = ap (λ (r : Cells). column r i) shows
+
+  same_dates : (d : Dates) → ShowsDates row d → d ≡ k.row.dates
+  same_dates d h i = record {
+    initial = same_number _ _ _ h.initial (at 4) i;
+    activation = cell_date _ _ _ h.activation (at 5) is.dates.activation i;
+    protect_stop = cell_date _ _ _ h.protect_stop (at 6) is.dates.protect_stop i;
+    deactivation = cell_date _ _ _ h.deactivation (at 7) is.dates.deactivation i;
+    destroy = cell_date _ _ _ h.destroy (at 8) is.dates.destroy i;
+    compromise = cell_date _ _ _ h.compromise (at 9) is.dates.compromise i;
+    compromise_occurrence = cell_date _ _ _ h.compromise_occurrence (at 10) is.dates.compromise_occurrence i;
+  }
+
+  pub same_key : (kind : KeyType) (owner purpose : List ℕ) (state : State) (d : Dates) → column row 0 ≡ Int (pos (key_type_code kind)) → column row 1 ≡ Words owner → column row 2 ≡ Words purpose
+      → column row 3 ≡ Int (pos (state_code state)) → ShowsDates row d → ◌≡◌ {A = Key} (record { kind = kind; owner = owner; purpose = purpose; row = record { dates = d; state = state } }) k
+  same_key kind owner purpose state d kind_is owner_is purpose_is state_is dates_are i = record {
+    kind = same_kind kind k.kind (same_number _ _ _ kind_is (at 0)) i;
+    owner = same_words _ _ _ owner_is (at 1) i;
+    purpose = same_words _ _ _ purpose_is (at 2) i;
+    row = record {
+      dates = same_dates d dates_are i;
+      state = same_state state k.row.state (same_number _ _ _ state_is (at 3)) i;
+    };
+  }

@@ -1,0 +1,9 @@
+pub mod Decoding
+pub mod Texts
+pub mod Finding
+pub mod Advancing
+pub mod Founding
+pub mod Numbers
+pub mod KeyRow
+pub mod MetaRow
+pub mod KeyState

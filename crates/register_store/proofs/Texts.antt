@@ -1,0 +1,38 @@
+-- What the texts of the queries mean, computed.
+use Rattle.std.proofs.Common.{◌≡◌, ℕ, List, [], ◌∷◌, codes, false, refl}
+use Rattle.sqlite.specs.Term.{Term, col, op2}
+use Rattle.sqlite.specs.Collation.TheVariants.{Binary}
+use Rattle.sqlite_sql.specs.declared.ops.BinaryOp.TheVariants.{Compare}
+use Rattle.sqlite_sql.specs.declared.ops.CompareOp.TheVariants.{Eq}
+use Rattle.sqlite.specs.Command.TheVariants.{Select}
+use Rattle.sqlite_tied.specs.Compute.{everything}
+use Rattle.sqlite.specs.Listing.{understood, reads_listing}
+use Rattle.sqlite.proofs.Callers.{IsPlain, command_of}
+use Rattle.sql_steps.proofs.Statements.{plain_query}
+use Rattle.register_store.specs.Schema.{register_schema}
+
+abbrev pub find_text : List ℕ
+find_text = codes "SELECT kind, owner, purpose, state, initial, activation, protect_stop, deactivation, destroyed, compromised, occurrence FROM keys WHERE number = ?1"
+
+-- the rowid is the one that is given
+abbrev pub has_number : List Term
+has_number = op2 (Compare Eq Binary) (col 1 0) (col 0 0) ∷ []
+
+-- the cells past the rowid and the number's own
+abbrev pub cells_shown : List Term
+cells_shown = col 1 2 ∷ col 1 3 ∷ col 1 4 ∷ col 1 5 ∷ col 1 6 ∷ col 1 7 ∷ col 1 8 ∷ col 1 9 ∷ col 1 10 ∷ col 1 11 ∷ col 1 12 ∷ []
+
+abbrev pub find_names : List (List ℕ)
+find_names = codes "kind" ∷ codes "owner" ∷ codes "purpose" ∷ codes "state" ∷ codes "initial" ∷ codes "activation" ∷ codes "protect_stop" ∷ codes "deactivation" ∷ codes "destroyed" ∷ codes "compromised" ∷ codes "occurrence" ∷ []
+
+pub find_is : command_of (understood register_schema find_text) ≡ Select (record { lets = []; body = plain_query 1 has_number cells_shown }) find_names
+unfolding understood everything
+find_is = refl
+
+pub find_plain : IsPlain (understood register_schema find_text)
+unfolding understood everything
+find_plain = (refl, refl)
+
+pub find_unlisted : reads_listing register_schema find_text ≡ false
+unfolding understood everything
+find_unlisted = refl

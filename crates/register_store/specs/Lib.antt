@@ -1,0 +1,5 @@
+pub mod Schema
+pub mod Tables
+pub mod Found
+pub mod Due
+pub mod Cells

@@ -1,0 +1,123 @@
+-- What the tables of a register hold, and when a database holds them.
+use Rattle.std.specs.Prelude.{◌≡◌, ◌==◌, if◌then◌else◌, ℕ, suc, zero, pos, List, [], ◌∷◌, ◌++◌, length, map, slice_get, Option, None, Some}
+use Rattle.std.specs.List.{AllByRecursion, enumerate_from}
+use Rattle.sqlite.specs.declared.types.Value.TheVariants.{Null, Int, Text as Words}
+use Rattle.sqlite.specs.Order.{Row as Cells}
+use Rattle.sqlite.specs.Effect.{Database}
+use Rattle.moment_core.specs.Moment.{IsMoment}
+use Rattle.lifecycle_core.specs.declared.dates.Dates.{Dates}
+use Rattle.lifecycle_core.specs.declared.state.State.{State}
+use Rattle.lifecycle_core.specs.State.{state_at, state_code}
+use Rattle.period_core.specs.KeyType.{key_type_code}
+use Rattle.register_core.specs.Name.{IsName}
+use Rattle.register_core.specs.Purpose.{IsPurpose}
+use Rattle.register_core.specs.Request.{IsDate}
+use Rattle.register_store.specs.declared.key.Key.{Key}
+use Rattle.register_store.specs.Schema.{register_schema}
+
+-- the rows of the tables: the one of meta, and those of keys by number, from 1
+pub record Tables : Type 0 where
+  pub latest : ℕ
+  pub key_count : ℕ
+  pub keys : List Key
+
+-- the tables of an empty register
+abbrev pub no_rows : Tables
+no_rows = record { latest = 0; key_count = 0; keys = [] }
+
+-- ---- cells. A row begins with its rowid; the cell of an INTEGER PRIMARY KEY shows that, and is kept as NULL.
+
+-- what stands for a date that is not set: it is above every moment
+abbrev pub unset : ℕ
+unset = 253_402_300_800
+
+abbrev pub date_cell : Option ℕ → ℕ
+date_cell None = unset
+date_cell (Some date) = date
+
+-- the version of the tables that this program makes
+abbrev pub version : ℕ
+version = 1
+
+abbrev pub meta_row : Tables → Cells
+meta_row t = Int (pos 1) ∷ Null ∷ Int (pos version) ∷ Int (pos t.latest) ∷ Int (pos t.key_count) ∷ []
+
+-- the cells of a key past its number
+abbrev pub key_cells : Key → Cells
+key_cells k =
+    let d = k.row.dates in
+    Int (pos (key_type_code k.kind)) ∷ Words k.owner ∷ Words k.purpose ∷ Int (pos (state_code k.row.state)) ∷ Int (pos d.initial)
+    ∷ Int (pos (date_cell d.activation)) ∷ Int (pos (date_cell d.protect_stop)) ∷ Int (pos (date_cell d.deactivation))
+    ∷ Int (pos (date_cell d.destroy)) ∷ Int (pos (date_cell d.compromise)) ∷ Int (pos (date_cell d.compromise_occurrence)) ∷ []
+
+abbrev pub key_row : ℕ × Key → Cells
+key_row numbered = Int (pos numbered.0) ∷ Null ∷ key_cells numbered.1
+
+-- each key with its number
+abbrev pub numbered : List Key → List (ℕ × Key)
+numbered keys = enumerate_from 1 keys
+
+-- ---- ranges
+
+pub record AreDates (d : Dates) : Type 0 where
+  pub initial : IsMoment d.initial
+  pub activation : IsDate d.activation
+  pub protect_stop : IsDate d.protect_stop
+  pub deactivation : IsDate d.deactivation
+  pub destroy : IsDate d.destroy
+  pub compromise : IsDate d.compromise
+  pub compromise_occurrence : IsDate d.compromise_occurrence
+
+pub record IsKey (k : Key) : Type 0 where
+  pub owner : IsName k.owner
+  pub purpose : IsPurpose k.purpose
+  pub dates : AreDates k.row.dates
+
+-- ---- the refinement
+
+-- The database holds the tables: its schema is the register's, and each table's rows are these. A table with an
+-- INTEGER PRIMARY KEY keeps its rows in order of that, whatever the order in which they came.
+pub record Holds (t : Tables) (db : Database) : Type 0 where
+  pub schema : db.schema ≡ register_schema
+  pub meta_rows : db.trees 0 ≡ meta_row t ∷ []
+  pub key_rows : db.trees 1 ≡ map key_row (numbered t.keys)
+  pub in_range : AllByRecursion IsKey t.keys
+
+-- ---- what the calls make of the tables
+
+-- where the database holds tables of which P says something, it comes to hold what f makes of them
+abbrev pub Makes : (Tables → Type 0) → (Tables → Tables) → Database → Database → Type 0
+Makes P f old new = (t : Tables) → Holds t old → P t → Holds (f t) new
+
+-- whatever the tables hold
+abbrev pub Always : Tables → Type 0
+Always t = Unit {0}
+
+-- the tables have so many keys
+abbrev pub HasKeys : ℕ → Tables → Type 0
+HasKeys count t = length t.keys ≡ count
+
+-- the key with its state at a moment
+abbrev pub advanced : ℕ → Key → Key
+advanced at k = record k { row = record { dates = k.row.dates; state = state_at k.row.dates at } }
+
+abbrev pub with_keys_advanced : ℕ → Tables → Tables
+with_keys_advanced at t = record t { keys = map (advanced at) t.keys }
+
+abbrev pub with_key : Key → Tables → Tables
+with_key k t = record t { keys = t.keys ++ k ∷ [] }
+
+abbrev pub with_meta : ℕ → ℕ → Tables → Tables
+with_meta latest key_count t = record t { latest = latest; key_count = key_count }
+
+-- the key with another state, where the number is its own
+abbrev pub in_state : ℕ → State → ℕ × Key → Key
+in_state number state numbered = if numbered.0 == number then (record numbered.1 { row = record { dates = numbered.1.row.dates; state = state } }) else numbered.1
+
+abbrev pub with_state : ℕ → State → Tables → Tables
+with_state number state t = record t { keys = map (in_state number state) (numbered t.keys) }
+
+-- the key with this number
+abbrev pub key_at : List Key → ℕ → Option Key
+key_at keys zero = None
+key_at keys (suc before) = slice_get keys before

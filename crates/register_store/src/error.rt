@@ -1,0 +1,12 @@
+use thiserror::Error;
+
+/// Why a call of the store failed. The transaction that it was in is to be given up.
+#[derive(Clone, Copy, Debug, PartialEq, Eq, Error)]
+pub enum StoreError {
+    /// A call of the database was refused.
+    #[error("the database refused: {0}")]
+    Database(#[from] sqlite::Error),
+    /// A row is one that no register holds, or one that a register holds is not there.
+    #[error("the tables are those of no register")]
+    NoRegister,
+}

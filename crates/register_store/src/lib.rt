@@ -1,0 +1,18 @@
+//! The tables of a register, in a database of `sqlite`: making them, reading and writing their rows. It is the only
+//! crate that speaks SQL. Its contracts say what each call makes of the rows, and what a stop within it leaves.
+#![tactic(auto)]
+
+mod cells;
+mod change;
+mod due;
+mod error;
+mod find;
+mod key;
+mod making;
+
+pub use change::{add_key, record_request};
+pub use due::advance_due;
+pub use error::StoreError;
+pub use find::{find_key, load_key};
+pub use key::Key;
+pub use making::{create, has_tables};

@@ -1,0 +1,11 @@
+pub mod Members
+pub mod SameRows
+pub mod Statements
+pub mod Queries
+pub mod Asking
+pub mod Updates
+pub mod Stepping
+pub mod Creating
+pub mod Changing
+pub mod Appending
+pub mod Comparing

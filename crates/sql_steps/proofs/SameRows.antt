@@ -1,0 +1,179 @@
+-- Two tables with the same rows are one, and what an UPDATE of some rows leaves.
+use Rattle.std.proofs.Common.{◌≡◌, inl, inr, ℤ, List, [], ◌∷◌, map, filter, not, Bool, true, false, cond, refl, sym, ap, subst, ◌∙◌}
+use Rattle.std.specs.List.{AllByRecursion}
+use Rattle.std.specs.Ordering.{is_eq}
+use Rattle.std.specs.declared.cmp.Ordering.{Ordering}
+use Rattle.std.specs.declared.cmp.Ordering.TheVariants.{Less, Equal, Greater}
+use Rattle.std.proofs.lemmas.Cmp.{tied_itself}
+use Rattle.std.proofs.lemmas.Bool.{cases_Bool}
+use Rattle.sqlite.specs.declared.types.Value.TheVariants.{Int}
+use Rattle.sqlite.specs.Order.{Row, value_cmp}
+use Rattle.sqlite.specs.Tree.{IsTable, rowid, has_rowid, put_row, without_rowid}
+use Rattle.sqlite.specs.Edit.{put_all, without_all, are_fresh}
+use Rattle.sqlite_rules.specs.Lists.{Has}
+use Rattle.sqlite_rules.proofs.ListLemmas.{all_has, all_from, has_filtered, has_kept}
+use Rattle.sqlite_rules.proofs.TableLemmas.{put_all_has, put_all_keeps, put_all_adds, without_all_has}
+use Rattle.sqlite_trees.proofs.TreeLemmas.{IsTable-put_row}
+use Rattle.sqlite_value.proofs.OrderLemmas.{value_cmp_total}
+
+abbrev Below : Row → Row → Type 0
+Below a b = value_cmp (rowid a) (rowid b) ≡ Less
+
+never_below : (a : Row) → Below a a → ⊥
+never_below a h = let e = tied_itself value_cmp_total (rowid a) in cc
+
+never_both : (a b : Row) → Below a b → Below b a → ⊥
+never_both a b p q = never_below a (value_cmp_total.trans _ _ _ p q)
+
+-- two tables with the same rows are one
+pub same_tables : (xs ys : List Row) → IsTable xs → IsTable ys → ((x : Row) → Has xs x → Has ys x) → ((y : Row) → Has ys y → Has xs y) → xs ≡ ys
+same_tables [] [] tx ty there back = refl
+same_tables [] (y ∷ ys) tx ty there back = absurd (back y (inl refl))
+same_tables (x ∷ xs) [] tx ty there back = absurd (there x (inl refl))
+same_tables (x ∷ xs) (y ∷ ys) tx ty there back =
+    let first : x ≡ y = elim (there x (inl refl)) [
+      | inl same ↦ same
+      | inr later ↦ elim (back y (inl refl)) [ inl same ↦ sym same | inr after ↦ absurd (never_both x y (all_has (Below x) xs y tx.0 after) (all_has (Below y) ys x ty.0 later)) ]
+    ] in
+    let on : (z : Row) → Has xs z → Has ys z = λ z h. elim (there z (inr h)) [
+      | inl same ↦ absurd (never_below x (subst (Below x) (same ∙ sym first) (all_has (Below x) xs z tx.0 h)))
+      | inr later ↦ later
+    ] in
+    let off : (z : Row) → Has ys z → Has xs z = λ z h. elim (back z (inr h)) [
+      | inl same ↦ absurd (never_below y (subst (Below y) (same ∙ first) (all_has (Below y) ys z ty.0 h)))
+      | inr later ↦ later
+    ] in
+    let rest = same_tables xs ys tx.1 ty.1 on off in
+    ap (λ r. r ∷ xs) first ∙ ap (λ rs. y ∷ rs) rest
+
+-- a rowid stands once
+pub same_row : (rows : List Row) (x y : Row) → IsTable rows → Has rows x → Has rows y → value_cmp (rowid x) (rowid y) ≡ Equal → x ≡ y
+same_row [] x y t h k e = absurd h
+same_row (r ∷ rows) x y t (inl p) (inl q) e = p ∙ sym q
+same_row (r ∷ rows) x y t (inl p) (inr q) e = absurd (let b = subst (λ z. Below z y) (sym p) (all_has (Below r) rows y t.0 q) in cc)
+same_row (r ∷ rows) x y t (inr p) (inl q) e = absurd (let b = subst (λ z. Below z x) (sym q) (all_has (Below r) rows x t.0 p) in let back = value_cmp_total.congr _ _ (rowid x) e ∙ b in let self = tied_itself value_cmp_total (rowid x) in cc)
+same_row (r ∷ rows) x y t (inr p) (inr q) e = same_row rows x y t.1 p q e
+
+pub table_put_all : (news rows : List Row) → IsTable rows → IsTable (put_all rows news)
+table_put_all [] rows t = t
+table_put_all (n ∷ news) rows t = table_put_all news (put_row n rows) (IsTable-put_row n rows t)
+
+table_filter : (p : Row → Bool) (rows : List Row) → IsTable rows → IsTable (filter p rows)
+table_filter p [] t = tt
+table_filter p (r ∷ rows) t = step (p r) (all_from (Below r) (filter p rows) (λ x h. all_has (Below r) rows x t.0 (has_filtered p rows x h).0)) (table_filter p rows t.1)
+  where
+    step : (b : Bool) → AllByRecursion (Below r) (filter p rows) → IsTable (filter p rows) → IsTable (cond b (r ∷ filter p rows) (filter p rows))
+    step true low rest = (low, rest)
+    step false low rest = rest
+
+pub table_without_all : (ids : List ℤ) (rows : List Row) → IsTable rows → IsTable (without_all rows ids)
+table_without_all [] rows t = t
+table_without_all (id ∷ ids) rows t = table_without_all ids (without_rowid id rows) (table_filter _ rows t)
+
+pub without_all_drops : (ids : List ℤ) (rows : List Row) (x : Row) (id : ℤ) → Has (without_all rows ids) x → Has ids id → has_rowid id x ≡ false
+without_all_drops [] rows x id h k = absurd k
+without_all_drops (i ∷ ids) rows x id h (inl same) = let was = (has_filtered _ rows x (without_all_has ids (without_rowid i rows) x h)).1 in subst (λ j. has_rowid j x ≡ false) (sym same) (turned (has_rowid i x) was)
+  where
+    turned : (b : Bool) → not b ≡ true → b ≡ false
+    turned true e = absurd cc
+    turned false e = refl
+without_all_drops (i ∷ ids) rows x id h (inr later) = without_all_drops ids (without_rowid i rows) x id h later
+
+pub without_all_keeps : (ids : List ℤ) (rows : List Row) (x : Row) → Has rows x → ((id : ℤ) → Has ids id → has_rowid id x ≡ false) → Has (without_all rows ids) x
+without_all_keeps [] rows x h none = h
+without_all_keeps (i ∷ ids) rows x h none = without_all_keeps ids (without_rowid i rows) x (has_kept _ rows x h (ap not (none i (inl refl)))) (λ id k. none id (inr k))
+
+pub has_map : {A B : Type 0} (f : A → B) (xs : List A) (x : A) → Has xs x → Has (map f xs) (f x)
+has_map f [] x h = absurd h
+has_map f (y ∷ ys) x (inl e) = inl (ap f e)
+has_map f (y ∷ ys) x (inr h) = inr (has_map f ys x h)
+
+pub map_has : {A B : Type 0} (f : A → B) (xs : List A) (y : B) → Has (map f xs) y → (x : A) × Has xs x × (y ≡ f x)
+map_has f [] y h = absurd h
+map_has f (x ∷ xs) y (inl e) = (x, inl refl, e)
+map_has f (x ∷ xs) y (inr h) = let r = map_has f xs y h in (r.0, inr r.1, r.2)
+
+table_map : (f : Row → Row) (rows : List Row) → ((r : Row) → Has rows r → rowid (f r) ≡ rowid r) → IsTable rows → IsTable (map f rows)
+table_map f [] keeps t = tt
+table_map f (r ∷ rows) keeps t = (
+  all_from (Below (f r)) (map f rows) (λ y h. let it = map_has f rows y h in rw (it.2, keeps r (inl refl), keeps it.0 (inr it.1)) (all_has (Below r) rows it.0 t.0 it.1)),
+  table_map f rows (λ x h. keeps x (inr h)) t.1,
+)
+
+abbrev pub changed_by : (Row → Bool) → (Row → Row) → Row → Row
+changed_by p g r = cond (p r) (g r) r
+
+-- an UPDATE of the rows that pass changes those and no other
+module _ (rows news : List Row) (ids : List ℤ) (p : Row → Bool) (g : Row → Row) (table : IsTable rows) (keeps : (r : Row) → Has rows r → rowid (g r) ≡ rowid r)
+    (ids_from : (id : ℤ) → Has ids id → (x : Row) × Has rows x × (p x ≡ true) × (rowid x ≡ Int id))
+    (ids_all : (x : Row) → Has rows x → p x ≡ true → (id : ℤ) × Has ids id × (rowid x ≡ Int id))
+    (news_from : (y : Row) → Has news y → (x : Row) × Has rows x × (p x ≡ true) × (y ≡ g x))
+    (news_all : (x : Row) → Has rows x → p x ≡ true → Has news (g x)) (fresh : are_fresh (without_all rows ids) news ≡ true) where
+  abbrev changed : Row → Row
+  changed = changed_by p g
+
+  changed_keeps : (r : Row) → Has rows r → rowid (changed r) ≡ rowid r
+  changed_keeps r h = elim (p r) as (λ b. rowid (cond b (g r) r) ≡ rowid r) [ true ↦ keeps r h | false ↦ refl ]
+
+  stands : (x : Row) (id : ℤ) → rowid x ≡ Int id → has_rowid id x ≡ true
+  stands x id e = ap (λ v. is_eq (value_cmp v (Int id))) e ∙ ap is_eq (tied_itself value_cmp_total (Int id))
+
+  tied : (o : Ordering) → is_eq o ≡ true → o ≡ Equal
+  tied Less e = absurd cc
+  tied Equal e = refl
+  tied Greater e = absurd cc
+
+  on : (y : Row) → Has (put_all (without_all rows ids) news) y → Has (map changed rows) y
+  on y h = elim (put_all_has news (without_all rows ids) y h) [
+    | inl new ↦ let it = news_from y new in subst (Has (map changed rows)) (ap (λ b. cond b (g it.0) it.0) it.2 ∙ sym it.3) (has_map changed rows it.0 it.1)
+    | inr old ↦ let was = without_all_has ids rows y old in elim (cases_Bool (p y)) [
+      | inl passes ↦ absurd (let it = ids_all y was passes in let out = without_all_drops ids rows y it.0 old it.1 in let in_it = stands y it.0 it.2 in cc)
+      | inr fails ↦ subst (Has (map changed rows)) (ap (λ b. cond b (g y) y) fails) (has_map changed rows y was)
+    ]
+  ]
+
+  off : (y : Row) → Has (map changed rows) y → Has (put_all (without_all rows ids) news) y
+  off y h =
+      let it = map_has changed rows y h in
+      elim (cases_Bool (p it.0)) [
+        | inl passes ↦ put_all_adds news (without_all rows ids) y fresh (subst (Has news) (sym (it.2 ∙ ap (λ b. cond b (g it.0) it.0) passes)) (news_all it.0 it.1 passes))
+        | inr fails ↦ put_all_keeps news (without_all rows ids) y fresh (subst (Has (without_all rows ids)) (sym (it.2 ∙ ap (λ b. cond b (g it.0) it.0) fails))
+            (without_all_keeps ids rows it.0 it.1 (λ id k. elim (cases_Bool (has_rowid id it.0)) [
+              | inl has ↦ absurd (let from = ids_from id k in let same = same_row rows it.0 from.0 table it.1 from.1 (ap (value_cmp (rowid it.0)) from.3 ∙ tied _ has) in let passes = ap p same ∙ from.2 in cc)
+              | inr not_it ↦ not_it
+            ])))
+      ]
+
+  pub updates_each : put_all (without_all rows ids) news ≡ map (changed_by p g) rows
+  updates_each = same_tables _ _ (table_put_all news (without_all rows ids) (table_without_all ids rows table)) (table_map changed rows changed_keeps table) on off
+
+-- a DELETE of the rows that pass leaves the others, in their order
+module _ (rows : List Row) (ids : List ℤ) (p : Row → Bool) (table : IsTable rows)
+    (ids_from : (id : ℤ) → Has ids id → (x : Row) × Has rows x × (p x ≡ true) × (rowid x ≡ Int id))
+    (ids_all : (x : Row) → Has rows x → p x ≡ true → (id : ℤ) × Has ids id × (rowid x ≡ Int id)) where
+  stood : (x : Row) (id : ℤ) → rowid x ≡ Int id → has_rowid id x ≡ true
+  stood x id e = ap (λ v. is_eq (value_cmp v (Int id))) e ∙ ap is_eq (tied_itself value_cmp_total (Int id))
+
+  equal : (o : Ordering) → is_eq o ≡ true → o ≡ Equal
+  equal Less e = absurd cc
+  equal Equal e = refl
+  equal Greater e = absurd cc
+
+  stays : (y : Row) → Has (without_all rows ids) y → Has (filter (λ r. not (p r)) rows) y
+  stays y h =
+      let was = without_all_has ids rows y h in
+      elim (cases_Bool (p y)) [
+        | inl passes ↦ absurd (let it = ids_all y was passes in let out = without_all_drops ids rows y it.0 h it.1 in let in_it = stood y it.0 it.2 in cc)
+        | inr fails ↦ has_kept (λ r. not (p r)) rows y was (ap not fails)
+      ]
+
+  was_kept : (y : Row) → Has (filter (λ r. not (p r)) rows) y → Has (without_all rows ids) y
+  was_kept y h =
+      let it = has_filtered (λ r. not (p r)) rows y h in
+      without_all_keeps ids rows y it.0 (λ id k. elim (cases_Bool (has_rowid id y)) [
+        | inl has ↦ absurd (let from = ids_from id k in let same = same_row rows y from.0 table it.0 from.1 (ap (value_cmp (rowid y)) from.3 ∙ equal _ has) in let passes = ap not (ap p same ∙ from.2) in let kept = it.1 in cc)
+        | inr not_it ↦ not_it
+      ])
+
+  pub deletes_each : without_all rows ids ≡ filter (λ r. not (p r)) rows
+  deletes_each = same_tables _ _ (table_without_all ids rows table) (table_filter _ rows table) stays was_kept
