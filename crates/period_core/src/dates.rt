@@ -101,7 +101,7 @@ pub fn filled(kind: KeyType, dates: Dates) -> Dates
 }
 
 /// The dates with their defaults, each cut to its limit.
-pub(crate) fn trimmed(kind: KeyType, dates: Dates) -> Dates
+pub fn trimmed(kind: KeyType, dates: Dates) -> Dates
     ensures { result ≡ trimmed kind dates }
 {
     let first = with_protect_stop(kind, dates);

@@ -7,7 +7,7 @@ mod filling;
 mod key_type;
 mod period;
 
-pub use dates::filled;
+pub use dates::{filled, trimmed};
 pub use filling::{DateRefusal, fill, trim};
 pub use key_type::KeyType;
 pub use period::{Period, period_of};

@@ -1,5 +1,5 @@
 -- What Fill answered is the refusal of its outcome.
-use Rattle.std.proofs.Common.{◌≡◌, Option, None, Some, Result, Ok, Err, refl, ap, ◌∙◌}
+use Rattle.std.proofs.Common.{◌≡◌, None, Some, Result, Ok, Err, refl, ap, ◌∙◌}
 use Rattle.lifecycle_core.specs.declared.dates.Dates.{Dates}
 use Rattle.period_core.specs.declared.filling.DateRefusal.{DateRefusal}
 use Rattle.period_core.specs.Fitting.{Gives}

@@ -1,15 +1,19 @@
 -- What a history with one more request at its end says.
-use Rattle.std.proofs.Common.{◌≡◌, ℕ, ◌+◌, ◌≤◌, ◌<◌, Bool, true, false, cond, List, [], ◌∷◌, ◌++◌, length, get_or, take, Option, Some, refl, sym, ap, ◌∙◌, arith, append_assoc, zero-add, inl, inr, eq-eqb}
+use Rattle.std.proofs.Common.{◌≡◌, ℕ, ◌+◌, ◌≤◌, ◌<◌, Bool, true, false, cond, List, [], ◌∷◌, ◌++◌, length, get_or, take, Option, None, Some, refl, sym, ap, ◌∙◌, arith, append_assoc, zero-add, inl, inr, eq-eqb}
 use Rattle.std.specs.Prelude.{nat_eq, fold}
 use Rattle.std.proofs.lemmas.Bool.Decides.{eqb_tells}
 use Rattle.std.proofs.lemmas.List.{length-append, append-nil, take_more}
 use Rattle.std.proofs.lemmas.List.Elements.{filter_map-append}
 use Rattle.std.proofs.lemmas.List.Sums.{fold-append}
 use Rattle.lifecycle_core.specs.declared.dates.Dates.{Dates}
+use Rattle.period_core.specs.declared.key_type.KeyType.{KeyType}
+use Rattle.period_core.specs.declared.key_type.KeyType.TheVariants.{DataEncryption}
+use Rattle.period_core.specs.Fitting.{filled}
 use Rattle.register_core.specs.declared.request.Request.{Request}
 use Rattle.register_core.specs.declared.request.Command.{Command}
-use Rattle.register_core.specs.declared.request.Command.TheVariants.{Register as Registers, Advance}
-use Rattle.register_core.specs.History.{latest, registration_of, registrations, count, key_of, made_by, is_key, own_from, own, no_dates, dates_after, dates}
+use Rattle.register_core.specs.declared.request.Command.TheVariants.{Register as Registers, Activate, SetDates, Revoke, Assign, Advance}
+use Rattle.register_core.specs.History.{latest, registration_of, registrations, count, key_of, made_by, is_key, own_from, own, kind_after, type, no_dates, given_dates, dates_after, dates, owner_after, owner}
+use Rattle.register_core.specs.Verdict.{named}
 
 -- ---- lists with one more
 
@@ -21,6 +25,10 @@ registrations_grow h q = filter_map-append (λ (p : Request). registration_of p.
 
 pub count_one : (q : Request) → (c : Command) → length (registrations (record q { command = c } ∷ [])) ≡ made_by c
 count_one q (Registers kind owner activation protect_stop deactivation purpose) = refl
+count_one q (Activate key) = refl
+count_one q (SetDates key activation protect_stop deactivation) = refl
+count_one q (Revoke key reason occurrence) = refl
+count_one q (Assign key owner) = refl
 count_one q Advance = refl
 
 pub made_one : (q : Request) → count (q ∷ []) ≡ made_by q.command
@@ -52,23 +60,110 @@ own_grows h q k = own_grows_from 0 h q k ∙ ap (λ (n : ℕ). own h k ++ concer
 pub not_same : (m n : ℕ) → n < m → nat_eq m n ≡ false
 not_same m n lt = elim (eqb_tells m n) [ inl both ↦ absurd (omega (arith, both.1)) | inr apart ↦ apart.0 ]
 
--- no command of today names a key that was there before
-pub not_concerned : (c : Command) (keys k : ℕ) → k ≤ keys → is_key k (key_of keys c) ≡ false
-not_concerned (Registers kind owner activation protect_stop deactivation purpose) keys k le = not_same (keys + 1) k (omega arith)
-not_concerned Advance keys k le = refl
+-- a command that names no key concerns none that was there before
+pub not_concerned : (c : Command) (keys k : ℕ) → k ≤ keys → named c ≡ None → is_key k (key_of keys c) ≡ false
+not_concerned (Registers kind owner activation protect_stop deactivation purpose) keys k le none = not_same (keys + 1) k (omega arith)
+not_concerned (Activate key) keys k le none = cc
+not_concerned (SetDates key activation protect_stop deactivation) keys k le none = cc
+not_concerned (Revoke key reason occurrence) keys k le none = cc
+not_concerned (Assign key owner) keys k le none = cc
+not_concerned Advance keys k le none = refl
 
-pub concerning_none : (q : Request) (keys k : ℕ) → k ≤ keys → concerning keys q k ≡ []
-concerning_none q keys k le = ap (λ (b : Bool). cond b (q ∷ []) []) (not_concerned q.command keys k le)
+-- a command that names a key makes none
+pub key_named : (c : Command) (keys k : ℕ) → named c ≡ Some k → key_of keys c ≡ Some k
+key_named (Registers kind owner activation protect_stop deactivation purpose) keys k names = cc
+key_named (Activate key) keys k names = names
+key_named (SetDates key activation protect_stop deactivation) keys k names = names
+key_named (Revoke key reason occurrence) keys k names = names
+key_named (Assign key owner) keys k names = names
+key_named Advance keys k names = cc
 
-pub own_same : (h : List Request) (q : Request) (k : ℕ) → k ≤ count h → own (h ++ q ∷ []) k ≡ own h k
-own_same h q k le = own_grows h q k ∙ ap (λ (l : List Request). own h k ++ l) (concerning_none q (count h) k le) ∙ append-nil (own h k)
+pub kind_kept : (c : Command) (k : ℕ) (before : KeyType) → named c ≡ Some k → kind_after before c ≡ before
+kind_kept (Registers kind owner activation protect_stop deactivation purpose) k before names = cc
+kind_kept (Activate key) k before names = refl
+kind_kept (SetDates key activation protect_stop deactivation) k before names = refl
+kind_kept (Revoke key reason occurrence) k before names = refl
+kind_kept (Assign key owner) k before names = refl
+kind_kept Advance k before names = refl
 
--- the requests of the key that a registration makes end with it
+concerned : (c : Command) (keys k : ℕ) → key_of keys c ≡ Some k → is_key k (key_of keys c) ≡ true
+concerned c keys k is = ap (is_key k) is ∙ eq-eqb k k refl
+
+pub own_same : (h : List Request) (q : Request) (k : ℕ) → is_key k (key_of (count h) q.command) ≡ false → own (h ++ q ∷ []) k ≡ own h k
+own_same h q k other = own_grows h q k ∙ ap (λ (b : Bool). own h k ++ cond b (q ∷ []) []) other ∙ append-nil (own h k)
+
+-- the requests of the key that a command makes or names end with it
+pub own_ends : (h : List Request) (q : Request) (k : ℕ) → key_of (count h) q.command ≡ Some k → own (h ++ q ∷ []) k ≡ own h k ++ q ∷ []
+own_ends h q k is = own_grows h q k ∙ ap (λ (b : Bool). own h k ++ cond b (q ∷ []) []) (concerned q.command (count h) k is)
+
 pub own_made : (h : List Request) (q : Request) → key_of (count h) q.command ≡ Some (count h + 1) → own (h ++ q ∷ []) (count h + 1) ≡ own h (count h + 1) ++ q ∷ []
-own_made h q makes =
-    own_grows h q (count h + 1)
-    ∙ ap (λ (key : Option ℕ). own h (count h + 1) ++ cond (is_key (count h + 1) key) (q ∷ []) []) makes
-    ∙ ap (λ (b : Bool). own h (count h + 1) ++ cond b (q ∷ []) []) (eq-eqb (count h + 1) (count h + 1) refl)
+own_made h q makes = own_ends h q (count h + 1) makes
+
+-- ---- what the requests of a key give it, with one more
+
+abbrev pub kind_step : KeyType → Request → KeyType
+kind_step before q = kind_after before q.command
+
+abbrev pub owner_step : List ℕ → Request → List ℕ
+owner_step before q = owner_after before q.command
+
+abbrev pub dates_step : KeyType → Dates → Request → Dates
+dates_step kind d q = dates_after kind d q.moment q.command
+
+fold_same : {X : Type 0} (step : X → Request → X) (first : X) (h : List Request) (q : Request) (k : ℕ) → is_key k (key_of (count h) q.command) ≡ false →
+    fold step first (own (h ++ q ∷ []) k) ≡ fold step first (own h k)
+fold_same step first h q k other = ap (fold step first) (own_same h q k other)
+
+fold_ends : {X : Type 0} (step : X → Request → X) (first : X) (h : List Request) (q : Request) (k : ℕ) → key_of (count h) q.command ≡ Some k →
+    fold step first (own (h ++ q ∷ []) k) ≡ step (fold step first (own h k)) q
+fold_ends step first h q k is = ap (fold step first) (own_ends h q k is) ∙ fold-append step first (own h k) (q ∷ [])
+
+-- ---- a request of another key
+
+pub kind_other : (h : List Request) (q : Request) (k : ℕ) → is_key k (key_of (count h) q.command) ≡ false → type (h ++ q ∷ []) k ≡ type h k
+kind_other h q k other = fold_same kind_step DataEncryption h q k other
+
+pub owner_other : (h : List Request) (q : Request) (k : ℕ) → is_key k (key_of (count h) q.command) ≡ false → owner (h ++ q ∷ []) k ≡ owner h k
+owner_other h q k other = fold_same owner_step [] h q k other
+
+pub dates_other : (h : List Request) (q : Request) (k : ℕ) → is_key k (key_of (count h) q.command) ≡ false → dates (h ++ q ∷ []) k ≡ dates h k
+dates_other h q k other =
+    ap (λ (kind : KeyType). fold (dates_step kind) no_dates (own (h ++ q ∷ []) k)) (kind_other h q k other)
+    ∙ fold_same (dates_step (type h k)) no_dates h q k other
+
+-- ---- a request that names the key
+
+pub kind_named : (h : List Request) (q : Request) (k : ℕ) → named q.command ≡ Some k → type (h ++ q ∷ []) k ≡ type h k
+kind_named h q k names = fold_ends kind_step DataEncryption h q k (key_named q.command (count h) k names) ∙ kind_kept q.command k (type h k) names
+
+pub owner_named : (h : List Request) (q : Request) (k : ℕ) → named q.command ≡ Some k → owner (h ++ q ∷ []) k ≡ owner_after (owner h k) q.command
+owner_named h q k names = fold_ends owner_step [] h q k (key_named q.command (count h) k names)
+
+pub dates_named : (h : List Request) (q : Request) (k : ℕ) → named q.command ≡ Some k → dates (h ++ q ∷ []) k ≡ dates_after (type h k) (dates h k) q.moment q.command
+dates_named h q k names =
+    ap (λ (kind : KeyType). fold (dates_step kind) no_dates (own (h ++ q ∷ []) k)) (kind_named h q k names)
+    ∙ fold_ends (dates_step (type h k)) no_dates h q k (key_named q.command (count h) k names)
+
+-- ---- the registration of the key, which overrides whatever came before
+
+pub kind_made : (h : List Request) (q : Request) (kind : KeyType) (by : List ℕ) (activation protect_stop deactivation : Option ℕ) (purpose : List ℕ) →
+    q.command ≡ Registers kind by activation protect_stop deactivation purpose → type (h ++ q ∷ []) (count h + 1) ≡ kind
+kind_made h q kind by activation protect_stop deactivation purpose is =
+    fold_ends kind_step DataEncryption h q (count h + 1) (ap (key_of (count h)) is) ∙ ap (kind_after (type h (count h + 1))) is
+
+pub owner_made : (h : List Request) (q : Request) (kind : KeyType) (by : List ℕ) (activation protect_stop deactivation : Option ℕ) (purpose : List ℕ) →
+    q.command ≡ Registers kind by activation protect_stop deactivation purpose → owner (h ++ q ∷ []) (count h + 1) ≡ by
+owner_made h q kind by activation protect_stop deactivation purpose is =
+    fold_ends owner_step [] h q (count h + 1) (ap (key_of (count h)) is) ∙ ap (owner_after (owner h (count h + 1))) is
+
+pub dates_made : (h : List Request) (q : Request) (kind : KeyType) (by : List ℕ) (activation protect_stop deactivation : Option ℕ) (purpose : List ℕ) →
+    q.command ≡ Registers kind by activation protect_stop deactivation purpose →
+    dates (h ++ q ∷ []) (count h + 1) ≡ filled kind (given_dates q.moment activation protect_stop deactivation)
+dates_made h q kind by activation protect_stop deactivation purpose is =
+    let of_type : KeyType = type (h ++ q ∷ []) (count h + 1) in
+    let before : Dates = fold (dates_step of_type) no_dates (own h (count h + 1)) in
+    fold_ends (dates_step of_type) no_dates h q (count h + 1) (ap (key_of (count h)) is)
+    ∙ ap (λ (c : Command). dates_after of_type before q.moment c) is
 
 -- ---- the front of a history, one request longer
 
@@ -78,16 +173,17 @@ next_front h i q lt is = take_more h i q lt ∙ ap (λ (p : Request). take i h +
 pub count_next : (h : List Request) (i : ℕ) (q : Request) → i < length h → q ≡ get_or h i q → count (take (i + 1) h) ≡ count (take i h) + made_by q.command
 count_next h i q lt is = ap count (next_front h i q lt is) ∙ count_grows (take i h) q
 
-one_after : (d : Dates) (q : Request) (b : Bool) → fold (λ (e : Dates) (p : Request). dates_after e p.moment p.command) d (cond b (q ∷ []) []) ≡ cond b (dates_after d q.moment q.command) d
-one_after d q true = refl
-one_after d q false = refl
+one_after : {X : Type 0} (step : X → Request → X) (before : X) (q : Request) (b : Bool) → fold step before (cond b (q ∷ []) []) ≡ cond b (step before q) before
+one_after step before q true = refl
+one_after step before q false = refl
 
-pub dates_grow : (h : List Request) (q : Request) (k : ℕ) →
-    dates (h ++ q ∷ []) k ≡ cond (is_key k (key_of (count h) q.command)) (dates_after (dates h k) q.moment q.command) (dates h k)
-dates_grow h q k =
-    let step : Dates → Request → Dates = λ d p. dates_after d p.moment p.command in
-    ap (fold step no_dates) (own_grows h q k) ∙ fold-append step no_dates (own h k) (concerning (count h) q k) ∙ one_after (dates h k) q (is_key k (key_of (count h) q.command))
-
-pub dates_next : (h : List Request) (i : ℕ) (q : Request) (k : ℕ) → i < length h → q ≡ get_or h i q →
-    dates (take (i + 1) h) k ≡ cond (is_key k (key_of (count (take i h)) q.command)) (dates_after (dates (take i h) k) q.moment q.command) (dates (take i h) k)
-dates_next h i q k lt is = ap (λ (g : List Request). dates g k) (next_front h i q lt is) ∙ dates_grow (take i h) q k
+-- what the key's requests in a history give, by what those in its front do
+pub fold_next : {X : Type 0} (step : X → Request → X) (first : X) (h : List Request) (i : ℕ) (q : Request) (k : ℕ) → i < length h → q ≡ get_or h i q →
+    fold step first (own (take (i + 1) h) k)
+    ≡ cond (is_key k (key_of (count (take i h)) q.command)) (step (fold step first (own (take i h) k)) q) (fold step first (own (take i h) k))
+fold_next step first h i q k lt is =
+    let front = take i h in
+    ap (λ (g : List Request). fold step first (own g k)) (next_front h i q lt is)
+    ∙ ap (fold step first) (own_grows front q k)
+    ∙ fold-append step first (own front k) (concerning (count front) q k)
+    ∙ one_after step (fold step first (own front k)) q (is_key k (key_of (count front) q.command))

@@ -5,3 +5,4 @@ pub mod Fields
 pub mod Readers
 pub mod Lines
 pub mod Filling
+pub mod Decisions

@@ -10,17 +10,22 @@ use Rattle.std.proofs.lemmas.Fmt.{decimal_is_IsNumeral}
 use Rattle.std.proofs.lemmas.Slice.Eq.{bytes_eq-Decides}
 use Rattle.std.proofs.lemmas.Str.Parse.{digit_from_value}
 use Rattle.register_core.specs.declared.line.TheConstants.{LINE_LIMIT}
+use Rattle.lifecycle_core.specs.declared.reason.Reason.{Reason}
+use Rattle.lifecycle_core.specs.Reason.{reason_code}
 use Rattle.period_core.specs.declared.key_type.KeyType.{KeyType}
 use Rattle.period_core.specs.declared.key_type.KeyType.TheVariants.{DataEncryption, Authentication, KeyWrapping, PrivateSignature, PrivateAuthentication, PrivateTransport, Master}
 use Rattle.register_core.specs.declared.request.Request.{Request}
 use Rattle.register_core.specs.declared.request.Command.{Command}
-use Rattle.register_core.specs.declared.request.Command.TheVariants.{Register, Advance}
+use Rattle.register_core.specs.declared.request.Command.TheVariants.{Register, Activate, SetDates, Revoke, Assign, Advance}
+use Rattle.register_core.specs.declared.request.Edit.{Edit}
+use Rattle.register_core.specs.declared.request.Edit.TheVariants.{Keep, Clear, Set}
 use Rattle.register_core.specs.Name.{is_name_byte}
 use Rattle.period_core.specs.KeyType.{key_type_text}
-use Rattle.register_core.specs.Request.{IsCommand, IsDate, IsRequest, IsLineOf, IsItem, date_text, command_text, request_text}
-use Rattle.register_core.specs.Reading.{◌>>=◌, is_space, field_at, field_as, moment_at, date_at, request_number_at, name_at, key_type_at, purpose_at, register_at, worded_at, command_at, fields_at, request_at}
+use Rattle.register_core.specs.Request.{IsCommand, IsDate, IsEdit, IsKeyNumber, IsRequest, IsLineOf, IsItem, date_text, edit_text, command_text, request_text}
+use Rattle.register_core.specs.CommandText.{IsCommandText, IsCommandItem}
+use Rattle.register_core.specs.Reading.{◌>>=◌, is_space, field_at, field_as, moment_at, date_at, edit_at, key_number_at, reason_at, occurrence_at, request_number_at, name_at, key_type_at, purpose_at, register_at, activate_at, set_at, revoke_at, assign_at, behind_at, worded_at, command_at, fields_at, request_at}
 use Rattle.register_core.proofs.Fields.{bind_some, some_is, HasNoSpace, field_takes, field_again, as_takes, as_again}
-use Rattle.register_core.proofs.Readers.{moment_reader, date_reader, moment_small, request_number_reader, request_number_small, name_reader, purpose_reader, key_type_reader, not_space}
+use Rattle.register_core.proofs.Readers.{moment_reader, date_reader, edit_reader, moment_small, key_number_reader, key_number_small, request_number_reader, request_number_small, name_reader, purpose_reader, key_type_reader, reason_reader, reason_text, reason_small, occurrence_reader, not_space}
 
 -- ---- what has no space
 
@@ -36,6 +41,17 @@ decimal_solid n lt = digits_solid (decimal n) ((decimal_is_IsNumeral n lt).0.1)
 date_solid : (x : Option ℕ) → IsDate x → HasNoSpace (date_text x)
 date_solid None in_range = refl
 date_solid (Some m) in_range = decimal_solid m (moment_small m in_range)
+
+edit_solid : (x : Edit) → IsEdit x → HasNoSpace (edit_text x)
+edit_solid Keep in_range = refl
+edit_solid Clear in_range = refl
+edit_solid (Set m) in_range = decimal_solid m (moment_small m in_range)
+
+key_number_solid : (key : ℕ) → IsKeyNumber key → HasNoSpace (decimal key)
+key_number_solid key in_range = decimal_solid key (key_number_small key in_range)
+
+reason_solid : (reason : Reason) → HasNoSpace (reason_text reason)
+reason_solid reason = decimal_solid (reason_code reason) (reason_small reason)
 
 name_byte_solid : (b : ℕ) → is_name_byte b ≡ true → not (is_space b) ≡ true
 name_byte_solid b h = grind (arith, nat_tests)
@@ -64,12 +80,30 @@ joined_register : (k o a p d u : List ℕ) → codes "register " ++ k ++ codes "
     ≡ before (codes "register") (before k (before o (before a (before p (before d u)))))
 joined_register k o a p d u = simp append_assoc
 
+joined_set : (k a p d : List ℕ) → codes "set " ++ k ++ codes " " ++ a ++ codes " " ++ p ++ codes " " ++ d ≡ before (codes "set") (before k (before a (before p d)))
+joined_set k a p d = simp append_assoc
+
+joined_revoke : (k r o : List ℕ) → codes "revoke " ++ k ++ codes " " ++ r ++ codes " " ++ o ≡ before (codes "revoke") (before k (before r o))
+joined_revoke k r o = simp append_assoc
+
+joined_assign : (k o : List ℕ) → codes "assign " ++ k ++ codes " " ++ o ≡ before (codes "assign") (before k o)
+joined_assign k o = simp append_assoc
+
 joined_request : (m c n d : List ℕ) → m ++ codes " " ++ c ++ codes " " ++ n ++ codes " " ++ d ≡ before m (before c (before n d))
 joined_request m c n d = simp append_assoc
 
 nested_register : (b k b1 o b2 a b3 p b4 d b5 u : List ℕ) → b ≡ before k b1 → b1 ≡ before o b2 → b2 ≡ before a b3 → b3 ≡ before p b4 → b4 ≡ before d b5 → b5 ≡ u
     → before (codes "register") b ≡ before (codes "register") (before k (before o (before a (before p (before d u)))))
 nested_register b k b1 o b2 a b3 p b4 d b5 u ek eo ea ep ed eu = rw (ek, eo, ea, ep, ed, eu) refl
+
+nested_set : (b k b1 a b2 p b3 d : List ℕ) → b ≡ before k b1 → b1 ≡ before a b2 → b2 ≡ before p b3 → b3 ≡ d → before (codes "set") b ≡ before (codes "set") (before k (before a (before p d)))
+nested_set b k b1 a b2 p b3 d ek ea ep ed = rw (ek, ea, ep, ed) refl
+
+nested_revoke : (b k b1 r b2 o : List ℕ) → b ≡ before k b1 → b1 ≡ before r b2 → b2 ≡ o → before (codes "revoke") b ≡ before (codes "revoke") (before k (before r o))
+nested_revoke b k b1 r b2 o ek er eo = rw (ek, er, eo) refl
+
+nested_assign : (b k b1 o : List ℕ) → b ≡ before k b1 → b1 ≡ o → before (codes "assign") b ≡ before (codes "assign") (before k o)
+nested_assign b k b1 o ek eo = rw (ek, eo) refl
 
 nested_request : (b m b1 c b2 n b3 d : List ℕ) → b ≡ before m b1 → b1 ≡ before c b2 → b2 ≡ before n b3 → b3 ≡ d → b ≡ before m (before c (before n d))
 nested_request b m b1 c b2 n b3 d em ec en ed = rw (em, ec, en, ed) refl
@@ -91,12 +125,12 @@ from_activation k o bytes = field_as date_at bytes >>= λ x. from_protect_stop k
 abbrev from_owner : KeyType → List ℕ → Option Command
 from_owner k bytes = field_as name_at bytes >>= λ x. from_activation k x.0 x.1
 
--- what is read behind the word register
-record IsRegister (bytes : List ℕ) (q : Command) : Type 0 where
+-- what is read behind a word
+record IsBehind (word bytes : List ℕ) (q : Command) : Type 0 where
   in_range : IsCommand q
-  text : before (codes "register") bytes ≡ command_text q
+  text : before word bytes ≡ command_text q
 
-register_takes : (bytes : List ℕ) (q : Command) → register_at bytes ≡ Some q → IsRegister bytes q
+register_takes : (bytes : List ℕ) (q : Command) → register_at bytes ≡ Some q → IsBehind (codes "register") bytes q
 unfolding register_at
 register_takes bytes q e =
     let k = bind_some (field_as key_type_at bytes) (λ x. from_owner x.0 x.1) q e in
@@ -113,7 +147,7 @@ register_takes bytes q e =
     let tu = purpose_reader.takes d.0.1 u.0 u.1 in
     let made : Command = Register k.0.0 o.0.0 a.0.0 p.0.0 d.0.0 u.0 in
     let read : before (codes "register") bytes ≡ before (codes "register") (before (key_type_text k.0.0) (before o.0.0 (before (date_text a.0.0) (before (date_text p.0.0) (before (date_text d.0.0) u.0))))) = nested_register bytes (key_type_text k.0.0) k.0.1 o.0.0 o.0.1 (date_text a.0.0) a.0.1 (date_text p.0.0) p.0.1 (date_text d.0.0) d.0.1 u.0 tk.1 to.1 ta.1 tp.1 td.1 tu.1 in
-    subst (IsRegister bytes) (some_is made q u.2) (record {
+    subst (IsBehind (codes "register") bytes) (some_is made q u.2) (record {
       in_range = (to.0, ta.0, tp.0, td.0, tu.0);
       text = read ∙ sym (joined_register (key_type_text k.0.0) o.0.0 (date_text a.0.0) (date_text p.0.0) (date_text d.0.0) u.0);
     })
@@ -132,37 +166,145 @@ register_again k o a p d u in_range =
       purpose_reader.again u in_range.4,
     ) refl
 
+-- ---- the other words
+
+activate_takes : (bytes : List ℕ) (q : Command) → activate_at bytes ≡ Some q → IsBehind (codes "activate") bytes q
+unfolding activate_at
+activate_takes bytes q e =
+    let k = bind_some (key_number_at bytes) (λ x. Some (Activate x)) q e in
+    let tk = key_number_reader.takes bytes k.0 k.1 in
+    subst (IsBehind (codes "activate") bytes) (some_is (Activate k.0) q k.2) (record {
+      in_range = tk.0;
+      text = ap (before (codes "activate")) tk.1;
+    })
+
+activate_again : (key : ℕ) → IsCommand (Activate key) → activate_at (decimal key) ≡ Some (Activate key)
+unfolding activate_at
+activate_again key in_range = rw (key_number_reader.again key in_range) refl
+
+abbrev with_edits : ℕ → Edit → Edit → List ℕ → Option Command
+with_edits k a p bytes = edit_at bytes >>= λ d. Some (SetDates k a p d)
+
+abbrev from_edited_stop : ℕ → Edit → List ℕ → Option Command
+from_edited_stop k a bytes = field_as edit_at bytes >>= λ x. with_edits k a x.0 x.1
+
+abbrev from_edited_activation : ℕ → List ℕ → Option Command
+from_edited_activation k bytes = field_as edit_at bytes >>= λ x. from_edited_stop k x.0 x.1
+
+set_takes : (bytes : List ℕ) (q : Command) → set_at bytes ≡ Some q → IsBehind (codes "set") bytes q
+unfolding set_at
+set_takes bytes q e =
+    let k = bind_some (field_as key_number_at bytes) (λ x. from_edited_activation x.0 x.1) q e in
+    let a = bind_some (field_as edit_at k.0.1) (λ x. from_edited_stop k.0.0 x.0 x.1) q k.2 in
+    let p = bind_some (field_as edit_at a.0.1) (λ x. with_edits k.0.0 a.0.0 x.0 x.1) q a.2 in
+    let d = bind_some (edit_at p.0.1) (λ x. Some (SetDates k.0.0 a.0.0 p.0.0 x)) q p.2 in
+    let tk = as_takes key_number_reader bytes k.0 k.1 in
+    let ta = as_takes edit_reader k.0.1 a.0 a.1 in
+    let tp = as_takes edit_reader a.0.1 p.0 p.1 in
+    let td = edit_reader.takes p.0.1 d.0 d.1 in
+    let made : Command = SetDates k.0.0 a.0.0 p.0.0 d.0 in
+    let read = nested_set bytes (decimal k.0.0) k.0.1 (edit_text a.0.0) a.0.1 (edit_text p.0.0) p.0.1 (edit_text d.0) tk.1 ta.1 tp.1 td.1 in
+    subst (IsBehind (codes "set") bytes) (some_is made q d.2) (record {
+      in_range = (tk.0, ta.0, tp.0, td.0);
+      text = read ∙ sym (joined_set (decimal k.0.0) (edit_text a.0.0) (edit_text p.0.0) (edit_text d.0));
+    })
+
+set_again : (key : ℕ) (a p d : Edit) → IsCommand (SetDates key a p d)
+    → set_at (before (decimal key) (before (edit_text a) (before (edit_text p) (edit_text d)))) ≡ Some (SetDates key a p d)
+unfolding set_at
+set_again key a p d in_range =
+    rw (
+      as_again key_number_reader key (before (edit_text a) (before (edit_text p) (edit_text d))) in_range.0 (key_number_solid key in_range.0),
+      as_again edit_reader a (before (edit_text p) (edit_text d)) in_range.1 (edit_solid a in_range.1),
+      as_again edit_reader p (edit_text d) in_range.2 (edit_solid p in_range.2),
+      edit_reader.again d in_range.3,
+    ) refl
+
+abbrev with_reason : ℕ → Reason → List ℕ → Option Command
+with_reason k r bytes = occurrence_at r bytes >>= λ o. Some (Revoke k r o)
+
+abbrev from_reason : ℕ → List ℕ → Option Command
+from_reason k bytes = field_as reason_at bytes >>= λ x. with_reason k x.0 x.1
+
+revoke_takes : (bytes : List ℕ) (q : Command) → revoke_at bytes ≡ Some q → IsBehind (codes "revoke") bytes q
+unfolding revoke_at
+revoke_takes bytes q e =
+    let k = bind_some (field_as key_number_at bytes) (λ x. from_reason x.0 x.1) q e in
+    let r = bind_some (field_as reason_at k.0.1) (λ x. with_reason k.0.0 x.0 x.1) q k.2 in
+    let o = bind_some (occurrence_at r.0.0 r.0.1) (λ x. Some (Revoke k.0.0 r.0.0 x)) q r.2 in
+    let tk = as_takes key_number_reader bytes k.0 k.1 in
+    let tr = as_takes reason_reader k.0.1 r.0 r.1 in
+    let to = (occurrence_reader r.0.0).takes r.0.1 o.0 o.1 in
+    let made : Command = Revoke k.0.0 r.0.0 o.0 in
+    let read = nested_revoke bytes (decimal k.0.0) k.0.1 (reason_text r.0.0) r.0.1 (date_text o.0) tk.1 tr.1 to.1 in
+    subst (IsBehind (codes "revoke") bytes) (some_is made q o.2) (record {
+      in_range = (tk.0, to.0.0, to.0.1);
+      text = read ∙ sym (joined_revoke (decimal k.0.0) (reason_text r.0.0) (date_text o.0));
+    })
+
+revoke_again : (key : ℕ) (r : Reason) (o : Option ℕ) → IsCommand (Revoke key r o) → revoke_at (before (decimal key) (before (reason_text r) (date_text o))) ≡ Some (Revoke key r o)
+unfolding revoke_at
+revoke_again key r o in_range =
+    rw (
+      as_again key_number_reader key (before (reason_text r) (date_text o)) in_range.0 (key_number_solid key in_range.0),
+      as_again reason_reader r (date_text o) tt (reason_solid r),
+      (occurrence_reader r).again o (in_range.1, in_range.2),
+    ) refl
+
+assign_takes : (bytes : List ℕ) (q : Command) → assign_at bytes ≡ Some q → IsBehind (codes "assign") bytes q
+unfolding assign_at
+assign_takes bytes q e =
+    let k = bind_some (field_as key_number_at bytes) (λ x. name_at x.1 >>= λ o. Some (Assign x.0 o)) q e in
+    let o = bind_some (name_at k.0.1) (λ x. Some (Assign k.0.0 x)) q k.2 in
+    let tk = as_takes key_number_reader bytes k.0 k.1 in
+    let to = name_reader.takes k.0.1 o.0 o.1 in
+    let made : Command = Assign k.0.0 o.0 in
+    let read = nested_assign bytes (decimal k.0.0) k.0.1 o.0 tk.1 to.1 in
+    subst (IsBehind (codes "assign") bytes) (some_is made q o.2) (record {
+      in_range = (tk.0, to.0);
+      text = read ∙ sym (joined_assign (decimal k.0.0) o.0);
+    })
+
+assign_again : (key : ℕ) (o : List ℕ) → IsCommand (Assign key o) → assign_at (before (decimal key) o) ≡ Some (Assign key o)
+unfolding assign_at
+assign_again key o in_range =
+    rw (as_again key_number_reader key o in_range.0 (key_number_solid key in_range.0), name_reader.again o in_range.1) refl
+
 -- ---- commands
 
 pick : (b : Bool) (x y : Option Command) (q : Command) → cond b x y ≡ Some q → ((b ≡ true) × (x ≡ Some q)) ⊎ ((b ≡ false) × (y ≡ Some q))
 pick true x y q e = inl (refl, e)
 pick false x y q e = inr (refl, e)
 
-guard_some : (b : Bool) (o : Option Command) (q : Command) → cond b o None ≡ Some q → (b ≡ true) × (o ≡ Some q)
-guard_some true o q e = (refl, e)
-guard_some false o q e = absurd cc
+-- the word is this one, and then what reads behind it takes the rest, or else the other words have it
+worded_as : (word this bytes : List ℕ) (q : Command) (read other : Option Command) → cond (bytes_eq word this) read other ≡ Some q
+    → (read ≡ Some q → IsBehind this bytes q) → (other ≡ Some q → IsBehind word bytes q) → IsBehind word bytes q
+worded_as word this bytes q read other e here behind = elim (pick (bytes_eq word this) read other q e) [
+  | inl own ↦
+      let same : this ≡ word = sym ((bytes_eq-Decides word this).0 own.0) in
+      subst (λ (w : List ℕ). IsBehind w bytes q) same (here own.1)
+  | inr rest ↦ behind rest.1
+]
 
--- what is read as a command
-record IsCommandOf (bytes : List ℕ) (q : Command) : Type 0 where
-  in_range : IsCommand q
-  text : bytes ≡ command_text q
+behind_takes : (word bytes : List ℕ) (q : Command) → behind_at word bytes ≡ Some q → IsBehind word bytes q
+behind_takes word bytes q e =
+    worded_as word (codes "register") bytes q _ _ e (register_takes bytes q) (λ e1.
+    worded_as word (codes "activate") bytes q _ _ e1 (activate_takes bytes q) (λ e2.
+    worded_as word (codes "set") bytes q _ _ e2 (set_takes bytes q) (λ e3.
+    worded_as word (codes "revoke") bytes q _ _ e3 (revoke_takes bytes q) (λ e4.
+    worded_as word (codes "assign") bytes q _ _ e4 (assign_takes bytes q) (λ e5. absurd cc)))))
 
-worded_takes : (bytes : List ℕ) (q : Command) → worded_at bytes ≡ Some q → IsCommandOf bytes q
+worded_takes : (bytes : List ℕ) (q : Command) → worded_at bytes ≡ Some q → IsCommandText bytes q
 unfolding worded_at
 worded_takes bytes q e =
-    let w = bind_some (field_at bytes) (λ word. cond (bytes_eq word.0 (codes "register")) (register_at word.1) None) q e in
-    let g = guard_some (bytes_eq w.0.0 (codes "register")) (register_at w.0.1) q w.2 in
-    let word : w.0.0 ≡ codes "register" = (bytes_eq-Decides w.0.0 (codes "register")).0 g.0 in
-    let taken = register_takes w.0.1 q g.1 in
-    record {
-      in_range = taken.in_range;
-      text = field_takes bytes w.0 w.1 ∙ ap (λ (f : List ℕ). before f w.0.1) word ∙ taken.text;
-    }
+    let w = bind_some (field_at bytes) (λ word. behind_at word.0 word.1) q e in
+    let taken = behind_takes w.0.0 w.0.1 q w.2 in
+    (taken.in_range, field_takes bytes w.0 w.1 ∙ taken.text)
 
-command_takes : (bytes : List ℕ) (q : Command) → command_at bytes ≡ Some q → IsCommandOf bytes q
+command_takes : (bytes : List ℕ) (q : Command) → command_at bytes ≡ Some q → IsCommandText bytes q
 unfolding command_at
 command_takes bytes q e = elim (pick (bytes_eq bytes (codes "advance")) (Some Advance) (worded_at bytes) q e) [
-  | inl here ↦ subst (IsCommandOf bytes) (some_is Advance q here.1) (record { in_range = tt; text = (bytes_eq-Decides bytes (codes "advance")).0 here.0 })
+  | inl here ↦ subst (IsCommandText bytes) (some_is Advance q here.1) (tt, (bytes_eq-Decides bytes (codes "advance")).0 here.0)
   | inr behind ↦ worded_takes bytes q behind.1
 ]
 
@@ -173,6 +315,32 @@ command_again (Register k o a p d u) in_range =
     let behind : List ℕ = before (key_type_text k) (before o (before (date_text a) (before (date_text p) (before (date_text d) u)))) in
     ap command_at (joined_register (key_type_text k) o (date_text a) (date_text p) (date_text d) u)
     ∙ rw (field_again (codes "register") behind refl, register_again k o a p d u in_range) refl
+command_again (Activate key) in_range = rw (field_again (codes "activate") (decimal key) refl, activate_again key in_range) refl
+command_again (SetDates key a p d) in_range =
+    let behind : List ℕ = before (decimal key) (before (edit_text a) (before (edit_text p) (edit_text d))) in
+    ap command_at (joined_set (decimal key) (edit_text a) (edit_text p) (edit_text d))
+    ∙ rw (field_again (codes "set") behind refl, set_again key a p d in_range) refl
+command_again (Revoke key r o) in_range =
+    let behind : List ℕ = before (decimal key) (before (reason_text r) (date_text o)) in
+    ap command_at (joined_revoke (decimal key) (reason_text r) (date_text o))
+    ∙ rw (field_again (codes "revoke") behind refl, revoke_again key r o in_range) refl
+command_again (Assign key o) in_range =
+    ap command_at (joined_assign (decimal key) o)
+    ∙ rw (field_again (codes "assign") (before (decimal key) o) refl, assign_again key o in_range) refl
+
+command_read : (bytes : List ℕ) (q : Command) → IsCommandText bytes q → command_at bytes ≡ Some q
+command_read bytes q h = ap command_at h.1 ∙ command_again q h.0
+
+command_item_of : (bytes : List ℕ) (o : Option Command) → command_at bytes ≡ o → IsCommandItem bytes o
+command_item_of bytes None e = λ q h. let again = command_read bytes q h in absurd (cc (e, again))
+command_item_of bytes (Some q) e = command_takes bytes q e
+
+pub is_command_item : (bytes : List ℕ) (o : Option Command) → o ≡ command_at bytes → IsCommandItem bytes o
+is_command_item bytes o e = command_item_of bytes o (sym e)
+
+-- No bytes are the text of two commands.
+pub same_command : (bytes : List ℕ) (p q : Command) → IsCommandText bytes p → IsCommandText bytes q → p ≡ q
+same_command bytes p q hp hq = some_is p q (sym (command_read bytes p hp) ∙ command_read bytes q hq)
 
 -- ---- lines
 
@@ -202,9 +370,9 @@ fields_takes line q e =
     let tn = as_takes request_number_reader c.0.1 n.0 n.1 in
     let td = command_takes n.0.1 d.0 d.1 in
     let made : Request = record { moment = m.0.0; caller = c.0.0; number = n.0.0; command = d.0 } in
-    let read = nested_request line (decimal m.0.0) m.0.1 c.0.0 c.0.1 (decimal n.0.0) n.0.1 (command_text d.0) tm.1 tc.1 tn.1 td.text in
+    let read = nested_request line (decimal m.0.0) m.0.1 c.0.0 c.0.1 (decimal n.0.0) n.0.1 (command_text d.0) tm.1 tc.1 tn.1 td.1 in
     subst (IsFieldsOf line) (some_is made q d.2) (record {
-      in_range = record { moment = tm.0; caller = tc.0; number = tn.0; command = td.in_range };
+      in_range = record { moment = tm.0; caller = tc.0; number = tn.0; command = td.0 };
       text = read ∙ sym (joined_request (decimal m.0.0) c.0.0 (decimal n.0.0) (command_text d.0));
     })
 

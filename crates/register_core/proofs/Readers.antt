@@ -1,10 +1,10 @@
 -- Each field's reader reads exactly the texts of its values, and finds what the code finds.
-use Rattle.std.proofs.Common.{◌≡◌, ◌≢◌, ℕ, ◌-◌, ◌<◌, ◌≤◌, ◌^◌, nat_le, Bool, true, false, not, ◌&&◌, cond, List, [], ◌∷◌, length, get_or, Option, Some, None, IfSome, IsSome, ◌↔◌, ◌⊎◌, inl, inr, refl, sym, ap, subst, ◌∙◌, arith}
-use Rattle.std.specs.Prelude.{decimal, find, codes}
+use Rattle.std.proofs.Common.{◌≡◌, ◌≢◌, ℕ, ◌-◌, ◌<◌, ◌≤◌, ◌^◌, nat_le, Bool, true, false, not, ◌&&◌, cond, List, [], ◌∷◌, length, get_or, Option, Some, None, IfSome, IfNone, IsSome, ◌↔◌, ◌⊎◌, inl, inr, refl, sym, ap, subst, ◌∙◌, arith}
+use Rattle.std.specs.Prelude.{◌==◌, decimal, find, codes}
 use Rattle.std.specs.List.{list_all}
 use Rattle.std.specs.Str.{bytes_eq, is_utf8}
 use Rattle.std.specs.Str.Parse.{digits_value, AllDigits}
-use Rattle.std.proofs.lemmas.Bool.{and_parts, and_from, leb-true, le-leb}
+use Rattle.std.proofs.lemmas.Bool.{and_parts, and_from, leb-true, le-leb, eqb-true}
 use Rattle.std.proofs.lemmas.Bool.Decides.{nat_tests}
 use Rattle.std.proofs.lemmas.Option.{cond_some}
 use Rattle.std.proofs.lemmas.Fmt.{decimal_is_IsNumeral, decimal_injective}
@@ -15,14 +15,19 @@ use Rattle.moment_core.specs.Moment.{IsMoment}
 use Rattle.register_core.specs.declared.name.TheConstants.{NAME_LIMIT}
 use Rattle.register_core.specs.declared.number.TheConstants.{LAST_NUMBER}
 use Rattle.register_core.specs.declared.purpose.TheConstants.{PURPOSE_LIMIT}
+use Rattle.lifecycle_core.specs.declared.reason.Reason.{Reason}
+use Rattle.lifecycle_core.specs.declared.reason.Reason.TheVariants.{Unspecified, KeyCompromise, CaCompromise, AffiliationChanged, Superseded, CessationOfOperation, PrivilegeWithdrawn}
+use Rattle.lifecycle_core.specs.Reason.{reason_code, is_compromise}
 use Rattle.period_core.specs.declared.key_type.KeyType.{KeyType}
 use Rattle.period_core.specs.declared.key_type.KeyType.TheVariants.{DataEncryption, Authentication, KeyWrapping, PrivateSignature, PrivateAuthentication, PrivateTransport, Master}
+use Rattle.register_core.specs.declared.request.Edit.{Edit}
+use Rattle.register_core.specs.declared.request.Edit.TheVariants.{Keep, Clear, Set}
 use Rattle.register_core.specs.Name.{IsName, is_name_byte}
 use Rattle.register_core.specs.Number.{IsNumber}
 use Rattle.register_core.specs.Purpose.{IsPurpose, is_purpose_byte}
 use Rattle.period_core.specs.KeyType.{key_type_text}
-use Rattle.register_core.specs.Reading.{◌>>=◌, number_at, moment_at, date_at, request_number_at, name_at, purpose_at, key_types, key_type_at, is_space, is_trimmed}
-use Rattle.register_core.specs.Request.{IsDate, date_text}
+use Rattle.register_core.specs.Reading.{◌>>=◌, number_at, moment_at, date_at, edit_at, key_number_at, reasons, reason_at, occurrence_at, request_number_at, name_at, purpose_at, key_types, key_type_at, is_space, is_trimmed}
+use Rattle.register_core.specs.Request.{IsDate, IsKeyNumber, IsEdit, date_text, edit_text}
 use Rattle.register_core.proofs.Fields.{IsReader, is_read, bind_some}
 
 -- ---- numbers
@@ -58,12 +63,22 @@ either : (b : Bool) → (b ≡ true) ⊎ (b ≡ false)
 either true = inl refl
 either false = inr refl
 
--- no moment is written as a dash
-dash_no_moment : (m : ℕ) → m < 2 ^ 64 → bytes_eq (decimal m) (codes "-") ≡ false
-dash_no_moment m lt = elim (either (bytes_eq (decimal m) (codes "-"))) [
+-- no number is written as a dash
+dash_no_number : (m : ℕ) → m < 2 ^ 64 → bytes_eq (decimal m) (codes "-") ≡ false
+dash_no_number m lt = elim (either (bytes_eq (decimal m) (codes "-"))) [
   | inl same ↦
       let text : decimal m ≡ codes "-" = (bytes_eq-Decides (decimal m) (codes "-")).0 same in
       let digits : AllDigits 10 (codes "-") = subst (AllDigits 10) text (decimal_is_IsNumeral m lt).0.1 in
+      absurd (omega (arith, digits.0))
+  | inr other ↦ other
+]
+
+-- nor as an equals sign
+equals_no_number : (m : ℕ) → m < 2 ^ 64 → bytes_eq (decimal m) (codes "=") ≡ false
+equals_no_number m lt = elim (either (bytes_eq (decimal m) (codes "="))) [
+  | inl same ↦
+      let text : decimal m ≡ codes "=" = (bytes_eq-Decides (decimal m) (codes "=")).0 same in
+      let digits : AllDigits 10 (codes "=") = subst (AllDigits 10) text (decimal_is_IsNumeral m lt).0.1 in
       absurd (omega (arith, digits.0))
   | inr other ↦ other
 ]
@@ -92,10 +107,56 @@ date_takes field x e = elim (chosen (bytes_eq field (codes "-")) (Some None) (mo
 date_again : (x : Option ℕ) → IsDate x → date_at (date_text x) ≡ Some x
 unfolding date_at
 date_again None in_range = refl
-date_again (Some m) in_range = rw (dash_no_moment m (omega (arith, in_range)), moment_reader.again m in_range) refl
+date_again (Some m) in_range = rw (dash_no_number m (omega (arith, in_range)), moment_reader.again m in_range) refl
 
 pub date_reader : IsReader date_at date_text IsDate
 date_reader = record { takes = date_takes; again = date_again }
+
+-- ---- edits
+
+edit_of_moment : (field : List ℕ) (m : ℕ) (x : Edit) → moment_at field ≡ Some m → Some (Set m) ≡ Some x → IsEdit x × (field ≡ edit_text x)
+edit_of_moment field m x read e =
+    let same : Set m ≡ x = cc in
+    subst (λ (y : Edit). IsEdit y × (field ≡ edit_text y)) same (moment_reader.takes field m read)
+
+edit_of_sign : (field sign : List ℕ) (y x : Edit) → bytes_eq field sign ≡ true → IsEdit y → edit_text y ≡ sign → Some y ≡ Some x → IsEdit x × (field ≡ edit_text x)
+edit_of_sign field sign y x here in_range text e =
+    let same : y ≡ x = cc in
+    subst (λ (z : Edit). IsEdit z × (field ≡ edit_text z)) same (in_range, (bytes_eq-Decides field sign).0 here ∙ sym text)
+
+abbrev set_to : List ℕ → Option Edit
+set_to field = moment_at field >>= λ m. Some (Set m)
+
+edit_takes : (field : List ℕ) (x : Edit) → edit_at field ≡ Some x → IsEdit x × (field ≡ edit_text x)
+unfolding edit_at
+edit_takes field x e = elim (chosen (bytes_eq field (codes "=")) (Some Keep) (cond (bytes_eq field (codes "-")) (Some Clear) (set_to field)) x e) [
+  | inl keep ↦ edit_of_sign field (codes "=") Keep x keep.0 tt refl keep.1
+  | inr other ↦ elim (chosen (bytes_eq field (codes "-")) (Some Clear) (set_to field) x other.1) [
+    | inl clear ↦ edit_of_sign field (codes "-") Clear x clear.0 tt refl clear.1
+    | inr some ↦ let m = bind_some (moment_at field) (λ m. Some (Set m)) x some.1 in edit_of_moment field m.0 x m.1 m.2
+  ]
+]
+
+edit_again : (x : Edit) → IsEdit x → edit_at (edit_text x) ≡ Some x
+unfolding edit_at
+edit_again Keep in_range = refl
+edit_again Clear in_range = refl
+edit_again (Set m) in_range = rw (equals_no_number m (omega (arith, in_range)), dash_no_number m (omega (arith, in_range)), moment_reader.again m in_range) refl
+
+pub edit_reader : IsReader edit_at edit_text IsEdit
+edit_reader = record { takes = edit_takes; again = edit_again }
+
+-- ---- numbers of keys and of requests
+
+pub key_number_reader : IsReader key_number_at decimal IsKeyNumber
+unfolding key_number_at
+key_number_reader = record {
+  takes = λ field n e. number_takes 1 4_294_967_295 field n e;
+  again = λ n in_range. number_again 1 4_294_967_295 (omega arith) n in_range;
+}
+
+pub key_number_small : (n : ℕ) → IsKeyNumber n → n < 2 ^ 64
+key_number_small n in_range = omega arith
 
 pub request_number_reader : IsReader request_number_at decimal IsNumber
 unfolding request_number_at
@@ -190,16 +251,16 @@ purpose_reader = record {
       rw (low, high, utf8, purpose.printable, ends) refl;
 }
 
--- ---- types of keys
+-- ---- types of keys and reasons
 
-find_step : (b : Bool) (x : KeyType) (o : Option KeyType) (k : KeyType) → cond b (Some x) o ≡ Some k → ((b ≡ true) × (x ≡ k)) ⊎ (o ≡ Some k)
-find_step true x o k e = inl (refl, cc)
-find_step false x o k e = inr e
+found_step : {A : Type 0} (b : Bool) (x : A) (o : Option A) (k : A) → cond b (Some x) o ≡ Some k → ((b ≡ true) × (x ≡ k)) ⊎ (o ≡ Some k)
+found_step true x o k e = inl (refl, cc)
+found_step false x o k e = inr e
 
-find_passes : (p : KeyType → Bool) (ks : List KeyType) (k : KeyType) → find p ks ≡ Some k → p k ≡ true
+find_passes : {A : Type 0} (p : A → Bool) (ks : List A) (k : A) → find p ks ≡ Some k → p k ≡ true
 find_passes p [] k e = absurd cc
-find_passes p (x ∷ ks) k e = elim (find_step (p x) x (find p ks) k e) [
-  | inl here ↦ subst (λ (y : KeyType). p y ≡ true) here.1 here.0
+find_passes p (x ∷ ks) k e = elim (found_step (p x) x (find p ks) k e) [
+  | inl here ↦ subst (λ y. p y ≡ true) here.1 here.0
   | inr behind ↦ find_passes p ks k behind
 ]
 
@@ -219,3 +280,86 @@ key_type_takes field k e = sym ((bytes_eq-Decides (key_type_text k) field).0 (fi
 
 pub key_type_reader : IsReader key_type_at key_type_text (λ _. Unit {0})
 key_type_reader = record { takes = λ field k e. (tt, key_type_takes field k e); again = λ k _. key_type_again k }
+
+abbrev pub reason_text : Reason → List ℕ
+reason_text reason = decimal (reason_code reason)
+
+reason_code_within : (r : Reason) → IsWithin 1 7 (reason_code r)
+reason_code_within Unspecified = (omega arith, omega arith)
+reason_code_within KeyCompromise = (omega arith, omega arith)
+reason_code_within CaCompromise = (omega arith, omega arith)
+reason_code_within AffiliationChanged = (omega arith, omega arith)
+reason_code_within Superseded = (omega arith, omega arith)
+reason_code_within CessationOfOperation = (omega arith, omega arith)
+reason_code_within PrivilegeWithdrawn = (omega arith, omega arith)
+
+pub reason_small : (r : Reason) → reason_code r < 2 ^ 64
+reason_small r = omega (arith, (reason_code_within r).1)
+
+abbrev reason_with : ℕ → Option Reason
+reason_with code = find (λ reason. reason_code reason == code) reasons
+
+reason_found : (r : Reason) → reason_with (reason_code r) ≡ Some r
+reason_found Unspecified = refl
+reason_found KeyCompromise = refl
+reason_found CaCompromise = refl
+reason_found AffiliationChanged = refl
+reason_found Superseded = refl
+reason_found CessationOfOperation = refl
+reason_found PrivilegeWithdrawn = refl
+
+reason_again : (r : Reason) → reason_at (reason_text r) ≡ Some r
+unfolding reason_at
+reason_again r = rw (number_again 1 7 (omega arith) (reason_code r) (reason_code_within r)) (reason_found r)
+
+reason_takes : (field : List ℕ) (r : Reason) → reason_at field ≡ Some r → field ≡ reason_text r
+unfolding reason_at
+reason_takes field r e =
+    let code = bind_some (number_at 1 7 field) reason_with r e in
+    let same : reason_code r ≡ code.0 = eqb-true (reason_code r) code.0 (find_passes (λ reason. reason_code reason == code.0) reasons r code.2) in
+    (number_takes 1 7 field code.0 code.1).1 ∙ ap decimal (sym same)
+
+pub reason_reader : IsReader reason_at reason_text (λ _. Unit {0})
+reason_reader = record { takes = λ field r e. (tt, reason_takes field r e); again = λ r _. reason_again r }
+
+-- a reason that was made of the number in the field
+pub made_of_code : (field : List ℕ) (o : Option Reason) (n : ℕ) → n < 2 ^ 64 → field ≡ decimal n → IfSome o (λ r. reason_code r ≡ n) → IfNone o ((n < 1) ⊎ (7 < n)) → o ≡ reason_at field
+made_of_code field (Some r) n lt e found none = is_read reason_reader field (Some r) (tt, e ∙ ap decimal (sym found)) tt
+made_of_code field None n lt e found none = is_read reason_reader field None tt (λ r _ ex.
+    let within = reason_code_within r in
+    let same : reason_code r ≡ n = decimal_injective (reason_code r) n (omega (arith, within.1)) lt (sym ex ∙ e) in
+    elim none [ inl low ↦ omega (arith, low, same, within.0) | inr high ↦ omega (arith, high, same, within.1) ])
+
+-- no number is in the field, and so no reason
+pub no_code : (field : List ℕ) → ((n : ℕ) → n < 2 ^ 64 → field ≢ decimal n) → None ≡ reason_at field
+no_code field none = is_read reason_reader field None tt (λ r _ ex. let within = reason_code_within r in none (reason_code r) (omega (arith, within.1)) ex)
+
+-- ---- occurrences
+
+-- an occurrence with its reason
+abbrev pub IsOccurrence : Reason → Option ℕ → Type 0
+IsOccurrence reason x = IsDate x × (is_compromise reason ≡ false → x ≡ None)
+
+no_date : (field : List ℕ) (x : Option ℕ) → cond (bytes_eq field (codes "-")) (Some None) None ≡ Some x → (x ≡ None) × (field ≡ codes "-")
+no_date field x e =
+    let got = cond_some (bytes_eq field (codes "-")) None x e in
+    (sym got.1, (bytes_eq-Decides field (codes "-")).0 got.0)
+
+occurrence_takes : (reason : Reason) (field : List ℕ) (x : Option ℕ) → occurrence_at reason field ≡ Some x → IsOccurrence reason x × (field ≡ date_text x)
+unfolding occurrence_at
+occurrence_takes reason field x e = elim (chosen (is_compromise reason) (date_at field) (cond (bytes_eq field (codes "-")) (Some None) None) x e) [
+  | inl dated ↦ let taken = date_reader.takes field x dated.1 in ((taken.0, λ other. absurd (cc (dated.0, other))), taken.1)
+  | inr other ↦ let none = no_date field x other.1 in
+      subst (λ (y : Option ℕ). IsOccurrence reason y × (field ≡ date_text y)) (sym none.0) ((tt, λ _. refl), none.1)
+]
+
+occurrence_by : (b : Bool) (x : Option ℕ) → IsDate x → (b ≡ false → x ≡ None) → cond b (date_at (date_text x)) (cond (bytes_eq (date_text x) (codes "-")) (Some None) None) ≡ Some x
+occurrence_by true x in_range none = date_reader.again x in_range
+occurrence_by false x in_range none = rw (none refl) refl
+
+occurrence_again : (reason : Reason) (x : Option ℕ) → IsOccurrence reason x → occurrence_at reason (date_text x) ≡ Some x
+unfolding occurrence_at
+occurrence_again reason x h = occurrence_by (is_compromise reason) x h.0 h.1
+
+pub occurrence_reader : (reason : Reason) → IsReader (occurrence_at reason) date_text (IsOccurrence reason)
+occurrence_reader reason = record { takes = occurrence_takes reason; again = occurrence_again reason }

@@ -4,7 +4,9 @@ pub mod Number
 pub mod Purpose
 pub mod Reply
 pub mod Request
+pub mod CommandText
 pub mod History
 pub mod Verdict
+pub mod Decision
 pub mod Fold
 pub mod Reading

@@ -8,11 +8,16 @@ use Rattle.register_core.specs.declared.name.TheConstants.{NAME_LIMIT}
 use Rattle.register_core.specs.declared.number.TheConstants.{LAST_NUMBER}
 use Rattle.register_core.specs.declared.purpose.TheConstants.{PURPOSE_LIMIT}
 use Rattle.register_core.specs.declared.line.TheConstants.{LINE_LIMIT}
+use Rattle.lifecycle_core.specs.declared.reason.Reason.{Reason}
+use Rattle.lifecycle_core.specs.declared.reason.Reason.TheVariants.{Unspecified, KeyCompromise, CaCompromise, AffiliationChanged, Superseded, CessationOfOperation, PrivilegeWithdrawn}
+use Rattle.lifecycle_core.specs.Reason.{reason_code, is_compromise}
 use Rattle.period_core.specs.declared.key_type.KeyType.{KeyType}
 use Rattle.period_core.specs.declared.key_type.KeyType.TheVariants.{DataEncryption, Authentication, KeyWrapping, PrivateSignature, PrivateAuthentication, PrivateTransport, Master}
 use Rattle.register_core.specs.declared.request.Request.{Request}
 use Rattle.register_core.specs.declared.request.Command.{Command}
-use Rattle.register_core.specs.declared.request.Command.TheVariants.{Register, Advance}
+use Rattle.register_core.specs.declared.request.Command.TheVariants.{Register, Activate, SetDates, Revoke, Assign, Advance}
+use Rattle.register_core.specs.declared.request.Edit.{Edit}
+use Rattle.register_core.specs.declared.request.Edit.TheVariants.{Keep, Clear, Set}
 use Rattle.register_core.specs.Name.{is_name_byte}
 use Rattle.register_core.specs.Purpose.{is_purpose_byte}
 use Rattle.period_core.specs.KeyType.{key_type_text}
@@ -52,6 +57,31 @@ moment_at field = number_at 0 LAST_SECOND field
 -- the date that the field writes, - for none
 unfoldable pub date_at : List ℕ → Option (Option ℕ)
 date_at field = if bytes_eq field (codes "-") then Some None else (moment_at field >>= λ moment. Some (Some moment))
+
+-- what the field says of a date, = that it stays and - that it is set no more
+unfoldable pub edit_at : List ℕ → Option Edit
+edit_at field =
+    if bytes_eq field (codes "=") then Some Keep
+    else if bytes_eq field (codes "-") then Some Clear
+    else (moment_at field >>= λ moment. Some (Set moment))
+
+-- the number of a key that the field writes
+unfoldable pub key_number_at : List ℕ → Option ℕ
+key_number_at field = number_at 1 4_294_967_295 field
+
+-- each reason once
+abbrev pub reasons : List Reason
+reasons = Unspecified ∷ KeyCompromise ∷ CaCompromise ∷ AffiliationChanged ∷ Superseded ∷ CessationOfOperation ∷ PrivilegeWithdrawn ∷ []
+
+-- the reason whose code the field writes
+unfoldable pub reason_at : List ℕ → Option Reason
+reason_at field = do
+  code ← number_at 1 7 field
+  find (λ reason. reason_code reason == code) reasons
+
+-- the occurrence that the field writes, which only a compromise has
+unfoldable pub occurrence_at : Reason → List ℕ → Option (Option ℕ)
+occurrence_at reason field = if is_compromise reason then date_at field else if bytes_eq field (codes "-") then Some None else None
 
 -- a request's number that the field writes
 unfoldable pub request_number_at : List ℕ → Option ℕ
@@ -100,11 +130,51 @@ register_at bytes = do
   purpose ← purpose_at deactivation.1
   Some (Register kind.0 owner.0 activation.0 protect_stop.0 deactivation.0 purpose)
 
+-- what stands behind the word activate
+unfoldable pub activate_at : List ℕ → Option Command
+activate_at bytes = do
+  key ← key_number_at bytes
+  Some (Activate key)
+
+-- what stands behind the word set
+unfoldable pub set_at : List ℕ → Option Command
+set_at bytes = do
+  key ← field_as key_number_at bytes
+  activation ← field_as edit_at key.1
+  protect_stop ← field_as edit_at activation.1
+  deactivation ← edit_at protect_stop.1
+  Some (SetDates key.0 activation.0 protect_stop.0 deactivation)
+
+-- what stands behind the word revoke
+unfoldable pub revoke_at : List ℕ → Option Command
+revoke_at bytes = do
+  key ← field_as key_number_at bytes
+  reason ← field_as reason_at key.1
+  occurrence ← occurrence_at reason.0 reason.1
+  Some (Revoke key.0 reason.0 occurrence)
+
+-- what stands behind the word assign
+unfoldable pub assign_at : List ℕ → Option Command
+assign_at bytes = do
+  key ← field_as key_number_at bytes
+  owner ← name_at key.1
+  Some (Assign key.0 owner)
+
+-- what stands behind its word
+abbrev pub behind_at : List ℕ → List ℕ → Option Command
+behind_at word bytes =
+    if bytes_eq word (codes "register") then register_at bytes
+    else if bytes_eq word (codes "activate") then activate_at bytes
+    else if bytes_eq word (codes "set") then set_at bytes
+    else if bytes_eq word (codes "revoke") then revoke_at bytes
+    else if bytes_eq word (codes "assign") then assign_at bytes
+    else None
+
 -- a command that begins with its word
 unfoldable pub worded_at : List ℕ → Option Command
 worded_at bytes = do
   word ← field_at bytes
-  if bytes_eq word.0 (codes "register") then register_at word.1 else None
+  behind_at word.0 word.1
 
 -- a command, with its fields where it has any
 unfoldable pub command_at : List ℕ → Option Command

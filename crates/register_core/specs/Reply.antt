@@ -4,31 +4,46 @@ use Rattle.lifecycle_core.specs.declared.state.State.{State}
 use Rattle.lifecycle_core.specs.State.{state_text}
 use Rattle.register_core.specs.declared.reply.Reply.{Reply}
 use Rattle.register_core.specs.declared.reply.Refusal.{Refusal}
-use Rattle.register_core.specs.declared.reply.Refusal.TheVariants.{BadLine, MomentBehind, DateOrder, PeriodTooLong, DateRange, Full}
+use Rattle.register_core.specs.declared.reply.Refusal.TheVariants.{BadLine, MomentBehind, UnknownKey, NotOwner, WrongState, DateFrozen, DateOrder, PeriodTooLong, DateRange, OccurrenceLater, Full}
 
 abbrev pub refusal_number : Refusal → ℕ
 refusal_number BadLine = 1
 refusal_number (MomentBehind latest) = 3
+refusal_number UnknownKey = 4
+refusal_number NotOwner = 5
+refusal_number (WrongState state) = 7
+refusal_number DateFrozen = 8
 refusal_number DateOrder = 9
 refusal_number (PeriodTooLong limit) = 10
 refusal_number DateRange = 11
+refusal_number OccurrenceLater = 19
 refusal_number Full = 20
 
 abbrev pub refusal_name : Refusal → List ℕ
 refusal_name BadLine = codes "BadLine"
 refusal_name (MomentBehind latest) = codes "MomentBehind"
+refusal_name UnknownKey = codes "UnknownKey"
+refusal_name NotOwner = codes "NotOwner"
+refusal_name (WrongState state) = codes "WrongState"
+refusal_name DateFrozen = codes "DateFrozen"
 refusal_name DateOrder = codes "DateOrder"
 refusal_name (PeriodTooLong limit) = codes "PeriodTooLong"
 refusal_name DateRange = codes "DateRange"
+refusal_name OccurrenceLater = codes "OccurrenceLater"
 refusal_name Full = codes "Full"
 
 -- what stands behind the name
 abbrev pub refusal_detail : Refusal → List ℕ
 refusal_detail BadLine = []
 refusal_detail (MomentBehind latest) = codes " latest=" ++ decimal latest
+refusal_detail UnknownKey = []
+refusal_detail NotOwner = []
+refusal_detail (WrongState state) = codes " state=" ++ state_text state
+refusal_detail DateFrozen = []
 refusal_detail DateOrder = []
 refusal_detail (PeriodTooLong limit) = codes " limit=" ++ decimal limit
 refusal_detail DateRange = []
+refusal_detail OccurrenceLater = []
 refusal_detail Full = []
 
 -- a state, or - where there is none

@@ -1,5 +1,5 @@
 -- Requests in their ranges, and the one line of each. All of it is this register's own.
-use Rattle.std.specs.Prelude.{◌≡◌, ℕ, ◌≤◌, List, ◌++◌, length, codes, decimal, Option, None, Some, IsSome}
+use Rattle.std.specs.Prelude.{◌≡◌, false, ℕ, ◌≤◌, List, ◌++◌, length, codes, decimal, Option, None, Some, IsSome}
 use Rattle.moment_core.specs.Moment.{IsMoment}
 use Rattle.register_core.specs.Name.{IsName}
 use Rattle.register_core.specs.Number.{IsNumber}
@@ -7,7 +7,10 @@ use Rattle.register_core.specs.Purpose.{IsPurpose}
 use Rattle.period_core.specs.KeyType.{key_type_text}
 use Rattle.register_core.specs.declared.request.Request.{Request}
 use Rattle.register_core.specs.declared.request.Command.{Command}
-use Rattle.register_core.specs.declared.request.Command.TheVariants.{Register, Advance}
+use Rattle.register_core.specs.declared.request.Command.TheVariants.{Register, Activate, SetDates, Revoke, Assign, Advance}
+use Rattle.register_core.specs.declared.request.Edit.{Edit}
+use Rattle.register_core.specs.declared.request.Edit.TheVariants.{Keep, Clear, Set}
+use Rattle.lifecycle_core.specs.Reason.{reason_code, is_compromise}
 
 -- how many bytes a request line has at most
 abbrev pub line_limit : ℕ
@@ -20,9 +23,23 @@ abbrev pub IsDate : Option ℕ → Type 0
 IsDate None = Unit {0}
 IsDate (Some date) = IsMoment date
 
+-- the number of a key in a request
+abbrev pub IsKeyNumber : ℕ → Type 0
+IsKeyNumber key = (1 ≤ key) × (key ≤ 4_294_967_295)
+
+-- an edit that sets a date sets it to a moment
+abbrev pub IsEdit : Edit → Type 0
+IsEdit Keep = Unit {0}
+IsEdit Clear = Unit {0}
+IsEdit (Set date) = IsMoment date
+
 abbrev pub IsCommand : Command → Type 0
 IsCommand (Register kind owner activation protect_stop deactivation purpose) =
     IsName owner × IsDate activation × IsDate protect_stop × IsDate deactivation × IsPurpose purpose
+IsCommand (Activate key) = IsKeyNumber key
+IsCommand (SetDates key activation protect_stop deactivation) = IsKeyNumber key × IsEdit activation × IsEdit protect_stop × IsEdit deactivation
+IsCommand (Revoke key reason occurrence) = IsKeyNumber key × IsDate occurrence × (is_compromise reason ≡ false → occurrence ≡ None)
+IsCommand (Assign key owner) = IsKeyNumber key × IsName owner
 IsCommand Advance = Unit {0}
 
 pub record IsRequest (q : Request) : Type 0 where
@@ -38,10 +55,21 @@ abbrev pub date_text : Option ℕ → List ℕ
 date_text None = codes "-"
 date_text (Some date) = decimal date
 
+-- = for a date that stays, - for one that is set no more
+abbrev pub edit_text : Edit → List ℕ
+edit_text Keep = codes "="
+edit_text Clear = codes "-"
+edit_text (Set date) = decimal date
+
 abbrev pub command_text : Command → List ℕ
 command_text (Register kind owner activation protect_stop deactivation purpose) =
     codes "register " ++ key_type_text kind ++ codes " " ++ owner ++ codes " " ++ date_text activation
     ++ codes " " ++ date_text protect_stop ++ codes " " ++ date_text deactivation ++ codes " " ++ purpose
+command_text (Activate key) = codes "activate " ++ decimal key
+command_text (SetDates key activation protect_stop deactivation) =
+    codes "set " ++ decimal key ++ codes " " ++ edit_text activation ++ codes " " ++ edit_text protect_stop ++ codes " " ++ edit_text deactivation
+command_text (Revoke key reason occurrence) = codes "revoke " ++ decimal key ++ codes " " ++ decimal (reason_code reason) ++ codes " " ++ date_text occurrence
+command_text (Assign key owner) = codes "assign " ++ decimal key ++ codes " " ++ owner
 command_text Advance = codes "advance"
 
 abbrev pub request_text : Request → List ℕ

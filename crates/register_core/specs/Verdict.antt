@@ -1,18 +1,26 @@
 -- What a request is answered behind a history: the first refusal that holds, else the reply.
-use Rattle.std.specs.Prelude.{ℕ, nat_lt, nat_le, Bool, true, false, not, ◌&&◌, List, [], ◌∷◌, ◌++◌, Option, None, Some, Result, Ok, Err, unwrap_or, if◌then◌else◌}
-use Rattle.std.specs.Option.{option_map}
-use Rattle.lifecycle_core.specs.State.{state_at}
+use Rattle.std.specs.Prelude.{ℕ, ◌==◌, nat_lt, nat_le, Bool, true, false, not, ◌&&◌, ◌||◌, List, [], ◌∷◌, ◌++◌, Option, None, Some, Result, Ok, Err, unwrap_or, if◌then◌else◌}
+use Rattle.std.specs.Option.{option_map, option_and_then}
+use Rattle.std.specs.List.{list_any}
+use Rattle.std.specs.Str.{bytes_eq}
+use Rattle.lifecycle_core.specs.declared.state.State.{State}
+use Rattle.lifecycle_core.specs.declared.state.State.TheVariants.{PreActive, Active, Deactivated, Destroyed}
+use Rattle.lifecycle_core.specs.State.{state_at, state_code, is_reached_at}
+use Rattle.lifecycle_core.specs.Reason.{is_compromise}
 use Rattle.register_core.specs.declared.request.Request.{Request}
 use Rattle.register_core.specs.declared.request.Command.{Command}
-use Rattle.register_core.specs.declared.request.Command.TheVariants.{Register, Advance}
+use Rattle.register_core.specs.declared.request.Command.TheVariants.{Register, Activate, SetDates, Revoke, Assign}
+use Rattle.register_core.specs.declared.request.Edit.{Edit}
+use Rattle.register_core.specs.declared.request.Edit.TheVariants.{Keep}
+use Rattle.register_core.specs.declared.decision.Held.{Held}
 use Rattle.register_core.specs.declared.reply.Reply.{Reply}
 use Rattle.register_core.specs.declared.reply.Refusal.{Refusal}
-use Rattle.register_core.specs.declared.reply.Refusal.TheVariants.{MomentBehind, DateOrder, PeriodTooLong, DateRange, Full}
+use Rattle.register_core.specs.declared.reply.Refusal.TheVariants.{MomentBehind, UnknownKey, NotOwner, WrongState, DateFrozen, DateOrder, PeriodTooLong, DateRange, OccurrenceLater, Full}
 use Rattle.lifecycle_core.specs.declared.dates.Dates.{Dates}
 use Rattle.period_core.specs.declared.filling.DateRefusal.{DateRefusal}
 use Rattle.period_core.specs.declared.filling.DateRefusal.TheVariants as dates
-use Rattle.period_core.specs.Fitting.{fill_of}
-use Rattle.register_core.specs.History.{latest, count, key_of, given_dates, dates as dates_of_key}
+use Rattle.period_core.specs.Fitting.{fill_of, trim_of}
+use Rattle.register_core.specs.History.{latest, count, key_of, given_dates, edited_dates, held, dates as dates_of_key}
 
 -- ---- the refusals, each where its condition holds
 
@@ -29,10 +37,67 @@ abbrev pub refused_dates : Result Dates DateRefusal → Option Refusal
 refused_dates (Ok d) = None
 refused_dates (Err refusal) = Some (refusal_of_dates refusal)
 
--- Fill refuses the dates that the command gives at t
-abbrev pub unfit : ℕ → Command → Option Refusal
-unfit t (Register kind owner activation protect_stop deactivation purpose) = refused_dates (fill_of kind (given_dates t activation protect_stop deactivation))
-unfit t Advance = None
+-- Fill, or at an activation Trim, refuses the dates that the command gives a key with this type and these dates at t
+abbrev pub unfit : Option Held → ℕ → Command → Option Refusal
+unfit key t (Register kind owner activation protect_stop deactivation purpose) = refused_dates (fill_of kind (given_dates t activation protect_stop deactivation))
+unfit (Some held) t (Activate key) = refused_dates (trim_of held.kind (record held.row.dates { activation = Some t }))
+unfit (Some held) t (SetDates key activation protect_stop deactivation) = refused_dates (fill_of held.kind (edited_dates activation protect_stop deactivation held.row.dates))
+unfit _ t _ = None
+
+-- the command names a key that is not there
+abbrev pub unknown : Option Held → Command → Option Refusal
+unknown None (Activate key) = Some UnknownKey
+unknown None (SetDates key activation protect_stop deactivation) = Some UnknownKey
+unknown None (Revoke key reason occurrence) = Some UnknownKey
+unknown None (Assign key owner) = Some UnknownKey
+unknown _ _ = None
+
+-- the command is one for the key's owner alone
+abbrev pub is_owners : Command → Bool
+is_owners (Activate key) = true
+is_owners (SetDates key activation protect_stop deactivation) = true
+is_owners (Revoke key reason occurrence) = not (is_compromise reason)
+is_owners (Assign key owner) = true
+is_owners _ = false
+
+-- it is the owner's, and the caller is another
+abbrev pub not_owner : Option Held → List ℕ → Command → Option Refusal
+not_owner None caller c = None
+not_owner (Some held) caller c = if is_owners c && not (bytes_eq caller held.owner) then Some NotOwner else None
+
+abbrev pub is_one_of : List State → State → Bool
+is_one_of states state = list_any (λ s. state_code s == state_code state) states
+
+-- the states in which a key may be for the command
+abbrev pub is_for : Command → State → Bool
+is_for (Activate key) state = is_one_of (PreActive ∷ []) state
+is_for (SetDates key activation protect_stop deactivation) state = is_one_of (PreActive ∷ Active ∷ []) state
+is_for (Revoke key reason occurrence) state =
+    if is_compromise reason then is_one_of (PreActive ∷ Active ∷ Deactivated ∷ Destroyed ∷ []) state else is_one_of (Active ∷ []) state
+is_for _ state = true
+
+-- the key's state at t is none of them
+abbrev pub wrong_state : Option Held → ℕ → Command → Option Refusal
+wrong_state None t c = None
+wrong_state (Some held) t c = let state = state_at held.row.dates t in if is_for c state then None else Some (WrongState state)
+
+-- an edit keeps a date only where it is =
+abbrev pub is_kept : Edit → Bool
+is_kept Keep = true
+is_kept _ = false
+
+-- an Activation Date that is not kept outside Pre-Active, or a Protect Stop at most t that is not kept
+abbrev pub frozen : Option Held → ℕ → Command → Option Refusal
+frozen (Some held) t (SetDates key activation protect_stop deactivation) =
+    let d = held.row.dates in
+    if (not (is_kept activation) && not (is_one_of (PreActive ∷ []) (state_at d t))) || (not (is_kept protect_stop) && is_reached_at d.protect_stop t)
+    then Some DateFrozen else None
+frozen _ t _ = None
+
+-- the occurrence of a compromise is after t
+abbrev pub occurs_later : ℕ → Command → Option Refusal
+occurs_later t (Revoke key reason (Some occurrence)) = if nat_lt t occurrence then Some OccurrenceLater else None
+occurs_later t _ = None
 
 -- how many keys the register takes
 abbrev pub key_limit : ℕ
@@ -41,23 +106,44 @@ key_limit = 1_000_000
 -- the command makes a key, and there are as many as the register takes
 abbrev pub too_many : ℕ → Command → Option Refusal
 too_many keys (Register kind owner activation protect_stop deactivation purpose) = if nat_le key_limit keys then Some Full else None
-too_many keys Advance = None
+too_many keys _ = None
 
--- each refusal of a request, in order, where its condition holds
-abbrev pub refusals : ℕ → ℕ → Request → List (Option Refusal)
-refusals last keys q = behind last q.moment ∷ unfit q.moment q.command ∷ too_many keys q.command ∷ []
+-- each refusal of a request, in order, where its condition holds; the key is the one that it names, as it stands
+abbrev pub refusals : ℕ → ℕ → Option Held → Request → List (Option Refusal)
+refusals last keys key q =
+    behind last q.moment
+    ∷ unknown key q.command
+    ∷ not_owner key q.caller q.command
+    ∷ wrong_state key q.moment q.command
+    ∷ frozen key q.moment q.command
+    ∷ unfit key q.moment q.command
+    ∷ occurs_later q.moment q.command
+    ∷ too_many keys q.command
+    ∷ []
 
 abbrev pub first_that_holds : List (Option Refusal) → Option Refusal
 first_that_holds [] = None
 first_that_holds (None ∷ others) = first_that_holds others
 first_that_holds (Some refusal ∷ others) = Some refusal
 
--- the refusal of a request where the latest moment and the number of keys are these, or none: accepted
-abbrev pub judge : ℕ → ℕ → Request → Option Refusal
-judge last keys q = first_that_holds (refusals last keys q)
+-- the refusal of a request where the latest moment, the number of keys and the key that it names are these, or none: accepted
+abbrev pub judge : ℕ → ℕ → Option Held → Request → Option Refusal
+judge last keys key q = first_that_holds (refusals last keys key q)
+
+-- the key that a command names
+abbrev pub named : Command → Option ℕ
+named (Activate key) = Some key
+named (SetDates key activation protect_stop deactivation) = Some key
+named (Revoke key reason occurrence) = Some key
+named (Assign key owner) = Some key
+named _ = None
+
+-- the key that the command names, as it stands
+abbrev pub named_key : List Request → Command → Option Held
+named_key h c = option_and_then (held h) (named c)
 
 abbrev pub verdict : List Request → Request → Option Refusal
-verdict h q = judge (latest h) (count h) q
+verdict h q = judge (latest h) (count h) (named_key h q.command) q
 
 -- ---- answers
 

@@ -2,6 +2,9 @@
 //! the register as the list of the requests that it accepted.
 #![tactic(auto)]
 
+mod command_line;
+mod decision;
+mod field;
 pub mod laws;
 mod limits;
 mod line;
@@ -11,17 +14,18 @@ pub mod plain;
 mod purpose;
 mod reply;
 mod request;
+#[cfg(test)]
+mod tests;
 mod text;
 mod verdict;
 
+pub use command_line::{COMMAND_LIMIT, CommandText, command_text, read_command};
+pub use decision::{Accept, Change, Held, View, decide};
 pub use limits::KEY_LIMIT;
 pub use line::{LINE_LIMIT, REPLY_LIMIT, ReplyLine, read_request, reply_line};
 pub use name::{NAME_LIMIT, Name};
 pub use number::{LAST_NUMBER, RequestNumber};
 pub use purpose::{PURPOSE_LIMIT, Purpose};
 pub use reply::{Refusal, Reply};
-pub use request::{Command, Request};
-pub use verdict::{given_dates, judge};
-
-#[cfg(test)]
-mod tests;
+pub use request::{Command, Edit, Request};
+pub use verdict::given_dates;

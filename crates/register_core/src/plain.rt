@@ -1,16 +1,19 @@
 //! The model computed as it is defined: each answer anew from the whole list of the accepted requests. It is slow,
 //! and stands beside the definitions so that tests can compare other bodies with it on small inputs.
-ghost use Rattle.std.specs.Prelude.{◌≡◌, ◌+◌, ◌^◌, ◌<◌, ◌≤◌, ℕ, List, [], ◌∷◌, ◌++◌, length, fold, Option, None, Some, Err, IfOk, OnOk, OnErr, if◌then◌else◌};
-ghost use Rattle.register_core.specs.History.{latest, count, key_of, made_by, is_key, no_dates, dates_after, dates};
+ghost use Rattle.std.specs.Prelude.{◌≡◌, ◌+◌, ◌^◌, ◌<◌, ◌≤◌, ℕ, List, [], ◌∷◌, ◌++◌, length, unwrap_or, IsSome, IfOk, OnOk, if◌then◌else◌};
+ghost use Rattle.register_core.specs.History.{latest, count, key_of, made_by, is_key, kind_after, type, owner_after, owner, no_dates, dates_after, dates, held};
 ghost use Rattle.register_core.specs.Verdict.{verdict, reply};
-ghost use Rattle.register_core.specs.Fold.{history_after, history, answer_to, answers};
+ghost use Rattle.register_core.specs.Decision.{IsViewOf};
+ghost use Rattle.register_core.specs.Fold.{history_after, answer_to, answers};
 
+use crate::decision::{Held, View, dates_after};
+use crate::name::Name;
 use crate::reply::{Refusal, Reply};
 use crate::request::{Command, Request};
-use crate::verdict::{given_dates, judge};
-use lifecycle_core::{Dates, state_of};
+use crate::verdict::judge;
+use lifecycle_core::{Dates, Row, state_of};
 use moment_core::Moment;
-use period_core::filled;
+use period_core::KeyType;
 use std::alloc::{AllocError, Global};
 
 /// The latest moment of a history.
@@ -30,7 +33,7 @@ fn key_of(made: u32, command: &Command) -> Option<u32>
 {
     match command {
         Command::Register { .. } => Some(made + 1),
-        Command::Advance => None,
+        _ => command.key(),
     }
 }
 
@@ -41,7 +44,7 @@ fn made_by(command: &Command) -> u32
 {
     match command {
         Command::Register { .. } => 1,
-        Command::Advance => 0,
+        _ => 0,
     }
 }
 
@@ -58,36 +61,82 @@ pub fn count(history: &[Request]) -> u32
     made
 }
 
-fn is_key(key: u32, named: Option<u32>) -> bool
-    ensures { result ≡ is_key key named }
+/// Whether a command makes or names the key, where so many keys were made before it.
+fn concerns(key: u32, made: u32, command: &Command) -> bool
+    requires { made + 1 < 2 ^ 32 }
+    ensures { result ≡ is_key key (key_of made command.now) }
 {
-    match named {
+    match key_of(made, command) {
         Some(other) => other == key,
         None => false,
     }
 }
 
-/// The dates after the request, where it makes or names the key.
-fn dates_with(before: Dates, key: u32, made: u32, request: &Request) -> Dates
+/// The type of the key after the command.
+fn kind_with(before: KeyType, key: u32, made: u32, command: &Command) -> KeyType
+    requires { made + 1 < 2 ^ 32 }
+    ensures { result ≡ (if is_key key (key_of made command.now) then kind_after before command.now else before) }
+{
+    match *command {
+        Command::Register { kind, .. } if concerns(key, made, command) => kind,
+        _ => before,
+    }
+}
+
+/// The type of the key; of a number that no key has it says nothing.
+pub fn kind_of_key(history: &[Request], key: u32) -> KeyType
+    requires { length history.now + 1 < 2 ^ 32 }
+    ensures { result ≡ type history.now key }
+{
+    let mut kind = KeyType::DataEncryption;
+    let mut made = 0;
+    for request in history {
+        kind = kind_with(kind, key, made, &request.command);
+        made += made_by(&request.command);
+    }
+    kind
+}
+
+/// The owner of the key after the command, or `None` before its first.
+fn owner_with(before: Option<Name>, key: u32, made: u32, command: &Command) -> Option<Name>
+    requires { made + 1 < 2 ^ 32 }
+    ensures value { unwrap_or result [] ≡ (if is_key key (key_of made command.now)
+        then owner_after (unwrap_or before []) command.now else unwrap_or before []) }
+    ensures kept { IsSome before → IsSome result }
+    ensures first { key ≡ made + 1 → made_by command.now ≡ 1 → IsSome result }
+{
+    match *command {
+        Command::Register { owner, .. } | Command::Assign { owner, .. }
+            if concerns(key, made, command) => { Some(owner) }
+        _ => before,
+    }
+}
+
+/// The owner of the key, or `None` where no request names one.
+pub fn owner(history: &[Request], key: u32) -> Option<Name>
+    requires { length history.now + 1 < 2 ^ 32 }
+    ensures value { unwrap_or result [] ≡ owner history.now key }
+    ensures set { 1 ≤ key → key ≤ count history.now → IsSome result }
+{
+    let mut owner = None;
+    let mut made = 0;
+    for request in history {
+        owner = owner_with(owner, key, made, &request.command);
+        made += made_by(&request.command);
+    }
+    owner
+}
+
+/// The dates of a key of this type after the request.
+fn dates_with(kind: KeyType, before: Dates, key: u32, made: u32, request: &Request) -> Dates
     requires { made + 1 < 2 ^ 32 }
     ensures { result ≡ (if is_key key (key_of made request.now.command)
-        then dates_after before request.now.moment request.now.command else before) }
+        then dates_after kind before request.now.moment request.now.command else before) }
 {
-    if !is_key(key, key_of(made, &request.command)) {
-        return before;
-    }
-    match request.command {
-        Command::Register {
-            kind,
-            activation,
-            protect_stop,
-            deactivation,
-            ..
-        } => {
-            let given = given_dates(request.moment, activation, protect_stop, deactivation);
-            filled(kind, given)
-        }
-        Command::Advance => before,
+    if concerns(key, made, &request.command) {
+        dates_after(kind, &before, request.moment, &request.command)
+    } else {
+        before
     }
 }
 
@@ -110,13 +159,48 @@ pub fn dates(history: &[Request], key: u32) -> Dates
     requires { length history.now + 1 < 2 ^ 32 }
     ensures { result ≡ dates history.now key }
 {
+    let kind = kind_of_key(history, key);
     let mut dates = no_dates();
     let mut made = 0;
     for request in history {
-        dates = dates_with(dates, key, made, request);
+        dates = dates_with(kind, dates, key, made, request);
         made += made_by(&request.command);
     }
     dates
+}
+
+/// The key as it stands at the latest moment, or `None` where there is no such key.
+pub fn held(history: &[Request], key: u32) -> Option<Held>
+    requires { length history.now + 1 < 2 ^ 32 }
+    ensures { result ≡ held history.now key }
+{
+    if !(1..=count(history)).contains(&key) {
+        return None;
+    }
+    let owner = owner(history, key)?;
+    let dates = dates(history, key);
+    let state = state_of(&dates, latest(history));
+    Some(Held {
+        kind: kind_of_key(history, key),
+        owner,
+        row: Row { dates, state },
+    })
+}
+
+/// What a decision on the command rests on.
+fn view(history: &[Request], command: &Command) -> View
+    requires { length history.now + 1 < 2 ^ 32 }
+    ensures { IsViewOf result history.now command.now }
+{
+    let key = match command.key() {
+        Some(key) => held(history, key),
+        None => None,
+    };
+    View {
+        latest: latest(history),
+        keys: count(history),
+        key,
+    }
 }
 
 /// The first refusal that holds behind a history, if any does.
@@ -124,7 +208,7 @@ pub fn verdict(history: &[Request], request: &Request) -> Option<Refusal>
     requires { length history.now + 1 < 2 ^ 32 }
     ensures { result ≡ verdict history.now request.now }
 {
-    judge(latest(history), count(history), request)
+    judge(&view(history, &request.command), request)
 }
 
 /// The reply to an accepted request, where so many keys were made before it, by the history with it at its end.

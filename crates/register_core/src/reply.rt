@@ -22,12 +22,22 @@ pub enum Refusal {
     BadLine,
     /// 3: the moment is below that of the latest accepted request.
     MomentBehind { latest: Moment },
+    /// 4: no key has this number.
+    UnknownKey,
+    /// 5: the command is the owner's, and the caller is another.
+    NotOwner,
+    /// 7: the command is not for a key in this state, which is that at the request's moment.
+    WrongState { state: State },
+    /// 8: a date that may not change any more.
+    DateFrozen,
     /// 9: the dates are out of order.
     DateOrder,
     /// 10: a usage period is longer than the key type's, with the limit that is passed.
     PeriodTooLong { limit: Moment },
     /// 11: a date that is not given would be past the last moment.
     DateRange,
+    /// 19: the occurrence of a compromise is after the request's moment.
+    OccurrenceLater,
     /// 20: there are as many keys as the register takes.
     Full,
 }
@@ -42,9 +52,14 @@ impl Refusal {
         match self {
             Refusal::BadLine => 1,
             Refusal::MomentBehind { .. } => 3,
+            Refusal::UnknownKey => 4,
+            Refusal::NotOwner => 5,
+            Refusal::WrongState { .. } => 7,
+            Refusal::DateFrozen => 8,
             Refusal::DateOrder => 9,
             Refusal::PeriodTooLong { .. } => 10,
             Refusal::DateRange => 11,
+            Refusal::OccurrenceLater => 19,
             Refusal::Full => 20,
         }
     }
@@ -56,9 +71,14 @@ impl Refusal {
         match self {
             Refusal::BadLine => "BadLine",
             Refusal::MomentBehind { .. } => "MomentBehind",
+            Refusal::UnknownKey => "UnknownKey",
+            Refusal::NotOwner => "NotOwner",
+            Refusal::WrongState { .. } => "WrongState",
+            Refusal::DateFrozen => "DateFrozen",
             Refusal::DateOrder => "DateOrder",
             Refusal::PeriodTooLong { .. } => "PeriodTooLong",
             Refusal::DateRange => "DateRange",
+            Refusal::OccurrenceLater => "OccurrenceLater",
             Refusal::Full => "Full",
         }
     }

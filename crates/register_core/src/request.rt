@@ -1,10 +1,22 @@
 use crate::name::Name;
 use crate::number::RequestNumber;
 use crate::purpose::Purpose;
+use lifecycle_core::Reason;
 use moment_core::Moment;
 use period_core::KeyType;
 
-/// What a request asks for.
+/// What becomes of a date of a key.
+#[derive(Clone, Copy, Debug, PartialEq, Eq)]
+pub enum Edit {
+    /// It stays as it is.
+    Keep,
+    /// It is set no more.
+    Clear,
+    /// It is set to this moment.
+    Set(Moment),
+}
+
+/// What a request asks for. Keys are named by their numbers, from 1.
 #[derive(Clone, Copy, Debug, PartialEq, Eq)]
 pub enum Command {
     /// A new key, with its dates as given.
@@ -16,8 +28,49 @@ pub enum Command {
         deactivation: Option<Moment>,
         purpose: Purpose,
     },
+    /// The key is activated at the request's moment.
+    Activate {
+        key: u32,
+    },
+    /// The key's dates are changed by hand.
+    SetDates {
+        key: u32,
+        activation: Edit,
+        protect_stop: Edit,
+        deactivation: Edit,
+    },
+    /// The key is revoked. An occurrence, the moment from which a compromise is held to date, is given only with a
+    /// reason that is a compromise.
+    Revoke {
+        key: u32,
+        reason: Reason,
+        occurrence: Option<Moment>,
+    },
+    /// The key gets another owner.
+    Assign {
+        key: u32,
+        owner: Name,
+    },
     /// Nothing but that the moment has come.
     Advance,
+}
+
+impl Command {
+    ghost use Rattle.std.specs.Prelude.{◌≡◌};
+    ghost use Rattle.register_core.specs.Verdict.{named};
+
+    /// The number of the key that the command names, if it names one.
+    pub fn key(&self) -> Option<u32>
+        ensures { result ≡ named self.now }
+    {
+        match *self {
+            Command::Register { .. } | Command::Advance => None,
+            Command::Activate { key }
+            | Command::SetDates { key, .. }
+            | Command::Revoke { key, .. }
+            | Command::Assign { key, .. } => Some(key),
+        }
+    }
 }
 
 /// One request: its moment, who makes it, the caller's own number for it, and what it asks for.

@@ -1,6 +1,10 @@
 //! What no contract says: printed text, and each function once on its happy path.
+ghost use Rattle.std.specs.Prelude.{◌≤◌};
+ghost use Rattle.register_core.specs.declared.limits.TheConstants.{KEY_LIMIT};
+ghost use Rattle.register_core.specs.Decision.{IsRightKey};
+
 use super::*;
-use lifecycle_core::State;
+use lifecycle_core::{Reason, Row, State, state_of};
 use moment_core::Moment;
 use period_core::KeyType;
 use std::test::Fail;
@@ -108,5 +112,194 @@ fn dates_of_registrations(rt: HostRuntime) -> Result<(), Fail> {
         assert_eq!(rt; dates.protect_stop.map(|date| date.seconds()), protect_stop);
         assert_eq!(rt; dates.deactivation.map(|date| date.seconds()), deactivation);
     }
+    Ok(())
+}
+
+/// A request of the caller at the moment.
+fn request(at: u64, caller: &[u8], command: Command) -> Result<Request, Fail> {
+    Ok(Request {
+        moment: Moment::new(at).ok_or("a moment")?,
+        caller: Name::new(caller).ok_or("a name")?,
+        number: RequestNumber::new(1).ok_or("a number")?,
+        command,
+    })
+}
+
+/// A registration, for ann, of a key that is Active from 200 until 400, with its originator use until 300.
+fn registration() -> Result<Command, Fail> {
+    Ok(Command::Register {
+        kind: KeyType::DataEncryption,
+        owner: Name::new(b"ann").ok_or("a name")?,
+        activation: Moment::new(200),
+        protect_stop: Moment::new(300),
+        deactivation: Moment::new(400),
+        purpose: Purpose::new(b"x").ok_or("a purpose")?,
+    })
+}
+
+/// The answer to the caller's command at the view's moment.
+fn answer_by(view: &View, caller: Name, command: Command) -> Option<Result<Reply, Refusal>>
+    requires within { view.now.keys ≤ KEY_LIMIT }
+    requires right { IsRightKey view.now.key view.now.latest }
+{
+    let number = RequestNumber::new(1)?;
+    let request = Request {
+        moment: view.latest,
+        caller,
+        number,
+        command,
+    };
+    match decide(view, &request) {
+        Ok(accept) => Some(Ok(accept.reply)),
+        Err(refusal) => Some(Err(refusal)),
+    }
+}
+
+/// The answer to the caller's command at the moment, where it names the key that `registration` made at 100.
+fn answer_to(at: Moment, caller: Name, command: Command) -> Option<Result<Reply, Refusal>> {
+    let initial = Moment::new(100)?;
+    let dates = given_dates(
+        initial,
+        Moment::new(200),
+        Moment::new(300),
+        Moment::new(400),
+    );
+    let state = state_of(&dates, at);
+    let owner = Name::new(b"ann")?;
+    let key = Held {
+        kind: KeyType::DataEncryption,
+        owner,
+        row: Row { dates, state },
+    };
+    let view = View {
+        latest: at,
+        keys: 1,
+        key: Some(key),
+    };
+    answer_by(&view, caller, command)
+}
+
+fn revocation(reason: Reason, occurrence: Option<u64>) -> Command {
+    Command::Revoke {
+        key: 1,
+        reason,
+        occurrence: occurrence.and_then(Moment::new),
+    }
+}
+
+fn activation() -> Command {
+    Command::Activate { key: 1 }
+}
+
+fn edits(activation: Edit, protect_stop: Edit) -> Command {
+    Command::SetDates {
+        key: 1,
+        activation,
+        protect_stop,
+        deactivation: Edit::Keep,
+    }
+}
+
+#[test]
+fn commands_at_a_key(rt: HostRuntime) -> Result<(), Fail> {
+    let ann = Name::new(b"ann").ok_or("a name")?;
+    let bob = Name::new(b"bob").ok_or("a name")?;
+    let early = Moment::new(150).ok_or("a moment")?;
+    let active = Moment::new(250).ok_or("a moment")?;
+    let stopped = Moment::new(300).ok_or("a moment")?;
+    let activated = Reply {
+        key: 1,
+        state: Some(State::Active),
+        moment: early,
+    };
+    let wrong_state = Refusal::WrongState {
+        state: State::Active,
+    };
+    assert_eq!(rt; answer_to(early, ann, activation()), Some(Ok(activated)));
+    assert_eq!(rt;
+        answer_to(early, bob, activation()),
+        Some(Err(Refusal::NotOwner))
+    );
+    assert_eq!(rt;
+        answer_to(active, ann, activation()),
+        Some(Err(wrong_state))
+    );
+    let frozen = Some(Err(Refusal::DateFrozen));
+    assert_eq!(rt;
+        answer_to(active, ann, edits(Edit::Clear, Edit::Keep)),
+        frozen
+    );
+    assert!(rt; answer_to(active, ann, edits(Edit::Keep, Edit::Clear)) != frozen);
+    assert_eq!(rt;
+        answer_to(stopped, ann, edits(Edit::Keep, Edit::Clear)),
+        frozen
+    );
+    let later = Some(Err(Refusal::OccurrenceLater));
+    assert_eq!(rt;
+        answer_to(active, bob, revocation(Reason::KeyCompromise, Some(251))),
+        later
+    );
+    assert!(rt; answer_to(active, bob, revocation(Reason::KeyCompromise, Some(250))) != later);
+    Ok(())
+}
+
+#[test]
+fn unknown_and_full(rt: HostRuntime) -> Result<(), Fail> {
+    let ann = Name::new(b"ann").ok_or("a name")?;
+    let view = View {
+        latest: Moment::new(100).ok_or("a moment")?,
+        keys: 1_000_000,
+        key: None,
+    };
+    let unknown = answer_by(&view, ann, edits(Edit::Keep, Edit::Keep));
+    assert_eq!(rt; unknown, Some(Err(Refusal::UnknownKey)));
+    let one_more = answer_by(&view, ann, registration()?);
+    assert_eq!(rt; one_more, Some(Err(Refusal::Full)));
+    Ok(())
+}
+
+/// A key that is revoked for another reason than a compromise is Deactivated, and its originator use ends with that.
+#[test]
+fn revoked_key(rt: HostRuntime) -> Result<(), Fail> {
+    let history = [
+        request(100, b"ann", registration()?)?,
+        request(250, b"ann", revocation(Reason::Superseded, None))?,
+    ];
+    let held = plain::held(&history, 1).ok_or("a key")?;
+    assert_eq!(rt; held.row.state, State::Deactivated);
+    assert_eq!(rt; held.row.dates.protect_stop, Moment::new(250));
+    assert_eq!(rt; held.row.dates.deactivation, Moment::new(250));
+    Ok(())
+}
+
+/// The plain program over three requests: a key is made, gets another owner, and is compromised.
+#[test]
+fn plain_history(rt: HostRuntime) -> Result<(), Fail> {
+    let bob = Name::new(b"bob").ok_or("a name")?;
+    let assign = Command::Assign { key: 1, owner: bob };
+    let history = [
+        request(100, b"ann", registration()?)?,
+        request(150, b"ann", assign)?,
+        request(250, b"eve", revocation(Reason::CaCompromise, None))?,
+    ];
+    assert_eq!(rt; plain::count(&history), 1);
+    assert_eq!(rt;
+        plain::latest(&history),
+        Moment::new(250).ok_or("a moment")?
+    );
+    assert!(rt; plain::held(&history, 2).is_none());
+    let held = plain::held(&history, 1).ok_or("a key")?;
+    assert_eq!(rt; held.owner.text(), "bob");
+    assert_eq!(rt; held.row.state, State::Compromised);
+    assert_eq!(rt; held.row.dates.compromise, Moment::new(250));
+    assert_eq!(rt; held.row.dates.compromise_occurrence, Moment::new(100));
+    let again = request(250, b"eve", revocation(Reason::CaCompromise, None))?;
+    let compromised = Refusal::WrongState {
+        state: State::Compromised,
+    };
+    assert_eq!(rt; plain::verdict(&history, &again), Some(compromised));
+    let items = history.map(Some);
+    let answers = plain::answers(rt.alloc(), &items)?;
+    assert!(rt; answers.iter().all(|answer| answer.is_ok()));
     Ok(())
 }

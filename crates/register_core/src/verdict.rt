@@ -1,15 +1,17 @@
-//! The verdict on a request, where the latest moment and the number of keys are known.
-ghost use Rattle.std.specs.Prelude.{◌≡◌};
-ghost use Rattle.register_core.specs.History.{given_dates};
-ghost use Rattle.register_core.specs.Verdict.{refused_dates, unfit, judge};
-ghost use Rattle.period_core.specs.Fitting.{fill_of};
+//! The verdict on a request, where the key that it names is known.
+ghost use Rattle.std.specs.Prelude.{◌≡◌, IsSome};
+ghost use Rattle.register_core.specs.History.{given_dates, edited, edited_dates};
+ghost use Rattle.register_core.specs.Verdict.{refused_dates, behind, unknown, is_owners, not_owner, is_for, wrong_state, is_kept, frozen, unfit, occurs_later, too_many, judge};
+ghost use Rattle.period_core.specs.Fitting.{fill_of, trim_of};
 
+use crate::decision::{Held, View};
 use crate::limits::KEY_LIMIT;
+use crate::name::Name;
 use crate::reply::Refusal;
-use crate::request::{Command, Request};
-use lifecycle_core::Dates;
+use crate::request::{Command, Edit, Request};
+use lifecycle_core::{Dates, State, state_of};
 use moment_core::Moment;
-use period_core::{KeyType, fill};
+use period_core::{KeyType, fill, trim};
 
 /// The dates that a registration at the moment gives a key, before Fill.
 pub fn given_dates(
@@ -31,6 +33,145 @@ pub fn given_dates(
     }
 }
 
+/// The date after an edit.
+fn edited(edit: Edit, before: Option<Moment>) -> Option<Moment>
+    ensures { result ≡ edited edit before }
+{
+    match edit {
+        Edit::Keep => before,
+        Edit::Clear => None,
+        Edit::Set(date) => Some(date),
+    }
+}
+
+/// The dates after these edits, before Fill.
+pub(crate) fn edited_dates(
+    activation: Edit,
+    protect_stop: Edit,
+    deactivation: Edit,
+    dates: &Dates,
+) -> Dates
+    ensures { result ≡ edited_dates activation protect_stop deactivation dates.now }
+{
+    Dates {
+        activation: edited(activation, dates.activation),
+        protect_stop: edited(protect_stop, dates.protect_stop),
+        deactivation: edited(deactivation, dates.deactivation),
+        ..*dates
+    }
+}
+
+fn behind(latest: Moment, at: Moment) -> Option<Refusal>
+    ensures { result ≡ behind latest at }
+{
+    if at < latest {
+        Some(Refusal::MomentBehind { latest })
+    } else {
+        None
+    }
+}
+
+/// The command names a key that is not there.
+fn unknown(key: &Option<Held>, command: &Command) -> Option<Refusal>
+    ensures { result ≡ unknown key.now command.now }
+{
+    match (key, command) {
+        (Some(_), _) | (None, Command::Register { .. } | Command::Advance) => None,
+        (None, _) => Some(Refusal::UnknownKey),
+    }
+}
+
+/// Whether the command is one for the key's owner alone.
+fn is_owners(command: &Command) -> bool
+    ensures { result ≡ is_owners command.now }
+{
+    match command {
+        Command::Register { .. } | Command::Advance => false,
+        Command::Activate { .. } | Command::SetDates { .. } | Command::Assign { .. } => true,
+        Command::Revoke { reason, .. } => !reason.is_compromise(),
+    }
+}
+
+/// The command is the owner's, and the caller is another.
+fn not_owner(key: &Option<Held>, caller: &Name, command: &Command) -> Option<Refusal>
+    ensures { result ≡ not_owner key.now caller.now command.now }
+{
+    match key {
+        Some(held)
+            if is_owners(command) && caller.text().as_bytes() != held.owner.text().as_bytes() => {
+            Some(Refusal::NotOwner)
+        }
+        _ => None,
+    }
+}
+
+/// Whether the command is for a key in this state.
+fn is_for(command: &Command, state: State) -> bool
+    ensures { result ≡ is_for command.now state }
+{
+    match command {
+        Command::Activate { .. } => matches!(state, State::PreActive),
+        Command::SetDates { .. } => matches!(state, State::PreActive | State::Active),
+        Command::Revoke { reason, .. } if reason.is_compromise() => {
+            !matches!(state, State::Compromised | State::DestroyedCompromised)
+        }
+        Command::Revoke { .. } => matches!(state, State::Active),
+        Command::Register { .. } | Command::Assign { .. } | Command::Advance => true,
+    }
+}
+
+/// The key's state at the moment is none that the command is for.
+fn wrong_state(key: &Option<Held>, at: Moment, command: &Command) -> Option<Refusal>
+    ensures { result ≡ wrong_state key.now at command.now }
+{
+    match key {
+        Some(held) => {
+            let state = state_of(&held.row.dates, at);
+            if is_for(command, state) {
+                None
+            } else {
+                Some(Refusal::WrongState { state })
+            }
+        }
+        None => None,
+    }
+}
+
+fn is_kept(edit: Edit) -> bool
+    ensures { result ≡ is_kept edit }
+{
+    matches!(edit, Edit::Keep)
+}
+
+/// An Activation Date that is not kept outside Pre-Active, or a Protect Stop that is reached and not kept.
+fn frozen(key: &Option<Held>, at: Moment, command: &Command) -> Option<Refusal>
+    ensures { result ≡ frozen key.now at command.now }
+{
+    match (key, command) {
+        (
+            Some(held),
+            Command::SetDates {
+                activation,
+                protect_stop,
+                ..
+            },
+        ) => {
+            let dates = &held.row.dates;
+            let is_active = state_of(dates, at) != State::PreActive;
+            let is_stopped = match dates.protect_stop {
+                Some(stop) => stop <= at,
+                None => false,
+            };
+            if (!is_kept(*activation) && is_active) || (!is_kept(*protect_stop) && is_stopped) {
+                Some(Refusal::DateFrozen)
+            } else {
+                None
+            }
+        }
+        _ => None,
+    }
+}
+
 /// The refusal of dates that do not fit the type with their defaults, if they have one.
 fn refused(kind: KeyType, mut dates: Dates) -> Option<Refusal>
     ensures { result ≡ refused_dates (fill_of kind dates) }
@@ -41,40 +182,107 @@ fn refused(kind: KeyType, mut dates: Dates) -> Option<Refusal>
     }
 }
 
-/// The refusal of the dates that the command gives at the moment, if they have one.
-fn unfit(at: Moment, command: &Command) -> Option<Refusal>
-    ensures { result ≡ unfit at command.now }
+/// The refusal of dates that do not fit the type once they are trimmed to it, if they have one.
+fn refused_trimmed(kind: KeyType, mut dates: Dates) -> Option<Refusal>
+    requires { IsSome dates.activation }
+    ensures { result ≡ refused_dates (trim_of kind dates) }
 {
-    match *command {
-        Command::Register {
-            kind,
-            activation,
-            protect_stop,
-            deactivation,
-            ..
-        } => {
-            refused(
-                kind,
-                given_dates(at, activation, protect_stop, deactivation),
-            )
-        }
-        Command::Advance => None,
+    match trim(kind, &mut dates) {
+        Ok(()) => None,
+        Err(refusal) => Some(Refusal::from(refusal)),
     }
 }
 
-/// The first refusal of the request that holds, or `None`: it is accepted. `latest` is the moment of the latest
-/// accepted request and `keys` the number of keys.
-pub fn judge(latest: Moment, keys: u32, request: &Request) -> Option<Refusal>
-    ensures { result ≡ judge latest keys request.now }
+/// The refusal of the dates that the command gives at the moment, if they have one.
+fn unfit(key: &Option<Held>, at: Moment, command: &Command) -> Option<Refusal>
+    ensures { result ≡ unfit key.now at command.now }
 {
-    if request.moment < latest {
-        return Some(Refusal::MomentBehind { latest });
+    match (key, *command) {
+        (
+            _,
+            Command::Register {
+                kind,
+                activation,
+                protect_stop,
+                deactivation,
+                ..
+            },
+        ) => refused(
+            kind,
+            given_dates(at, activation, protect_stop, deactivation),
+        ),
+        (Some(held), Command::Activate { .. }) => refused_trimmed(
+            held.kind,
+            Dates {
+                activation: Some(at),
+                ..held.row.dates
+            },
+        ),
+        (
+            Some(held),
+            Command::SetDates {
+                activation,
+                protect_stop,
+                deactivation,
+                ..
+            },
+        ) => refused(
+            held.kind,
+            edited_dates(activation, protect_stop, deactivation, &held.row.dates),
+        ),
+        _ => None,
     }
-    if let Some(refusal) = unfit(request.moment, &request.command) {
+}
+
+/// The occurrence of a compromise is after the moment.
+fn occurs_later(at: Moment, command: &Command) -> Option<Refusal>
+    ensures { result ≡ occurs_later at command.now }
+{
+    match *command {
+        Command::Revoke {
+            occurrence: Some(occurrence),
+            ..
+        } if at < occurrence => Some(Refusal::OccurrenceLater),
+        _ => None,
+    }
+}
+
+/// The command makes a key, and there are as many as the register takes.
+fn too_many(keys: u32, command: &Command) -> Option<Refusal>
+    ensures { result ≡ too_many keys command.now }
+{
+    match command {
+        Command::Register { .. } if keys >= KEY_LIMIT => Some(Refusal::Full),
+        _ => None,
+    }
+}
+
+/// The first refusal of the request that holds, or `None`: it is accepted.
+pub(crate) fn judge(view: &View, request: &Request) -> Option<Refusal>
+    ensures { result ≡ judge view.now.latest view.now.keys view.now.key request.now }
+{
+    let at = request.moment;
+    let command = &request.command;
+    if let Some(refusal) = behind(view.latest, at) {
         return Some(refusal);
     }
-    if matches!(request.command, Command::Register { .. }) && keys >= KEY_LIMIT {
-        return Some(Refusal::Full);
+    if let Some(refusal) = unknown(&view.key, command) {
+        return Some(refusal);
     }
-    None
+    if let Some(refusal) = not_owner(&view.key, &request.caller, command) {
+        return Some(refusal);
+    }
+    if let Some(refusal) = wrong_state(&view.key, at, command) {
+        return Some(refusal);
+    }
+    if let Some(refusal) = frozen(&view.key, at, command) {
+        return Some(refusal);
+    }
+    if let Some(refusal) = unfit(&view.key, at, command) {
+        return Some(refusal);
+    }
+    if let Some(refusal) = occurs_later(at, command) {
+        return Some(refusal);
+    }
+    too_many(view.keys, command)
 }

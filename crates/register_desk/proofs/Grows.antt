@@ -1,49 +1,36 @@
 -- The tables of a history with one more request are one step from the tables of the history.
-use Rattle.std.proofs.Common.{◌≡◌, ℕ, ◌+◌, ◌≤◌, ◌<◌, Bool, true, false, cond, List, [], ◌∷◌, ◌++◌, length, Some, refl, sym, ap, subst, ◌∙◌, arith}
-use Rattle.std.specs.Prelude.{◌⊎◌, map, fold, is_none}
+use Rattle.std.proofs.Common.{◌≡◌, ◌≢◌, ◌==◌, ℕ, zero, suc, ◌+◌, ◌-◌, ◌≤◌, ◌<◌, Bool, true, false, cond, List, [], ◌∷◌, ◌++◌, length, Option, None, Some, refl, sym, ap, subst, ◌∙◌, arith, eq-eqb}
+use Rattle.std.proofs.lemmas.Bool.{le-leb, lt-leb}
+use Rattle.std.specs.Prelude.{◌⊎◌, nat_le, ◌&&◌, map, fold, is_none, slice_get, nat_eq}
 use Rattle.std.specs.List.{enumerate_from}
+use Rattle.std.specs.Option.{option_map, option_and_then}
 use Rattle.std.proofs.Common.{inl, inr}
+use Rattle.std.proofs.lemmas.Bool.Decides.{eqb_tells}
 use Rattle.std.proofs.lemmas.List.{map-append, length-map, length-append}
 use Rattle.std.proofs.lemmas.List.Sums.{fold-append}
 use Rattle.std.proofs.lemmas.List.FromFn.{length-enumerate_from}
 use Rattle.lifecycle_core.specs.declared.dates.Dates.{Dates}
 use Rattle.lifecycle_core.specs.State.{state_at}
+use Rattle.period_core.specs.declared.key_type.KeyType.{KeyType}
 use Rattle.register_core.specs.declared.request.Request.{Request}
 use Rattle.register_core.specs.declared.request.Command.{Command}
-use Rattle.register_core.specs.declared.request.Command.TheVariants.{Register as Registers, Advance}
-use Rattle.register_core.specs.History.{latest, Registration, registrations, count, own, no_dates, dates_after, owner_after, owner}
-use Rattle.register_core.proofs.Histories.{latest_grows, registrations_grow, own_same, own_made}
-use Rattle.register_core.specs.Verdict.{verdict, reply}
+use Rattle.register_core.specs.declared.request.Command.TheVariants.{Register as Registers, Activate, SetDates, Revoke, Assign, Advance}
+use Rattle.register_core.specs.declared.reply.Refusal.{Refusal}
+use Rattle.register_core.specs.declared.decision.Held.{Held as HeldKey}
+use Rattle.register_core.specs.declared.decision.Change.{Change}
+use Rattle.register_core.specs.declared.decision.Change.TheVariants.{Made, Held, Nothing}
+use Rattle.register_core.specs.Decision.{row_at, held_after, held_change, change_by}
+use Rattle.register_core.specs.History.{latest, Registration, registrations, count, key_of as key_of_command, made_by, is_key, type, dates, dates_after, given_dates, owner, owner_after, held}
+use Rattle.register_core.proofs.Histories.{latest_grows, registrations_grow, count_grows, not_concerned, kind_other, owner_other, dates_other, kind_named, owner_named, dates_named, kind_made, owner_made, dates_made, key_named, not_same}
+use Rattle.register_core.specs.Verdict.{verdict, named, named_key}
+use Rattle.period_core.specs.Fitting.{filled}
 use Rattle.register_core.specs.Fold.{history_after, history, IsLawful}
 use Rattle.register_store.specs.declared.key.Key.{Key}
-use Rattle.register_store.specs.Tables.{advanced}
+use Rattle.register_store.specs.Tables.{Tables, advanced, in_place, key_at, numbered, with_keys_advanced}
 use Rattle.register_desk.specs.Register.{key_of, tables}
-use Rattle.register_desk.specs.Step.{key_made, option_list, with_request, reply_with}
+use Rattle.register_desk.specs.Step.{named_at, held_of, held_in, made_count, with_change, with_request}
 
--- ---- keys
-
-abbrev dates_by : List Request → Dates
-dates_by requests = fold (λ (d : Dates) (q : Request). dates_after d q.moment q.command) no_dates requests
-
-abbrev owner_by : List Request → List ℕ
-owner_by requests = fold (λ (before : List ℕ) (q : Request). owner_after before q.command) [] requests
-
-abbrev assembled : Dates → List ℕ → Registration → ℕ → Key
-assembled d by made t = record { kind = made.kind; owner = by; purpose = made.purpose; row = record { dates = d; state = state_at d t } }
-
--- what the requests of a key and its registration make, with the state at t
-abbrev built : List Request → Registration → ℕ → Key
-built requests made t = assembled (dates_by requests) (owner_by requests) made t
-
-built_last : (before : List Request) (q : Request) (made : Registration) (t : ℕ) →
-    built (before ++ q ∷ []) made t ≡ assembled (dates_after (dates_by before) q.moment q.command) (owner_after (owner_by before) q.command) made t
-built_last before q made t =
-    ap (λ (d : Dates). assembled d (owner_by (before ++ q ∷ [])) made t) (fold-append (λ (d : Dates) (p : Request). dates_after d p.moment p.command) no_dates before (q ∷ []))
-    ∙ ap (λ (o : List ℕ). assembled (dates_after (dates_by before) q.moment q.command) o made t) (fold-append (λ (b : List ℕ) (p : Request). owner_after b p.command) [] before (q ∷ []))
-
-key_same : (h : List Request) (q : Request) (k : ℕ) (made : Registration) → k ≤ count h → key_of (h ++ q ∷ []) k made ≡ advanced q.moment (key_of h k made)
-key_same h q k made le =
-    ap (λ (rs : List Request). built rs made (latest (h ++ q ∷ []))) (own_same h q k le) ∙ ap (λ (t : ℕ). built (own h k) made t) (latest_grows h q)
+-- ---- lists
 
 enumerate_append : {X : Type 0} (n : ℕ) (xs ys : List X) → enumerate_from n (xs ++ ys) ≡ enumerate_from n xs ++ enumerate_from (n + length xs) ys
 enumerate_append n [] ys = ap (λ (m : ℕ). enumerate_from m ys) (omega arith)
@@ -58,80 +45,258 @@ map_numbered f g after n (x ∷ xs) same =
     ap (λ z. z ∷ map f (enumerate_from (n + 1) xs)) (same n x (omega arith) (omega arith))
     ∙ ap (λ l. after (g (n, x)) ∷ l) (map_numbered f g after (n + 1) xs (λ k y low high. same k y (omega arith) (omega arith)))
 
--- ---- the key that a request makes
+-- the element at a place of a list, numbered and mapped
+mapped_at : {X Y : Type 0} (g : ℕ × X → Y) (n : ℕ) (xs : List X) (i : ℕ) (x : X) → slice_get xs i ≡ Some x → slice_get (map g (enumerate_from n xs)) i ≡ Some (g (n + i, x))
+mapped_at g n [] i x e = absurd (cc)
+mapped_at g n (y ∷ ys) zero x e =
+    let same : y ≡ x = cc in
+    let none : n ≡ n + 0 = omega arith in
+    ap (λ z. Some (g (n, z))) same ∙ ap (λ (m : ℕ). Some (g (m, x))) none
+mapped_at g n (y ∷ ys) (suc i) x e =
+    let next : n + 1 + i ≡ n + suc i = omega arith in
+    mapped_at g (n + 1) ys i x e ∙ ap (λ (m : ℕ). Some (g (m, x))) next
 
--- what a registration makes, whatever came before
-made_key : (before : List Request) (q : Request) (c : Command) (keys : ℕ) →
-    map (λ (key : ℕ × Registration). built (before ++ record q { command = c } ∷ []) key.1 q.moment) (enumerate_from keys (registrations (record q { command = c } ∷ [])))
-    ≡ option_list (key_made q.moment c)
-made_key before q (Registers kind owner activation protect_stop deactivation purpose) keys =
-    ap (λ (r : Key). r ∷ []) (built_last before (record q { command = Registers kind owner activation protect_stop deactivation purpose }) (record { kind = kind; purpose = purpose }) q.moment)
-made_key before q Advance keys = refl
+-- two ways to make a list, the second by a change of each numbered element of a list that was mapped twice
+place_over : {X Y Z : Type 0} (f : ℕ × X → Z) (g : ℕ × X → Y) (after : Y → Y) (change : ℕ × Y → Z) (n : ℕ) (xs : List X)
+    → ((i : ℕ) (x : X) → slice_get xs i ≡ Some x → i < length xs → f (n + i, x) ≡ change (n + i, after (g (n + i, x))))
+    → map f (enumerate_from n xs) ≡ map change (enumerate_from n (map after (map g (enumerate_from n xs))))
+place_over f g after change n [] same = refl
+place_over f g after change n (x ∷ xs) same =
+    let none : n + 0 ≡ n = omega arith in
+    let head : f (n, x) ≡ change (n, after (g (n, x))) = subst (λ (m : ℕ). f (m, x) ≡ change (m, after (g (m, x)))) none (same 0 x refl (omega arith)) in
+    ap (λ z. z ∷ map f (enumerate_from (n + 1) xs)) head
+    ∙ ap (λ l. change (n, after (g (n, x))) ∷ l) (place_over f g after change (n + 1) xs (λ i y at low.
+    let next : n + suc i ≡ n + 1 + i = omega arith in
+    subst (λ (m : ℕ). f (m, y) ≡ change (m, after (g (m, y)))) next (same (suc i) y at (omega arith))))
 
--- the keys of a history's new registrations
-new_keys : (h : List Request) (q : Request) (c : Command) →
-    map (λ (key : ℕ × Registration). key_of (h ++ record q { command = c } ∷ []) key.0 key.1) (enumerate_from (1 + count h) (registrations (record q { command = c } ∷ [])))
-    ≡ option_list (key_made q.moment c)
-new_keys h q (Registers kind owner activation protect_stop deactivation purpose) =
-    let p : Request = record q { command = Registers kind owner activation protect_stop deactivation purpose } in
-    let made : Registration = record { kind = kind; purpose = purpose } in
-    let place : 1 + count h ≡ count h + 1 = omega arith in
-    ap (λ (k : ℕ). built (own (h ++ p ∷ []) k) made (latest (h ++ p ∷ [])) ∷ []) place
-    ∙ ap (λ (t : ℕ). built (own (h ++ p ∷ []) (count h + 1)) made t ∷ []) (latest_grows h p)
-    ∙ ap (λ (rs : List Request). built rs made q.moment ∷ []) (own_made h p refl)
-    ∙ ap (λ (r : Key). r ∷ []) (built_last (own h (count h + 1)) p made q.moment)
-new_keys h q Advance = refl
+unplaced : {Y : Type 0} (n : ℕ) (ys : List Y) → map (λ (p : ℕ × Y). p.1) (enumerate_from n ys) ≡ ys
+unplaced n [] = refl
+unplaced n (y ∷ ys) = ap (λ l. y ∷ l) (unplaced (n + 1) ys)
 
-old_keys : (h : List Request) (q : Request) →
-    map (λ (key : ℕ × Registration). key_of (h ++ q ∷ []) key.0 key.1) (enumerate_from 1 (registrations h))
-    ≡ map (advanced q.moment) (tables h).keys
-old_keys h q = map_numbered
-    (λ (key : ℕ × Registration). key_of (h ++ q ∷ []) key.0 key.1)
-    (λ (key : ℕ × Registration). key_of h key.0 key.1)
-    (advanced q.moment) 1 (registrations h)
-    (λ k made low high. key_same h q k made (omega arith))
-
-keys_grow : (h : List Request) (q : Request) → (tables (h ++ q ∷ [])).keys ≡ map (advanced q.moment) (tables h).keys ++ option_list (key_made q.moment q.command)
-keys_grow h q =
-    let one : ℕ × Registration → Key = λ key. key_of (h ++ q ∷ []) key.0 key.1 in
-    let fresh = registrations (q ∷ []) in
-    ap (λ (rs : List Registration). map one (enumerate_from 1 rs)) (registrations_grow h q)
-    ∙ ap (map one) (enumerate_append 1 (registrations h) fresh)
-    ∙ map-append one (enumerate_from 1 (registrations h)) (enumerate_from (1 + count h) fresh)
-    ∙ ap (λ (rs : List Key). rs ++ map one (enumerate_from (1 + count h) fresh)) (old_keys h q)
-    ∙ ap (λ (rs : List Key). map (advanced q.moment) (tables h).keys ++ rs) (new_keys h q q.command)
+-- ---- keys
 
 pub keys_counted : (h : List Request) → length (tables h).keys ≡ count h
 keys_counted h = length-map (enumerate_from 1 (registrations h)) (λ (key : ℕ × Registration). key_of h key.0 key.1) ∙ length-enumerate_from 1 (registrations h)
 
+-- a key that the request neither makes nor names is moved on to its moment
+key_other : (h : List Request) (q : Request) (k : ℕ) (made : Registration) → is_key k (key_of_command (count h) q.command) ≡ false → key_of (h ++ q ∷ []) k made ≡ advanced q.moment (key_of h k made)
+key_other h q k made other =
+    ap (λ (kind : KeyType). record { kind = kind; owner = owner (h ++ q ∷ []) k; purpose = made.purpose; row = row_at (dates (h ++ q ∷ []) k) (latest (h ++ q ∷ [])) }) (kind_other h q k other)
+    ∙ ap (λ (by : List ℕ). record { kind = type h k; owner = by; purpose = made.purpose; row = row_at (dates (h ++ q ∷ []) k) (latest (h ++ q ∷ [])) }) (owner_other h q k other)
+    ∙ ap (λ (d : Dates). record { kind = type h k; owner = owner h k; purpose = made.purpose; row = row_at d (latest (h ++ q ∷ [])) }) (dates_other h q k other)
+    ∙ ap (λ (t : ℕ). record { kind = type h k; owner = owner h k; purpose = made.purpose; row = row_at (dates h k) t }) (latest_grows h q)
+
+-- the one that it names is what the command makes of it
+abbrev key_after : Key → ℕ → Command → Key
+key_after key t c = let it = held_after (held_of key) t c in record key { owner = it.owner; row = it.row }
+
+key_same : (h : List Request) (q : Request) (k : ℕ) (made : Registration) → named q.command ≡ Some k → key_of (h ++ q ∷ []) k made ≡ key_after (key_of h k made) q.moment q.command
+key_same h q k made names =
+    ap (λ (kind : KeyType). record { kind = kind; owner = owner (h ++ q ∷ []) k; purpose = made.purpose; row = row_at (dates (h ++ q ∷ []) k) (latest (h ++ q ∷ [])) }) (kind_named h q k names)
+    ∙ ap (λ (by : List ℕ). record { kind = type h k; owner = by; purpose = made.purpose; row = row_at (dates (h ++ q ∷ []) k) (latest (h ++ q ∷ [])) }) (owner_named h q k names)
+    ∙ ap (λ (d : Dates). record { kind = type h k; owner = owner_after (owner h k) q.command; purpose = made.purpose; row = row_at d (latest (h ++ q ∷ [])) }) (dates_named h q k names)
+    ∙ ap (λ (t : ℕ). record { kind = type h k; owner = owner_after (owner h k) q.command; purpose = made.purpose; row = row_at (dates_after (type h k) (dates h k) q.moment q.command) t }) (latest_grows h q)
+
+-- ---- the key that a request names
+
+key_there : (h : List Request) (i : ℕ) (made : Registration) → slice_get (registrations h) i ≡ Some made → key_at (tables h).keys (1 + i) ≡ Some (key_of h (1 + i) made)
+key_there h i made at =
+    let next : suc i ≡ 1 + i = omega arith in
+    subst (λ (n : ℕ). key_at (tables h).keys n ≡ Some (key_of h (1 + i) made)) next (mapped_at (λ (key : ℕ × Registration). key_of h key.0 key.1) 1 (registrations h) i made at)
+
+unequal : (m n : ℕ) → m ≢ n → (m == n) ≡ false
+unequal m n apart = elim (eqb_tells m n) [ inl both ↦ absurd (apart both.1) | inr differ ↦ differ.0 ]
+
+concerns : (h : List Request) (q : Request) (k m : ℕ) → named q.command ≡ Some k → m ≢ k → is_key m (key_of_command (count h) q.command) ≡ false
+concerns h q k m names apart = ap (is_key m) (key_named q.command (count h) k names) ∙ unequal k m (λ same. apart (sym same))
+
+change_named : (c : Command) (k : ℕ) (key : HeldKey) (t : ℕ) → named c ≡ Some k → change_by (Some key) t c ≡ held_change k (held_after key t c)
+change_named (Registers kind by activation protect_stop deactivation purpose) k key t e = absurd (cc)
+change_named (Activate number) k key t e = let same : number ≡ k = cc in ap (λ (n : ℕ). held_change n (held_after key t (Activate number))) same
+change_named (SetDates number activation protect_stop deactivation) k key t e = let same : number ≡ k = cc in ap (λ (n : ℕ). held_change n (held_after key t (SetDates number activation protect_stop deactivation))) same
+change_named (Revoke number reason occurrence) k key t e = let same : number ≡ k = cc in ap (λ (n : ℕ). held_change n (held_after key t (Revoke number reason occurrence))) same
+change_named (Assign number by) k key t e = let same : number ≡ k = cc in ap (λ (n : ℕ). held_change n (held_after key t (Assign number by))) same
+change_named Advance k key t e = absurd (cc)
+
+change_missing : (c : Command) (k : ℕ) (t : ℕ) → named c ≡ Some k → change_by None t c ≡ Nothing
+change_missing (Registers kind by activation protect_stop deactivation purpose) k t e = absurd (cc)
+change_missing (Activate number) k t e = refl
+change_missing (SetDates number activation protect_stop deactivation) k t e = refl
+change_missing (Revoke number reason occurrence) k t e = refl
+change_missing (Assign number by) k t e = refl
+change_missing Advance k t e = absurd (cc)
+
+abbrev keys_after : List Request → Request → List Key
+keys_after h q = map (λ (key : ℕ × Registration). key_of (h ++ q ∷ []) key.0 key.1) (enumerate_from 1 (registrations h))
+
+-- where the named key is there, its place has what the command makes of it
+named_found : (h : List Request) (q : Request) (k : ℕ) (key : Key) → named q.command ≡ Some k → key_at (tables h).keys k ≡ Some key
+    → keys_after h q ≡ map (in_place k (key_after key q.moment q.command)) (numbered (map (advanced q.moment) (tables h).keys))
+named_found h q k key names found = place_over
+    (λ (p : ℕ × Registration). key_of (h ++ q ∷ []) p.0 p.1)
+    (λ (p : ℕ × Registration). key_of h p.0 p.1)
+    (advanced q.moment)
+    (in_place k (key_after key q.moment q.command))
+    1 (registrations h)
+    (λ i made at low. elim (eqb_tells (1 + i) k) [
+      | inl both ↦
+          let its : key ≡ key_of h (1 + i) made = some_same (sym found ∙ ap (key_at (tables h).keys) (sym both.1) ∙ key_there h i made at) in
+          key_same h q (1 + i) made (names ∙ ap (λ (n : ℕ). Some n) (sym both.1))
+          ∙ ap (λ (x : Key). key_after x q.moment q.command) (sym its)
+          ∙ ap (λ (b : Bool). cond b (key_after key q.moment q.command) (advanced q.moment (key_of h (1 + i) made))) (sym both.0)
+      | inr apart ↦
+          key_other h q (1 + i) made (concerns h q k (1 + i) names apart.1)
+          ∙ ap (λ (b : Bool). cond b (key_after key q.moment q.command) (advanced q.moment (key_of h (1 + i) made))) (sym apart.0)
+    ])
+  where
+    some_same : {x y : Key} → ◌≡◌ {A = Option Key} (Some x) (Some y) → x ≡ y
+    some_same e = cc
+
+-- where it is not, no key changes
+named_missing : (h : List Request) (q : Request) (k : ℕ) → named q.command ≡ Some k → key_at (tables h).keys k ≡ None → keys_after h q ≡ map (advanced q.moment) (tables h).keys
+named_missing h q k names none =
+    place_over (λ (p : ℕ × Registration). key_of (h ++ q ∷ []) p.0 p.1) (λ (p : ℕ × Registration). key_of h p.0 p.1) (advanced q.moment) (λ (p : ℕ × Key). p.1) 1 (registrations h)
+    (λ i made at low. key_other h q (1 + i) made (concerns h q k (1 + i) names
+    (λ same. absurd (let there = key_there h i made at in let missing = ap (key_at (tables h).keys) same ∙ none in let both = sym there ∙ missing in cc))))
+    ∙ unplaced 1 (map (advanced q.moment) (tables h).keys)
+
+-- no other key changes where none is named
+unnamed_keys : (h : List Request) (q : Request) → named q.command ≡ None → keys_after h q ≡ map (advanced q.moment) (tables h).keys
+unnamed_keys h q none =
+    place_over (λ (p : ℕ × Registration). key_of (h ++ q ∷ []) p.0 p.1) (λ (p : ℕ × Registration). key_of h p.0 p.1) (advanced q.moment) (λ (p : ℕ × Key). p.1) 1 (registrations h)
+    (λ i made at low. key_other h q (1 + i) made (not_concerned q.command (count h) (1 + i) (omega arith) none))
+    ∙ unplaced 1 (map (advanced q.moment) (tables h).keys)
+
 -- ---- the tables
 
-pub count_grows : (h : List Request) (q : Request) → count (h ++ q ∷ []) ≡ count h + length (option_list (key_made q.moment q.command))
-count_grows h q = ap length (registrations_grow h q) ∙ length-append (registrations h) (registrations (q ∷ [])) ∙ ap (λ (n : ℕ). count h + n) (made_counted q.command)
+pub change_counts : (key : Option HeldKey) (t : ℕ) (c : Command) → made_count (change_by key t c) ≡ made_by c
+change_counts key t (Registers kind by activation protect_stop deactivation purpose) = refl
+change_counts None t (Activate number) = refl
+change_counts (Some key) t (Activate number) = refl
+change_counts None t (SetDates number activation protect_stop deactivation) = refl
+change_counts (Some key) t (SetDates number activation protect_stop deactivation) = refl
+change_counts None t (Revoke number reason occurrence) = refl
+change_counts (Some key) t (Revoke number reason occurrence) = refl
+change_counts None t (Assign number by) = refl
+change_counts (Some key) t (Assign number by) = refl
+change_counts None t Advance = refl
+change_counts (Some key) t Advance = refl
+
+abbrev step_keys : List Request → Request → Option Key → List Key
+step_keys h q found = (with_change (change_by (held_in found) q.moment q.command) found (with_keys_advanced q.moment (tables h))).keys
+
+-- where no key is made, the keys of the longer history are those of the history
+keys_named : (h : List Request) (q : Request) (k : ℕ) (found : Option Key) → named q.command ≡ Some k → key_at (tables h).keys k ≡ found → keys_after h q ≡ step_keys h q found
+keys_named h q k None names is =
+    named_missing h q k names is ∙ ap (λ (c : Change). (with_change c None (with_keys_advanced q.moment (tables h))).keys) (sym (change_missing q.command k q.moment names))
+keys_named h q k (Some key) names is =
+    named_found h q k key names is ∙ ap (λ (c : Change). (with_change c (Some key) (with_keys_advanced q.moment (tables h))).keys) (sym (change_named q.command k (held_of key) q.moment names))
+
+same_registrations : (h : List Request) (q : Request) → registrations (q ∷ []) ≡ [] → (tables (h ++ q ∷ [])).keys ≡ keys_after h q
+same_registrations h q none =
+    ap (λ (rs : List Registration). map (λ (key : ℕ × Registration). key_of (h ++ q ∷ []) key.0 key.1) (enumerate_from 1 rs)) (registrations_grow h q ∙ ap (λ (rs : List Registration). registrations h ++ rs) none ∙ append_nothing (registrations h))
   where
-    made_counted : (c : Command) → length (registrations (record q { command = c } ∷ [])) ≡ length (option_list (key_made q.moment c))
-    made_counted (Registers kind owner activation protect_stop deactivation purpose) = refl
-    made_counted Advance = refl
+    append_nothing : {X : Type 0} (xs : List X) → xs ++ [] ≡ xs
+    append_nothing [] = refl
+    append_nothing (x ∷ xs) = ap (λ l. x ∷ l) (append_nothing xs)
 
-pub tables_grow : (h : List Request) (q : Request) → tables (h ++ q ∷ []) ≡ with_request (count h) q.moment (key_made q.moment q.command) (tables h)
+-- the key that a registration makes
+made_key : (h : List Request) (q : Request) (kind : KeyType) (by : List ℕ) (activation protect_stop deactivation : Option ℕ) (purpose : List ℕ)
+    → q.command ≡ Registers kind by activation protect_stop deactivation purpose → (tables (h ++ q ∷ [])).keys ≡ step_keys h q None
+made_key h q kind by activation protect_stop deactivation purpose is =
+    let one : ℕ × Registration → Key = λ key. key_of (h ++ q ∷ []) key.0 key.1 in
+    let made : Registration = record { kind = kind; purpose = purpose } in
+    let t = q.moment in
+    let c = Registers kind by activation protect_stop deactivation purpose in
+    let new : Key = record { kind = kind; owner = by; purpose = purpose; row = row_at (filled kind (given_dates t activation protect_stop deactivation)) t } in
+    let place : 1 + count h ≡ count h + 1 = omega arith in
+    let fresh : registrations (q ∷ []) ≡ made ∷ [] = ap (λ (x : Command). registrations (record q { command = x } ∷ [])) is in
+    let its : one (1 + count h, made) ≡ new =
+    ap (λ (k : ℕ). key_of (h ++ q ∷ []) k made) place
+    ∙ ap (λ (x : KeyType). record { kind = x; owner = owner (h ++ q ∷ []) (count h + 1); purpose = purpose; row = row_at (dates (h ++ q ∷ []) (count h + 1)) (latest (h ++ q ∷ [])) }) (kind_made h q kind by activation protect_stop deactivation purpose is)
+    ∙ ap (λ (x : List ℕ). record { kind = kind; owner = x; purpose = purpose; row = row_at (dates (h ++ q ∷ []) (count h + 1)) (latest (h ++ q ∷ [])) }) (owner_made h q kind by activation protect_stop deactivation purpose is)
+    ∙ ap (λ (x : Dates). record { kind = kind; owner = by; purpose = purpose; row = row_at x (latest (h ++ q ∷ [])) }) (dates_made h q kind by activation protect_stop deactivation purpose is)
+    ∙ ap (λ (x : ℕ). record { kind = kind; owner = by; purpose = purpose; row = row_at (filled kind (given_dates t activation protect_stop deactivation)) x }) (latest_grows h q) in
+    ap (λ (rs : List Registration). map one (enumerate_from 1 rs)) (registrations_grow h q ∙ ap (λ (rs : List Registration). registrations h ++ rs) fresh)
+    ∙ ap (map one) (enumerate_append 1 (registrations h) (made ∷ []))
+    ∙ map-append one (enumerate_from 1 (registrations h)) ((1 + count h, made) ∷ [])
+    ∙ ap (λ (ks : List Key). ks ++ one (1 + count h, made) ∷ []) (unnamed_keys h q (ap named is))
+    ∙ ap (λ (k : Key). map (advanced t) (tables h).keys ++ k ∷ []) its
+    ∙ ap (λ (x : Command). (with_change (change_by None t x) None (with_keys_advanced t (tables h))).keys) (sym is)
+
+naming : (h : List Request) (q : Request) (c : Command) (k : ℕ) → q.command ≡ c → named c ≡ Some k → registrations (record q { command = c } ∷ []) ≡ []
+    → (tables (h ++ q ∷ [])).keys ≡ step_keys h q (named_at (tables h).keys q.command)
+naming h q c k is names none =
+    same_registrations h q (ap (λ (x : Command). registrations (record q { command = x } ∷ [])) is ∙ none)
+    ∙ keys_named h q k (key_at (tables h).keys k) (ap named is ∙ names) refl
+    ∙ ap (step_keys h q) (sym (ap (named_at (tables h).keys) is ∙ ap (option_and_then (key_at (tables h).keys)) names))
+
+keys_grow : (h : List Request) (q : Request) (c : Command) → q.command ≡ c → (tables (h ++ q ∷ [])).keys ≡ step_keys h q (named_at (tables h).keys q.command)
+keys_grow h q (Registers kind by activation protect_stop deactivation purpose) is =
+    made_key h q kind by activation protect_stop deactivation purpose is ∙ ap (step_keys h q) (sym (ap (named_at (tables h).keys) is))
+keys_grow h q (Activate key) is = naming h q (Activate key) key is refl refl
+keys_grow h q (SetDates key activation protect_stop deactivation) is = naming h q (SetDates key activation protect_stop deactivation) key is refl refl
+keys_grow h q (Revoke key reason occurrence) is = naming h q (Revoke key reason occurrence) key is refl refl
+keys_grow h q (Assign key by) is = naming h q (Assign key by) key is refl refl
+keys_grow h q Advance is =
+    same_registrations h q (ap (λ (x : Command). registrations (record q { command = x } ∷ [])) is)
+    ∙ unnamed_keys h q (ap named is)
+    ∙ ap (λ (x : Command). (with_change (change_by None q.moment x) None (with_keys_advanced q.moment (tables h))).keys) (sym is)
+    ∙ ap (step_keys h q) (sym (ap (named_at (tables h).keys) is))
+
+pub tables_grow : (h : List Request) (q : Request) →
+    let found = named_at (tables h).keys q.command in
+    tables (h ++ q ∷ []) ≡ with_request (count h) q.moment (change_by (held_in found) q.moment q.command) found (tables h)
 tables_grow h q =
+    let found = named_at (tables h).keys q.command in
+    let change = change_by (held_in found) q.moment q.command in
     ap (λ (t : ℕ). record { latest = t; key_count = count (h ++ q ∷ []); keys = (tables (h ++ q ∷ [])).keys }) (latest_grows h q)
-    ∙ ap (λ (n : ℕ). record { latest = q.moment; key_count = n; keys = (tables (h ++ q ∷ [])).keys }) (count_grows h q)
-    ∙ ap (λ (ks : List Key). record { latest = q.moment; key_count = count h + length (option_list (key_made q.moment q.command)); keys = ks }) (keys_grow h q)
+    ∙ ap (λ (n : ℕ). record { latest = q.moment; key_count = n; keys = (tables (h ++ q ∷ [])).keys }) (count_grows h q ∙ ap (λ (n : ℕ). count h + n) (sym (change_counts (held_in found) q.moment q.command)))
+    ∙ ap (λ (ks : List Key). record { latest = q.moment; key_count = count h + made_count change; keys = ks }) (keys_grow h q q.command refl)
 
--- ---- replies
+-- ---- what a decision sees
 
--- the state of a reply, by the dates of the history with the request at its end
-reply_by : (h : List Request) (q : Request) (c : Command) →
-    reply h (record q { command = c }) ≡ reply_with (count h) q.moment (key_made q.moment c)
-reply_by h q (Registers kind owner activation protect_stop deactivation purpose) =
-    let p : Request = record q { command = Registers kind owner activation protect_stop deactivation purpose } in
-    ap (λ (d : Dates). record { key = count h + 1; state = Some (state_at d q.moment); moment = q.moment })
-    (ap dates_by (own_made h p refl) ∙ fold-append (λ (d : Dates) (r : Request). dates_after d r.moment r.command) no_dates (own h (count h + 1)) (p ∷ []))
-reply_by h q Advance = refl
+-- an element stands at the place, or the list ends before it
+place_of : {X : Type 0} (xs : List X) (i : ℕ) → ((x : X) × (slice_get xs i ≡ Some x) × (i < length xs)) ⊎ ((slice_get xs i ≡ None) × (length xs ≤ i))
+place_of [] i = inr (refl, omega arith)
+place_of (x ∷ xs) zero = inl (x, refl, omega arith)
+place_of (x ∷ xs) (suc i) = elim (place_of xs i) [ inl there ↦ inl (there.0, there.1, omega (arith, there.2)) | inr missing ↦ inr (missing.0, omega (arith, missing.1)) ]
 
-pub reply_same : (h : List Request) (q : Request) → reply h q ≡ reply_with (count h) q.moment (key_made q.moment q.command)
-reply_same h q = reply_by h q q.command
+mapped_past : {X Y : Type 0} (g : ℕ × X → Y) (n : ℕ) (xs : List X) (i : ℕ) → slice_get xs i ≡ None → slice_get (map g (enumerate_from n xs)) i ≡ None
+mapped_past g n [] i e = refl
+mapped_past g n (x ∷ xs) zero e = absurd (cc)
+mapped_past g n (x ∷ xs) (suc i) e = mapped_past g (n + 1) xs i e
+
+abbrev held_if : Bool → Bool → HeldKey → Option HeldKey
+held_if low high key = cond (low && high) (Some key) None
+
+-- the key that is found is the one that the history holds
+held_found : (h : List Request) (k : ℕ) → held_in (key_at (tables h).keys k) ≡ held h k
+held_found h zero = refl
+held_found h (suc i) =
+    let low : nat_le 1 (suc i) ≡ true = le-leb 1 (suc i) (omega arith) in
+    let seen : HeldKey = record { kind = type h (suc i); owner = owner h (suc i); row = row_at (dates h (suc i)) (latest h) } in
+    elim (place_of (registrations h) i) [
+      | inl there ↦
+          let next : 1 + i ≡ suc i = omega arith in
+          let high : nat_le (suc i) (count h) ≡ true = le-leb (suc i) (count h) (omega (arith, there.2)) in
+          ap held_in (mapped_at (λ (key : ℕ × Registration). key_of h key.0 key.1) 1 (registrations h) i there.0 there.1)
+          ∙ ap (λ (k : ℕ). Some (held_of (key_of h k there.0))) next
+          ∙ ap (λ (b : Bool). held_if true b seen) (sym high)
+          ∙ ap (λ (b : Bool). held_if b (nat_le (suc i) (count h)) seen) (sym low)
+      | inr missing ↦
+          let high : nat_le (suc i) (count h) ≡ false = lt-leb (suc i) (count h) (omega (arith, missing.1)) in
+          ap held_in (mapped_past (λ (key : ℕ × Registration). key_of h key.0 key.1) 1 (registrations h) i missing.0)
+          ∙ ap (λ (b : Bool). held_if true b seen) (sym high)
+          ∙ ap (λ (b : Bool). held_if b (nat_le (suc i) (count h)) seen) (sym low)
+    ]
+
+pub named_held : (h : List Request) (c : Command) → held_in (named_at (tables h).keys c) ≡ named_key h c
+named_held h c = by_name (named c)
+  where
+    by_name : (n : Option ℕ) → held_in (option_and_then (key_at (tables h).keys) n) ≡ option_and_then (held h) n
+    by_name None = refl
+    by_name (Some k) = held_found h k
 
 -- ---- lawful histories
 

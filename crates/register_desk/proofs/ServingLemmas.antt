@@ -7,6 +7,7 @@ use Rattle.std.proofs.lemmas.List.{append-nil, length-append, take_at, take-appe
 use Rattle.std.proofs.lemmas.List.Sums.{fold-append}
 use Rattle.std.proofs.lemmas.Grind.{flat_map-append}
 use Rattle.sqlite_trees.specs.declared.store.Store.{Ghosts}
+use Rattle.sqlite.specs.State.{HasCleanDisk}
 use Rattle.sqlite.specs.Held.{state}
 use Rattle.register_core.specs.declared.request.Request.{Request}
 use Rattle.register_core.specs.declared.reply.Reply.{Reply}
@@ -24,7 +25,7 @@ use Rattle.register_desk.specs.Lines.{Cut, HasNoLineFeed, Takes}
 use Rattle.register_desk.specs.Input.{with_line_feeds, AreItems, HasItems}
 use Rattle.register_desk.specs.Register.{StandsFor, LeavesOneOf}
 use Rattle.register_desk.specs.Run.{answer_line, answer_lines, Answered, AnsweredInPart, RunsOver}
-use Rattle.register_desk.specs.Serving.{AnswersItem, ServesItem, LeavesItem, WritesInPart, Took, Served, IsNextLine, ServesTo, ServedAll, Wrote, TookBytes}
+use Rattle.register_desk.specs.Serving.{AnswersItem, WasClean, ServesItem, LeavesItem, WritesInPart, Took, Served, IsNextLine, ServesTo, ServedAll, Wrote, TookBytes}
 use Rattle.register_desk.proofs.InputLemmas.{lines_begin, none_left, OneRequest, items_begin, no_more_items, are_items_more, all_more, with_line_feeds_more}
 
 -- ---- known bytes
@@ -91,17 +92,18 @@ module _ {S : Type 0} (g : Ghosts S) where
     items = [];
     took = record { unbroken = tt; each = tt; consumed = consumes_none a };
     counted = refl;
-    answered = λ h stands. (appends_none w, stands);
+    answered = λ h stands clean. (appends_none w, stands);
+    clean = λ clean. clean;
   }
 
   -- the answers, with that of one item more
   answered_more : (v w x : Option (List ℕ)) (kept mid now : Desk S g) (items : List (Option Request)) (item : Option Request) (line : List ℕ)
-      → ((h : List Request) → StandsFor g kept h → Appends v w (answer_lines (answers h items)) × StandsFor g mid (history h items))
-      → Appends w x line → AnswersItem g mid now item line
-      → (h : List Request) → StandsFor g kept h → Appends v x (answer_lines (answers h (items ++ item ∷ []))) × StandsFor g now (history h (items ++ item ∷ []))
-  answered_more v w x kept mid now items item line so_far written answers_it h stands =
-      let before = so_far h stands in
-      let it = answers_it (history h items) before.1 in (
+      → ((h : List Request) → StandsFor g kept h → HasCleanDisk (state g mid.connection) → Appends v w (answer_lines (answers h items)) × StandsFor g mid (history h items))
+      → Appends w x line → AnswersItem g mid now item line → WasClean g mid now
+      → (h : List Request) → StandsFor g kept h → HasCleanDisk (state g now.connection) → Appends v x (answer_lines (answers h (items ++ item ∷ []))) × StandsFor g now (history h (items ++ item ∷ []))
+  answered_more v w x kept mid now items item line so_far written answers_it was h stands clean =
+      let before = so_far h stands (was clean) in
+      let it = answers_it (history h items) before.1 clean in (
         subst (Appends v x) (sym (answer_lines_more h items item)) (appends_then v w x (answer_lines (answers h items)) _ before.0 (subst (Appends w x) it.0 written)),
         subst (StandsFor g now) (sym (history_more h items item)) it.1,
       )
@@ -115,7 +117,8 @@ module _ {S : Type 0} (g : Ghosts S) where
     items = served.items ++ item ∷ [];
     took = took_more a b c served.lines served.items line item served.took unbroken consumed is;
     counted = length-append served.items (item ∷ []) ∙ ap (λ (n : ℕ). n + 1) served.counted;
-    answered = answered_more v w x kept mid now served.items item serves.line served.answered serves.written serves.answers;
+    answered = answered_more v w x kept mid now served.items item serves.line served.answered serves.written serves.answers serves.clean;
+    clean = λ clean. served.clean (serves.clean clean);
   }
 
 -- ---- what was taken is the front of the input
@@ -163,9 +166,9 @@ module _ {S : Type 0} (g : Ghosts S) (one : OneRequest) (h : List Request) (byte
     first : take replies all ≡ served.items
     first = first_items all served.items split.more replies split.parts served.counted
 
-    pub answered_so : StandsFor g kept h → Answered g h all replies v w now
-    answered_so stands =
-        let it = served.answered h stands in
+    pub answered_so : StandsFor g kept h → HasCleanDisk (state g now.connection) → Answered g h all replies v w now
+    answered_so stands clean =
+        let it = served.answered h stands clean in
         record {
           some = omega (arith, served.counted, ap length split.parts, length-append served.items split.more);
           written = subst (λ l. Appends v w (answer_lines l)) (sym (first_answers h all served.items split.more replies split.parts served.counted)) it.0;
@@ -212,10 +215,10 @@ module _ {S : Type 0} (g : Ghosts S) (one : OneRequest) (h : List Request) (byte
       with_it = ap (history h) one_more ∙ history_more h served.items item
 
       -- the line in hand was written in part, and its item applied
-      pub in_part_so : (x : Option (List ℕ)) (after : Desk S g) (n : ℕ) → StandsFor g kept h → WritesInPart g now after w x item n → AnsweredInPart g h all replies v x after
-      in_part_so x after n stands wrote =
-          let before = served.answered h stands in
-          let it = wrote.answers (history h served.items) before.1 in
+      pub in_part_so : (x : Option (List ℕ)) (after : Desk S g) (n : ℕ) → StandsFor g kept h → HasCleanDisk (state g after.connection) → WritesInPart g now after w x item n → AnsweredInPart g h all replies v x after
+      in_part_so x after n stands clean wrote =
+          let before = served.answered h stands (wrote.clean clean) in
+          let it = wrote.answers (history h served.items) before.1 clean in
           let whole = answer_lines (answers h served.items) in
           let lines : whole ++ wrote.line ≡ answer_lines (take (replies + 1) (answers h all)) =
           ap (λ (l : List ℕ). whole ++ l) it.0 ∙ sym (answer_lines_more h served.items item)
@@ -303,53 +306,51 @@ appends_nothing v w x bytes p q = subst (Appends v x) (append-nil bytes) (append
 
 module _ {S : Type 0} (g : Ghosts S) where
   -- the same items, where the line in hand wrote nothing and the desk goes on to stand for what it stood for
-  served_still : (a b v w x : Option (List ℕ)) (kept mid now : Desk S g) (replies : ℕ) → Served g a b v w kept mid replies → Appends w x [] → ((h : List Request) → StandsFor g mid h → StandsFor g now h)
+  served_still : (a b v w x : Option (List ℕ)) (kept mid now : Desk S g) (replies : ℕ) → Served g a b v w kept mid replies → Appends w x [] → ((h : List Request) → StandsFor g mid h → StandsFor g now h) → WasClean g mid now
       → Served g a b v x kept now replies
-  served_still a b v w x kept mid now replies served nothing still = record {
+  served_still a b v w x kept mid now replies served nothing still was = record {
     lines = served.lines;
     items = served.items;
     took = served.took;
     counted = served.counted;
-    answered = λ h stands. let it = served.answered h stands in (appends_nothing v w x (answer_lines (answers h served.items)) it.0 nothing, still (history h served.items) it.1);
+    answered = λ h stands clean. let it = served.answered h stands (was clean) in (appends_nothing v w x (answer_lines (answers h served.items)) it.0 nothing, still (history h served.items) it.1);
+    clean = λ clean. served.clean (was clean);
   }
 
   runs_known : OneRequest → (h : List Request) (bytes : List ℕ) (all : List (Option Request)) (rest : List ℕ) (old new : Option (List ℕ)) (kept now : Desk S g) (replies : ℕ) (end : Finish) →
-      HasItems bytes all rest → StandsFor g kept h → ServesTo g (Some bytes) old new kept now replies end → RunsOver g h all rest end replies old new now
-  runs_known one h bytes all rest old new kept now replies (AtEnd left) has stands serves =
+      HasItems bytes all rest → StandsFor g kept h → HasCleanDisk (state g now.connection) → ServesTo g (Some bytes) old new kept now replies end → RunsOver g h all rest end replies old new now
+  runs_known one h bytes all rest old new kept now replies (AtEnd left) has stands clean serves =
       let ended = ended_so g one h bytes all rest has serves.middle old new kept now replies serves.served serves.after serves.rest serves.unbroken serves.consumed serves.at_end in
-      (answered_so g one h bytes all rest has serves.middle old new kept now replies serves.served stands, ended.0, serves.counted ∙ ended.1)
-  runs_known one h bytes all rest old new kept now replies (Ended ReadFault) has stands serves = answered_so g one h bytes all rest has serves.middle old new kept now replies serves.served stands
-  runs_known one h bytes all rest old new kept now replies (Ended Memory) has stands serves = absurd serves.leaves
-  runs_known one h bytes all rest old new kept now replies (Ended Store) has stands serves =
+      (answered_so g one h bytes all rest has serves.middle old new kept now replies serves.served stands clean, ended.0, serves.counted ∙ ended.1)
+  runs_known one h bytes all rest old new kept now replies (Ended ReadFault) has stands clean serves = answered_so g one h bytes all rest has serves.middle old new kept now replies serves.served stands clean
+  runs_known one h bytes all rest old new kept now replies (Ended Memory) has stands clean serves = absurd serves.leaves
+  runs_known one h bytes all rest old new kept now replies (Ended Store) has stands clean serves =
       let stop = serves.leaves.0 in
-      let still = served_still (Some bytes) serves.middle old serves.so_far new kept serves.mid now replies serves.served serves.leaves.1 stop.stands in
+      let still = served_still (Some bytes) serves.middle old serves.so_far new kept serves.mid now replies serves.served serves.leaves.1 stop.stands stop.clean in
       let behind = before_it g one h bytes all rest has serves.middle old serves.so_far kept serves.mid replies serves.served serves.after serves.line serves.item serves.next in
       let ahead = with_it g one h bytes all rest has serves.middle old serves.so_far kept serves.mid replies serves.served serves.after serves.line serves.item serves.next in
       let at = there g one h bytes all rest has serves.middle old serves.so_far kept serves.mid replies serves.served serves.after serves.line serves.item serves.next in
       let items = serves.served.items in
-      let leaves = stop.leaves (history h items) (serves.served.answered h stands).1 in (
-        answered_so g one h bytes all rest has serves.middle old new kept now replies still stands,
+      let leaves = stop.leaves (history h items) (serves.served.answered h stands (stop.clean clean)).1 clean in (
+        answered_so g one h bytes all rest has serves.middle old new kept now replies still stands clean,
         record { request = stop.request; next = at ∙ ap (λ i. Some i) stop.is; broken = stop.broken },
-        λ clean. let it = leaves clean in (
-          ap (λ (k : List Request). verdict k stop.request) behind ∙ it.0,
-          subst (λ (k : List Request). LeavesOneOf k (history h (take (replies + 1) all)) (state g now.connection)) (sym behind)
-              (subst (λ (k : List Request). LeavesOneOf (history h items) k (state g now.connection)) (sym (ahead ∙ ap (history_after (history h items)) stop.is)) it.1),
-        ),
+        subst (λ (k : List Request). LeavesOneOf k (history h (take (replies + 1) all)) (state g now.connection)) (sym behind)
+            (subst (λ (k : List Request). LeavesOneOf (history h items) k (state g now.connection)) (sym (ahead ∙ ap (history_after (history h items)) stop.is)) leaves),
       )
-  runs_known one h bytes all rest old new kept now replies (Ended Broken) has stands serves =
+  runs_known one h bytes all rest old new kept now replies (Ended Broken) has stands clean serves =
       let stop = serves.leaves.0 in
-      let still = served_still (Some bytes) serves.middle old serves.so_far new kept serves.mid now replies serves.served serves.leaves.1 (λ k it. subst (λ (d : Desk S g). StandsFor g d k) (sym stop.same) it) in
+      let still = served_still (Some bytes) serves.middle old serves.so_far new kept serves.mid now replies serves.served serves.leaves.1 (λ k it. subst (λ (d : Desk S g). StandsFor g d k) (sym stop.same) it) (λ clean. subst (λ (d : Desk S g). HasCleanDisk (state g d.connection)) stop.same clean) in
       let at = there g one h bytes all rest has serves.middle old serves.so_far kept serves.mid replies serves.served serves.after serves.line serves.item serves.next in (
-        answered_so g one h bytes all rest has serves.middle old new kept now replies still stands,
+        answered_so g one h bytes all rest has serves.middle old new kept now replies still stands clean,
         record { request = stop.request; next = at ∙ ap (λ i. Some i) stop.is; broken = stop.broken },
       )
-  runs_known one h bytes all rest old new kept now replies (Ended WriteFault) has stands serves =
-      in_part_so g one h bytes all rest has serves.middle old serves.so_far kept serves.mid replies serves.served serves.after serves.line serves.item serves.next new now serves.part stands serves.leaves
+  runs_known one h bytes all rest old new kept now replies (Ended WriteFault) has stands clean serves =
+      in_part_so g one h bytes all rest has serves.middle old serves.so_far kept serves.mid replies serves.served serves.after serves.line serves.item serves.next new now serves.part stands clean serves.leaves
 
   pub runs_so : OneRequest → (h : List Request) (bytes : List ℕ) (all : List (Option Request)) (rest : List ℕ) (before old new : Option (List ℕ)) (kept now : Desk S g) (replies : ℕ) (end : Finish) →
-      before ≡ Some bytes → HasItems bytes all rest → StandsFor g kept h → ServesTo g before old new kept now replies end → RunsOver g h all rest end replies old new now
-  runs_so one h bytes all rest before old new kept now replies end known has stands serves =
-      runs_known one h bytes all rest old new kept now replies end has stands (subst (λ b. ServesTo g b old new kept now replies end) known serves)
+      before ≡ Some bytes → HasItems bytes all rest → StandsFor g kept h → HasCleanDisk (state g now.connection) → ServesTo g before old new kept now replies end → RunsOver g h all rest end replies old new now
+  runs_so one h bytes all rest before old new kept now replies end known has stands clean serves =
+      runs_known one h bytes all rest old new kept now replies end has stands clean (subst (λ b. ServesTo g b old new kept now replies end) known serves)
 
   -- ---- the same, of values that are equal
 

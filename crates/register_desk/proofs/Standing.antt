@@ -17,29 +17,44 @@ use Rattle.register_core.proofs.Histories.{latest_grows}
 use Rattle.register_store.specs.Tables.{Tables, Holds, Makes, HasKeys}
 use Rattle.register_desk.specs.declared.desk.Desk.{Desk}
 use Rattle.register_desk.specs.Register.{tables, StandsFor, LeavesOneOf}
-use Rattle.register_desk.specs.Step.{key_made, option_list, with_request}
-use Rattle.register_desk.proofs.Grows.{tables_grow, count_grows, keys_counted, lawful_after}
+use Rattle.register_core.specs.declared.decision.Change.{Change}
+use Rattle.register_core.specs.Decision.{change_by, IsViewOf}
+use Rattle.register_core.specs.declared.request.Command.{Command}
+use Rattle.register_core.specs.History.{made_by}
+use Rattle.register_core.proofs.Histories.{count_grows}
+use Rattle.register_store.specs.declared.key.Key.{Key}
+use Rattle.register_desk.specs.Step.{named_at, held_in, made_count, with_request}
+use Rattle.register_desk.proofs.Grows.{tables_grow, change_counts, keys_counted, lawful_after, named_held}
 
-module _ {S : Type 0} (g : store.Ghosts S) (old : Desk S g) (h : List Request) (q : Request) (stands : StandsFor g old h) (accepted : judge old.latest old.keys q ≡ None) where
+-- what a decision rests on is the view of the history
+pub view_stands : {S : Type 0} (g : store.Ghosts S) (desk : Desk S g) (h : List Request) (c : Command) (found : Option Key) → StandsFor g desk h → found ≡ named_at (tables h).keys c
+    → IsViewOf (record { latest = desk.latest; keys = desk.keys; key = held_in found }) h c
+view_stands g desk h c found stands is = record { latest_is = stands.latest_is; keys_are = stands.keys_are; key_is = ap held_in is ∙ named_held h c }
+
+module _ {S : Type 0} (g : store.Ghosts S) (old : Desk S g) (h : List Request) (q : Request) (stands : StandsFor g old h) (accepted : verdict h q ≡ None)
+    (change : Change) (found : Option Key) (found_is : found ≡ named_at (tables h).keys q.command) (change_is : change ≡ change_by (held_in found) q.moment q.command) where
   abbrev grown : List Request
   grown = h ++ q ∷ []
 
-  pub judged : verdict h q ≡ None
-  judged = ap (λ (t : ℕ). judge t (count h) q) (sym stands.latest_is) ∙ ap (λ (n : ℕ). judge old.latest n q) (sym stands.keys_are) ∙ accepted
-
-  pub after_is : history_after h (Some q) ≡ grown
-  after_is = ap (λ (v : Option Refusal). cond (is_none v) grown h) judged
+  after_is : history_after h (Some q) ≡ grown
+  after_is = ap (λ (v : Option Refusal). cond (is_none v) grown h) accepted
 
   abbrev Made : Database → Database → Type 0
-  Made = Makes (HasKeys old.keys) (with_request old.keys q.moment (key_made q.moment q.command))
+  Made = Makes (HasKeys old.keys) (with_request old.keys q.moment change found)
 
   -- what the request makes of the tables of the history are those of the history with it
   made_holds : (before after : Database) → Holds (tables h) before → Made before after → Holds (tables grown) after
   made_holds before after holds made =
       let keys : length (tables h).keys ≡ old.keys = keys_counted h ∙ sym stands.keys_are in
-      let same : with_request old.keys q.moment (key_made q.moment q.command) (tables h) ≡ tables grown =
-      ap (λ (n : ℕ). with_request n q.moment (key_made q.moment q.command) (tables h)) stands.keys_are ∙ sym (tables_grow h q) in
+      let same : with_request old.keys q.moment change found (tables h) ≡ tables grown =
+      ap (λ (n : ℕ). with_request n q.moment change found (tables h)) stands.keys_are
+      ∙ ap (λ (c : Change). with_request (count h) q.moment c found (tables h)) change_is
+      ∙ ap (λ (f : Option Key). with_request (count h) q.moment (change_by (held_in f) q.moment q.command) f (tables h)) found_is
+      ∙ sym (tables_grow h q) in
       subst (λ (t : Tables). Holds t after) same (made (tables h) holds keys)
+
+  counted_after : made_count change ≡ made_by q.command
+  counted_after = ap made_count change_is ∙ change_counts (held_in found) q.moment q.command
 
   module _ {A E : Type 0} (new : Desk S g) (r : Result A E) (whole : old.is_broken ≡ false) (written : TransactsBy Made (state g old.connection) (state g new.connection) r) where
     early : HasCleanDisk (state g new.connection) → HasCleanDisk (state g old.connection)
@@ -58,12 +73,12 @@ module _ {S : Type 0} (g : store.Ghosts S) (old : Desk S g) (h : List Request) (
 
   pub stands_after : {A E : Type 0} (new : Desk S g) (r : Result A E) → old.is_broken ≡ false → TransactsBy Made (state g old.connection) (state g new.connection) r
       → ((s : S) (db : Trees) → IsTrue (g.view s).is_open → g.recovers s db → db ≡ (g.view s).committed)
-      → OnOk r (new.latest ≡ q.moment) → OnOk r (new.keys ≡ old.keys + length (option_list (key_made q.moment q.command))) → OnOk r (StandsFor g new (history_after h (Some q)))
+      → OnOk r (new.latest ≡ q.moment) → OnOk r (new.keys ≡ old.keys + made_count change) → OnOk r (StandsFor g new (history_after h (Some q)))
   stands_after new (Err e) whole written settled moment counted = tt
   stands_after new (Ok x) whole written settled moment counted = record {
     lawful = lawful_after h q stands.lawful;
     latest_is = moment ∙ sym (latest_grows h q) ∙ ap latest (sym after_is);
-    keys_are = counted ∙ ap (λ (n : ℕ). n + length (option_list (key_made q.moment q.command))) stands.keys_are ∙ sym (count_grows h q) ∙ ap count (sym after_is);
+    keys_are = counted ∙ ap (λ (n : ℕ). n + made_count change) stands.keys_are ∙ ap (λ (n : ℕ). count h + n) counted_after ∙ sym (count_grows h q) ∙ ap count (sym after_is);
     keeps = λ still clean.
         let clean_before : HasCleanDisk (state g old.connection) = omega (arith, written.stop.clean) in
         let kept = stands.keeps whole clean_before in

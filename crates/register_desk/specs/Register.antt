@@ -8,7 +8,7 @@ use Rattle.sqlite.specs.State.{State, HasCleanDisk}
 use Rattle.sqlite.specs.Held.{state}
 use Rattle.lifecycle_core.specs.State.{state_at}
 use Rattle.register_core.specs.declared.request.Request.{Request}
-use Rattle.register_core.specs.History.{latest, Registration, registrations, count, dates, owner}
+use Rattle.register_core.specs.History.{latest, Registration, registrations, count, type, dates, owner}
 use Rattle.register_core.specs.Fold.{IsLawful}
 use Rattle.register_store.specs.declared.key.Key.{Key}
 use Rattle.register_store.specs.Tables.{Tables, Holds}
@@ -17,7 +17,7 @@ use Rattle.register_desk.specs.declared.desk.Desk.{Desk}
 -- what is kept of key k, which this registration made: its state is the one that its dates give at the latest moment
 abbrev pub key_of : List Request → ℕ → Registration → Key
 key_of h k made = record {
-  kind = made.kind;
+  kind = type h k;
   owner = owner h k;
   purpose = made.purpose;
   row = record { dates = dates h k; state = state_at (dates h k) (latest h) };

@@ -2,13 +2,11 @@
 use Rattle.std.specs.Prelude.{◌≡◌, ◌⊎◌, ℕ, ◌+◌, ◌≤◌, Bool, true, List, [], ◌∷◌, ◌++◌, length, take, flat_map, Option, None, Some, Result, slice_get}
 use Rattle.std.specs.Io.KnownBytes.{Appends}
 use Rattle.sqlite_trees.specs.declared.store.Store.{Ghosts}
-use Rattle.sqlite.specs.State.{HasCleanDisk}
 use Rattle.sqlite.specs.Held.{state}
 use Rattle.register_core.specs.declared.request.Request.{Request}
 use Rattle.register_core.specs.declared.reply.Reply.{Reply}
 use Rattle.register_core.specs.declared.reply.Refusal.{Refusal}
 use Rattle.register_core.specs.Reply.{reply_text}
-use Rattle.register_core.specs.Verdict.{verdict}
 use Rattle.register_core.specs.Fold.{history, answers}
 use Rattle.register_desk.specs.declared.lines.TheConstants.{LINE_FEED}
 use Rattle.register_desk.specs.declared.end.End.TheVariants.{Memory, Store, Broken, ReadFault, WriteFault}
@@ -51,11 +49,9 @@ pub record StopsAtRequest {S : Type 0} {g : Ghosts S} (items : List (Option Requ
   pub next : slice_get items replies ≡ Some (Some request)
   pub broken : desk.is_broken ≡ true
 
--- the request that comes next is one to accept, and a stop leaves the register without it or with it
-abbrev pub LeavesNext : {S : Type 0} → (g : Ghosts S) → List Request → List (Option Request) → ℕ → Desk S g → Request → Type 0
-LeavesNext g h items replies desk q = HasCleanDisk (state g desk.connection)
-    → (verdict (history h (take replies items)) q ≡ None)
-    × LeavesOneOf (history h (take replies items)) (history h (take (replies + 1) items)) (state g desk.connection)
+-- a stop leaves the register without the next item's request, or with it where it is to be accepted
+abbrev pub LeavesNext : {S : Type 0} → (g : Ghosts S) → List Request → List (Option Request) → ℕ → Desk S g → Type 0
+LeavesNext g h items replies desk = LeavesOneOf (history h (take replies items)) (history h (take (replies + 1) items)) (state g desk.connection)
 
 -- how a run over these items leaves things, by how it ended
 abbrev pub RunsOver : {S : Type 0} → (g : Ghosts S) → List Request → List (Option Request) → List ℕ → Finish → ℕ → Option (List ℕ) → Option (List ℕ) → Desk S g → Type 0
@@ -63,7 +59,7 @@ RunsOver g h items rest (AtEnd left) replies old new desk =
     Answered g h items replies old new desk × (replies ≡ length items) × (left ≡ length rest)
 RunsOver g h items rest (Ended Memory) replies old new desk = Answered g h items replies old new desk
 RunsOver g h items rest (Ended Store) replies old new desk =
-    Answered g h items replies old new desk × (stop : StopsAtRequest items replies desk) × LeavesNext g h items replies desk stop.request
+    Answered g h items replies old new desk × StopsAtRequest items replies desk × LeavesNext g h items replies desk
 RunsOver g h items rest (Ended Broken) replies old new desk =
     Answered g h items replies old new desk × StopsAtRequest items replies desk
 RunsOver g h items rest (Ended ReadFault) replies old new desk = Answered g h items replies old new desk

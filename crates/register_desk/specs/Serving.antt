@@ -7,7 +7,6 @@ use Rattle.sqlite.specs.State.{HasCleanDisk}
 use Rattle.sqlite.specs.Held.{state}
 use Rattle.register_core.specs.declared.request.Request.{Request}
 use Rattle.register_core.specs.Request.{IsItem}
-use Rattle.register_core.specs.Verdict.{verdict}
 use Rattle.register_core.specs.Fold.{history, history_after, answers, answer_to}
 use Rattle.register_desk.specs.declared.lines.TheConstants.{LINE_FEED}
 use Rattle.register_desk.specs.declared.end.End.{End}
@@ -48,7 +47,11 @@ module _ {S : Type 0} (g : Ghosts S) where
   -- the item was applied, and this is the line of its answer
   abbrev pub AnswersItem : Desk S g → Desk S g → Option Request → List ℕ → Type 0
   AnswersItem kept now item line =
-      (h : List Request) → StandsFor g kept h → (line ≡ answer_line (answer_to h item)) × StandsFor g now (history_after h item)
+      (h : List Request) → StandsFor g kept h → HasCleanDisk (state g now.connection) → (line ≡ answer_line (answer_to h item)) × StandsFor g now (history_after h item)
+
+  -- a disk that is clean was so before
+  abbrev pub WasClean : Desk S g → Desk S g → Type 0
+  WasClean kept now = HasCleanDisk (state g now.connection) → HasCleanDisk (state g kept.connection)
 
   -- the item was answered by a whole line of so many bytes, and applied
   pub record ServesItem (kept now : Desk S g) (old new : Option (List ℕ)) (item : Option Request) (count : ℕ) : Type 0 where
@@ -56,6 +59,7 @@ module _ {S : Type 0} (g : Ghosts S) where
     pub written : Appends old new line
     pub counted : count ≡ length line
     pub answers : AnswersItem kept now item line
+    pub clean : WasClean kept now
 
   -- the database refused the item, which broke the desk
   pub record BreaksAt (kept now : Desk S g) (item : Option Request) : Type 0 where
@@ -63,8 +67,8 @@ module _ {S : Type 0} (g : Ghosts S) where
     pub is : item ≡ Some request
     pub broken : now.is_broken ≡ true
     pub stands : (h : List Request) → StandsFor g kept h → StandsFor g now h
-    pub leaves : (h : List Request) → StandsFor g kept h → HasCleanDisk (state g now.connection)
-        → (verdict h request ≡ None) × LeavesOneOf h (history_after h (Some request)) (state g now.connection)
+    pub leaves : (h : List Request) → StandsFor g kept h → HasCleanDisk (state g now.connection) → LeavesOneOf h (history_after h (Some request)) (state g now.connection)
+    pub clean : WasClean kept now
 
   -- the desk was broken when the item came, and nothing changed
   pub record IsBrokenAt (kept now : Desk S g) (item : Option Request) : Type 0 where
@@ -86,6 +90,7 @@ module _ {S : Type 0} (g : Ghosts S) where
     pub written : Appends old new (take part line)
     pub within : part ≤ length line
     pub answers : AnswersItem kept now item line
+    pub clean : WasClean kept now
 
   -- what an item leaves whose answer was not written whole
   abbrev pub LeavesItem : Desk S g → Desk S g → Option (List ℕ) → Option (List ℕ) → Option Request → End → ℕ → Type 0
@@ -103,7 +108,8 @@ module _ {S : Type 0} (g : Ghosts S) where
     pub items : List (Option Request)
     pub took : Took before after lines items
     pub counted : length items ≡ replies
-    pub answered : (h : List Request) → StandsFor g kept h → Appends old new (answer_lines (answers h items)) × StandsFor g now (history h items)
+    pub answered : (h : List Request) → StandsFor g kept h → HasCleanDisk (state g now.connection) → Appends old new (answer_lines (answers h items)) × StandsFor g now (history h items)
+    pub clean : WasClean kept now
 
   -- every line was served, and this many bytes are left
   pub record ServedAll (before old new : Option (List ℕ)) (kept now : Desk S g) (replies left : ℕ) : Type 0 where

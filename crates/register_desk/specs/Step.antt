@@ -1,38 +1,45 @@
 -- What one accepted request makes of the tables. That this is what the history says is proved of `apply`.
-use Rattle.std.specs.Prelude.{ℕ, ◌+◌, List, [], ◌∷◌, ◌++◌, length, map, Option, None, Some}
-use Rattle.lifecycle_core.specs.State.{state_at}
+use Rattle.std.specs.Prelude.{◌≡◌, ℕ, ◌+◌, List, length, Option, None, Some}
+use Rattle.std.specs.Option.{option_map, option_and_then}
+use Rattle.lifecycle_core.specs.Row.{IsRightAt}
 use Rattle.register_core.specs.declared.request.Command.{Command}
-use Rattle.register_core.specs.declared.request.Command.TheVariants.{Register as Registers, Advance}
-use Rattle.register_core.specs.declared.reply.Reply.{Reply}
-use Rattle.register_core.specs.History.{given_dates}
-use Rattle.period_core.specs.Fitting.{filled}
+use Rattle.register_core.specs.declared.decision.Held.{Held as HeldKey}
+use Rattle.register_core.specs.declared.decision.Change.{Change}
+use Rattle.register_core.specs.declared.decision.Change.TheVariants.{Made, Held, Nothing}
+use Rattle.register_core.specs.Verdict.{named}
 use Rattle.register_store.specs.declared.key.Key.{Key}
-use Rattle.register_store.specs.Tables.{Tables, advanced}
+use Rattle.register_store.specs.Tables.{Tables, key_at, with_key, with_key_at, with_keys_advanced}
 
--- the key that this command makes at t
-abbrev pub key_made : ℕ → Command → Option Key
-key_made t (Registers kind owner activation protect_stop deactivation purpose) =
-    let dates = filled kind (given_dates t activation protect_stop deactivation) in
-    Some (record { kind = kind; owner = owner; purpose = purpose; row = record { dates = dates; state = state_at dates t } })
-key_made t Advance = None
+-- the key that a command names, as it stands in the tables
+abbrev pub named_at : List Key → Command → Option Key
+named_at keys c = option_and_then (key_at keys) (named c)
 
-abbrev pub option_list : Option Key → List Key
-option_list None = []
-option_list (Some key) = key ∷ []
+-- what a decision sees of a key
+abbrev pub held_of : Key → HeldKey
+held_of key = record { kind = key.kind; owner = key.owner; row = key.row }
 
--- the key that is made, if any, comes behind the others
-abbrev pub with_made : Option Key → Tables → Tables
-with_made made t = record t { keys = t.keys ++ option_list made }
+abbrev pub held_in : Option Key → Option HeldKey
+held_in found = option_map held_of found
 
--- each key moved on to the moment, and the key that is made behind them; so many keys were made before
-abbrev pub with_request : ℕ → ℕ → Option Key → Tables → Tables
-with_request keys at made t = record {
-  latest = at;
-  key_count = keys + length (option_list made);
-  keys = map (advanced at) t.keys ++ option_list made;
-}
+-- the key's state is the one that its dates give at t
+abbrev pub IsRightFound : Option Key → ℕ → Type 0
+IsRightFound None t = Unit {0}
+IsRightFound (Some key) t = IsRightAt key.row t
 
--- the reply where so many keys were made before, and the request makes this key, if any
-abbrev pub reply_with : ℕ → ℕ → Option Key → Reply
-reply_with keys at None = record { key = 0; state = None; moment = at }
-reply_with keys at (Some made) = record { key = keys + 1; state = Some made.row.state; moment = at }
+-- the tables with this change, where this key was found
+abbrev pub with_change : Change → Option Key → Tables → Tables
+with_change (Made kind owner purpose row) found t = with_key (record { kind = kind; owner = owner; purpose = purpose; row = row }) t
+with_change (Held number owner row) (Some key) t = with_key_at number (record key { owner = owner; row = row }) t
+with_change (Held number owner row) None t = t
+with_change Nothing found t = t
+
+-- how many keys a change makes
+abbrev pub made_count : Change → ℕ
+made_count (Made kind owner purpose row) = 1
+made_count (Held number owner row) = 0
+made_count Nothing = 0
+
+-- each key moved on to the moment, and then the change; so many keys were made before
+abbrev pub with_request : ℕ → ℕ → Change → Option Key → Tables → Tables
+with_request keys at change found t =
+    record (with_change change found (with_keys_advanced at t)) { latest = at; key_count = keys + made_count change }

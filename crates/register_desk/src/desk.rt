@@ -1,13 +1,15 @@
 ghost use Rattle.std.specs.Prelude.{◌≡◌, ◌≤◌, false};
 ghost use Rattle.register_core.specs.declared.limits.TheConstants.{KEY_LIMIT};
+ghost use Rattle.std.specs.Bool.{OnTrue};
+ghost use Rattle.register_desk.specs.Step.{held_in, IsRightFound};
 
 use crate::end::End;
 use crate::opening::{OpenRefusal, Unopened};
 use crate::record::{Names, Record};
-use crate::serve::{commit_request, key_of, keys_with, reply_of};
-use lifecycle_core::{Usage, usage_of};
+use crate::serve::{commit_request, keys_after};
+use lifecycle_core::{Usage, state_of, usage_of};
 use moment_core::Moment;
-use register_core::{KEY_LIMIT, Refusal, Reply, Request, judge};
+use register_core::{Change, Command, Held, KEY_LIMIT, Refusal, Reply, Request, View, decide};
 use register_store::{Key, create, find_key, has_tables};
 use sqlite::{Alter, Connection};
 use std::alloc::Global;
@@ -56,7 +58,7 @@ impl<S: Alter> Desk<S> {
     ghost use Rattle.sqlite.specs.Held.{state};
     ghost use Rattle.register_core.specs.declared.request.Request.{Request};
     ghost use Rattle.register_core.specs.History.{latest, count};
-    ghost use Rattle.register_core.specs.Verdict.{verdict, answer, judge};
+    ghost use Rattle.register_core.specs.Verdict.{answer};
     ghost use Rattle.register_core.specs.Fold.{history};
     ghost use Rattle.register_desk.specs.Answer.{answered};
     ghost use Rattle.sql_steps.specs.Steps.{TransactsBy};
@@ -65,7 +67,7 @@ impl<S: Alter> Desk<S> {
     ghost use Rattle.register_store.specs.Schema.{no_schema};
     ghost use Rattle.register_desk.specs.Register.{StandsFor, LeavesOneOf, Leaves, tables};
     ghost use Rattle.register_desk.specs.Shown.{shown, usage, record_with};
-    ghost use Rattle.register_desk.specs.Step.{key_made, option_list, with_request, reply_with};
+    ghost use Rattle.register_desk.specs.Step.{made_count, named_at, with_request};
 
     /// Makes an empty register in the database, which has none yet.
     ///
@@ -140,57 +142,90 @@ impl<S: Alter> Desk<S> {
     /// request. [`End::Broken`] on a broken desk; nothing changed.
     pub fn apply(&mut self, request: &Request) -> Result<Answer, End>
         // The answer is the verdict over the history that the desk stands for.
-        ensures answer { (h : List Request) → StandsFor S.Store self.old h → IfOk result (λ given. answered given ≡ answer h request.now) }
+        ensures answer { (h : List Request) → StandsFor S.Store self.old h → HasCleanDisk (state S.Store self.new.connection)
+            → IfOk result (λ given. answered given ≡ answer h request.now) }
         // The desk then stands for the history with the request at its end, if that was accepted.
-        ensures stands { (h : List Request) → StandsFor S.Store self.old h → OnOk result (StandsFor S.Store self.new (history h (Some request.now ∷ []))) }
+        ensures stands { (h : List Request) → StandsFor S.Store self.old h → HasCleanDisk (state S.Store self.new.connection)
+            → OnOk result (StandsFor S.Store self.new (history h (Some request.now ∷ []))) }
         ensures whole { OnOk result (self.new.is_broken ≡ false) }
+        ensures clean { HasCleanDisk (state S.Store self.new.connection) → HasCleanDisk (state S.Store self.old.connection) }
         // An end leaves the desk broken, with the latest moment and the number of keys as before.
         ensures ends { IfErr result (λ end. ((end ≡ End.Store) × (self.old.is_broken ≡ false)) ⊎ ((end ≡ End.Broken) × (self.new ≡ self.old))) }
         ensures broken { OnErr result (self.new.is_broken ≡ true) }
         ensures err { (h : List Request) → StandsFor S.Store self.old h → OnErr result (StandsFor S.Store self.new h) }
         // The end 32 comes exactly on a broken desk.
         ensures when_broken { self.old.is_broken ≡ true → result ≡ Err End.Broken }
-        // The end 31 comes of an accepted request alone, and a stop then leaves the register without it or with it.
+        // After the end 31 a stop leaves the register without the request, or with it where it is to be accepted.
         ensures store { (h : List Request) → StandsFor S.Store self.old h → IfErr result (λ end. end ≡ End.Store → HasCleanDisk (state S.Store self.new.connection)
-            → (verdict h request.now ≡ None) × LeavesOneOf h (history h (Some request.now ∷ [])) (state S.Store self.new.connection)) }
+            → LeavesOneOf h (history h (Some request.now ∷ [])) (state S.Store self.new.connection)) }
     {
         if self.is_broken {
             return Err(End::Broken);
         }
-        match judge(self.latest, self.keys, request) {
-            Some(refusal) => Ok(Answer::Refused(refusal)),
-            None => {
-                let reply = self.accept(request)?;
-                Ok(Answer::Accepted(reply))
+        let found = self.named(&request.command)?;
+        let view = View {
+            latest: self.latest,
+            keys: self.keys,
+            key: held_in(&found),
+        };
+        match decide(&view, request) {
+            Err(refusal) => Ok(Answer::Refused(refusal)),
+            Ok(accept) => {
+                self.accept(request.moment, &accept.change, &found)?;
+                Ok(Answer::Accepted(accept.reply))
             }
         }
     }
 
-    /// Makes the change of an accepted request, and answers it.
-    fn accept(&mut self, request: &Request) -> Result<Reply, End>
-        requires accepted { judge self.old.latest self.old.keys request.now ≡ None }
-        ensures reply { IfOk result (λ reply. reply ≡ reply_with self.old.keys request.now.moment (key_made request.now.moment request.now.command)) }
-        ensures written { TransactsBy (Makes (HasKeys self.old.keys) (with_request self.old.keys request.now.moment (key_made request.now.moment request.now.command)))
+    /// The key that the command names, if it names one that is there.
+    fn named(&mut self, command: &Command) -> Result<Option<Key>, End>
+        requires { self.old.is_broken ≡ false }
+        ensures found { (h : List Request) → StandsFor S.Store self.old h → HasCleanDisk (state S.Store self.new.connection)
+            → IfOk result (λ found. found ≡ named_at (tables h).keys command.now) }
+        ensures right { IfOk result (λ found. IsRightFound found self.old.latest) }
+        ensures same { (h : List Request) → StandsFor S.Store self.old h → StandsFor S.Store self.new h }
+        ensures fields { OnOk result ((self.new.latest ≡ self.old.latest) × (self.new.keys ≡ self.old.keys) × (self.new.is_broken ≡ false)) }
+        ensures ends { IfErr result (λ end. end ≡ End.Store) }
+        ensures broken { OnErr result (self.new.is_broken ≡ true) }
+        ensures clean { HasCleanDisk (state S.Store self.new.connection) → HasCleanDisk (state S.Store self.old.connection) }
+        ensures stop { (h : List Request) → StandsFor S.Store self.old h → HasCleanDisk (state S.Store self.new.connection)
+            → Leaves (tables h) (state S.Store self.new.connection) }
+    {
+        let Some(number) = command.key() else {
+            return Ok(None);
+        };
+        let found = self.look(number)?;
+        if is_right(&found, self.latest) {
+            Ok(found)
+        } else {
+            Err(self.break_off())
+        }
+    }
+
+    /// Makes the change of an accepted request, where this key was found under the number that it names.
+    fn accept(&mut self, at: Moment, change: &Change, found: &Option<Key>) -> Result<(), End>
+        requires later { self.old.latest ≤ at }
+        requires room { self.old.keys + made_count change.now ≤ KEY_LIMIT }
+        ensures written { TransactsBy (Makes (HasKeys self.old.keys) (with_request self.old.keys at change.now found.now))
             (state S.Store self.old.connection) (state S.Store self.new.connection) result }
-        ensures latest { OnOk result (self.new.latest ≡ request.now.moment) }
-        ensures keys { OnOk result (self.new.keys ≡ self.old.keys + length (option_list (key_made request.now.moment request.now.command))) }
+        ensures latest { OnOk result (self.new.latest ≡ at) }
+        ensures keys { OnOk result (self.new.keys ≡ self.old.keys + made_count change.now) }
         ensures whole { OnOk result (self.new.is_broken ≡ self.old.is_broken) }
         ensures ends { IfErr result (λ end. end ≡ End.Store) }
         ensures err { OnErr result ((self.new.latest ≡ self.old.latest) × (self.new.keys ≡ self.old.keys) × (self.new.is_broken ≡ true)) }
     {
-        let made = key_of(request.moment, &request.command);
         match commit_request(
             &mut self.connection,
             self.keys,
             self.latest,
-            request.moment,
-            &made,
+            at,
+            change,
+            found,
         ) {
             Ok(()) => {
-                let reply = reply_of(self.keys, request.moment, &made);
-                self.keys = keys_with(self.keys, &made);
-                self.latest = request.moment;
-                Ok(reply)
+                self.keys = keys_after(self.keys, change);
+                self.latest = at;
+                Ok(())
             }
             Err(_) => Err(self.break_off()),
         }
@@ -286,5 +321,29 @@ impl<S: Alter> Desk<S> {
             }),
             None => None,
         }
+    }
+}
+
+/// What a decision sees of the key that was found.
+fn held_in(found: &Option<Key>) -> Option<Held>
+    ensures { result ≡ held_in found.now }
+{
+    match found {
+        Some(key) => Some(Held {
+            kind: key.kind,
+            owner: key.owner,
+            row: key.row,
+        }),
+        None => None,
+    }
+}
+
+/// Whether the stored state is the one that the dates give at the moment.
+fn is_right(found: &Option<Key>, at: Moment) -> bool
+    ensures { OnTrue result (IsRightFound found.now at) }
+{
+    match found {
+        Some(key) => key.row.state == state_of(&key.row.dates, at),
+        None => true,
     }
 }

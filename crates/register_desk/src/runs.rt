@@ -1,6 +1,8 @@
 //! A run over request lines: each line is read, applied and answered before the next one is looked at.
 ghost use Rattle.std.specs.Prelude.{◌≡◌, ◌≢◌, ◌⊎◌, ◌+◌, ◌*◌, ◌≤◌, ◌<◌, ℕ, List, [], ◌∷◌, length, Some, None, Option, true, false, IfOk, IfErr, OnOk, OnErr};
 ghost use Rattle.std.specs.Io.KnownBytes.{Appends, IsAtEnd, prepend_known};
+ghost use Rattle.sqlite.specs.State.{HasCleanDisk};
+ghost use Rattle.sqlite.specs.Held.{state};
 ghost use Rattle.register_core.specs.declared.request.Request.{Request};
 ghost use Rattle.register_core.specs.declared.line.TheConstants.{LINE_LIMIT, REPLY_LIMIT};
 ghost use Rattle.register_core.specs.Request.{IsItem};
@@ -9,7 +11,7 @@ ghost use Rattle.register_desk.specs.Lines.{work_left};
 ghost use Rattle.register_desk.specs.Input.{HasItems};
 ghost use Rattle.register_desk.specs.Register.{StandsFor};
 ghost use Rattle.register_desk.specs.Run.{RunsOver, IsFaulted, most_reads, most_idle};
-ghost use Rattle.register_desk.specs.Serving.{AnswersItem, ServesItem, StopsItem, LeavesItem, ServesTo, Wrote, TookBytes};
+ghost use Rattle.register_desk.specs.Serving.{AnswersItem, WasClean, ServesItem, StopsItem, LeavesItem, ServesTo, Wrote, TookBytes};
 
 use crate::desk::Desk;
 use crate::end::End;
@@ -63,6 +65,7 @@ fn item_of(lines: &Lines) -> Option<Request>
 /// Applies the item, and gives the line of its answer.
 fn answer_item<S: Alter>(desk: &mut Desk<S>, item: &Option<Request>) -> Result<ReplyLine, End>
     ensures answers { IfOk result (λ line. AnswersItem S.Store desk.old desk.new item.now line) }
+    ensures clean { OnOk result (WasClean S.Store desk.old desk.new) }
     ensures short { IfOk result (λ line. length line ≤ REPLY_LIMIT) }
     ensures stop { IfErr result (λ end. StopsItem S.Store desk.old desk.new item.now end) }
 {
@@ -165,9 +168,9 @@ pub fn run<R: Read, W: Write, S: Alter>(
     requires reader { reader.old.failed ≡ false }
     requires writer { writer.old.failed ≡ false }
     // Where the reader's bytes are known, what is written is the lines of the answers, and the desk then stands
-    // for the history of the items that were answered.
+    // for the history of the items that were answered. The disk is to have given back what was written.
     ensures agrees { (h : List Request) (bytes : List ℕ) (items : List (Option Request)) (rest : List ℕ) →
-        StandsFor S.Store desk.old h → R.remaining reader.old.inner ≡ Some bytes → HasItems bytes items rest →
+        StandsFor S.Store desk.old h → HasCleanDisk (state S.Store desk.new.connection) → R.remaining reader.old.inner ≡ Some bytes → HasItems bytes items rest →
         RunsOver S.Store h items rest result.end result.replies (W.contents writer.old.inner) (W.contents writer.new.inner) desk.new }
     ensures read { TookBytes (R.remaining reader.old.inner) (R.remaining reader.new.inner) result.read }
     ensures written { Wrote (W.contents writer.old.inner) (W.contents writer.new.inner) result.written }

@@ -37,7 +37,7 @@ all_append P [] k all one = (one, tt)
 all_append P (j ∷ ks) k all one = (all.0, all_append P ks k all.1 one)
 
 -- a key's owner and purpose are those of its cells
-in_range : (c : KeyCells) (k : Key) → IsName c.owner → IsPurpose c.purpose → AreDates k.row.dates → row_of c ≡ key_row (c.number, k) → IsKey k
+pub in_range : (c : KeyCells) (k : Key) → IsName c.owner → IsPurpose c.purpose → AreDates k.row.dates → row_of c ≡ key_row (c.number, k) → IsKey k
 in_range c k name purpose dates same =
     let owner_is : c.owner ≡ k.owner = cc in
     let purpose_is : c.purpose ≡ k.purpose = cc in

@@ -7,3 +7,4 @@ pub mod Numbers
 pub mod KeyRow
 pub mod MetaRow
 pub mod KeyState
+pub mod KeyCells

@@ -117,6 +117,13 @@ in_state number state numbered = if numbered.0 == number then (record numbered.1
 abbrev pub with_state : ℕ → State → Tables → Tables
 with_state number state t = record t { keys = map (in_state number state) (numbered t.keys) }
 
+-- this key in the place of the one with that number
+abbrev pub in_place : ℕ → Key → ℕ × Key → Key
+in_place number key numbered = if numbered.0 == number then key else numbered.1
+
+abbrev pub with_key_at : ℕ → Key → Tables → Tables
+with_key_at number key t = record t { keys = map (in_place number key) (numbered t.keys) }
+
 -- the key with this number
 abbrev pub key_at : List Key → ℕ → Option Key
 key_at keys zero = None

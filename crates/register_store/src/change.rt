@@ -2,8 +2,8 @@
 ghost use Rattle.std.specs.Prelude.{◌≡◌, ◌+◌, length};
 ghost use Rattle.sqlite.specs.Held.{state as view_of};
 ghost use Rattle.sql_steps.specs.Steps.{StepsBy};
-ghost use Rattle.register_store.specs.Tables.{Makes, Always, with_key, with_meta, with_state};
-ghost use Rattle.register_store.specs.Cells.{AddsCells};
+ghost use Rattle.register_store.specs.Tables.{Makes, Always, with_key, with_key_at, with_meta, with_state};
+ghost use Rattle.register_store.specs.Cells.{AddsCells, ReplacesCells};
 
 use crate::cells::{KeyCells, cells_of, moment_cell};
 use crate::error::StoreError;
@@ -54,6 +54,51 @@ pub fn add_key<S: Alter>(
         (view_of S.Store tx.old.conn.now) (view_of S.Store tx.new.conn.now) result }
 {
     insert_cells(tx, &cells_of(number, key))?;
+    Ok(())
+}
+
+/// Writes these cells over those of the row that has their number.
+fn replace_cells<S: Alter>(
+    tx: &mut Transaction<'_, S>,
+    cells: &KeyCells,
+) -> Result<usize, sqlite::Error>
+    ensures same_reference { tx.new.conn.ghost_name ≡ tx.old.conn.ghost_name }
+    ensures replaced { StepsBy (λ _. ReplacesCells cells.now) (view_of S.Store tx.old.conn.now) (view_of S.Store tx.new.conn.now) result }
+{
+    tx.execute(
+        "UPDATE keys SET kind = ?2, owner = ?3, purpose = ?4, state = ?5, initial = ?6, activation = ?7, \
+        protect_stop = ?8, deactivation = ?9, destroyed = ?10, compromised = ?11, occurrence = ?12 WHERE number = ?1",
+        params![
+            cells.number,
+            cells.kind,
+            cells.owner.text(),
+            cells.purpose.text(),
+            cells.state,
+            &cells.initial,
+            &cells.activation,
+            &cells.protect_stop,
+            &cells.deactivation,
+            &cells.destroyed,
+            &cells.compromised,
+            &cells.occurrence
+        ],
+    )
+}
+
+/// Puts a key in the place of the one with this number.
+///
+/// # Errors
+/// [`StoreError::Database`] where the database refused.
+pub fn set_key<S: Alter>(
+    tx: &mut Transaction<'_, S>,
+    number: u32,
+    key: &Key,
+) -> Result<(), StoreError>
+    ensures same_reference { tx.new.conn.ghost_name ≡ tx.old.conn.ghost_name }
+    ensures set { StepsBy (λ _. Makes Always (with_key_at number key.now))
+        (view_of S.Store tx.old.conn.now) (view_of S.Store tx.new.conn.now) result }
+{
+    replace_cells(tx, &cells_of(number, key))?;
     Ok(())
 }
 

@@ -10,7 +10,7 @@ mod find;
 mod key;
 mod making;
 
-pub use change::{add_key, record_request};
+pub use change::{add_key, record_request, set_key};
 pub use due::advance_due;
 pub use error::StoreError;
 pub use find::{find_key, load_key};

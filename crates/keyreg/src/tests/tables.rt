@@ -1,5 +1,8 @@
 use super::served::serve;
-use super::worked_rows::{DEFAULTS, FIRST_DAY};
+use super::worked_rows::{
+    ACTIVATED, ASSIGNED, COMPROMISED, DATES_SET, DEFAULTS, FIRST_DAY, STOP_FROZEN, TRIMMED,
+    WorkedRow,
+};
 use crate::act::in_memory;
 use lifecycle_core::{Dates, Process, Row, State, Usage};
 use moment_core::Moment;
@@ -7,6 +10,7 @@ use period_core::KeyType;
 use register_core::{Name, Purpose};
 use register_desk::{Desk, OpenRefusal};
 use sqlite::Connection;
+use std::alloc::Global;
 use std::test::Fail;
 
 /// The state of each of the first three keys.
@@ -58,6 +62,103 @@ fn defaults_are_shown(rt: HostRuntime) -> Result<(), Fail> {
     );
     assert_eq!(rt; record.custodians.len() + record.approvals.len(), 0);
     Ok(())
+}
+
+/// The state of key 1 after a row, and its dates behind the Initial Date, each in seconds.
+const SHOWN: [(WorkedRow, State, [Option<u64>; 6]); 6] = [
+    (
+        TRIMMED,
+        State::Active,
+        [
+            Some(200),
+            Some(31_536_200),
+            Some(31_536_200),
+            None,
+            None,
+            None,
+        ],
+    ),
+    (
+        COMPROMISED,
+        State::Compromised,
+        [
+            Some(500),
+            Some(63_072_500),
+            Some(157_766_900),
+            None,
+            Some(400),
+            Some(300),
+        ],
+    ),
+    (
+        DATES_SET,
+        State::PreActive,
+        [Some(1000), Some(3000), Some(3000), None, None, None],
+    ),
+    (
+        STOP_FROZEN,
+        State::Deactivated,
+        [Some(0), Some(550), Some(550), None, None, None],
+    ),
+    (
+        ACTIVATED,
+        State::Active,
+        [
+            Some(400),
+            Some(63_072_400),
+            Some(157_766_800),
+            None,
+            None,
+            None,
+        ],
+    ),
+    (
+        ASSIGNED,
+        State::Deactivated,
+        [Some(50), Some(50), Some(50), None, None, None],
+    ),
+];
+
+/// The row of key 1 after a run over the input.
+fn row_of_key_1(alloc: Global, input: &str) -> Option<Row> {
+    match serve(alloc, input.as_bytes(), Vec::new(alloc)) {
+        Ok(mut served) => match served.desk.show(1) {
+            Ok(Some(record)) => Some(record.row),
+            _ => None,
+        },
+        Err(_) => None,
+    }
+}
+
+fn seconds(dates: &Dates) -> [Option<u64>; 6] {
+    let dates = [
+        dates.activation,
+        dates.protect_stop,
+        dates.deactivation,
+        dates.destroy,
+        dates.compromise,
+        dates.compromise_occurrence,
+    ];
+    dates.map(|date| date.map(|moment| moment.seconds()))
+}
+
+/// Whether key 1 is in the state and has the dates after a run over the input.
+fn is_shown(alloc: Global, input: &str, state: State, dates: [Option<u64>; 6]) -> bool {
+    match row_of_key_1(alloc, input) {
+        Some(row) => row.state == state && seconds(&row.dates) == dates,
+        None => false,
+    }
+}
+
+#[test]
+fn changed_keys_are_shown(rt: HostRuntime) {
+    for (row, state, dates) in SHOWN {
+        assert!(rt;
+            is_shown(rt.alloc(), row.input, state, dates),
+            "{}",
+            row.name
+        );
+    }
 }
 
 #[test]

@@ -134,8 +134,88 @@ const STOP_ALONE: WorkedRow = WorkedRow {
     rest: 0,
 };
 
+const ORDER_AT_ACTIVATION: WorkedRow = WorkedRow {
+    name: "activated at the deactivation",
+    input: "100 ann 1 register master bob - - 100 x\n100 bob 1 activate 1\n",
+    output: "ok 1 Pre-Active 100\nok 1 Deactivated 100\n",
+    replies: 2,
+    rest: 0,
+};
+
+const ACTIVATED_TOO_LATE: WorkedRow = WorkedRow {
+    name: "activated after the deactivation",
+    input: "100 ann 1 register master bob - - 100 x\n101 bob 1 activate 1\n",
+    output: "ok 1 Pre-Active 100\nrefused 9 DateOrder\n",
+    replies: 2,
+    rest: 0,
+};
+
+pub const TRIMMED: WorkedRow = WorkedRow {
+    name: "trimmed",
+    input: "100 ann 1 register master bob - 40000000 - x\n200 bob 1 activate 1\n",
+    output: "ok 1 Pre-Active 100\nok 1 Active 200\n",
+    replies: 2,
+    rest: 0,
+};
+
+pub const COMPROMISED: WorkedRow = WorkedRow {
+    name: "compromised before its activation",
+    input: "300 ann 1 register data-encryption bob 500 - - x\n400 zed 1 revoke 1 2 -\n600 ann 2 advance\n",
+    output: "ok 1 Pre-Active 300\nok 1 Compromised 400\nok 0 - 600\n",
+    replies: 3,
+    rest: 0,
+};
+
+const REVOKED_TOO_EARLY: WorkedRow = WorkedRow {
+    name: "revoked before its activation",
+    input: "100 ann 1 register master bob 1000 - - x\n200 bob 1 revoke 1 5 -\n",
+    output: "ok 1 Pre-Active 100\nrefused 7 WrongState state=Pre-Active\n",
+    replies: 2,
+    rest: 0,
+};
+
+pub const DATES_SET: WorkedRow = WorkedRow {
+    name: "dates set",
+    input: "100 ann 1 register master bob 1000 2000 2000 x\n200 bob 1 set 1 = 3000 -\n1000 bob 2 set 1 1200 = =\n3000 bob 2 set 1 = 3500 -\n",
+    output: "ok 1 Pre-Active 100\nok 1 Pre-Active 200\nrefused 8 DateFrozen\nrefused 7 WrongState state=Deactivated\n",
+    replies: 4,
+    rest: 0,
+};
+
+pub const STOP_FROZEN: WorkedRow = WorkedRow {
+    name: "protect stop frozen",
+    input: "100 ann 1 register data-encryption bob 0 500 1000 x\n500 bob 1 set 1 = 600 =\n499 bob 1 set 1 = 600 =\n550 bob 2 revoke 1 5 -\n",
+    output: "ok 1 Active 100\nrefused 8 DateFrozen\nok 1 Active 499\nok 1 Deactivated 550\n",
+    replies: 4,
+    rest: 0,
+};
+
+pub const ACTIVATED: WorkedRow = WorkedRow {
+    name: "activated early",
+    input: "100 ann 1 register data-encryption bob 1000 - - x\n400 bob 1 activate 1\n",
+    output: "ok 1 Pre-Active 100\nok 1 Active 400\n",
+    replies: 2,
+    rest: 0,
+};
+
+const NOT_FOR_THEM: WorkedRow = WorkedRow {
+    name: "refused to strangers",
+    input: "100 ann 1 register data-encryption bob 0 - - payroll disks\n200 zed 1 assign 1 zed\n200 zed 1 activate 9\n200 zed 1 revoke 1 2 201\n200 bob 1 revoke 1 5 100\n",
+    output: "ok 1 Active 100\nrefused 5 NotOwner\nrefused 4 UnknownKey\nrefused 19 OccurrenceLater\nrefused 1 BadLine\n",
+    replies: 5,
+    rest: 0,
+};
+
+pub const ASSIGNED: WorkedRow = WorkedRow {
+    name: "assigned",
+    input: "100 ann 1 register master bob 50 - 50 spare\n200 bob 1 assign 1 eve\n300 bob 2 assign 1 bob\n300 eve 1 assign 1 bob\n",
+    output: "ok 1 Deactivated 100\nok 1 Deactivated 200\nrefused 5 NotOwner\nok 1 Deactivated 300\n",
+    replies: 4,
+    rest: 0,
+};
+
 /// Each worked row.
-pub const WORKED_ROWS: [WorkedRow; 15] = [
+pub const WORKED_ROWS: [WorkedRow; 25] = [
     FIRST_DAY,
     NOTHING,
     NOT_A_REQUEST,
@@ -151,6 +231,16 @@ pub const WORKED_ROWS: [WorkedRow; 15] = [
     RECIPIENTS_LIMIT,
     WITHOUT_ACTIVATION,
     STOP_ALONE,
+    ORDER_AT_ACTIVATION,
+    ACTIVATED_TOO_LATE,
+    TRIMMED,
+    COMPROMISED,
+    REVOKED_TOO_EARLY,
+    DATES_SET,
+    STOP_FROZEN,
+    ACTIVATED,
+    NOT_FOR_THEM,
+    ASSIGNED,
 ];
 
 /// How many lines of the bytes are whole.

@@ -1,10 +1,12 @@
 use Rattle.std.proofs.Common.{◌≡◌, ◌≤◌, take}
-use Rattle.register_core.specs.History.{count, dates}
+use Rattle.std.specs.Prelude.{fold}
+use Rattle.register_core.specs.History.{count, own, no_dates}
+use Rattle.register_core.proofs.Histories.{dates_step}
 use Rattle.register_core.proofs.plain.dates.Given as goal
 
 abbrev pub invariant-loop-request : goal.invariant-loop-request
 invariant-loop-request l = record {
-  dates : l.dates ≡ dates (take l.request-index l.history) l.key;
+  dates : l.dates ≡ fold (dates_step l.kind) no_dates (own (take l.request-index l.history) l.key);
   made : l.made ≡ count (take l.request-index l.history);
   within : l.made ≤ l.request-index;
 }

@@ -1,0 +1,13 @@
+-- The text of a command alone: what stands at the end of a request's line.
+use Rattle.std.specs.Prelude.{◌≡◌, ℕ, List, Option, None, Some}
+use Rattle.register_core.specs.declared.request.Command.{Command}
+use Rattle.register_core.specs.Request.{IsCommand, command_text}
+
+-- the bytes are the text of the command, which is in its range
+abbrev pub IsCommandText : List ℕ → Command → Type 0
+IsCommandText bytes command = IsCommand command × (bytes ≡ command_text command)
+
+-- what the bytes stand for: the command whose text they are, or none where they are the text of no command
+abbrev pub IsCommandItem : List ℕ → Option Command → Type 0
+IsCommandItem bytes None = (command : Command) → IsCommandText bytes command → ⊥
+IsCommandItem bytes (Some command) = IsCommandText bytes command

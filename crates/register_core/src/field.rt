@@ -1,0 +1,200 @@
+//! The fields of a line: what stands between its spaces.
+ghost use Rattle.std.specs.Prelude.{◌≡◌, ◌≢◌, ℕ, ◌+◌, ◌<◌, ◌≤◌, ◌^◌, ◌↔◌, ◌⊎◌, ◌++◌, decimal, length, position, IsSome, IfSome, IfNone};
+ghost use Rattle.arrayvec.specs.ArrayString.{array_string_len};
+ghost use Rattle.lifecycle_core.specs.Reason.{reason_code};
+ghost use Rattle.register_core.specs.Request.{IsKeyNumber, date_text, edit_text};
+ghost use Rattle.register_core.specs.Reading.{Gives, is_space, field_at, moment_at, date_at, edit_at, key_number_at, reason_at, occurrence_at, request_number_at, name_at, key_type_at, purpose_at};
+
+use crate::name::Name;
+use crate::number::RequestNumber;
+use crate::purpose::Purpose;
+use crate::request::Edit;
+use arrayvec::ArrayString;
+use itoa::Buffer;
+use lifecycle_core::Reason;
+use moment_core::Moment;
+use period_core::KeyType;
+use std::str;
+
+/// Where the first space stands.
+fn first_space(bytes: &[u8]) -> Option<usize>
+    ensures place { result ≡ position is_space bytes.now }
+    ensures within { IfSome result (λ i. i < length bytes.now) }
+{
+    bytes.iter().position(|byte| *byte == b' ')
+}
+
+/// The field before the first space, and what stands behind that space.
+#[tactic(auto, unfolding(crate::specs::Reading::field_at))]
+pub(crate) fn split_field(bytes: &[u8]) -> Option<(&[u8], &[u8])>
+    ensures { Gives (λ x. (x.0.now, x.1.now)) result (field_at bytes.now) }
+{
+    let end = first_space(bytes)?;
+    Some((&bytes[..end], &bytes[end + 1..]))
+}
+
+/// The number that the field writes in decimal, with no sign and no leading zero.
+fn number_of(field: &[u8]) -> Option<u64>
+    ensures found { IfSome result (λ n. field.now ≡ decimal n) }
+    ensures none { IfNone result ((n : ℕ) → n < 2 ^ 64 → field.now ≢ decimal n) }
+{
+    let Ok(text) = str::from_utf8(field) else {
+        return None;
+    };
+    let Ok(number) = text.parse::<u64>() else {
+        return None;
+    };
+    // Of the texts that `parse` reads as the number, a field has the one that is written.
+    let mut buffer = Buffer::new();
+    if buffer.format(number).as_bytes() == field {
+        Some(number)
+    } else {
+        None
+    }
+}
+
+/// The moment that the field writes.
+pub(crate) fn moment_of(field: &[u8]) -> Option<Moment>
+    ensures { result ≡ moment_at field.now }
+{
+    Moment::new(number_of(field)?)
+}
+
+/// The date that the field writes, `-` for none.
+#[tactic(auto, unfolding(crate::specs::Reading::date_at))]
+pub(crate) fn date_of(field: &[u8]) -> Option<Option<Moment>>
+    ensures { result ≡ date_at field.now }
+{
+    if field == b"-".as_slice() {
+        return Some(None);
+    }
+    let moment = moment_of(field)?;
+    Some(Some(moment))
+}
+
+/// What the field says of a date: `=` that it stays, `-` that it is set no more, or the moment to set it to.
+#[tactic(auto, unfolding(crate::specs::Reading::edit_at))]
+pub(crate) fn edit_of(field: &[u8]) -> Option<Edit>
+    ensures { result ≡ edit_at field.now }
+{
+    if field == b"=".as_slice() {
+        return Some(Edit::Keep);
+    }
+    if field == b"-".as_slice() {
+        return Some(Edit::Clear);
+    }
+    let moment = moment_of(field)?;
+    Some(Edit::Set(moment))
+}
+
+/// The number as that of a key, or `None` out of the range.
+fn key_number(number: u64) -> Option<u32>
+    ensures in_range { IsSome result ↔ IsKeyNumber number }
+    ensures value { IfSome result (λ n. n ≡ number) }
+{
+    if number == 0 {
+        return None;
+    }
+    u32::try_from(number).ok()
+}
+
+/// The key's number that the field writes.
+pub(crate) fn key_number_of(field: &[u8]) -> Option<u32>
+    ensures { result ≡ key_number_at field.now }
+{
+    key_number(number_of(field)?)
+}
+
+/// The reason with this code, or `None` where no reason has it.
+fn reason_with(number: u64) -> Option<Reason>
+    ensures found { IfSome result (λ reason. reason_code reason ≡ number) }
+    ensures none { IfNone result ((number < 1) ⊎ (7 < number)) }
+{
+    let code = u8::try_from(number).ok()?;
+    Reason::from_code(code)
+}
+
+/// The reason whose code the field writes.
+pub(crate) fn reason_of(field: &[u8]) -> Option<Reason>
+    ensures { result ≡ reason_at field.now }
+{
+    reason_with(number_of(field)?)
+}
+
+/// The occurrence that the field writes: a date with a compromise, else `-` alone.
+#[tactic(auto, unfolding(crate::specs::Reading::occurrence_at))]
+pub(crate) fn occurrence_of(reason: Reason, field: &[u8]) -> Option<Option<Moment>>
+    ensures { result ≡ occurrence_at reason field.now }
+{
+    if reason.is_compromise() {
+        return date_of(field);
+    }
+    if field == b"-".as_slice() {
+        Some(None)
+    } else {
+        None
+    }
+}
+
+/// The request's number that the field writes.
+pub(crate) fn request_number_of(field: &[u8]) -> Option<RequestNumber>
+    ensures { result ≡ request_number_at field.now }
+{
+    RequestNumber::new(number_of(field)?)
+}
+
+/// The name that the field is.
+pub(crate) fn name_of(field: &[u8]) -> Option<Name>
+    ensures { result ≡ name_at field.now }
+{
+    Name::new(field)
+}
+
+/// The type whose text the field is.
+pub(crate) fn key_type_of(field: &[u8]) -> Option<KeyType>
+    ensures { result ≡ key_type_at field.now }
+{
+    KeyType::from_text(field)
+}
+
+/// The purpose that the bytes are.
+pub(crate) fn purpose_of(bytes: &[u8]) -> Option<Purpose>
+    ensures { result ≡ purpose_at bytes.now }
+{
+    Purpose::new(bytes)
+}
+
+/// Appends the number in decimal.
+pub(crate) fn put_number<const N: usize>(line: &mut ArrayString<N>, number: u64)
+    requires { array_string_len line.old + 20 ≤ N }
+    ensures bytes { line.new.bytes ≡ line.old.bytes ++ decimal number }
+    ensures short { array_string_len line.new ≤ array_string_len line.old + 20 }
+{
+    let mut digits = Buffer::new();
+    line.push_str(digits.format(number));
+}
+
+/// Appends the date, `-` for none.
+pub(crate) fn put_date<const N: usize>(line: &mut ArrayString<N>, date: Option<Moment>)
+    requires { array_string_len line.old + 20 ≤ N }
+    ensures bytes { line.new.bytes ≡ line.old.bytes ++ date_text date }
+    ensures short { array_string_len line.new ≤ array_string_len line.old + 20 }
+{
+    match date {
+        Some(moment) => put_number(line, moment.seconds()),
+        None => line.push_str("-"),
+    }
+}
+
+/// Appends what becomes of a date.
+pub(crate) fn put_edit<const N: usize>(line: &mut ArrayString<N>, edit: Edit)
+    requires { array_string_len line.old + 20 ≤ N }
+    ensures bytes { line.new.bytes ≡ line.old.bytes ++ edit_text edit }
+    ensures short { array_string_len line.new ≤ array_string_len line.old + 20 }
+{
+    match edit {
+        Edit::Keep => line.push_str("="),
+        Edit::Clear => line.push_str("-"),
+        Edit::Set(moment) => put_number(line, moment.seconds()),
+    }
+}
