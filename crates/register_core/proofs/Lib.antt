@@ -1,6 +1,7 @@
 pub mod Histories
 pub mod Folds
-pub mod Names
+pub mod NameTexts
+pub mod NameOrder
 pub mod Fields
 pub mod Readers
 pub mod Lines

@@ -1,5 +1,6 @@
 pub mod Text
 pub mod Name
+pub mod Post
 pub mod Number
 pub mod Purpose
 pub mod Reply

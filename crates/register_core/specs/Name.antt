@@ -1,6 +1,7 @@
 -- Names of callers, owners and custodians. The rule is this register's own.
 use Rattle.std.specs.Prelude.{ℕ, ◌≤◌, ◌==◌, nat_le, Bool, ◌&&◌, ◌||◌, List, length, IsTrue}
-use Rattle.std.specs.List.{list_all}
+use Rattle.std.specs.List.{list_all, list_any}
+use Rattle.std.specs.Str.{bytes_eq}
 
 -- an ASCII letter, a digit, or one of - _ . @
 abbrev pub is_name_byte : ℕ → Bool
@@ -10,3 +11,7 @@ is_name_byte b =
 
 abbrev pub IsName : List ℕ → Type 0
 IsName bytes = (1 ≤ length bytes) × (length bytes ≤ 64) × IsTrue (list_all is_name_byte bytes)
+
+-- the name is one of these
+abbrev pub is_among : List ℕ → List (List ℕ) → Bool
+is_among name names = list_any (λ other. bytes_eq other name) names
