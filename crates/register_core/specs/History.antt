@@ -7,12 +7,10 @@ use Rattle.period_core.specs.declared.key_type.KeyType.{KeyType}
 use Rattle.period_core.specs.Fitting.{filled, trimmed}
 use Rattle.register_core.specs.declared.request.Request.{Request}
 use Rattle.register_core.specs.declared.request.Command.{Command}
-use Rattle.register_core.specs.declared.request.Command.TheVariants.{Register, Activate, SetDates, Revoke, Assign, Advance}
+use Rattle.register_core.specs.declared.request.Command.TheVariants.{Register, Activate, SetDates, Revoke, Assign, AddCustodian, RemoveCustodian, Approve, Withdraw, Destroy, Advance}
 use Rattle.register_core.specs.declared.request.Edit.{Edit}
 use Rattle.register_core.specs.declared.request.Edit.TheVariants.{Keep, Clear, Set}
-use Rattle.register_core.specs.declared.decision.Held.{Held}
 use Rattle.lifecycle_core.specs.Reason.{is_compromise}
-use Rattle.lifecycle_core.specs.State.{state_at}
 use Rattle.period_core.specs.declared.key_type.KeyType.TheVariants.{DataEncryption}
 
 -- the moment of the latest accepted request, 0 before the first
@@ -44,6 +42,11 @@ key_of made (Activate key) = Some key
 key_of made (SetDates key activation protect_stop deactivation) = Some key
 key_of made (Revoke key reason occurrence) = Some key
 key_of made (Assign key owner) = Some key
+key_of made (AddCustodian key name) = Some key
+key_of made (RemoveCustodian key name) = Some key
+key_of made (Approve key) = Some key
+key_of made (Withdraw key) = Some key
+key_of made (Destroy key) = Some key
 key_of made Advance = None
 
 -- how many keys a command makes
@@ -114,8 +117,8 @@ dates_after of_type d t (Register kind owner activation protect_stop deactivatio
 dates_after of_type d t (Activate key) = trimmed of_type (record d { activation = Some t })
 dates_after of_type d t (SetDates key activation protect_stop deactivation) = filled of_type (edited_dates activation protect_stop deactivation d)
 dates_after of_type d t (Revoke key reason occurrence) = if is_compromise reason then compromised t occurrence d else deactivated t d
-dates_after of_type d t (Assign key owner) = d
-dates_after of_type d t Advance = d
+dates_after of_type d t (Destroy key) = record d { destroy = Some t }
+dates_after of_type d t _ = d
 
 -- the dates that the requests of key k give it, one after the other
 abbrev pub dates : List Request → ℕ → Dates
@@ -130,12 +133,3 @@ owner_after before _ = before
 -- the owner that the latest of the key's requests which names one gives it
 abbrev pub owner : List Request → ℕ → List ℕ
 owner h k = fold (λ before q. owner_after before q.command) [] (own h k)
-
--- ---- a key as it stands
-
--- key k as it stands at the latest moment, or none where there is no such key
-abbrev pub held : List Request → ℕ → Option Held
-held h k =
-    if nat_le 1 k && nat_le k (count h)
-    then Some (record { kind = type h k; owner = owner h k; row = record { dates = dates h k; state = state_at (dates h k) (latest h) } })
-    else None

@@ -7,6 +7,7 @@ pub mod Reply
 pub mod Request
 pub mod CommandText
 pub mod History
+pub mod People
 pub mod Verdict
 pub mod Decision
 pub mod Fold

@@ -15,7 +15,7 @@ use Rattle.period_core.specs.declared.key_type.KeyType.{KeyType}
 use Rattle.period_core.specs.declared.key_type.KeyType.TheVariants.{DataEncryption, Authentication, KeyWrapping, PrivateSignature, PrivateAuthentication, PrivateTransport, Master}
 use Rattle.register_core.specs.declared.request.Request.{Request}
 use Rattle.register_core.specs.declared.request.Command.{Command}
-use Rattle.register_core.specs.declared.request.Command.TheVariants.{Register, Activate, SetDates, Revoke, Assign, Advance}
+use Rattle.register_core.specs.declared.request.Command.TheVariants.{Register, Activate, SetDates, Revoke, Assign, AddCustodian, RemoveCustodian, Approve, Withdraw, Destroy, Advance}
 use Rattle.register_core.specs.declared.request.Edit.{Edit}
 use Rattle.register_core.specs.declared.request.Edit.TheVariants.{Keep, Clear, Set}
 use Rattle.register_core.specs.Name.{is_name_byte}
@@ -160,6 +160,48 @@ assign_at bytes = do
   owner ← name_at key.1
   Some (Assign key.0 owner)
 
+-- what stands behind the word add-custodian
+unfoldable pub add_custodian_at : List ℕ → Option Command
+add_custodian_at bytes = do
+  key ← field_as key_number_at bytes
+  name ← name_at key.1
+  Some (AddCustodian key.0 name)
+
+-- what stands behind the word remove-custodian
+unfoldable pub remove_custodian_at : List ℕ → Option Command
+remove_custodian_at bytes = do
+  key ← field_as key_number_at bytes
+  name ← name_at key.1
+  Some (RemoveCustodian key.0 name)
+
+-- what stands behind the word approve
+unfoldable pub approve_at : List ℕ → Option Command
+approve_at bytes = do
+  key ← key_number_at bytes
+  Some (Approve key)
+
+-- what stands behind the word withdraw
+unfoldable pub withdraw_at : List ℕ → Option Command
+withdraw_at bytes = do
+  key ← key_number_at bytes
+  Some (Withdraw key)
+
+-- what stands behind the word destroy
+unfoldable pub destroy_at : List ℕ → Option Command
+destroy_at bytes = do
+  key ← key_number_at bytes
+  Some (Destroy key)
+
+-- what stands behind a word of custodians, approvals and destruction
+unfoldable pub people_at : List ℕ → List ℕ → Option Command
+people_at word bytes =
+    if bytes_eq word (codes "add-custodian") then add_custodian_at bytes
+    else if bytes_eq word (codes "remove-custodian") then remove_custodian_at bytes
+    else if bytes_eq word (codes "approve") then approve_at bytes
+    else if bytes_eq word (codes "withdraw") then withdraw_at bytes
+    else if bytes_eq word (codes "destroy") then destroy_at bytes
+    else None
+
 -- what stands behind its word
 abbrev pub behind_at : List ℕ → List ℕ → Option Command
 behind_at word bytes =
@@ -168,7 +210,7 @@ behind_at word bytes =
     else if bytes_eq word (codes "set") then set_at bytes
     else if bytes_eq word (codes "revoke") then revoke_at bytes
     else if bytes_eq word (codes "assign") then assign_at bytes
-    else None
+    else people_at word bytes
 
 -- a command that begins with its word
 unfoldable pub worded_at : List ℕ → Option Command

@@ -7,7 +7,7 @@ use Rattle.register_core.specs.Purpose.{IsPurpose}
 use Rattle.period_core.specs.KeyType.{key_type_text}
 use Rattle.register_core.specs.declared.request.Request.{Request}
 use Rattle.register_core.specs.declared.request.Command.{Command}
-use Rattle.register_core.specs.declared.request.Command.TheVariants.{Register, Activate, SetDates, Revoke, Assign, Advance}
+use Rattle.register_core.specs.declared.request.Command.TheVariants.{Register, Activate, SetDates, Revoke, Assign, AddCustodian, RemoveCustodian, Approve, Withdraw, Destroy, Advance}
 use Rattle.register_core.specs.declared.request.Edit.{Edit}
 use Rattle.register_core.specs.declared.request.Edit.TheVariants.{Keep, Clear, Set}
 use Rattle.lifecycle_core.specs.Reason.{reason_code, is_compromise}
@@ -40,6 +40,11 @@ IsCommand (Activate key) = IsKeyNumber key
 IsCommand (SetDates key activation protect_stop deactivation) = IsKeyNumber key × IsEdit activation × IsEdit protect_stop × IsEdit deactivation
 IsCommand (Revoke key reason occurrence) = IsKeyNumber key × IsDate occurrence × (is_compromise reason ≡ false → occurrence ≡ None)
 IsCommand (Assign key owner) = IsKeyNumber key × IsName owner
+IsCommand (AddCustodian key name) = IsKeyNumber key × IsName name
+IsCommand (RemoveCustodian key name) = IsKeyNumber key × IsName name
+IsCommand (Approve key) = IsKeyNumber key
+IsCommand (Withdraw key) = IsKeyNumber key
+IsCommand (Destroy key) = IsKeyNumber key
 IsCommand Advance = Unit {0}
 
 pub record IsRequest (q : Request) : Type 0 where
@@ -70,6 +75,11 @@ command_text (SetDates key activation protect_stop deactivation) =
     codes "set " ++ decimal key ++ codes " " ++ edit_text activation ++ codes " " ++ edit_text protect_stop ++ codes " " ++ edit_text deactivation
 command_text (Revoke key reason occurrence) = codes "revoke " ++ decimal key ++ codes " " ++ decimal (reason_code reason) ++ codes " " ++ date_text occurrence
 command_text (Assign key owner) = codes "assign " ++ decimal key ++ codes " " ++ owner
+command_text (AddCustodian key name) = codes "add-custodian " ++ decimal key ++ codes " " ++ name
+command_text (RemoveCustodian key name) = codes "remove-custodian " ++ decimal key ++ codes " " ++ name
+command_text (Approve key) = codes "approve " ++ decimal key
+command_text (Withdraw key) = codes "withdraw " ++ decimal key
+command_text (Destroy key) = codes "destroy " ++ decimal key
 command_text Advance = codes "advance"
 
 abbrev pub request_text : Request → List ℕ

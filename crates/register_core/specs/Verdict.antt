@@ -1,26 +1,28 @@
 -- What a request is answered behind a history: the first refusal that holds, else the reply.
-use Rattle.std.specs.Prelude.{ℕ, ◌==◌, nat_lt, nat_le, Bool, true, false, not, ◌&&◌, ◌||◌, List, [], ◌∷◌, ◌++◌, Option, None, Some, Result, Ok, Err, unwrap_or, if◌then◌else◌}
+use Rattle.std.specs.Prelude.{ℕ, ◌==◌, nat_lt, nat_le, Bool, true, false, not, ◌&&◌, ◌||◌, List, [], ◌∷◌, ◌++◌, Option, None, Some, Result, Ok, Err, unwrap_or, length, if◌then◌else◌}
 use Rattle.std.specs.Option.{option_map, option_and_then}
 use Rattle.std.specs.List.{list_any}
 use Rattle.std.specs.Str.{bytes_eq}
 use Rattle.lifecycle_core.specs.declared.state.State.{State}
-use Rattle.lifecycle_core.specs.declared.state.State.TheVariants.{PreActive, Active, Deactivated, Destroyed}
+use Rattle.lifecycle_core.specs.declared.state.State.TheVariants.{PreActive, Active, Deactivated, Compromised, Destroyed}
 use Rattle.lifecycle_core.specs.State.{state_at, state_code, is_reached_at}
 use Rattle.lifecycle_core.specs.Reason.{is_compromise}
 use Rattle.register_core.specs.declared.request.Request.{Request}
 use Rattle.register_core.specs.declared.request.Command.{Command}
-use Rattle.register_core.specs.declared.request.Command.TheVariants.{Register, Activate, SetDates, Revoke, Assign}
+use Rattle.register_core.specs.declared.request.Command.TheVariants.{Register, Activate, SetDates, Revoke, Assign, AddCustodian, RemoveCustodian, Approve, Withdraw, Destroy}
 use Rattle.register_core.specs.declared.request.Edit.{Edit}
 use Rattle.register_core.specs.declared.request.Edit.TheVariants.{Keep}
 use Rattle.register_core.specs.declared.decision.Held.{Held}
 use Rattle.register_core.specs.declared.reply.Reply.{Reply}
 use Rattle.register_core.specs.declared.reply.Refusal.{Refusal}
-use Rattle.register_core.specs.declared.reply.Refusal.TheVariants.{MomentBehind, UnknownKey, NotOwner, WrongState, DateFrozen, DateOrder, PeriodTooLong, DateRange, OccurrenceLater, Full}
+use Rattle.register_core.specs.declared.reply.Refusal.TheVariants.{MomentBehind, UnknownKey, NotOwner, NotCustodian, WrongState, DateFrozen, DateOrder, PeriodTooLong, DateRange, AlreadyCustodian, NoSuchCustodian, TooManyCustodians, OwnerCustodian, AlreadyApproved, NoApproval, ApprovalsMissing, OccurrenceLater, Full}
 use Rattle.lifecycle_core.specs.declared.dates.Dates.{Dates}
 use Rattle.period_core.specs.declared.filling.DateRefusal.{DateRefusal}
 use Rattle.period_core.specs.declared.filling.DateRefusal.TheVariants as dates
 use Rattle.period_core.specs.Fitting.{fill_of, trim_of}
-use Rattle.register_core.specs.History.{latest, count, key_of, given_dates, edited_dates, held, dates as dates_of_key}
+use Rattle.register_core.specs.Name.{is_among}
+use Rattle.register_core.specs.History.{latest, count, key_of, given_dates, edited_dates, dates as dates_of_key}
+use Rattle.register_core.specs.People.{held}
 
 -- ---- the refusals, each where its condition holds
 
@@ -50,6 +52,11 @@ unknown None (Activate key) = Some UnknownKey
 unknown None (SetDates key activation protect_stop deactivation) = Some UnknownKey
 unknown None (Revoke key reason occurrence) = Some UnknownKey
 unknown None (Assign key owner) = Some UnknownKey
+unknown None (AddCustodian key name) = Some UnknownKey
+unknown None (RemoveCustodian key name) = Some UnknownKey
+unknown None (Approve key) = Some UnknownKey
+unknown None (Withdraw key) = Some UnknownKey
+unknown None (Destroy key) = Some UnknownKey
 unknown _ _ = None
 
 -- the command is one for the key's owner alone
@@ -58,12 +65,26 @@ is_owners (Activate key) = true
 is_owners (SetDates key activation protect_stop deactivation) = true
 is_owners (Revoke key reason occurrence) = not (is_compromise reason)
 is_owners (Assign key owner) = true
+is_owners (AddCustodian key name) = true
+is_owners (RemoveCustodian key name) = true
+is_owners (Destroy key) = true
 is_owners _ = false
 
 -- it is the owner's, and the caller is another
 abbrev pub not_owner : Option Held → List ℕ → Command → Option Refusal
 not_owner None caller c = None
 not_owner (Some held) caller c = if is_owners c && not (bytes_eq caller held.owner) then Some NotOwner else None
+
+-- the command is one for a custodian of the key alone
+abbrev pub is_custodians : Command → Bool
+is_custodians (Approve key) = true
+is_custodians (Withdraw key) = true
+is_custodians _ = false
+
+-- it is a custodian's, and the caller is none
+abbrev pub not_custodian : Option Held → List ℕ → Command → Option Refusal
+not_custodian None caller c = None
+not_custodian (Some held) caller c = if is_custodians c && not (is_among caller held.custodians) then Some NotCustodian else None
 
 abbrev pub is_one_of : List State → State → Bool
 is_one_of states state = list_any (λ s. state_code s == state_code state) states
@@ -74,6 +95,10 @@ is_for (Activate key) state = is_one_of (PreActive ∷ []) state
 is_for (SetDates key activation protect_stop deactivation) state = is_one_of (PreActive ∷ Active ∷ []) state
 is_for (Revoke key reason occurrence) state =
     if is_compromise reason then is_one_of (PreActive ∷ Active ∷ Deactivated ∷ Destroyed ∷ []) state else is_one_of (Active ∷ []) state
+is_for (RemoveCustodian key name) state = is_one_of (PreActive ∷ Active ∷ Deactivated ∷ Compromised ∷ []) state
+is_for (Approve key) state = is_one_of (PreActive ∷ Deactivated ∷ Compromised ∷ []) state
+is_for (Withdraw key) state = is_one_of (PreActive ∷ Active ∷ Deactivated ∷ Compromised ∷ []) state
+is_for (Destroy key) state = is_one_of (PreActive ∷ Deactivated ∷ Compromised ∷ []) state
 is_for _ state = true
 
 -- the key's state at t is none of them
@@ -94,6 +119,51 @@ frozen (Some held) t (SetDates key activation protect_stop deactivation) =
     then Some DateFrozen else None
 frozen _ t _ = None
 
+-- the name to add is a custodian of the key already
+abbrev pub already_custodian : Option Held → Command → Option Refusal
+already_custodian (Some held) (AddCustodian key name) = if is_among name held.custodians then Some AlreadyCustodian else None
+already_custodian _ _ = None
+
+-- the name to remove is none
+abbrev pub no_such_custodian : Option Held → Command → Option Refusal
+no_such_custodian (Some held) (RemoveCustodian key name) = if is_among name held.custodians then None else Some NoSuchCustodian
+no_such_custodian _ _ = None
+
+-- how many custodians a key may have
+abbrev pub custodian_limit : ℕ
+custodian_limit = 8
+
+-- the key has so many
+abbrev pub too_many_custodians : Option Held → Command → Option Refusal
+too_many_custodians (Some held) (AddCustodian key name) = if nat_le custodian_limit (length held.custodians) then Some TooManyCustodians else None
+too_many_custodians _ _ = None
+
+-- a custodian would be the owner, or the owner a custodian
+abbrev pub owner_custodian : Option Held → Command → Option Refusal
+owner_custodian (Some held) (AddCustodian key name) = if bytes_eq name held.owner then Some OwnerCustodian else None
+owner_custodian (Some held) (Assign key owner) = if is_among owner held.custodians then Some OwnerCustodian else None
+owner_custodian _ _ = None
+
+-- the caller's approval stands already
+abbrev pub already_approved : Option Held → List ℕ → Command → Option Refusal
+already_approved (Some held) caller (Approve key) = if is_among caller held.approvals then Some AlreadyApproved else None
+already_approved _ caller _ = None
+
+-- it does not stand
+abbrev pub no_approval : Option Held → List ℕ → Command → Option Refusal
+no_approval (Some held) caller (Withdraw key) = if is_among caller held.approvals then None else Some NoApproval
+no_approval _ caller _ = None
+
+-- how many approvals the destruction of a key needs
+abbrev pub approvals_needed : ℕ
+approvals_needed = 2
+
+-- fewer stand
+abbrev pub approvals_missing : Option Held → Command → Option Refusal
+approvals_missing (Some held) (Destroy key) =
+    let have = length held.approvals in if nat_lt have approvals_needed then Some (ApprovalsMissing have approvals_needed) else None
+approvals_missing _ _ = None
+
 -- the occurrence of a compromise is after t
 abbrev pub occurs_later : ℕ → Command → Option Refusal
 occurs_later t (Revoke key reason (Some occurrence)) = if nat_lt t occurrence then Some OccurrenceLater else None
@@ -108,23 +178,43 @@ abbrev pub too_many : ℕ → Command → Option Refusal
 too_many keys (Register kind owner activation protect_stop deactivation purpose) = if nat_le key_limit keys then Some Full else None
 too_many keys _ = None
 
--- each refusal of a request, in order, where its condition holds; the key is the one that it names, as it stands
-abbrev pub refusals : ℕ → ℕ → Option Held → Request → List (Option Refusal)
-refusals last keys key q =
-    behind last q.moment
-    ∷ unknown key q.command
-    ∷ not_owner key q.caller q.command
-    ∷ wrong_state key q.moment q.command
-    ∷ frozen key q.moment q.command
-    ∷ unfit key q.moment q.command
-    ∷ occurs_later q.moment q.command
-    ∷ too_many keys q.command
-    ∷ []
-
 abbrev pub first_that_holds : List (Option Refusal) → Option Refusal
 first_that_holds [] = None
 first_that_holds (None ∷ others) = first_that_holds others
 first_that_holds (Some refusal ∷ others) = Some refusal
+
+-- Each refusal of a request, in order, where its condition holds; the key is the one that it names, as it stands. First
+-- those of who asks, of which key and when;
+abbrev pub refused_entry : ℕ → Option Held → Request → Option Refusal
+refused_entry last key q = first_that_holds (
+    behind last q.moment
+    ∷ unknown key q.command
+    ∷ not_owner key q.caller q.command
+    ∷ not_custodian key q.caller q.command
+    ∷ wrong_state key q.moment q.command
+    ∷ [])
+
+-- those of custodians and approvals, which come behind those of dates.
+abbrev pub refused_people : Option Held → List ℕ → Command → Option Refusal
+refused_people key caller c = first_that_holds (
+    already_custodian key c
+    ∷ no_such_custodian key c
+    ∷ too_many_custodians key c
+    ∷ owner_custodian key c
+    ∷ already_approved key caller c
+    ∷ no_approval key caller c
+    ∷ approvals_missing key c
+    ∷ [])
+
+abbrev pub refusals : ℕ → ℕ → Option Held → Request → List (Option Refusal)
+refusals last keys key q =
+    refused_entry last key q
+    ∷ frozen key q.moment q.command
+    ∷ unfit key q.moment q.command
+    ∷ refused_people key q.caller q.command
+    ∷ occurs_later q.moment q.command
+    ∷ too_many keys q.command
+    ∷ []
 
 -- the refusal of a request where the latest moment, the number of keys and the key that it names are these, or none: accepted
 abbrev pub judge : ℕ → ℕ → Option Held → Request → Option Refusal
@@ -136,6 +226,11 @@ named (Activate key) = Some key
 named (SetDates key activation protect_stop deactivation) = Some key
 named (Revoke key reason occurrence) = Some key
 named (Assign key owner) = Some key
+named (AddCustodian key name) = Some key
+named (RemoveCustodian key name) = Some key
+named (Approve key) = Some key
+named (Withdraw key) = Some key
+named (Destroy key) = Some key
 named _ = None
 
 -- the key that the command names, as it stands

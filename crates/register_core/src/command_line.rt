@@ -1,9 +1,9 @@
 //! The text of a command, which is the end of a request's line.
 ghost use Rattle.std.specs.Prelude.{◌≡◌, ◌≤◌, length};
-ghost use Rattle.register_core.specs.declared.request.Command.TheVariants.{Register, Activate, SetDates, Revoke, Assign, Advance};
+ghost use Rattle.register_core.specs.declared.request.Command.TheVariants.{Register, Activate, SetDates, Revoke, Assign, AddCustodian, RemoveCustodian, Approve, Withdraw, Destroy, Advance};
 ghost use Rattle.register_core.specs.Request.{command_text};
 ghost use Rattle.register_core.specs.CommandText.{IsCommandItem};
-ghost use Rattle.register_core.specs.Reading.{register_at, activate_at, set_at, revoke_at, assign_at, worded_at, command_at};
+ghost use Rattle.register_core.specs.Reading.{register_at, activate_at, set_at, revoke_at, assign_at, add_custodian_at, remove_custodian_at, approve_at, withdraw_at, destroy_at, people_at, worded_at, command_at};
 
 use crate::field::{
     date_of, edit_of, key_number_of, key_type_of, name_of, occurrence_of, purpose_of, put_date,
@@ -104,6 +104,75 @@ fn assign_of(bytes: &[u8]) -> Option<Command>
     Some(Command::Assign { key, owner })
 }
 
+/// The command behind the word `add-custodian`.
+#[tactic(auto, unfolding(crate::specs::Reading::add_custodian_at))]
+fn add_custodian_of(bytes: &[u8]) -> Option<Command>
+    ensures { result ≡ add_custodian_at bytes.now }
+{
+    let (field, rest) = split_field(bytes)?;
+    let key = key_number_of(field)?;
+    let name = name_of(rest)?;
+    Some(Command::AddCustodian { key, name })
+}
+
+/// The command behind the word `remove-custodian`.
+#[tactic(auto, unfolding(crate::specs::Reading::remove_custodian_at))]
+fn remove_custodian_of(bytes: &[u8]) -> Option<Command>
+    ensures { result ≡ remove_custodian_at bytes.now }
+{
+    let (field, rest) = split_field(bytes)?;
+    let key = key_number_of(field)?;
+    let name = name_of(rest)?;
+    Some(Command::RemoveCustodian { key, name })
+}
+
+/// The command behind the word `approve`.
+#[tactic(auto, unfolding(crate::specs::Reading::approve_at))]
+fn approve_of(bytes: &[u8]) -> Option<Command>
+    ensures { result ≡ approve_at bytes.now }
+{
+    let key = key_number_of(bytes)?;
+    Some(Command::Approve { key })
+}
+
+/// The command behind the word `withdraw`.
+#[tactic(auto, unfolding(crate::specs::Reading::withdraw_at))]
+fn withdraw_of(bytes: &[u8]) -> Option<Command>
+    ensures { result ≡ withdraw_at bytes.now }
+{
+    let key = key_number_of(bytes)?;
+    Some(Command::Withdraw { key })
+}
+
+/// The command behind the word `destroy`.
+#[tactic(auto, unfolding(crate::specs::Reading::destroy_at))]
+fn destroy_of(bytes: &[u8]) -> Option<Command>
+    ensures { result ≡ destroy_at bytes.now }
+{
+    let key = key_number_of(bytes)?;
+    Some(Command::Destroy { key })
+}
+
+/// A command on custodians, approvals or destruction: its word, and what stands behind it.
+#[tactic(auto, unfolding(crate::specs::Reading::people_at))]
+fn people_of(word: &[u8], rest: &[u8]) -> Option<Command>
+    ensures { result ≡ people_at word.now rest.now }
+{
+    if word == b"add-custodian".as_slice() {
+        add_custodian_of(rest)
+    } else if word == b"remove-custodian".as_slice() {
+        remove_custodian_of(rest)
+    } else if word == b"approve".as_slice() {
+        approve_of(rest)
+    } else if word == b"withdraw".as_slice() {
+        withdraw_of(rest)
+    } else if word == b"destroy".as_slice() {
+        destroy_of(rest)
+    } else {
+        None
+    }
+}
+
 /// A command that begins with its word.
 #[tactic(auto, unfolding(crate::specs::Reading::worded_at))]
 fn worded_of(bytes: &[u8]) -> Option<Command>
@@ -121,7 +190,7 @@ fn worded_of(bytes: &[u8]) -> Option<Command>
     } else if word == b"assign".as_slice() {
         assign_of(rest)
     } else {
-        None
+        people_of(word, rest)
     }
 }
 
@@ -262,6 +331,60 @@ fn assign_text(key: u32, owner: &Name) -> ArrayString<COMMAND_LIMIT>
     text
 }
 
+/// The text that gives a key a custodian.
+fn add_custodian_text(key: u32, name: &Name) -> ArrayString<COMMAND_LIMIT>
+    ensures { result.bytes ≡ command_text (AddCustodian key name.now) }
+{
+    let mut text = ArrayString::new();
+    text.push_str("add-custodian ");
+    put_number(&mut text, u64::from(key));
+    text.push_str(" ");
+    text.push_str(name.text());
+    text
+}
+
+/// The text that takes a custodian from a key.
+fn remove_custodian_text(key: u32, name: &Name) -> ArrayString<COMMAND_LIMIT>
+    ensures { result.bytes ≡ command_text (RemoveCustodian key name.now) }
+{
+    let mut text = ArrayString::new();
+    text.push_str("remove-custodian ");
+    put_number(&mut text, u64::from(key));
+    text.push_str(" ");
+    text.push_str(name.text());
+    text
+}
+
+/// The text that approves of a key's destruction.
+fn approve_text(key: u32) -> ArrayString<COMMAND_LIMIT>
+    ensures { result.bytes ≡ command_text (Approve key) }
+{
+    let mut text = ArrayString::new();
+    text.push_str("approve ");
+    put_number(&mut text, u64::from(key));
+    text
+}
+
+/// The text that withdraws an approval.
+fn withdraw_text(key: u32) -> ArrayString<COMMAND_LIMIT>
+    ensures { result.bytes ≡ command_text (Withdraw key) }
+{
+    let mut text = ArrayString::new();
+    text.push_str("withdraw ");
+    put_number(&mut text, u64::from(key));
+    text
+}
+
+/// The text that destroys a key.
+fn destroy_text(key: u32) -> ArrayString<COMMAND_LIMIT>
+    ensures { result.bytes ≡ command_text (Destroy key) }
+{
+    let mut text = ArrayString::new();
+    text.push_str("destroy ");
+    put_number(&mut text, u64::from(key));
+    text
+}
+
 /// The text that only lets the moment come.
 fn advance_text() -> ArrayString<COMMAND_LIMIT>
     ensures { result.bytes ≡ command_text Advance }
@@ -305,6 +428,11 @@ pub fn command_text(command: &Command) -> CommandText
             occurrence,
         } => revoke_text(*key, *reason, *occurrence),
         Command::Assign { key, owner } => assign_text(*key, owner),
+        Command::AddCustodian { key, name } => add_custodian_text(*key, name),
+        Command::RemoveCustodian { key, name } => remove_custodian_text(*key, name),
+        Command::Approve { key } => approve_text(*key),
+        Command::Withdraw { key } => withdraw_text(*key),
+        Command::Destroy { key } => destroy_text(*key),
         Command::Advance => advance_text(),
     };
     CommandText { text }

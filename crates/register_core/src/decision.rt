@@ -1,11 +1,12 @@
 //! What a request makes of the register, where the key that it names is known.
 ghost use Rattle.std.specs.Prelude.{◌≡◌, ◌≤◌, List, Some, IfOk, IfErr, None};
 ghost use Rattle.register_core.specs.declared.limits.TheConstants.{KEY_LIMIT};
-ghost use Rattle.register_core.specs.History.{dates_after, owner_after, compromised, deactivated, no_later_than};
+ghost use Rattle.register_core.specs.History.{dates_after, owner_after, no_later_than};
 ghost use Rattle.register_core.specs.Verdict.{judge, verdict, reply};
-ghost use Rattle.register_core.specs.Decision.{IsRightKey, IsViewOf, LeadsTo, row_at, held_after, change_by, reply_to};
+ghost use Rattle.register_core.specs.Decision.{IsRightKey, IsViewOf, LeadsTo, row_at, people_by, held_change, change_by, reply_to};
 
 use crate::name::Name;
+use crate::names::Names;
 use crate::purpose::Purpose;
 use crate::reply::{Refusal, Reply};
 use crate::request::{Command, Request};
@@ -15,15 +16,19 @@ use moment_core::Moment;
 use period_core::{KeyType, filled, trimmed};
 
 /// A key as it stands at some moment.
-#[derive(Clone, Copy, Debug, PartialEq, Eq)]
+#[derive(Drop, Debug)]
 pub struct Held {
     pub kind: KeyType,
     pub owner: Name,
     pub row: Row,
+    /// In order of their bytes.
+    pub custodians: Names,
+    /// Those whose approval of the key's destruction stands, in order of their bytes.
+    pub approvals: Names,
 }
 
 /// What a decision rests on.
-#[derive(Clone, Copy, Debug, PartialEq, Eq)]
+#[derive(Drop, Debug)]
 pub struct View {
     /// The latest accepted moment.
     pub latest: Moment,
@@ -32,6 +37,23 @@ pub struct View {
     /// The key that the request names, as it stands at the latest moment; `None` where it names none, or there is no
     /// such key.
     pub key: Option<Held>,
+}
+
+/// What becomes of the custodians of a key, and of the approvals of its destruction.
+#[derive(Clone, Copy, Debug, PartialEq, Eq)]
+pub enum People {
+    /// They stay as they are.
+    Kept,
+    /// The name becomes a custodian.
+    CustodianAdded(Name),
+    /// The name is a custodian no more, and its approval ends.
+    CustodianRemoved(Name),
+    /// The custodian's approval stands.
+    Approved(Name),
+    /// The custodian's approval ends.
+    Withdrawn(Name),
+    /// All approvals end.
+    ApprovalsEnded,
 }
 
 /// What an accepted request changes, beside the latest moment.
@@ -44,11 +66,12 @@ pub enum Change {
         purpose: Purpose,
         row: Row,
     },
-    /// The key with this number has this owner and this row.
+    /// The key with this number has this owner and this row, and this becomes of its people.
     Held {
         key: u32,
         owner: Name,
         row: Row,
+        people: People,
     },
     /// Nothing.
     Nothing,
@@ -126,14 +149,42 @@ pub(crate) fn dates_after(kind: KeyType, dates: &Dates, at: Moment, command: &Co
             protect_stop: no_later_than(at, dates.protect_stop),
             ..*dates
         },
-        Command::Assign { .. } | Command::Advance => *dates,
+        Command::Destroy { .. } => Dates {
+            destroy: Some(at),
+            ..*dates
+        },
+        Command::Assign { .. }
+        | Command::AddCustodian { .. }
+        | Command::RemoveCustodian { .. }
+        | Command::Approve { .. }
+        | Command::Withdraw { .. }
+        | Command::Advance => *dates,
     }
 }
 
-/// The key with this number after a command that names it.
-fn held_change(key: u32, held: &Held, at: Moment, command: &Command) -> Change
-    ensures { result ≡ Change.Held key (held_after held.now at command.now).owner (held_after held.now at command.now).row }
+/// What becomes of the people of a key with these dates, by the caller's command.
+fn people_by(dates: &Dates, caller: Name, command: &Command) -> People
+    ensures { result ≡ people_by dates.now caller command.now }
 {
+    match *command {
+        Command::Revoke { reason, .. } if reason.is_compromise() && dates.destroy.is_none() => {
+            People::ApprovalsEnded
+        }
+        Command::AddCustodian { name, .. } => People::CustodianAdded(name),
+        Command::RemoveCustodian { name, .. } => People::CustodianRemoved(name),
+        Command::Approve { .. } => People::Approved(caller),
+        Command::Withdraw { .. } => People::Withdrawn(caller),
+        _ => People::Kept,
+    }
+}
+
+/// What the accepted request makes of the key that it names by this number.
+fn held_change(key: u32, held: &Held, request: &Request) -> Change
+    ensures { result ≡ held_change key held.now request.now }
+{
+    let at = request.moment;
+    let command = &request.command;
+    let dates = &held.row.dates;
     let owner = match *command {
         Command::Register { owner, .. } | Command::Assign { owner, .. } => owner,
         _ => held.owner,
@@ -141,13 +192,14 @@ fn held_change(key: u32, held: &Held, at: Moment, command: &Command) -> Change
     Change::Held {
         key,
         owner,
-        row: row_at(dates_after(held.kind, &held.row.dates, at, command), at),
+        row: row_at(dates_after(held.kind, dates, at, command), at),
+        people: people_by(dates, request.caller, command),
     }
 }
 
-/// What the accepted command changes at the moment, where it names this key.
-fn change_by(named: &Option<Held>, at: Moment, command: &Command) -> Change
-    ensures { result ≡ change_by named.now at command.now }
+/// What the accepted request changes, where it names this key.
+fn change_by(named: &Option<Held>, request: &Request) -> Change
+    ensures { result ≡ change_by named.now request.now }
 {
     if let Command::Register {
         kind,
@@ -156,8 +208,9 @@ fn change_by(named: &Option<Held>, at: Moment, command: &Command) -> Change
         protect_stop,
         deactivation,
         purpose,
-    } = *command
+    } = request.command
     {
+        let at = request.moment;
         let given = given_dates(at, activation, protect_stop, deactivation);
         return Change::Made {
             kind,
@@ -166,8 +219,8 @@ fn change_by(named: &Option<Held>, at: Moment, command: &Command) -> Change
             row: row_at(filled(kind, given), at),
         };
     }
-    match (command.key(), named) {
-        (Some(key), Some(held)) => held_change(key, held, at, command),
+    match (request.command.key(), named) {
+        (Some(key), Some(held)) => held_change(key, held, request),
         _ => Change::Nothing,
     }
 }
@@ -202,9 +255,8 @@ pub fn decide(view: &View, request: &Request) -> Result<Accept, Refusal>
     requires right { IsRightKey view.now.key view.now.latest }
     ensures refused { IfErr result (λ refusal. judge view.now.latest view.now.keys view.now.key request.now ≡ Some refusal) }
     ensures accepted { IfOk result (λ accept. judge view.now.latest view.now.keys view.now.key request.now ≡ None) }
-    ensures change { IfOk result (λ accept. accept.change ≡ change_by view.now.key request.now.moment request.now.command) }
-    ensures reply { IfOk result (λ accept. accept.reply ≡ reply_to view.now.keys request.now.moment
-        (change_by view.now.key request.now.moment request.now.command)) }
+    ensures change { IfOk result (λ accept. accept.change ≡ change_by view.now.key request.now) }
+    ensures reply { IfOk result (λ accept. accept.reply ≡ reply_to view.now.keys request.now.moment (change_by view.now.key request.now)) }
     ensures verdict { (h : List Request) → IsViewOf view.now h request.now.command →
         IfErr result (λ refusal. verdict h request.now ≡ Some refusal) × IfOk result (λ accept. verdict h request.now ≡ None) }
     ensures leads { (h : List Request) → IsViewOf view.now h request.now.command →
@@ -213,7 +265,7 @@ pub fn decide(view: &View, request: &Request) -> Result<Accept, Refusal>
     match judge(view, request) {
         Some(refusal) => Err(refusal),
         None => {
-            let change = change_by(&view.key, request.moment, &request.command);
+            let change = change_by(&view.key, request);
             let reply = reply_to(view.keys, request.moment, &change);
             Ok(Accept { change, reply })
         }

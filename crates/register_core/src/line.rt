@@ -141,6 +141,12 @@ fn refused_line(refusal: &Refusal) -> ArrayString<REPLY_LIMIT>
             line.push_str(" limit=");
             put_number(&mut line, limit.seconds());
         }
+        Refusal::ApprovalsMissing { have, need } => {
+            line.push_str(" have=");
+            put_number(&mut line, *have as u64);
+            line.push_str(" need=");
+            put_number(&mut line, *need as u64);
+        }
         _ => {}
     }
     line

@@ -1,13 +1,15 @@
 //! The model computed as it is defined: each answer anew from the whole list of the accepted requests. It is slow,
 //! and stands beside the definitions so that tests can compare other bodies with it on small inputs.
 ghost use Rattle.std.specs.Prelude.{◌≡◌, ◌+◌, ◌^◌, ◌<◌, ◌≤◌, ℕ, List, [], ◌∷◌, ◌++◌, length, unwrap_or, IsSome, IfOk, OnOk, if◌then◌else◌};
-ghost use Rattle.register_core.specs.History.{latest, count, key_of, made_by, is_key, kind_after, type, owner_after, owner, no_dates, dates_after, dates, held};
+ghost use Rattle.register_core.specs.History.{latest, count, key_of, made_by, is_key, kind_after, type, owner_after, owner, no_dates, dates_after, dates};
+ghost use Rattle.register_core.specs.People.{held};
 ghost use Rattle.register_core.specs.Verdict.{verdict, reply};
 ghost use Rattle.register_core.specs.Decision.{IsViewOf};
 ghost use Rattle.register_core.specs.Fold.{history_after, answer_to, answers};
 
 use crate::decision::{Held, View, dates_after};
 use crate::name::Name;
+use crate::plain_people::{approvals, custodians};
 use crate::reply::{Refusal, Reply};
 use crate::request::{Command, Request};
 use crate::verdict::judge;
@@ -170,45 +172,57 @@ pub fn dates(history: &[Request], key: u32) -> Dates
 }
 
 /// The key as it stands at the latest moment, or `None` where there is no such key.
-pub fn held(history: &[Request], key: u32) -> Option<Held>
+pub fn held(
+    alloc: Global,
+    history: &[Request],
+    key: u32,
+) -> Result<Option<Held>, AllocError>
     requires { length history.now + 1 < 2 ^ 32 }
-    ensures { result ≡ held history.now key }
+    ensures { IfOk result (λ found. found ≡ held history.now key) }
 {
     if !(1..=count(history)).contains(&key) {
-        return None;
+        return Ok(None);
     }
-    let owner = owner(history, key)?;
+    let Some(owner) = owner(history, key) else {
+        return Ok(None);
+    };
     let dates = dates(history, key);
     let state = state_of(&dates, latest(history));
-    Some(Held {
+    Ok(Some(Held {
         kind: kind_of_key(history, key),
         owner,
         row: Row { dates, state },
-    })
+        custodians: custodians(alloc, history, key)?,
+        approvals: approvals(alloc, history, key)?,
+    }))
 }
 
 /// What a decision on the command rests on.
-fn view(history: &[Request], command: &Command) -> View
+fn view(alloc: Global, history: &[Request], command: &Command) -> Result<View, AllocError>
     requires { length history.now + 1 < 2 ^ 32 }
-    ensures { IsViewOf result history.now command.now }
+    ensures { IfOk result (λ view. IsViewOf view history.now command.now) }
 {
     let key = match command.key() {
-        Some(key) => held(history, key),
+        Some(key) => held(alloc, history, key)?,
         None => None,
     };
-    View {
+    Ok(View {
         latest: latest(history),
         keys: count(history),
         key,
-    }
+    })
 }
 
 /// The first refusal that holds behind a history, if any does.
-pub fn verdict(history: &[Request], request: &Request) -> Option<Refusal>
+pub fn verdict(
+    alloc: Global,
+    history: &[Request],
+    request: &Request,
+) -> Result<Option<Refusal>, AllocError>
     requires { length history.now + 1 < 2 ^ 32 }
-    ensures { result ≡ verdict history.now request.now }
+    ensures { IfOk result (λ refused. refused ≡ verdict history.now request.now) }
 {
-    judge(&view(history, &request.command), request)
+    Ok(judge(&view(alloc, history, &request.command)?, request))
 }
 
 /// The reply to an accepted request, where so many keys were made before it, by the history with it at its end.
@@ -232,6 +246,7 @@ fn reply_by(keys: u32, history: &[Request], request: &Request) -> Reply
 
 /// The answer to an item behind a history, which then has the item's request at its end where that is accepted.
 fn answer_to(
+    alloc: Global,
     history: &mut Vec<Request>,
     item: &Option<Request>,
 ) -> Result<Result<Reply, Refusal>, AllocError>
@@ -242,7 +257,7 @@ fn answer_to(
     let Some(request) = item else {
         return Ok(Err(Refusal::BadLine));
     };
-    if let Some(refusal) = verdict(history, request) {
+    if let Some(refusal) = verdict(alloc, history, request)? {
         return Ok(Err(refusal));
     }
     let keys = count(history);
@@ -261,7 +276,7 @@ pub fn answers(
     let mut history = Vec::new(alloc);
     let mut given = Vec::new(alloc);
     for item in items {
-        given.push(answer_to(&mut history, item)?)?;
+        given.push(answer_to(alloc, &mut history, item)?)?;
     }
     Ok(given)
 }

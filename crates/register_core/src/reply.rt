@@ -26,6 +26,8 @@ pub enum Refusal {
     UnknownKey,
     /// 5: the command is the owner's, and the caller is another.
     NotOwner,
+    /// 6: the command is a custodian's, and the caller is none of the key's.
+    NotCustodian,
     /// 7: the command is not for a key in this state, which is that at the request's moment.
     WrongState { state: State },
     /// 8: a date that may not change any more.
@@ -36,6 +38,20 @@ pub enum Refusal {
     PeriodTooLong { limit: Moment },
     /// 11: a date that is not given would be past the last moment.
     DateRange,
+    /// 12: the name is a custodian of the key already.
+    AlreadyCustodian,
+    /// 13: the name is no custodian of the key.
+    NoSuchCustodian,
+    /// 14: the key has as many custodians as a key may have.
+    TooManyCustodians,
+    /// 15: a custodian would be the key's owner.
+    OwnerCustodian,
+    /// 16: the caller's approval stands already.
+    AlreadyApproved,
+    /// 17: no approval of the caller's stands.
+    NoApproval,
+    /// 18: fewer approvals stand than the destruction of the key needs.
+    ApprovalsMissing { have: usize, need: usize },
     /// 19: the occurrence of a compromise is after the request's moment.
     OccurrenceLater,
     /// 20: there are as many keys as the register takes.
@@ -54,11 +70,19 @@ impl Refusal {
             Refusal::MomentBehind { .. } => 3,
             Refusal::UnknownKey => 4,
             Refusal::NotOwner => 5,
+            Refusal::NotCustodian => 6,
             Refusal::WrongState { .. } => 7,
             Refusal::DateFrozen => 8,
             Refusal::DateOrder => 9,
             Refusal::PeriodTooLong { .. } => 10,
             Refusal::DateRange => 11,
+            Refusal::AlreadyCustodian => 12,
+            Refusal::NoSuchCustodian => 13,
+            Refusal::TooManyCustodians => 14,
+            Refusal::OwnerCustodian => 15,
+            Refusal::AlreadyApproved => 16,
+            Refusal::NoApproval => 17,
+            Refusal::ApprovalsMissing { .. } => 18,
             Refusal::OccurrenceLater => 19,
             Refusal::Full => 20,
         }
@@ -73,11 +97,19 @@ impl Refusal {
             Refusal::MomentBehind { .. } => "MomentBehind",
             Refusal::UnknownKey => "UnknownKey",
             Refusal::NotOwner => "NotOwner",
+            Refusal::NotCustodian => "NotCustodian",
             Refusal::WrongState { .. } => "WrongState",
             Refusal::DateFrozen => "DateFrozen",
             Refusal::DateOrder => "DateOrder",
             Refusal::PeriodTooLong { .. } => "PeriodTooLong",
             Refusal::DateRange => "DateRange",
+            Refusal::AlreadyCustodian => "AlreadyCustodian",
+            Refusal::NoSuchCustodian => "NoSuchCustodian",
+            Refusal::TooManyCustodians => "TooManyCustodians",
+            Refusal::OwnerCustodian => "OwnerCustodian",
+            Refusal::AlreadyApproved => "AlreadyApproved",
+            Refusal::NoApproval => "NoApproval",
+            Refusal::ApprovalsMissing { .. } => "ApprovalsMissing",
             Refusal::OccurrenceLater => "OccurrenceLater",
             Refusal::Full => "Full",
         }

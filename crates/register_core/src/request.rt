@@ -51,6 +51,28 @@ pub enum Command {
         key: u32,
         owner: Name,
     },
+    /// The key gets a custodian.
+    AddCustodian {
+        key: u32,
+        name: Name,
+    },
+    /// One of the key's custodians is none any more, and its approval ends.
+    RemoveCustodian {
+        key: u32,
+        name: Name,
+    },
+    /// The caller approves of the key's destruction.
+    Approve {
+        key: u32,
+    },
+    /// The caller's approval ends.
+    Withdraw {
+        key: u32,
+    },
+    /// The key is destroyed at the request's moment.
+    Destroy {
+        key: u32,
+    },
     /// Nothing but that the moment has come.
     Advance,
 }
@@ -68,7 +90,12 @@ impl Command {
             Command::Activate { key }
             | Command::SetDates { key, .. }
             | Command::Revoke { key, .. }
-            | Command::Assign { key, .. } => Some(key),
+            | Command::Assign { key, .. }
+            | Command::AddCustodian { key, .. }
+            | Command::RemoveCustodian { key, .. }
+            | Command::Approve { key }
+            | Command::Withdraw { key }
+            | Command::Destroy { key } => Some(key),
         }
     }
 }

@@ -1,12 +1,14 @@
 //! The verdict on a request, where the key that it names is known.
 ghost use Rattle.std.specs.Prelude.{◌≡◌, IsSome};
 ghost use Rattle.register_core.specs.History.{given_dates, edited, edited_dates};
-ghost use Rattle.register_core.specs.Verdict.{refused_dates, behind, unknown, is_owners, not_owner, is_for, wrong_state, is_kept, frozen, unfit, occurs_later, too_many, judge};
+ghost use Rattle.register_core.specs.Verdict.{refused_dates, behind, unknown, is_owners, not_owner, is_custodians, not_custodian, is_for, wrong_state, is_kept, frozen, unfit,
+    refused_entry, occurs_later, too_many, judge};
 ghost use Rattle.period_core.specs.Fitting.{fill_of, trim_of};
 
 use crate::decision::{Held, View};
 use crate::limits::KEY_LIMIT;
 use crate::name::Name;
+use crate::people::refused_people;
 use crate::reply::Refusal;
 use crate::request::{Command, Edit, Request};
 use lifecycle_core::{Dates, State, state_of};
@@ -86,9 +88,17 @@ fn is_owners(command: &Command) -> bool
     ensures { result ≡ is_owners command.now }
 {
     match command {
-        Command::Register { .. } | Command::Advance => false,
-        Command::Activate { .. } | Command::SetDates { .. } | Command::Assign { .. } => true,
+        Command::Activate { .. }
+        | Command::SetDates { .. }
+        | Command::Assign { .. }
+        | Command::AddCustodian { .. }
+        | Command::RemoveCustodian { .. }
+        | Command::Destroy { .. } => true,
         Command::Revoke { reason, .. } => !reason.is_compromise(),
+        Command::Register { .. }
+        | Command::Approve { .. }
+        | Command::Withdraw { .. }
+        | Command::Advance => false,
     }
 }
 
@@ -105,6 +115,25 @@ fn not_owner(key: &Option<Held>, caller: &Name, command: &Command) -> Option<Ref
     }
 }
 
+/// Whether the command is one for a custodian of the key alone.
+fn is_custodians(command: &Command) -> bool
+    ensures { result ≡ is_custodians command.now }
+{
+    matches!(command, Command::Approve { .. } | Command::Withdraw { .. })
+}
+
+/// The command is a custodian's, and the caller is none of the key's.
+fn not_custodian(key: &Option<Held>, caller: &Name, command: &Command) -> Option<Refusal>
+    ensures { result ≡ not_custodian key.now caller.now command.now }
+{
+    match key {
+        Some(held) if is_custodians(command) && !held.custodians.contains(caller) => {
+            Some(Refusal::NotCustodian)
+        }
+        _ => None,
+    }
+}
+
 /// Whether the command is for a key in this state.
 fn is_for(command: &Command, state: State) -> bool
     ensures { result ≡ is_for command.now state }
@@ -116,7 +145,17 @@ fn is_for(command: &Command, state: State) -> bool
             !matches!(state, State::Compromised | State::DestroyedCompromised)
         }
         Command::Revoke { .. } => matches!(state, State::Active),
-        Command::Register { .. } | Command::Assign { .. } | Command::Advance => true,
+        Command::RemoveCustodian { .. } | Command::Withdraw { .. } => {
+            !matches!(state, State::Destroyed | State::DestroyedCompromised)
+        }
+        Command::Approve { .. } | Command::Destroy { .. } => matches!(
+            state,
+            State::PreActive | State::Deactivated | State::Compromised
+        ),
+        Command::Register { .. }
+        | Command::Assign { .. }
+        | Command::AddCustodian { .. }
+        | Command::Advance => true,
     }
 }
 
@@ -257,9 +296,9 @@ fn too_many(keys: u32, command: &Command) -> Option<Refusal>
     }
 }
 
-/// The first refusal of the request that holds, or `None`: it is accepted.
-pub(crate) fn judge(view: &View, request: &Request) -> Option<Refusal>
-    ensures { result ≡ judge view.now.latest view.now.keys view.now.key request.now }
+/// The first refusal of who asks, of which key and when, if one holds.
+fn refused_entry(view: &View, request: &Request) -> Option<Refusal>
+    ensures { result ≡ refused_entry view.now.latest view.now.key request.now }
 {
     let at = request.moment;
     let command = &request.command;
@@ -272,13 +311,28 @@ pub(crate) fn judge(view: &View, request: &Request) -> Option<Refusal>
     if let Some(refusal) = not_owner(&view.key, &request.caller, command) {
         return Some(refusal);
     }
-    if let Some(refusal) = wrong_state(&view.key, at, command) {
+    if let Some(refusal) = not_custodian(&view.key, &request.caller, command) {
+        return Some(refusal);
+    }
+    wrong_state(&view.key, at, command)
+}
+
+/// The first refusal of the request that holds, or `None`: it is accepted.
+pub(crate) fn judge(view: &View, request: &Request) -> Option<Refusal>
+    ensures { result ≡ judge view.now.latest view.now.keys view.now.key request.now }
+{
+    let at = request.moment;
+    let command = &request.command;
+    if let Some(refusal) = refused_entry(view, request) {
         return Some(refusal);
     }
     if let Some(refusal) = frozen(&view.key, at, command) {
         return Some(refusal);
     }
     if let Some(refusal) = unfit(&view.key, at, command) {
+        return Some(refusal);
+    }
+    if let Some(refusal) = refused_people(&view.key, &request.caller, command) {
         return Some(refusal);
     }
     if let Some(refusal) = occurs_later(at, command) {
