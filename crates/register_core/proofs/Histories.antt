@@ -11,7 +11,7 @@ use Rattle.period_core.specs.declared.key_type.KeyType.TheVariants.{DataEncrypti
 use Rattle.period_core.specs.Fitting.{filled}
 use Rattle.register_core.specs.declared.request.Request.{Request}
 use Rattle.register_core.specs.declared.request.Command.{Command}
-use Rattle.register_core.specs.declared.request.Command.TheVariants.{Register as Registers, Activate, SetDates, Revoke, Assign, Advance}
+use Rattle.register_core.specs.declared.request.Command.TheVariants.{Register as Registers, Activate, SetDates, Revoke, Assign, AddCustodian, RemoveCustodian, Approve, Withdraw, Destroy, Advance}
 use Rattle.register_core.specs.History.{latest, registration_of, registrations, count, key_of, made_by, is_key, own_from, own, kind_after, type, no_dates, given_dates, dates_after, dates, owner_after, owner}
 use Rattle.register_core.specs.Verdict.{named}
 
@@ -29,6 +29,11 @@ count_one q (Activate key) = refl
 count_one q (SetDates key activation protect_stop deactivation) = refl
 count_one q (Revoke key reason occurrence) = refl
 count_one q (Assign key owner) = refl
+count_one q (AddCustodian key name) = refl
+count_one q (RemoveCustodian key name) = refl
+count_one q (Approve key) = refl
+count_one q (Withdraw key) = refl
+count_one q (Destroy key) = refl
 count_one q Advance = refl
 
 pub made_one : (q : Request) → count (q ∷ []) ≡ made_by q.command
@@ -67,6 +72,11 @@ not_concerned (Activate key) keys k le none = cc
 not_concerned (SetDates key activation protect_stop deactivation) keys k le none = cc
 not_concerned (Revoke key reason occurrence) keys k le none = cc
 not_concerned (Assign key owner) keys k le none = cc
+not_concerned (AddCustodian key name) keys k le none = cc
+not_concerned (RemoveCustodian key name) keys k le none = cc
+not_concerned (Approve key) keys k le none = cc
+not_concerned (Withdraw key) keys k le none = cc
+not_concerned (Destroy key) keys k le none = cc
 not_concerned Advance keys k le none = refl
 
 -- a command that names a key makes none
@@ -76,6 +86,11 @@ key_named (Activate key) keys k names = names
 key_named (SetDates key activation protect_stop deactivation) keys k names = names
 key_named (Revoke key reason occurrence) keys k names = names
 key_named (Assign key owner) keys k names = names
+key_named (AddCustodian key name) keys k names = names
+key_named (RemoveCustodian key name) keys k names = names
+key_named (Approve key) keys k names = names
+key_named (Withdraw key) keys k names = names
+key_named (Destroy key) keys k names = names
 key_named Advance keys k names = cc
 
 pub kind_kept : (c : Command) (k : ℕ) (before : KeyType) → named c ≡ Some k → kind_after before c ≡ before
@@ -84,6 +99,11 @@ kind_kept (Activate key) k before names = refl
 kind_kept (SetDates key activation protect_stop deactivation) k before names = refl
 kind_kept (Revoke key reason occurrence) k before names = refl
 kind_kept (Assign key owner) k before names = refl
+kind_kept (AddCustodian key name) k before names = refl
+kind_kept (RemoveCustodian key name) k before names = refl
+kind_kept (Approve key) k before names = refl
+kind_kept (Withdraw key) k before names = refl
+kind_kept (Destroy key) k before names = refl
 kind_kept Advance k before names = refl
 
 concerned : (c : Command) (keys k : ℕ) → key_of keys c ≡ Some k → is_key k (key_of keys c) ≡ true

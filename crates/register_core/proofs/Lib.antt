@@ -1,4 +1,6 @@
 pub mod Histories
+pub mod PeopleGrow
+pub mod PeopleLeads
 pub mod Folds
 pub mod NameTexts
 pub mod NameOrder

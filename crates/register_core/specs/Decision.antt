@@ -41,16 +41,17 @@ held_change key held q =
     change.Held key (owner_after held.owner q.command) (row_at (dates_after held.kind held.row.dates q.moment q.command) q.moment)
       (people_by held.row.dates q.caller q.command)
 
--- what an accepted request changes, where it names this key
-abbrev pub change_for : Option Held → Option ℕ → Request → Change
-change_for (Some held) (Some key) q = held_change key held q
-change_for _ _ q = change.Nothing
+-- what an accepted request changes, where it names a key by this number, and that stands so
+abbrev pub change_for : Option ℕ → Option Held → Request → Change
+change_for None held q = change.Nothing
+change_for (Some key) None q = change.Nothing
+change_for (Some key) (Some held) q = held_change key held q
 
 -- the same of a request whose command is this one
 abbrev pub change_of : Option Held → Request → Command → Change
 change_of key q (command.Register kind owner activation protect_stop deactivation purpose) =
     change.Made kind owner purpose (row_at (filled kind (given_dates q.moment activation protect_stop deactivation)) q.moment)
-change_of key q c = change_for key (named c) q
+change_of key q c = change_for (named c) key q
 
 abbrev pub change_by : Option Held → Request → Change
 change_by key q = change_of key q q.command

@@ -185,18 +185,21 @@ first_that_holds (Some refusal ∷ others) = Some refusal
 
 -- Each refusal of a request, in order, where its condition holds; the key is the one that it names, as it stands. First
 -- those of who asks, of which key and when;
-abbrev pub refused_entry : ℕ → Option Held → Request → Option Refusal
-refused_entry last key q = first_that_holds (
+abbrev pub entry_refusals : ℕ → Option Held → Request → List (Option Refusal)
+entry_refusals last key q =
     behind last q.moment
     ∷ unknown key q.command
     ∷ not_owner key q.caller q.command
     ∷ not_custodian key q.caller q.command
     ∷ wrong_state key q.moment q.command
-    ∷ [])
+    ∷ []
+
+abbrev pub refused_entry : ℕ → Option Held → Request → Option Refusal
+refused_entry last key q = first_that_holds (entry_refusals last key q)
 
 -- those of custodians and approvals, which come behind those of dates.
-abbrev pub refused_people : Option Held → List ℕ → Command → Option Refusal
-refused_people key caller c = first_that_holds (
+abbrev pub people_refusals : Option Held → List ℕ → Command → List (Option Refusal)
+people_refusals key caller c =
     already_custodian key c
     ∷ no_such_custodian key c
     ∷ too_many_custodians key c
@@ -204,7 +207,10 @@ refused_people key caller c = first_that_holds (
     ∷ already_approved key caller c
     ∷ no_approval key caller c
     ∷ approvals_missing key c
-    ∷ [])
+    ∷ []
+
+abbrev pub refused_people : Option Held → List ℕ → Command → Option Refusal
+refused_people key caller c = first_that_holds (people_refusals key caller c)
 
 abbrev pub refusals : ℕ → ℕ → Option Held → Request → List (Option Refusal)
 refusals last keys key q =
