@@ -1,6 +1,7 @@
 pub mod Histories
 pub mod PeopleGrow
 pub mod PeopleLeads
+pub mod Walks
 pub mod Folds
 pub mod NameTexts
 pub mod NameOrder

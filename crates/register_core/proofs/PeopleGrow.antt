@@ -23,7 +23,7 @@ filter_twice p q r both (x ∷ xs) =
     ap (λ (b : Bool). cond b (x ∷ filter r xs) (filter r xs)) (both x)
     ∙ chosen_twice (p x) (q x) x q (filter p xs) (filter r xs) refl (sym (filter_twice p q r both xs))
 
-filter_joined : {X : Type 0} (p : X → Bool) (xs ys : List X) → filter p (xs ++ ys) ≡ filter p xs ++ filter p ys
+pub filter_joined : {X : Type 0} (p : X → Bool) (xs ys : List X) → filter p (xs ++ ys) ≡ filter p xs ++ filter p ys
 filter_joined p [] ys = refl
 filter_joined p (x ∷ xs) ys = ap (λ l. cond (p x) (x ∷ l) l) (filter_joined p xs ys) ∙ by (p x)
   where

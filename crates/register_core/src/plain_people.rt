@@ -31,9 +31,12 @@ fn is_about(key: u32, name: &Name, command: &Command) -> bool
 fn stays_custodian(key: u32, name: &Name, later: &[Request]) -> bool
     ensures { result ≡ stays_custodian later.now (key, name.now) }
 {
-    !later
-        .iter()
-        .any(|request| is_about(key, name, &request.command))
+    for request in later {
+        if is_about(key, name, &request.command) {
+            return false;
+        }
+    }
+    true
 }
 
 /// The custodian of the key that the request adds, where none of the later ones adds it anew or removes it.
@@ -42,7 +45,7 @@ fn custodian_of(key: u32, request: &Request, later: &[Request]) -> Option<Name>
 {
     match &request.command {
         Command::AddCustodian { key: of, name }
-            if *of == key && stays_custodian(key, name, later) => { Some(*name) }
+            if *of == key && stays_custodian(*of, name, later) => { Some(*name) }
         _ => None,
     }
 }
@@ -108,7 +111,7 @@ fn approval_of(history: &[Request], at: usize, key: u32) -> Option<Name>
     let request = &history[at];
     match &request.command {
         Command::Approve { key: of }
-            if *of == key && !is_ended(history, at + 1, key, &request.caller) => {
+            if *of == key && !is_ended(history, at + 1, *of, &request.caller) => {
             Some(request.caller)
         }
         _ => None,
