@@ -1,3 +1,4 @@
 pub mod Civils
 pub mod Dates
+pub mod Forward
 pub mod Texts

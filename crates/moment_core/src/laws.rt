@@ -1,6 +1,6 @@
 //! Laws of the calendar and of the texts of moments.
-ghost use Rattle.std.specs.Prelude.{◌≡◌, ℕ};
-ghost use Rattle.moment_core.specs.Calendar.{civil, day_number};
+ghost use Rattle.std.specs.Prelude.{◌≡◌, ◌≤◌, ℕ, Some};
+ghost use Rattle.moment_core.specs.Calendar.{civil, day_number, months_after};
 ghost use Rattle.moment_core.specs.Moment.{IsMoment};
 ghost use Rattle.moment_core.specs.Text.{moment_text};
 
@@ -12,4 +12,9 @@ pub fn one_text()
 /// The number of a day's date is the day.
 pub fn day_numbers()
     ensures { (n : ℕ) → day_number (civil n) ≡ n }
+{}
+
+/// A moment some months on is no earlier.
+pub fn months_go_forward()
+    ensures { (m n later : ℕ) → months_after m n ≡ Some later → m ≤ later }
 {}
