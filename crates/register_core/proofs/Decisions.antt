@@ -37,7 +37,7 @@ use Rattle.register_core.proofs.PeopleLeads.{not_refused, IsNew, nobody_changes,
 abbrev pub standing : List Request → ℕ → Held
 standing h k = record { kind = type h k; owner = owner h k; row = row_at (dates h k) (latest h); custodians = custodians h k; approvals = approvals h k }
 
-abbrev is_there : List Request → ℕ → Bool
+abbrev pub is_there : List Request → ℕ → Bool
 is_there h k = nat_le 1 k && nat_le k (count h)
 
 there : (h : List Request) (k : ℕ) → 1 ≤ k → k ≤ count h → is_there h k ≡ true
@@ -151,7 +151,7 @@ change_named (Withdraw n) k key q names = cc
 change_named (Destroy n) k key q names = cc
 change_named Advance k key q names = cc
 
-unknown_named : (c : Command) (k : ℕ) → named c ≡ Some k → unknown None c ≡ Some UnknownKey
+pub unknown_named : (c : Command) (k : ℕ) → named c ≡ Some k → unknown None c ≡ Some UnknownKey
 unknown_named (Registers kind by activation protect_stop deactivation purpose) k names = cc
 unknown_named (Activate key) k names = refl
 unknown_named (SetDates key activation protect_stop deactivation) k names = refl
@@ -170,6 +170,12 @@ record Admits (key : Option Held) (q : Request) : Type 0 where
   custodian : already_custodian key q.command ≡ None
   approval : already_approved key q.caller q.command ≡ None
 
+pub new_names : (h : List Request) (q : Request) (k : ℕ) → already_custodian (Some (standing h k)) q.command ≡ None → already_approved (Some (standing h k)) q.caller q.command ≡ None → IsNew h q k
+new_names h q k custodian approval = record {
+  custodian = λ name is_added. not_refused _ AlreadyCustodian (ap (already_custodian (Some (standing h k))) (sym is_added) ∙ custodian);
+  approval = λ is_approval. not_refused _ AlreadyApproved (ap (already_approved (Some (standing h k)) q.caller) (sym is_approval) ∙ approval);
+}
+
 agrees_key : (h : List Request) (q : Request) (k : ℕ) (key : Option Held) → named q.command ≡ Some k → key ≡ held h k → Admits key q → Agrees h q (change_by key q)
 agrees_key h q k None names is admits = let refused = unknown_named q.command k names in let known = admits.known in cc
 agrees_key h q k (Some key) names is admits =
@@ -177,10 +183,7 @@ agrees_key h q k (Some key) names is admits =
     let same : change_by (Some key) q ≡ held_change k (standing h k) q = change_named q.command k key q names ∙ ap (λ (x : Held). held_change k x q) stands.1 in
     let custodian : already_custodian (Some (standing h k)) q.command ≡ None = ap (λ (x : Held). already_custodian (Some x) q.command) (sym stands.1) ∙ admits.custodian in
     let approval : already_approved (Some (standing h k)) q.caller q.command ≡ None = ap (λ (x : Held). already_approved (Some x) q.caller q.command) (sym stands.1) ∙ admits.approval in
-    let new : IsNew h q k = record {
-      custodian = λ name is_added. not_refused _ AlreadyCustodian (ap (already_custodian (Some (standing h k))) (sym is_added) ∙ custodian);
-      approval = λ is_approval. not_refused _ AlreadyApproved (ap (already_approved (Some (standing h k)) q.caller) (sym is_approval) ∙ approval);
-    } in
+    let new = new_names h q k custodian approval in
     subst (Agrees h q) (sym same) (agrees_named h q k names stands.0 new)
 
 agrees_none : (h : List Request) (q : Request) (key : Option Held) → q.command ≡ Advance → Agrees h q (change_by key q)
@@ -204,7 +207,7 @@ agrees_by h q (Destroy k) key is view admits = agrees_key h q k key (ap named is
 -- ---- accepted requests
 
 -- where no refusal holds first, none holds
-none_holds : (refusals : List (Option Refusal)) → first_that_holds refusals ≡ None → AllByRecursion (λ refusal. refusal ≡ None) refusals
+pub none_holds : (refusals : List (Option Refusal)) → first_that_holds refusals ≡ None → AllByRecursion (λ refusal. refusal ≡ None) refusals
 none_holds [] none = tt
 none_holds (None ∷ others) none = (refl, none_holds others none)
 none_holds (Some refusal ∷ others) none = absurd cc

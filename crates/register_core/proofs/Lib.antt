@@ -10,3 +10,5 @@ pub mod Readers
 pub mod Lines
 pub mod Filling
 pub mod Decisions
+pub mod Lawful
+pub mod OnKey

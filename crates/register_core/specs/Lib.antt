@@ -11,4 +11,5 @@ pub mod People
 pub mod Verdict
 pub mod Decision
 pub mod Fold
+pub mod Laws
 pub mod Reading

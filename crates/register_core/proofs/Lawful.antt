@@ -1,0 +1,64 @@
+-- What holds of the empty history and stays with each accepted request holds of every lawful history.
+use Rattle.std.proofs.Common.{◌≡◌, ℕ, ◌+◌, ◌≤◌, Bool, true, false, cond, List, [], ◌∷◌, ◌++◌, length, map, Option, None, Some, refl, sym, ap, subst, ◌∙◌, append_assoc, arith, ◌⊎◌, inl, inr}
+use Rattle.std.specs.Prelude.{is_none}
+use Rattle.std.proofs.lemmas.List.{append-nil, length-append, map-append}
+use Rattle.std.proofs.lemmas.List.Sums.{fold-append}
+use Rattle.register_core.specs.declared.request.Request.{Request}
+use Rattle.register_core.specs.declared.reply.Refusal.{Refusal}
+use Rattle.register_core.specs.Verdict.{verdict}
+use Rattle.register_core.specs.Fold.{history_after, history, IsLawful}
+use Rattle.register_core.proofs.Folds.{history_within}
+
+abbrev items : List Request → List (Option Request)
+items h = map (λ (q : Request). Some q) h
+
+lawful_grows : (h : List Request) (q : Request) → IsLawful h → history [] (items (h ++ q ∷ [])) ≡ history_after h (Some q)
+lawful_grows h q lawful =
+    ap (history []) (map-append (λ (p : Request). Some p) h (q ∷ []))
+    ∙ fold-append history_after [] (items h) (Some q ∷ [])
+    ∙ ap (λ (g : List Request). history_after g (Some q)) lawful
+
+either : (b : Bool) → (b ≡ true) ⊎ (b ≡ false)
+either true = inl refl
+either false = inr refl
+
+pub lawful_after : (h : List Request) (q : Request) → IsLawful h → IsLawful (history_after h (Some q))
+lawful_after h q lawful =
+    let grown = lawful_grows h q lawful in
+    elim (either (is_none (verdict h q))) [
+      | inl accepted ↦
+          let same : history_after h (Some q) ≡ h ++ q ∷ [] = ap (λ (b : Bool). cond b (h ++ q ∷ []) h) accepted in
+          subst IsLawful (sym same) (grown ∙ same)
+      | inr refused ↦
+          let same : history_after h (Some q) ≡ h = ap (λ (b : Bool). cond b (h ++ q ∷ []) h) refused in
+          subst IsLawful (sym same) lawful
+    ]
+
+-- the history with an accepted request is lawful
+pub lawful_with : (h : List Request) (q : Request) → IsLawful h → verdict h q ≡ None → IsLawful (h ++ q ∷ [])
+lawful_with h q lawful accepted =
+    subst IsLawful (ap (λ (refusal : Option Refusal). cond (is_none refusal) (h ++ q ∷ []) h) accepted) (lawful_after h q lawful)
+
+history_length : (later : List Request) (h : List Request) → length (history h (items later)) ≤ length h + length later
+history_length [] h = omega arith
+history_length (q ∷ later) h = omega (arith, history_length later (history_after h (Some q)), history_within h (Some q))
+
+none_from_test : (refusal : Option Refusal) → is_none refusal ≡ true → refusal ≡ None
+none_from_test None e = refl
+none_from_test (Some refusal) e = absurd cc
+
+module _ (P : List Request → Type 0) (step : (h : List Request) (q : Request) → IsLawful h → verdict h q ≡ None → P h → P (h ++ q ∷ [])) where
+  lawful_from : (later h : List Request) → IsLawful h → P h → history h (items later) ≡ h ++ later → P (h ++ later)
+  lawful_from [] h lawful holds whole = subst P (sym (append-nil h)) holds
+  lawful_from (q ∷ later) h lawful holds whole = by (is_none (verdict h q)) refl whole (lawful_from later (h ++ q ∷ []))
+    where
+      by : (b : Bool) → is_none (verdict h q) ≡ b → history (cond b (h ++ q ∷ []) h) (items later) ≡ h ++ q ∷ later
+          → (IsLawful (h ++ q ∷ []) → P (h ++ q ∷ []) → history (h ++ q ∷ []) (items later) ≡ (h ++ q ∷ []) ++ later → P ((h ++ q ∷ []) ++ later)) → P (h ++ q ∷ later)
+      by true e rest next =
+          let accepted = none_from_test (verdict h q) e in
+          subst P (append_assoc h (q ∷ []) later) (next (lawful_with h q lawful accepted) (step h q lawful accepted holds) (rest ∙ sym (append_assoc h (q ∷ []) later)))
+      by false e rest next =
+          absurd (omega (arith, ap length rest, history_length later h, length-append h (q ∷ later)))
+
+  pub lawful_holds : P [] → (h : List Request) → IsLawful h → P h
+  lawful_holds first h lawful = lawful_from h [] refl first lawful
