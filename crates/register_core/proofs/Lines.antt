@@ -16,14 +16,14 @@ use Rattle.period_core.specs.declared.key_type.KeyType.{KeyType}
 use Rattle.period_core.specs.declared.key_type.KeyType.TheVariants.{DataEncryption, Authentication, KeyWrapping, PrivateSignature, PrivateAuthentication, PrivateTransport, Master}
 use Rattle.register_core.specs.declared.request.Request.{Request}
 use Rattle.register_core.specs.declared.request.Command.{Command}
-use Rattle.register_core.specs.declared.request.Command.TheVariants.{Register, Activate, SetDates, Revoke, Assign, Advance}
+use Rattle.register_core.specs.declared.request.Command.TheVariants.{Register, Activate, SetDates, Revoke, Assign, AddCustodian, RemoveCustodian, Approve, Withdraw, Destroy, Advance}
 use Rattle.register_core.specs.declared.request.Edit.{Edit}
 use Rattle.register_core.specs.declared.request.Edit.TheVariants.{Keep, Clear, Set}
-use Rattle.register_core.specs.Name.{is_name_byte}
+use Rattle.register_core.specs.Name.{IsName, is_name_byte}
 use Rattle.period_core.specs.KeyType.{key_type_text}
 use Rattle.register_core.specs.Request.{IsCommand, IsDate, IsEdit, IsKeyNumber, IsRequest, IsLineOf, IsItem, date_text, edit_text, command_text, request_text}
 use Rattle.register_core.specs.CommandText.{IsCommandText, IsCommandItem}
-use Rattle.register_core.specs.Reading.{◌>>=◌, is_space, field_at, field_as, moment_at, date_at, edit_at, key_number_at, reason_at, occurrence_at, request_number_at, name_at, key_type_at, purpose_at, register_at, activate_at, set_at, revoke_at, assign_at, behind_at, worded_at, command_at, fields_at, request_at}
+use Rattle.register_core.specs.Reading.{◌>>=◌, is_space, field_at, field_as, moment_at, date_at, edit_at, key_number_at, reason_at, occurrence_at, request_number_at, name_at, key_type_at, purpose_at, register_at, activate_at, set_at, revoke_at, assign_at, add_custodian_at, remove_custodian_at, approve_at, withdraw_at, destroy_at, people_at, behind_at, worded_at, command_at, fields_at, request_at}
 use Rattle.register_core.proofs.Fields.{bind_some, some_is, HasNoSpace, field_takes, field_again, as_takes, as_again}
 use Rattle.register_core.proofs.Readers.{moment_reader, date_reader, edit_reader, moment_small, key_number_reader, key_number_small, request_number_reader, request_number_small, name_reader, purpose_reader, key_type_reader, reason_reader, reason_text, reason_small, occurrence_reader, not_space}
 
@@ -86,8 +86,8 @@ joined_set k a p d = simp append_assoc
 joined_revoke : (k r o : List ℕ) → codes "revoke " ++ k ++ codes " " ++ r ++ codes " " ++ o ≡ before (codes "revoke") (before k (before r o))
 joined_revoke k r o = simp append_assoc
 
-joined_assign : (k o : List ℕ) → codes "assign " ++ k ++ codes " " ++ o ≡ before (codes "assign") (before k o)
-joined_assign k o = simp append_assoc
+joined_named : (word k n : List ℕ) → (word ++ codes " ") ++ k ++ codes " " ++ n ≡ before word (before k n)
+joined_named word k n = simp append_assoc
 
 joined_request : (m c n d : List ℕ) → m ++ codes " " ++ c ++ codes " " ++ n ++ codes " " ++ d ≡ before m (before c (before n d))
 joined_request m c n d = simp append_assoc
@@ -101,9 +101,6 @@ nested_set b k b1 a b2 p b3 d ek ea ep ed = rw (ek, ea, ep, ed) refl
 
 nested_revoke : (b k b1 r b2 o : List ℕ) → b ≡ before k b1 → b1 ≡ before r b2 → b2 ≡ o → before (codes "revoke") b ≡ before (codes "revoke") (before k (before r o))
 nested_revoke b k b1 r b2 o ek er eo = rw (ek, er, eo) refl
-
-nested_assign : (b k b1 o : List ℕ) → b ≡ before k b1 → b1 ≡ o → before (codes "assign") b ≡ before (codes "assign") (before k o)
-nested_assign b k b1 o ek eo = rw (ek, eo) refl
 
 nested_request : (b m b1 c b2 n b3 d : List ℕ) → b ≡ before m b1 → b1 ≡ before c b2 → b2 ≡ before n b3 → b3 ≡ d → b ≡ before m (before c (before n d))
 nested_request b m b1 c b2 n b3 d em ec en ed = rw (em, ec, en, ed) refl
@@ -166,21 +163,63 @@ register_again k o a p d u in_range =
       purpose_reader.again u in_range.4,
     ) refl
 
--- ---- the other words
+-- ---- the words before a key's number alone
+
+abbrev key_as : (ℕ → Command) → List ℕ → Option Command
+key_as make bytes = key_number_at bytes >>= λ k. Some (make k)
+
+key_takes : (word : List ℕ) (make : ℕ → Command) → ((k : ℕ) → IsKeyNumber k → IsCommand (make k)) → ((k : ℕ) → before word (decimal k) ≡ command_text (make k))
+    → (bytes : List ℕ) (q : Command) → key_as make bytes ≡ Some q → IsBehind word bytes q
+key_takes word make in_range text bytes q e =
+    let k = bind_some (key_number_at bytes) (λ x. Some (make x)) q e in
+    let tk = key_number_reader.takes bytes k.0 k.1 in
+    subst (IsBehind word bytes) (some_is (make k.0) q k.2) (record {
+      in_range = in_range k.0 tk.0;
+      text = ap (before word) tk.1 ∙ text k.0;
+    })
+
+key_again : (make : ℕ → Command) (key : ℕ) → IsKeyNumber key → key_as make (decimal key) ≡ Some (make key)
+key_again make key in_range = rw (key_number_reader.again key in_range) refl
 
 activate_takes : (bytes : List ℕ) (q : Command) → activate_at bytes ≡ Some q → IsBehind (codes "activate") bytes q
 unfolding activate_at
-activate_takes bytes q e =
-    let k = bind_some (key_number_at bytes) (λ x. Some (Activate x)) q e in
-    let tk = key_number_reader.takes bytes k.0 k.1 in
-    subst (IsBehind (codes "activate") bytes) (some_is (Activate k.0) q k.2) (record {
-      in_range = tk.0;
-      text = ap (before (codes "activate")) tk.1;
+activate_takes bytes q e = key_takes (codes "activate") Activate (λ k h. h) (λ k. refl) bytes q e
+
+activate_again : (key : ℕ) → IsKeyNumber key → activate_at (decimal key) ≡ Some (Activate key)
+unfolding activate_at
+activate_again key in_range = key_again Activate key in_range
+
+-- ---- the words before a key's number and a name
+
+abbrev key_and_name_as : (ℕ → List ℕ → Command) → List ℕ → Option Command
+key_and_name_as make bytes = field_as key_number_at bytes >>= λ k. (name_at k.1 >>= λ n. Some (make k.0 n))
+
+named_takes : (word : List ℕ) (make : ℕ → List ℕ → Command) → ((k : ℕ) (n : List ℕ) → IsKeyNumber k → IsName n → IsCommand (make k n))
+    → ((k : ℕ) (n : List ℕ) → (word ++ codes " ") ++ decimal k ++ codes " " ++ n ≡ command_text (make k n))
+    → (bytes : List ℕ) (q : Command) → key_and_name_as make bytes ≡ Some q → IsBehind word bytes q
+named_takes word make in_range text bytes q e =
+    let k = bind_some (field_as key_number_at bytes) (λ x. name_at x.1 >>= λ n. Some (make x.0 n)) q e in
+    let n = bind_some (name_at k.0.1) (λ x. Some (make k.0.0 x)) q k.2 in
+    let tk = as_takes key_number_reader bytes k.0 k.1 in
+    let tn = name_reader.takes k.0.1 n.0 n.1 in
+    let read : before word bytes ≡ before word (before (decimal k.0.0) n.0) = ap (before word) (tk.1 ∙ ap (before (decimal k.0.0)) tn.1) in
+    subst (IsBehind word bytes) (some_is (make k.0.0 n.0) q n.2) (record {
+      in_range = in_range k.0.0 n.0 tk.0 tn.0;
+      text = read ∙ sym (joined_named word (decimal k.0.0) n.0) ∙ text k.0.0 n.0;
     })
 
-activate_again : (key : ℕ) → IsCommand (Activate key) → activate_at (decimal key) ≡ Some (Activate key)
-unfolding activate_at
-activate_again key in_range = rw (key_number_reader.again key in_range) refl
+named_again : (make : ℕ → List ℕ → Command) (key : ℕ) (n : List ℕ) → IsKeyNumber key → IsName n → key_and_name_as make (before (decimal key) n) ≡ Some (make key n)
+named_again make key n in_range name = rw (as_again key_number_reader key n in_range (key_number_solid key in_range), name_reader.again n name) refl
+
+assign_takes : (bytes : List ℕ) (q : Command) → assign_at bytes ≡ Some q → IsBehind (codes "assign") bytes q
+unfolding assign_at
+assign_takes bytes q e = named_takes (codes "assign") Assign (λ k n hk hn. (hk, hn)) (λ k n. refl) bytes q e
+
+assign_again : (key : ℕ) (o : List ℕ) → IsCommand (Assign key o) → assign_at (before (decimal key) o) ≡ Some (Assign key o)
+unfolding assign_at
+assign_again key o in_range = named_again Assign key o in_range.0 in_range.1
+
+-- ---- the words set and revoke
 
 abbrev with_edits : ℕ → Edit → Edit → List ℕ → Option Command
 with_edits k a p bytes = edit_at bytes >>= λ d. Some (SetDates k a p d)
@@ -251,30 +290,14 @@ revoke_again key r o in_range =
       (occurrence_reader r).again o (in_range.1, in_range.2),
     ) refl
 
-assign_takes : (bytes : List ℕ) (q : Command) → assign_at bytes ≡ Some q → IsBehind (codes "assign") bytes q
-unfolding assign_at
-assign_takes bytes q e =
-    let k = bind_some (field_as key_number_at bytes) (λ x. name_at x.1 >>= λ o. Some (Assign x.0 o)) q e in
-    let o = bind_some (name_at k.0.1) (λ x. Some (Assign k.0.0 x)) q k.2 in
-    let tk = as_takes key_number_reader bytes k.0 k.1 in
-    let to = name_reader.takes k.0.1 o.0 o.1 in
-    let made : Command = Assign k.0.0 o.0 in
-    let read = nested_assign bytes (decimal k.0.0) k.0.1 o.0 tk.1 to.1 in
-    subst (IsBehind (codes "assign") bytes) (some_is made q o.2) (record {
-      in_range = (tk.0, to.0);
-      text = read ∙ sym (joined_assign (decimal k.0.0) o.0);
-    })
-
-assign_again : (key : ℕ) (o : List ℕ) → IsCommand (Assign key o) → assign_at (before (decimal key) o) ≡ Some (Assign key o)
-unfolding assign_at
-assign_again key o in_range =
-    rw (as_again key_number_reader key o in_range.0 (key_number_solid key in_range.0), name_reader.again o in_range.1) refl
-
 -- ---- commands
 
 pick : (b : Bool) (x y : Option Command) (q : Command) → cond b x y ≡ Some q → ((b ≡ true) × (x ≡ Some q)) ⊎ ((b ≡ false) × (y ≡ Some q))
 pick true x y q e = inl (refl, e)
 pick false x y q e = inr (refl, e)
+
+none_read : (q : Command) → None ≡ Some q → ⊥
+none_read q e = absurd cc
 
 -- the word is this one, and then what reads behind it takes the rest, or else the other words have it
 worded_as : (word this bytes : List ℕ) (q : Command) (read other : Option Command) → cond (bytes_eq word this) read other ≡ Some q
@@ -286,13 +309,22 @@ worded_as word this bytes q read other e here behind = elim (pick (bytes_eq word
   | inr rest ↦ behind rest.1
 ]
 
+people_takes : (word bytes : List ℕ) (q : Command) → people_at word bytes ≡ Some q → IsBehind word bytes q
+unfolding people_at add_custodian_at remove_custodian_at approve_at withdraw_at destroy_at
+people_takes word bytes q e =
+    worded_as word (codes "add-custodian") bytes q _ _ e (named_takes (codes "add-custodian") AddCustodian (λ k n hk hn. (hk, hn)) (λ k n. refl) bytes q) (λ e1.
+    worded_as word (codes "remove-custodian") bytes q _ _ e1 (named_takes (codes "remove-custodian") RemoveCustodian (λ k n hk hn. (hk, hn)) (λ k n. refl) bytes q) (λ e2.
+    worded_as word (codes "approve") bytes q _ _ e2 (key_takes (codes "approve") Approve (λ k h. h) (λ k. refl) bytes q) (λ e3.
+    worded_as word (codes "withdraw") bytes q _ _ e3 (key_takes (codes "withdraw") Withdraw (λ k h. h) (λ k. refl) bytes q) (λ e4.
+    worded_as word (codes "destroy") bytes q _ _ e4 (key_takes (codes "destroy") Destroy (λ k h. h) (λ k. refl) bytes q) (λ e5. absurd (none_read q e5))))))
+
 behind_takes : (word bytes : List ℕ) (q : Command) → behind_at word bytes ≡ Some q → IsBehind word bytes q
 behind_takes word bytes q e =
     worded_as word (codes "register") bytes q _ _ e (register_takes bytes q) (λ e1.
     worded_as word (codes "activate") bytes q _ _ e1 (activate_takes bytes q) (λ e2.
     worded_as word (codes "set") bytes q _ _ e2 (set_takes bytes q) (λ e3.
     worded_as word (codes "revoke") bytes q _ _ e3 (revoke_takes bytes q) (λ e4.
-    worded_as word (codes "assign") bytes q _ _ e4 (assign_takes bytes q) (λ e5. absurd cc)))))
+    worded_as word (codes "assign") bytes q _ _ e4 (assign_takes bytes q) (people_takes word bytes q)))))
 
 worded_takes : (bytes : List ℕ) (q : Command) → worded_at bytes ≡ Some q → IsCommandText bytes q
 unfolding worded_at
@@ -308,25 +340,40 @@ command_takes bytes q e = elim (pick (bytes_eq bytes (codes "advance")) (Some Ad
   | inr behind ↦ worded_takes bytes q behind.1
 ]
 
-command_again : (q : Command) → IsCommand q → command_at (command_text q) ≡ Some q
+-- a word, and behind it what is read as the command behind this word
+worded_again : (word bytes : List ℕ) (q : Command) → HasNoSpace word → bytes_eq (before word bytes) (codes "advance") ≡ false → behind_at word bytes ≡ Some q
+    → command_at (before word bytes) ≡ Some q
 unfolding command_at worded_at
+worded_again word bytes q solid other read = rw (other, field_again word bytes solid) read
+
+command_again : (q : Command) → IsCommand q → command_at (command_text q) ≡ Some q
+unfolding command_at people_at add_custodian_at remove_custodian_at approve_at withdraw_at destroy_at
 command_again Advance in_range = refl
 command_again (Register k o a p d u) in_range =
     let behind : List ℕ = before (key_type_text k) (before o (before (date_text a) (before (date_text p) (before (date_text d) u)))) in
     ap command_at (joined_register (key_type_text k) o (date_text a) (date_text p) (date_text d) u)
-    ∙ rw (field_again (codes "register") behind refl, register_again k o a p d u in_range) refl
-command_again (Activate key) in_range = rw (field_again (codes "activate") (decimal key) refl, activate_again key in_range) refl
+    ∙ worded_again (codes "register") behind _ refl refl (register_again k o a p d u in_range)
+command_again (Activate key) in_range = worded_again (codes "activate") (decimal key) _ refl refl (activate_again key in_range)
 command_again (SetDates key a p d) in_range =
     let behind : List ℕ = before (decimal key) (before (edit_text a) (before (edit_text p) (edit_text d))) in
     ap command_at (joined_set (decimal key) (edit_text a) (edit_text p) (edit_text d))
-    ∙ rw (field_again (codes "set") behind refl, set_again key a p d in_range) refl
+    ∙ worded_again (codes "set") behind _ refl refl (set_again key a p d in_range)
 command_again (Revoke key r o) in_range =
     let behind : List ℕ = before (decimal key) (before (reason_text r) (date_text o)) in
     ap command_at (joined_revoke (decimal key) (reason_text r) (date_text o))
-    ∙ rw (field_again (codes "revoke") behind refl, revoke_again key r o in_range) refl
+    ∙ worded_again (codes "revoke") behind _ refl refl (revoke_again key r o in_range)
 command_again (Assign key o) in_range =
-    ap command_at (joined_assign (decimal key) o)
-    ∙ rw (field_again (codes "assign") (before (decimal key) o) refl, assign_again key o in_range) refl
+    ap command_at (joined_named (codes "assign") (decimal key) o)
+    ∙ worded_again (codes "assign") (before (decimal key) o) _ refl refl (assign_again key o in_range)
+command_again (AddCustodian key n) in_range =
+    ap command_at (joined_named (codes "add-custodian") (decimal key) n)
+    ∙ worded_again (codes "add-custodian") (before (decimal key) n) _ refl refl (named_again AddCustodian key n in_range.0 in_range.1)
+command_again (RemoveCustodian key n) in_range =
+    ap command_at (joined_named (codes "remove-custodian") (decimal key) n)
+    ∙ worded_again (codes "remove-custodian") (before (decimal key) n) _ refl refl (named_again RemoveCustodian key n in_range.0 in_range.1)
+command_again (Approve key) in_range = worded_again (codes "approve") (decimal key) _ refl refl (key_again Approve key in_range)
+command_again (Withdraw key) in_range = worded_again (codes "withdraw") (decimal key) _ refl refl (key_again Withdraw key in_range)
+command_again (Destroy key) in_range = worded_again (codes "destroy") (decimal key) _ refl refl (key_again Destroy key in_range)
 
 command_read : (bytes : List ℕ) (q : Command) → IsCommandText bytes q → command_at bytes ≡ Some q
 command_read bytes q h = ap command_at h.1 ∙ command_again q h.0

@@ -79,6 +79,36 @@ fn refusals(rt: HostRuntime) -> Result<(), Fail> {
     Ok(())
 }
 
+/// The texts of commands on custodians, approvals and destruction.
+#[test]
+fn texts_of_people(rt: HostRuntime) -> Result<(), Fail> {
+    let texts: [&[u8]; 5] = [
+        b"add-custodian 1 cat",
+        b"remove-custodian 1 cat",
+        b"approve 1",
+        b"withdraw 1",
+        b"destroy 1",
+    ];
+    for text in texts {
+        let command = read_command(text).ok_or("a command")?;
+        assert_eq!(rt; command_text(&command).as_bytes(), text);
+    }
+    assert!(rt; read_command(b"approve 01").is_none());
+    assert!(rt; read_command(b"destroy 1 ").is_none());
+    assert!(rt; read_command(b"add-custodian 1").is_none());
+    Ok(())
+}
+
+#[test]
+fn missing_approvals(rt: HostRuntime) -> Result<(), Fail> {
+    let missing = reply_line(&Err(Refusal::ApprovalsMissing { have: 1, need: 2 }));
+    assert_eq!(rt;
+        missing.as_str(),
+        "refused 18 ApprovalsMissing have=1 need=2\n"
+    );
+    Ok(())
+}
+
 /// The dates that the specification gives the key of a registration line.
 #[test]
 fn dates_of_registrations(rt: HostRuntime) -> Result<(), Fail> {
