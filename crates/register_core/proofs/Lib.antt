@@ -12,3 +12,9 @@ pub mod Filling
 pub mod Decisions
 pub mod Lawful
 pub mod OnKey
+pub mod PeopleStay
+pub mod PeopleLaws
+pub mod Dating
+pub mod Showing
+pub mod DateSteps
+pub mod DateLaws

@@ -17,7 +17,7 @@ map_joined : {X Y : Type 0} (f : X → Y) (xs ys : List X) → map f (xs ++ ys) 
 map_joined f [] ys = refl
 map_joined f (x ∷ xs) ys = ap (λ l. f x ∷ l) (map_joined f xs ys)
 
-names_joined : (key : ℕ) (posts others : List (ℕ × List ℕ)) → names_of key (posts ++ others) ≡ names_of key posts ++ names_of key others
+pub names_joined : (key : ℕ) (posts others : List (ℕ × List ℕ)) → names_of key (posts ++ others) ≡ names_of key posts ++ names_of key others
 names_joined key posts others =
     ap (map (λ (post : ℕ × List ℕ). post.1)) (filter_joined (is_at key) posts others)
     ∙ map_joined (λ (post : ℕ × List ℕ). post.1) (filter (is_at key) posts) (filter (is_at key) others)

@@ -1,0 +1,166 @@
+-- What Fill and Trim make of dates: which they keep, and that dates which they do not refuse fit.
+use Rattle.std.proofs.Common.{◌≡◌, ℕ, ◌≤◌, nat_le, Bool, true, false, not, ◌&&◌, ◌||◌, cond, List, [], ◌∷◌, Option, None, Some, Result, Ok, Err, refl, sym, ap, subst, ◌∙◌, arith}
+use Rattle.std.specs.Prelude.{nat_lt, min, is_some, is_none}
+use Rattle.std.specs.List.{AllByRecursion}
+use Rattle.std.proofs.lemmas.Bool.{ltb-false, le-leb, and_parts, and_from}
+use Rattle.lifecycle_core.specs.declared.dates.Dates.{Dates}
+use Rattle.period_core.specs.declared.key_type.KeyType.{KeyType}
+use Rattle.period_core.specs.declared.filling.DateRefusal.{DateRefusal}
+use Rattle.period_core.specs.declared.filling.DateRefusal.TheVariants.{DateOrder, PeriodTooLong, DateRange}
+use Rattle.period_core.specs.Fitting.{in_order, originator_limit, recipient_limit, are_in_order, Fits, with_protect_stop, with_deactivation, cut, filled, trimmed, over_limit, out_of_order, out_of_range, first_refusal, unless_refused, fill_of, trim_of}
+use Rattle.register_core.specs.Verdict.{refused_dates}
+
+-- ---- what they keep
+
+kept : {X : Type 0} (f : Dates → X) (b : Bool) (x y : Dates) → f x ≡ f y → f (cond b x y) ≡ f y
+kept f true x y same = same
+kept f false x y same = refl
+
+-- what looks at neither Protect Stop nor Deactivation
+record IsApart {X : Type 0} (f : Dates → X) : Type 0 where
+  pub stop : (d : Dates) (date : Option ℕ) → f (record d { protect_stop = date }) ≡ f d
+  pub end : (d : Dates) (date : Option ℕ) → f (record d { deactivation = date }) ≡ f d
+
+stop_kept : {X : Type 0} (f : Dates → X) → IsApart f → (kind : KeyType) (d : Dates) → f (with_protect_stop kind d) ≡ f d
+stop_kept f apart kind d = kept f (is_some d.activation && is_none d.protect_stop) _ d (apart.stop d _)
+
+end_kept : {X : Type 0} (f : Dates → X) → IsApart f → (kind : KeyType) (d : Dates) → f (with_deactivation kind d) ≡ f d
+end_kept f apart kind d = kept f (is_some d.activation && is_none d.deactivation) _ d (apart.end d _)
+
+filled_kept : {X : Type 0} (f : Dates → X) → IsApart f → (kind : KeyType) (d : Dates) → f (filled kind d) ≡ f d
+filled_kept f apart kind d = end_kept f apart kind (with_protect_stop kind d) ∙ stop_kept f apart kind d
+
+abbrev stopped : KeyType → Dates → Dates
+stopped kind d = let first = with_protect_stop kind d in record first { protect_stop = cut first.protect_stop (originator_limit kind first) }
+
+trimmed_kept : {X : Type 0} (f : Dates → X) → IsApart f → (kind : KeyType) (d : Dates) → f (trimmed kind d) ≡ f d
+trimmed_kept f apart kind d =
+    apart.end (with_deactivation kind (stopped kind d)) _ ∙ end_kept f apart kind (stopped kind d) ∙ apart.stop (with_protect_stop kind d) _ ∙ stop_kept f apart kind d
+
+-- the dates that no date set by hand moves
+pub record KeepsOthers (old new : Dates) : Type 0 where
+  pub activation : new.activation ≡ old.activation
+  pub initial : new.initial ≡ old.initial
+  pub destroy : new.destroy ≡ old.destroy
+  pub compromise : new.compromise ≡ old.compromise
+  pub compromise_occurrence : new.compromise_occurrence ≡ old.compromise_occurrence
+
+pub filled_keeps : (kind : KeyType) (d : Dates) → KeepsOthers d (filled kind d)
+filled_keeps kind d = record {
+  activation = filled_kept (λ x. x.activation) (record { stop = λ x date. refl; end = λ x date. refl }) kind d;
+  initial = filled_kept (λ x. x.initial) (record { stop = λ x date. refl; end = λ x date. refl }) kind d;
+  destroy = filled_kept (λ x. x.destroy) (record { stop = λ x date. refl; end = λ x date. refl }) kind d;
+  compromise = filled_kept (λ x. x.compromise) (record { stop = λ x date. refl; end = λ x date. refl }) kind d;
+  compromise_occurrence = filled_kept (λ x. x.compromise_occurrence) (record { stop = λ x date. refl; end = λ x date. refl }) kind d;
+}
+
+pub trimmed_keeps : (kind : KeyType) (d : Dates) → KeepsOthers d (trimmed kind d)
+trimmed_keeps kind d = record {
+  activation = trimmed_kept (λ x. x.activation) (record { stop = λ x date. refl; end = λ x date. refl }) kind d;
+  initial = trimmed_kept (λ x. x.initial) (record { stop = λ x date. refl; end = λ x date. refl }) kind d;
+  destroy = trimmed_kept (λ x. x.destroy) (record { stop = λ x date. refl; end = λ x date. refl }) kind d;
+  compromise = trimmed_kept (λ x. x.compromise) (record { stop = λ x date. refl; end = λ x date. refl }) kind d;
+  compromise_occurrence = trimmed_kept (λ x. x.compromise_occurrence) (record { stop = λ x date. refl; end = λ x date. refl }) kind d;
+}
+
+never_empty : (b : Bool) (o : Option ℕ) (x : ℕ) → o ≡ Some x → b && is_none o ≡ false
+never_empty true None x set = absurd cc
+never_empty true (Some y) x set = refl
+never_empty false o x set = refl
+
+-- a Protect Stop that is set is no default
+given_stop : (kind : KeyType) (d : Dates) (x : ℕ) → d.protect_stop ≡ Some x → (with_protect_stop kind d).protect_stop ≡ Some x
+given_stop kind d x set = by (is_some d.activation && is_none d.protect_stop) (never_empty (is_some d.activation) d.protect_stop x set)
+  where
+    by : (b : Bool) → b ≡ false → (cond b (record d { protect_stop = Rattle.period_core.specs.Fitting.earlier (originator_limit kind d) d.deactivation }) d).protect_stop ≡ Some x
+    by true e = absurd cc
+    by false e = set
+
+pub filled_stop : (kind : KeyType) (d : Dates) (x : ℕ) → d.protect_stop ≡ Some x → (filled kind d).protect_stop ≡ Some x
+filled_stop kind d x set =
+    kept (λ (y : Dates). y.protect_stop) (is_some (with_protect_stop kind d).activation && is_none (with_protect_stop kind d).deactivation) _ (with_protect_stop kind d) refl ∙ given_stop kind d x set
+
+-- Trim's Protect Stop
+trimmed_stop_is : (kind : KeyType) (d : Dates) → (trimmed kind d).protect_stop ≡ (stopped kind d).protect_stop
+trimmed_stop_is kind d = kept (λ (y : Dates). y.protect_stop) (is_some (stopped kind d).activation && is_none (stopped kind d).deactivation) _ (stopped kind d) refl
+
+pub trimmed_stop : (kind : KeyType) (d : Dates) (x : ℕ) → d.protect_stop ≡ Some x → (trimmed kind d).protect_stop ≡ cut (Some x) (originator_limit kind d)
+trimmed_stop kind d x set =
+    trimmed_stop_is kind d
+    ∙ ap (λ (o : Option ℕ). cut o (originator_limit kind (with_protect_stop kind d))) (given_stop kind d x set)
+    ∙ ap (λ (o : Option ℕ). cut (Some x) o) (stop_kept (originator_limit kind) (record { stop = λ y date. refl; end = λ y date. refl }) kind d)
+
+-- ---- that they fit
+
+-- where Activation is set, so are the others
+pub record IsWhole (d : Dates) : Type 0 where
+  pub protect_stop : is_some d.activation ≡ true → is_some d.protect_stop ≡ true
+  pub deactivation : is_some d.activation ≡ true → is_some d.deactivation ≡ true
+
+passes : (refusal : Option DateRefusal) (d : Dates) → refused_dates (unless_refused refusal d) ≡ None → refusal ≡ None
+passes None d e = refl
+passes (Some refusal) d e = absurd cc
+
+none_first : (refusals : List (Option DateRefusal)) → first_refusal refusals ≡ None → AllByRecursion (λ refusal. refusal ≡ None) refusals
+none_first [] none = tt
+none_first (None ∷ others) none = (refl, none_first others none)
+none_first (Some refusal ∷ others) none = absurd cc
+
+ordered : (b : Bool) → ◌≡◌ {A = Option DateRefusal} (cond b None (Some DateOrder)) None → b ≡ true
+ordered true e = refl
+ordered false e = absurd cc
+
+ranged : (b : Bool) → ◌≡◌ {A = Option DateRefusal} (cond b (Some DateRange) None) None → b ≡ false
+ranged true e = absurd cc
+ranged false e = refl
+
+limited : (date limit : Option ℕ) → over_limit date limit ≡ None → in_order date limit ≡ true
+limited None limit e = refl
+limited (Some date) None e = refl
+limited (Some date) (Some limit) e = by (nat_lt limit date) refl e
+  where
+    by : (b : Bool) → nat_lt limit date ≡ b → ◌≡◌ {A = Option DateRefusal} (cond b (Some (PeriodTooLong limit)) None) None → nat_le date limit ≡ true
+    by true lt e = absurd cc
+    by false le e = le-leb date limit (ltb-false _ _ le)
+
+some_first : (a : Bool) (p x : Option ℕ) → a && (is_none p || is_none x) ≡ false → a ≡ true → is_some p ≡ true
+some_first true (Some p) x e set = refl
+some_first true None x e set = absurd cc
+some_first false p x e set = absurd cc
+
+some_second : (a : Bool) (p x : Option ℕ) → a && (is_none p || is_none x) ≡ false → a ≡ true → is_some x ≡ true
+some_second true p (Some x) e set = refl
+some_second true None None e set = absurd cc
+some_second true (Some p) None e set = absurd cc
+some_second false p x e set = absurd cc
+
+whole : (d : Dates) → out_of_range d ≡ None → IsWhole d
+whole d e = record {
+  protect_stop = some_first (is_some d.activation) d.protect_stop d.deactivation (ranged _ e);
+  deactivation = some_second (is_some d.activation) d.protect_stop d.deactivation (ranged _ e);
+}
+
+pub filled_fits : (kind : KeyType) (d : Dates) → refused_dates (fill_of kind d) ≡ None → Fits kind (filled kind d) × IsWhole (filled kind d)
+filled_fits kind d e =
+    let full = filled kind d in
+    let each = none_first (out_of_order full ∷ over_limit full.protect_stop (originator_limit kind full) ∷ over_limit full.deactivation (recipient_limit kind full) ∷ out_of_range full ∷ []) (passes _ full e) in
+    (record { order = ordered _ each.0; originator = limited full.protect_stop (originator_limit kind full) each.1.0; recipient = limited full.deactivation (recipient_limit kind full) each.1.1.0 }, whole full each.1.1.1.0)
+
+cut_within : (date limit : Option ℕ) → in_order (cut date limit) limit ≡ true
+cut_within None limit = refl
+cut_within (Some date) None = refl
+cut_within (Some date) (Some limit) = le-leb (min date limit) limit (omega arith)
+
+pub trimmed_fits : (kind : KeyType) (d : Dates) → refused_dates (trim_of kind d) ≡ None → Fits kind (trimmed kind d) × IsWhole (trimmed kind d)
+trimmed_fits kind d e =
+    let full = trimmed kind d in
+    let first = with_protect_stop kind d in
+    let second = with_deactivation kind (stopped kind d) in
+    let each = none_first (out_of_order full ∷ out_of_range full ∷ []) (passes _ full e) in
+    let limit : originator_limit kind full ≡ originator_limit kind first =
+    end_kept (originator_limit kind) (record { stop = λ y date. refl; end = λ y date. refl }) kind (stopped kind d) in
+    (record {
+      order = ordered _ each.0;
+      originator = ap (λ (o : Option ℕ). in_order o (originator_limit kind full)) (trimmed_stop_is kind d) ∙ ap (in_order (stopped kind d).protect_stop) limit ∙ cut_within first.protect_stop (originator_limit kind first);
+      recipient = cut_within second.deactivation (recipient_limit kind second);
+    }, whole full each.1.0)
