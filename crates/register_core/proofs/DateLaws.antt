@@ -1,0 +1,60 @@
+-- The dates of each key over lawful histories: they fit, and move only where they may.
+use Rattle.std.proofs.Common.{◌≡◌, ℕ, ◌+◌, ◌≤◌, List, [], ◌∷◌, ◌++◌, Option, None, Some, refl, sym, ap, ap₂, subst, ◌∙◌, arith, ◌⊎◌, inl, inr}
+use Rattle.lifecycle_core.specs.declared.dates.Dates.{Dates}
+use Rattle.period_core.specs.declared.key_type.KeyType.{KeyType}
+use Rattle.period_core.specs.Fitting.{filled}
+use Rattle.register_core.specs.declared.request.Request.{Request}
+use Rattle.register_core.specs.declared.request.Command.TheVariants.{Register as Registers}
+use Rattle.register_core.specs.History.{count, type, given_dates, dates_after, dates}
+use Rattle.register_core.specs.Verdict.{unfit, verdict}
+use Rattle.register_core.specs.Fold.{IsLawful}
+use Rattle.register_core.specs.Laws.{IsAccepted, HasKey, MovesOnly}
+use Rattle.register_core.proofs.Histories.{count_grows, kind_other, dates_other, kind_named, dates_named, kind_made, dates_made}
+use Rattle.register_core.proofs.Decisions.{standing}
+use Rattle.register_core.proofs.Lawful.{lawful_holds}
+use Rattle.register_core.proofs.OnKey.{IsOn, IsMade, IsOther, Concerns, which}
+use Rattle.register_core.proofs.Dating.{filled_keeps, filled_fits}
+use Rattle.register_core.proofs.DateSteps.{nothing_moves, IsSound, sound_by, Steps, step}
+
+sound_as : (kind other_kind : KeyType) (d other : Dates) → other_kind ≡ kind → other ≡ d → IsSound kind d → IsSound other_kind other
+sound_as kind other_kind d other same_kind same sound = subst (λ (k : KeyType). IsSound k other) (sym same_kind) (subst (IsSound kind) (sym same) sound)
+
+-- the dates that the key is registered with
+pub made_sound : (h : List Request) (q : Request) (k : ℕ) → IsMade h q k → IsSound (type (h ++ q ∷ []) k) (dates (h ++ q ∷ []) k)
+made_sound h q k made =
+    let given : Dates = given_dates q.moment made.activation made.protect_stop made.deactivation in
+    let fit = filled_fits made.kind given (sym (ap (unfit None q.moment) made.command) ∙ made.fit) in
+    let kind = ap (type (h ++ q ∷ [])) made.next ∙ kind_made h q made.kind made.owner made.activation made.protect_stop made.deactivation made.purpose made.command in
+    let its = ap (dates (h ++ q ∷ [])) made.next ∙ dates_made h q made.kind made.owner made.activation made.protect_stop made.deactivation made.purpose made.command in
+    sound_as made.kind _ (filled made.kind given) _ kind its (sound_by made.kind given (filled made.kind given) fit (filled_keeps made.kind given) refl)
+
+-- what the request makes of the dates of the key that it names
+on_steps : (h : List Request) (q : Request) (k : ℕ) → IsOn h q k → IsSound (type h k) (dates h k) → Steps (type h k) (dates h k) q.moment (dates_after (type h k) (dates h k) q.moment q.command)
+on_steps h q k on sound = step (standing h k) q.moment k q.command on.names sound on.fits_state on.not_frozen on.fit
+
+abbrev AllSound : List Request → Type 0
+AllSound h = (k : ℕ) → HasKey h k → IsSound (type h k) (dates h k)
+
+sound_next : (h : List Request) (q : Request) → IsLawful h → verdict h q ≡ None → AllSound h → AllSound (h ++ q ∷ [])
+sound_next h q lawful accepted before k has = elim (which h q k accepted has.1) [
+  | inl made ↦ made_sound h q k made
+  | inr (inl on) ↦
+      let steps = on_steps h q k on (before k (on.low, on.high)) in
+      sound_as (type h k) _ _ _ (kind_named h q k on.names) (dates_named h q k on.names) steps.sound
+  | inr (inr other) ↦ sound_as (type h k) _ (dates h k) _ (kind_other h q k other.other) (dates_other h q k other.other) (before k (has.0, other.high))
+]
+
+pub all_sound : (h : List Request) → IsLawful h → AllSound h
+all_sound h lawful = lawful_holds AllSound sound_next (λ k has. absurd (omega (arith, has.0, has.1))) h lawful
+
+pub sound_after : (h : List Request) (q : Request) → IsAccepted h q → AllSound (h ++ q ∷ [])
+sound_after h q is = sound_next h q is.lawful is.accepted (all_sound h is.lawful)
+
+pub freeze : (h : List Request) (q : Request) → IsAccepted h q → (k : ℕ) → HasKey h k → MovesOnly (dates h k) q.moment (dates (h ++ q ∷ []) k)
+freeze h q is k has = elim (which h q k is.accepted (omega (arith, has.1, count_grows h q))) [
+  | inl made ↦ absurd (let next = made.next in omega (arith, next, has.1))
+  | inr (inl on) ↦
+      let steps = on_steps h q k on (all_sound h is.lawful k has) in
+      subst (MovesOnly (dates h k) q.moment) (sym (dates_named h q k on.names)) steps.moves
+  | inr (inr other) ↦ subst (MovesOnly (dates h k) q.moment) (sym (dates_other h q k other.other)) (nothing_moves (dates h k) q.moment)
+]

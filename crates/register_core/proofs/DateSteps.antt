@@ -35,7 +35,7 @@ keeps_none : (old new : Option ℕ) → is_some old ≡ false → KeepsDate old 
 keeps_none None new none = tt
 keeps_none (Some date) new none = absurd cc
 
-nothing_moves : (d : Dates) (t : ℕ) → MovesOnly d t d
+pub nothing_moves : (d : Dates) (t : ℕ) → MovesOnly d t d
 nothing_moves d t = record {
   activation = inr refl;
   deactivation = inr (inr refl);
@@ -63,7 +63,7 @@ pub record IsSound (kind : KeyType) (d : Dates) : Type 0 where
   pub whole : IsWhole d
   pub occurs : is_some d.compromise ≡ is_some d.compromise_occurrence
 
-sound_by : (kind : KeyType) (d new : Dates) → Fits kind new × IsWhole new → KeepsOthers d new → is_some d.compromise ≡ is_some d.compromise_occurrence → IsSound kind new
+pub sound_by : (kind : KeyType) (d new : Dates) → Fits kind new × IsWhole new → KeepsOthers d new → is_some d.compromise ≡ is_some d.compromise_occurrence → IsSound kind new
 sound_by kind d new fits keeps occurs = record {
   fits = fits.0;
   whole = fits.1;

@@ -13,8 +13,10 @@ pub mod Decisions
 pub mod Lawful
 pub mod OnKey
 pub mod PeopleStay
-pub mod PeopleLaws
 pub mod Dating
 pub mod Showing
 pub mod DateSteps
 pub mod DateLaws
+pub mod PathSteps
+pub mod PathLaws
+pub mod PeopleLaws

@@ -1,0 +1,56 @@
+-- Each accepted request takes each key along the standard's transitions.
+use Rattle.std.proofs.Common.{◌≡◌, ℕ, ◌+◌, ◌≤◌, nat_le, Bool, true, false, cond, List, [], ◌∷◌, ◌++◌, Option, None, Some, refl, sym, ap, subst, ◌∙◌, arith, ◌⊎◌, inl, inr}
+use Rattle.std.specs.Prelude.{is_some}
+use Rattle.std.proofs.lemmas.Bool.{le-leb, lt-leb}
+use Rattle.lifecycle_core.specs.declared.state.State.{State}
+use Rattle.lifecycle_core.specs.declared.dates.Dates.{Dates}
+use Rattle.lifecycle_core.specs.State.{state_at}
+use Rattle.lifecycle_core.specs.Transition.{Leads}
+use Rattle.lifecycle_core.proofs.Transitions.{time_leads}
+use Rattle.period_core.specs.Fitting.{filled}
+use Rattle.register_core.specs.declared.request.Request.{Request}
+use Rattle.register_core.specs.History.{latest, count, type, given_dates, dates_after, dates}
+use Rattle.register_core.specs.Laws.{IsAccepted, HasKey, MovesOnly, state_of_key}
+use Rattle.register_core.proofs.Histories.{count_grows, dates_other, dates_named, dates_made}
+use Rattle.register_core.proofs.OnKey.{not_behind, IsOn, IsMade, IsOther, which}
+use Rattle.register_core.proofs.Dating.{filled_keeps}
+use Rattle.register_core.proofs.DateLaws.{freeze}
+use Rattle.register_core.proofs.PathSteps.{then, path_made, path_named}
+
+-- key k is there: its state before is that of its dates at the latest moment
+from_there : (h : List Request) (k : ℕ) (to : Option State) → k ≤ count h → Leads (Some (state_at (dates h k) (latest h))) to → Leads (state_of_key h k) to
+from_there h k to high path = subst (λ (b : Bool). Leads (cond b (Some (state_at (dates h k) (latest h))) None) to) (sym (le-leb k (count h) high)) path
+
+from_none : (h : List Request) (k : ℕ) (to : Option State) → k ≡ count h + 1 → Leads None to → Leads (state_of_key h k) to
+from_none h k to next path = subst (λ (b : Bool). Leads (cond b (Some (state_at (dates h k) (latest h))) None) to) (sym (lt-leb k (count h) (omega (arith, next)))) path
+
+made_path : (h : List Request) (q : Request) (k : ℕ) → IsMade h q k → Leads (state_of_key h k) (Some (state_at (dates (h ++ q ∷ []) k) q.moment))
+made_path h q k made =
+    let given : Dates = given_dates q.moment made.activation made.protect_stop made.deactivation in
+    let its : dates (h ++ q ∷ []) k ≡ filled made.kind given =
+    ap (dates (h ++ q ∷ [])) made.next ∙ dates_made h q made.kind made.owner made.activation made.protect_stop made.deactivation made.purpose made.command in
+    let keeps = filled_keeps made.kind given in
+    from_none h k _ made.next
+      (subst (λ (d : Dates). Leads None (Some (state_at d q.moment))) (sym its) (path_made (filled made.kind given) q.moment (ap is_some keeps.destroy) (ap is_some keeps.compromise)))
+
+on_path : (h : List Request) (q : Request) (k : ℕ) → IsAccepted h q → IsOn h q k → Leads (state_of_key h k) (Some (state_at (dates (h ++ q ∷ []) k) q.moment))
+on_path h q k is on =
+    let d = dates h k in
+    let its = dates_named h q k on.names in
+    let moves = subst (MovesOnly d q.moment) its (freeze h q is k (on.low, on.high)) in
+    from_there h k _ on.high (then _ (Some (state_at d q.moment)) _
+      (time_leads d (latest h) q.moment (not_behind h q is.accepted))
+      (subst (λ (x : Dates). Leads (Some (state_at d q.moment)) (Some (state_at x q.moment))) (sym its) (path_named (type h k) d q.moment k q.command on.names on.fits_state moves)))
+
+other_path : (h : List Request) (q : Request) (k : ℕ) → IsAccepted h q → IsOther h q k → Leads (state_of_key h k) (Some (state_at (dates (h ++ q ∷ []) k) q.moment))
+other_path h q k is other =
+    from_there h k _ other.high
+      (subst (λ (x : Dates). Leads (Some (state_at (dates h k) (latest h))) (Some (state_at x q.moment))) (sym (dates_other h q k other.other))
+        (time_leads (dates h k) (latest h) q.moment (not_behind h q is.accepted)))
+
+pub path : (h : List Request) (q : Request) → IsAccepted h q → (k : ℕ) → HasKey (h ++ q ∷ []) k → Leads (state_of_key h k) (Some (state_at (dates (h ++ q ∷ []) k) q.moment))
+path h q is k has = elim (which h q k is.accepted has.1) [
+  | inl made ↦ made_path h q k made
+  | inr (inl on) ↦ on_path h q k is on
+  | inr (inr other) ↦ other_path h q k is other
+]

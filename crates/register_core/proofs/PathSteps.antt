@@ -1,0 +1,148 @@
+-- The paths along which an accepted command takes its key.
+use Rattle.std.proofs.Common.{◌≡◌, ℕ, ◌≤◌, Bool, true, false, not, ◌&&◌, ◌||◌, cond, List, [], ◌∷◌, ◌++◌, Option, None, Some, refl, sym, ap, subst, ◌∙◌, ◌⊎◌, inl, inr, le-leb}
+use Rattle.std.specs.Prelude.{is_some}
+use Rattle.lifecycle_core.specs.declared.state.State.{State}
+use Rattle.lifecycle_core.specs.declared.state.State.TheVariants.{PreActive, Active, Deactivated, Compromised, Destroyed, DestroyedCompromised}
+use Rattle.lifecycle_core.specs.declared.dates.Dates.{Dates}
+use Rattle.lifecycle_core.specs.State.{state_at, is_reached_at}
+use Rattle.lifecycle_core.specs.Reason.{is_compromise}
+use Rattle.lifecycle_core.specs.Transition.{IsPath, Leads}
+use Rattle.lifecycle_core.proofs.Transitions.{is_transition, listed}
+use Rattle.period_core.specs.declared.key_type.KeyType.{KeyType}
+use Rattle.period_core.specs.Fitting.{filled, trimmed}
+use Rattle.register_core.specs.declared.request.Command.{Command}
+use Rattle.register_core.specs.declared.request.Command.TheVariants.{Register as Registers, Activate, SetDates, Revoke, Assign, AddCustodian, RemoveCustodian, Approve, Withdraw, Destroy, Advance}
+use Rattle.register_core.specs.declared.request.Edit.{Edit}
+use Rattle.register_core.specs.declared.decision.Held.{Held}
+use Rattle.register_core.specs.History.{edited_dates, compromised, deactivated, dates_after}
+use Rattle.register_core.specs.Verdict.{is_one_of, is_for, is_kept, frozen, named}
+use Rattle.register_core.specs.Laws.{MovesOnly}
+use Rattle.register_core.proofs.Dating.{KeepsOthers, filled_keeps, trimmed_keeps}
+use Rattle.register_core.proofs.Showing.{Shows, shows, state_is, is_pre_active, is_active, is_early}
+
+-- ---- paths
+
+joined_paths : (from to : Option State) (path : List (Option State × State)) (mid : Option State) (more : List (Option State × State)) → IsPath from path mid → IsPath mid more to → IsPath from (path ++ more) to
+joined_paths from to [] mid more first second = subst (λ (s : Option State). IsPath s more to) (sym first) second
+joined_paths from to (step ∷ path) mid more first second = (first.0, first.1, joined_paths (Some step.1) to path mid more first.2 second)
+
+pub then : (from mid to : Option State) → Leads from mid → Leads mid to → Leads from to
+then from mid to first second = (first.0 ++ second.0, joined_paths from to first.0 mid second.0 first.1 second.1)
+
+stays : (state : Option State) → Leads state state
+stays state = ([], refl)
+
+one_step : (from : Option State) (to : State) → is_transition from to ≡ true → Leads from (Some to)
+one_step from to passes = ((from, to) ∷ [], (refl, listed from to passes, refl))
+
+-- ---- a key that is neither destroyed nor compromised
+
+is_open : Dates → Type 0
+is_open d = (is_some d.destroy ≡ false) × (is_some d.compromise ≡ false)
+
+abbrev opened : Bool → Bool → State
+opened active ended = cond (not active) PreActive (cond ended Deactivated Active)
+
+open_state : (d : Dates) (t : ℕ) → is_some d.destroy ≡ false → is_some d.compromise ≡ false → state_at d t ≡ opened (is_reached_at d.activation t) (is_reached_at d.deactivation t)
+open_state d t no_destroy no_compromise = rw (no_destroy, no_compromise) refl
+
+from_pre_active : (active ended : Bool) → Leads (Some PreActive) (Some (opened active ended))
+from_pre_active false ended = stays _
+from_pre_active true false = one_step (Some PreActive) Active refl
+from_pre_active true true = then _ (Some Active) _ (one_step (Some PreActive) Active refl) (one_step (Some Active) Deactivated refl)
+
+from_active : (ended : Bool) → Leads (Some Active) (Some (opened true ended))
+from_active false = stays _
+from_active true = one_step (Some Active) Deactivated refl
+
+leads_open : (from : State) (d : Dates) (t : ℕ) → is_some d.destroy ≡ false → is_some d.compromise ≡ false
+    → Leads (Some from) (Some (opened (is_reached_at d.activation t) (is_reached_at d.deactivation t))) → Leads (Some from) (Some (state_at d t))
+leads_open from d t no_destroy no_compromise path = subst (λ (s : State). Leads (Some from) (Some s)) (sym (open_state d t no_destroy no_compromise)) path
+
+-- a key that is made
+pub path_made : (d : Dates) (t : ℕ) → is_some d.destroy ≡ false → is_some d.compromise ≡ false → Leads None (Some (state_at d t))
+path_made d t no_destroy no_compromise =
+    then None (Some PreActive) _ (one_step None PreActive refl)
+      (leads_open PreActive d t no_destroy no_compromise (from_pre_active (is_reached_at d.activation t) (is_reached_at d.deactivation t)))
+
+-- ---- each command
+
+abbrev Goes : Dates → ℕ → Dates → Type 0
+Goes d t new = Leads (Some (state_at d t)) (Some (state_at new t))
+
+abbrev From : State → ℕ → Dates → Type 0
+From s t new = Leads (Some s) (Some (state_at new t))
+
+as_from : (d new : Dates) (t : ℕ) (s : State) → state_at d t ≡ s → From s t new → Goes d t new
+as_from d new t s is path = subst (λ (x : State). From x t new) (sym is) path
+
+its_shows : (d : Dates) (t : ℕ) (s : State) → state_at d t ≡ s → Shows s d t
+its_shows d t s is = subst (λ (x : State). Shows x d t) is (shows d t)
+
+still_unset : (old new : Option ℕ) → new ≡ old → is_some old ≡ false → is_some new ≡ false
+still_unset old new same none = ap is_some same ∙ none
+
+activated_path : (kind : KeyType) (d : Dates) (t : ℕ) → state_at d t ≡ PreActive → Goes d t (trimmed kind (record d { activation = Some t }))
+activated_path kind d t early =
+    let new : Dates = trimmed kind (record d { activation = Some t }) in
+    let keeps = trimmed_keeps kind (record d { activation = Some t }) in
+    let old = its_shows d t PreActive early in
+    as_from d new t PreActive early (leads_open PreActive new t (still_unset _ _ keeps.destroy old.0) (still_unset _ _ keeps.compromise old.1) (from_pre_active _ _))
+
+edited_path : (kind : KeyType) (d : Dates) (t : ℕ) (activation protect_stop deactivation : Edit) → (state_at d t ≡ PreActive) ⊎ (state_at d t ≡ Active)
+    → MovesOnly d t (filled kind (edited_dates activation protect_stop deactivation d)) → Goes d t (filled kind (edited_dates activation protect_stop deactivation d))
+edited_path kind d t activation protect_stop deactivation early moves =
+    let new : Dates = filled kind (edited_dates activation protect_stop deactivation d) in
+    let keeps = filled_keeps kind (edited_dates activation protect_stop deactivation d) in
+    elim early [
+      | inl pre ↦
+          let old = its_shows d t PreActive pre in
+          as_from d new t PreActive pre (leads_open PreActive new t (still_unset _ _ keeps.destroy old.0) (still_unset _ _ keeps.compromise old.1) (from_pre_active _ _))
+      | inr active ↦
+          let old = its_shows d t Active active in
+          let kept : new.activation ≡ d.activation = elim moves.activation [ inl pre ↦ absurd (let e = sym pre ∙ active in cc) | inr same ↦ same ] in
+          let reached : is_reached_at new.activation t ≡ true = ap (λ (x : Option ℕ). is_reached_at x t) kept ∙ old.2 in
+          as_from d new t Active active (leads_open Active new t (still_unset _ _ keeps.destroy old.0) (still_unset _ _ keeps.compromise old.1)
+            (subst (λ (b : Bool). Leads (Some Active) (Some (opened b (is_reached_at new.deactivation t)))) (sym reached) (from_active (is_reached_at new.deactivation t))))
+    ]
+
+deactivated_path : (d : Dates) (t : ℕ) → state_at d t ≡ Active → Goes d t (deactivated t d)
+deactivated_path d t active =
+    let old = its_shows d t Active active in
+    let now : state_at (deactivated t d) t ≡ Deactivated = state_is Deactivated (deactivated t d) t (old.0, old.1, old.2, le-leb t t (omega Rattle.std.proofs.Common.arith)) in
+    as_from d (deactivated t d) t Active active (subst (λ (s : State). Leads (Some Active) (Some s)) (sym now) (one_step (Some Active) Deactivated refl))
+
+compromised_by : (s : State) (d : Dates) (t : ℕ) (occurrence : Option ℕ) → Shows s d t → is_one_of (PreActive ∷ Active ∷ Deactivated ∷ Destroyed ∷ []) s ≡ true → From s t (compromised t occurrence d)
+compromised_by PreActive d t occurrence h e = subst (λ (s : State). Leads (Some PreActive) (Some s)) (sym (state_is Compromised (compromised t occurrence d) t (h.0, refl))) (one_step (Some PreActive) Compromised refl)
+compromised_by Active d t occurrence h e = subst (λ (s : State). Leads (Some Active) (Some s)) (sym (state_is Compromised (compromised t occurrence d) t (h.0, refl))) (one_step (Some Active) Compromised refl)
+compromised_by Deactivated d t occurrence h e = subst (λ (s : State). Leads (Some Deactivated) (Some s)) (sym (state_is Compromised (compromised t occurrence d) t (h.0, refl))) (one_step (Some Deactivated) Compromised refl)
+compromised_by Compromised d t occurrence h e = absurd cc
+compromised_by Destroyed d t occurrence h e = subst (λ (s : State). Leads (Some Destroyed) (Some s)) (sym (state_is DestroyedCompromised (compromised t occurrence d) t (h.0, refl))) (one_step (Some Destroyed) DestroyedCompromised refl)
+compromised_by DestroyedCompromised d t occurrence h e = absurd cc
+
+destroyed_by : (s : State) (d : Dates) (t : ℕ) → Shows s d t → is_one_of (PreActive ∷ Deactivated ∷ Compromised ∷ []) s ≡ true → From s t (record d { destroy = Some t })
+destroyed_by PreActive d t h e = subst (λ (s : State). Leads (Some PreActive) (Some s)) (sym (state_is Destroyed (record d { destroy = Some t }) t (refl, h.1))) (one_step (Some PreActive) Destroyed refl)
+destroyed_by Active d t h e = absurd cc
+destroyed_by Deactivated d t h e = subst (λ (s : State). Leads (Some Deactivated) (Some s)) (sym (state_is Destroyed (record d { destroy = Some t }) t (refl, h.1))) (one_step (Some Deactivated) Destroyed refl)
+destroyed_by Compromised d t h e = subst (λ (s : State). Leads (Some Compromised) (Some s)) (sym (state_is DestroyedCompromised (record d { destroy = Some t }) t (refl, h.1))) (one_step (Some Compromised) DestroyedCompromised refl)
+destroyed_by Destroyed d t h e = absurd cc
+destroyed_by DestroyedCompromised d t h e = absurd cc
+
+revoked_path : (d : Dates) (t : ℕ) (b : Bool) (occurrence : Option ℕ)
+    → cond b (is_one_of (PreActive ∷ Active ∷ Deactivated ∷ Destroyed ∷ []) (state_at d t)) (is_one_of (Active ∷ []) (state_at d t)) ≡ true
+    → Goes d t (cond b (compromised t occurrence d) (deactivated t d))
+revoked_path d t true occurrence fits_state = compromised_by (state_at d t) d t occurrence (shows d t) fits_state
+revoked_path d t false occurrence fits_state = deactivated_path d t (is_active (state_at d t) fits_state)
+
+pub path_named : (kind : KeyType) (d : Dates) (t k : ℕ) (c : Command) → named c ≡ Some k → is_for c (state_at d t) ≡ true → MovesOnly d t (dates_after kind d t c) → Goes d t (dates_after kind d t c)
+path_named kind d t k (Registers of_kind owner activation protect_stop deactivation purpose) names fits_state moves = absurd cc
+path_named kind d t k (Activate n) names fits_state moves = activated_path kind d t (is_pre_active (state_at d t) fits_state)
+path_named kind d t k (SetDates n activation protect_stop deactivation) names fits_state moves = edited_path kind d t activation protect_stop deactivation (is_early (state_at d t) fits_state) moves
+path_named kind d t k (Revoke n reason occurrence) names fits_state moves = revoked_path d t (is_compromise reason) occurrence fits_state
+path_named kind d t k (Assign n owner) names fits_state moves = stays _
+path_named kind d t k (AddCustodian n name) names fits_state moves = stays _
+path_named kind d t k (RemoveCustodian n name) names fits_state moves = stays _
+path_named kind d t k (Approve n) names fits_state moves = stays _
+path_named kind d t k (Withdraw n) names fits_state moves = stays _
+path_named kind d t k (Destroy n) names fits_state moves = destroyed_by (state_at d t) d t (shows d t) fits_state
+path_named kind d t k Advance names fits_state moves = absurd cc
