@@ -3,6 +3,8 @@ pub mod Texts
 pub mod Finding
 pub mod Advancing
 pub mod Founding
+pub mod Telling
+pub mod Actions
 pub mod Numbers
 pub mod KeyRow
 pub mod MetaRow
