@@ -8,5 +8,7 @@ pub mod Actions
 pub mod Numbers
 pub mod KeyRow
 pub mod MetaRow
+pub mod Posts
+pub mod PostRow
 pub mod KeyState
 pub mod KeyCells
