@@ -10,5 +10,7 @@ pub mod KeyRow
 pub mod MetaRow
 pub mod Posts
 pub mod PostRow
+pub mod PostTests
+pub mod PostGone
 pub mod KeyState
 pub mod KeyCells
