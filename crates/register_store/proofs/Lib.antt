@@ -12,5 +12,6 @@ pub mod Posts
 pub mod PostRow
 pub mod PostTests
 pub mod PostGone
+pub mod Naming
 pub mod KeyState
 pub mod KeyCells

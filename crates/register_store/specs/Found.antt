@@ -1,6 +1,7 @@
 -- What is found of a register in a database.
-use Rattle.std.specs.Prelude.{◌≡◌, ◌⊎◌, ℕ, pos, Bool, true, false, List, [], codes, Option, None, Some, Result, Ok, Err}
-use Rattle.sqlite.specs.declared.types.Value.TheVariants.{Int}
+use Rattle.std.specs.Prelude.{◌≡◌, ◌⊎◌, ℕ, pos, Bool, true, false, List, [], map, codes, Option, None, Some, Result, Ok, Err, Vec, IsPermutation}
+use Rattle.std.specs.declared.alloc.Global.{Global}
+use Rattle.sqlite.specs.declared.types.Value.TheVariants.{Int, Text as Words}
 use Rattle.sqlite.specs.Order.{Row, column}
 use Rattle.sqlite.specs.declared.error.Error.{Error}
 use Rattle.sqlite.specs.declared.error.Error.TheVariants.{QueryReturnedNoRows}
@@ -9,6 +10,7 @@ use Rattle.sqlite.specs.Schema.{Schema}
 use Rattle.sqlite.specs.Listing.{understood}
 use Rattle.sqlite_resolve.specs.declared.compiled.Compiled.{Compiled}
 use Rattle.lifecycle_core.specs.declared.dates.Dates.{Dates}
+use Rattle.register_core.specs.Post.{in_order}
 use Rattle.register_core.specs.Request.{IsDate}
 use Rattle.register_store.specs.declared.key.Key.{Key}
 use Rattle.register_store.specs.Schema.{no_schema, register_schema}
@@ -18,6 +20,11 @@ use Rattle.register_store.specs.Tables.{Tables, Holds, IsKey, no_rows, date_cell
 abbrev pub Reads : Result Row Error → Option Key → Type 0
 Reads (Ok cells) found = (key : Key) × (found ≡ Some key) × ((k : Key) → IsKey k → cells ≡ key_cells k → key ≡ k)
 Reads (Err error) found = (error ≡ QueryReturnedNoRows) × (found ≡ None)
+
+-- what is read of the answer to a search for names: where its first column shows some names, these in order
+abbrev pub ReadsNames : Result (Vec Row Global) Error → List (List ℕ) → Type 0
+ReadsNames (Ok rows) found = (names : List (List ℕ)) → IsPermutation (map (λ row. column row 0) rows.items) (map Words names) → found ≡ in_order names
+ReadsNames (Err error) found = ⊥
 
 -- a key is found as it stands in the tables, and the finding changes nothing
 abbrev pub FindsKey : ℕ → Option Key → Database → Database → Type 0

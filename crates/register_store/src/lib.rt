@@ -17,4 +17,7 @@ pub use error::StoreError;
 pub use find::{find_key, load_key};
 pub use key::Key;
 pub use making::{create, has_tables};
-pub use people::{add_approval, add_custodian, end_approvals, remove_approval, remove_custodian};
+pub use people::{
+    add_approval, add_custodian, end_approvals, find_approvals, find_custodians, remove_approval,
+    remove_custodian,
+};

@@ -1,12 +1,19 @@
-//! Writing who has a post at a key: its custodians, and those of them who approve of its destruction.
-ghost use Rattle.std.specs.Prelude.{◌≡◌};
+//! Who has a post at a key: its custodians, and those of them who approve of its destruction.
+ghost use Rattle.std.specs.Prelude.{◌≡◌, false, map, IfOk};
+ghost use Rattle.sqlite.specs.State.{HasCleanDisk, IsUnchanged, Survives};
+ghost use Rattle.sqlite.specs.declared.types.Value.TheVariants.{Text as Words};
 ghost use Rattle.sqlite.specs.Held.{state};
+ghost use Rattle.sqlite.specs.Order.{column};
+ghost use Rattle.register_core.specs.Post.{in_order, names_of};
 ghost use Rattle.sql_steps.specs.Steps.{StepsBy};
-ghost use Rattle.register_store.specs.Tables.{Makes, Always, with_custodian, with_approval, without_custodian, without_approval, without_approvals};
+ghost use Rattle.register_store.specs.Found.{ReadsNames};
+ghost use Rattle.register_store.specs.Tables.{Tables, Holds, Makes, Always, with_custodian, with_approval, without_custodian, without_approval, without_approvals};
 
 use crate::error::StoreError;
-use register_core::Name;
-use sqlite::{Alter, Transaction, params};
+use crate::find::name_in;
+use register_core::{Name, Names};
+use sqlite::{Alter, Connection, Error, Row, Transaction, params};
+use std::alloc::Global;
 
 /// Makes the name a custodian of the key.
 ///
@@ -99,4 +106,76 @@ pub fn end_approvals<S: Alter>(
 {
     tx.execute("DELETE FROM approval WHERE key_no = ?1", params![key])?;
     Ok(())
+}
+
+/// The name in the first cell of each row.
+fn names_in(alloc: Global, rows: &[Row]) -> Result<Vec<Name>, StoreError>
+    ensures { IfOk result (λ names. map (λ row. column row 0) rows.now ≡ map Words names.items) }
+{
+    let mut names = Vec::new(alloc);
+    for row in rows {
+        names.push(name_in(row, 0)?)?;
+    }
+    Ok(names)
+}
+
+/// The names that a search for names found, in order of their bytes.
+fn sorted_in(alloc: Global, answer: Result<Vec<Row>, Error>) -> Result<Names, StoreError>
+    ensures { IfOk result (ReadsNames answer) }
+{
+    let rows = answer?;
+    let mut names = Names::from_vec(names_in(alloc, &rows)?);
+    names.sort();
+    Ok(names)
+}
+
+/// The custodians of the key, in order of the bytes of their names. It changes nothing.
+///
+/// # Errors
+/// [`StoreError::Database`] where the database refused or memory gave out, and [`StoreError::NoRegister`] where a row
+/// is one that no register holds.
+pub fn find_custodians<S: Alter>(
+    alloc: Global,
+    connection: &mut Connection<S>,
+    key: u32,
+) -> Result<Names, StoreError>
+    requires { connection.old.in_transaction ≡ false }
+    ensures idle { connection.new.in_transaction ≡ false }
+    ensures found { HasCleanDisk (state S.Store connection.new) → (t : Tables) → Holds t (state S.Store connection.old).now →
+        IfOk result (λ names. (names ≡ in_order (names_of key t.custodians)) × IsUnchanged (state S.Store connection.old) (state S.Store connection.new)) }
+    ensures clean { HasCleanDisk (state S.Store connection.new) → HasCleanDisk (state S.Store connection.old) }
+    ensures survives { (t : Tables) → Holds t (state S.Store connection.old).now → Survives (state S.Store connection.old) (state S.Store connection.new) (λ _. ⊥) }
+{
+    sorted_in(
+        alloc,
+        connection.query_all(
+            "SELECT name FROM custodian WHERE key_no = ?1",
+            params![key],
+        ),
+    )
+}
+
+/// Those who approve of the key's destruction, in order of the bytes of their names. It changes nothing.
+///
+/// # Errors
+/// As [`find_custodians`].
+pub fn find_approvals<S: Alter>(
+    alloc: Global,
+    connection: &mut Connection<S>,
+    key: u32,
+) -> Result<Names, StoreError>
+    requires { connection.old.in_transaction ≡ false }
+    ensures idle { connection.new.in_transaction ≡ false }
+    ensures found { HasCleanDisk (state S.Store connection.new) → (t : Tables) → Holds t (state S.Store connection.old).now →
+        IfOk result (λ names. (names ≡ in_order (names_of key t.approvals)) × IsUnchanged (state S.Store connection.old) (state S.Store connection.new)) }
+    ensures clean { HasCleanDisk (state S.Store connection.new) → HasCleanDisk (state S.Store connection.old) }
+    ensures survives { (t : Tables) → Holds t (state S.Store connection.old).now → Survives (state S.Store connection.old) (state S.Store connection.new) (λ _. ⊥) }
+{
+    sorted_in(
+        alloc,
+        connection.query_all(
+            "SELECT name FROM approval WHERE key_no = ?1",
+            params![key],
+        ),
+    )
 }
