@@ -7,7 +7,6 @@ use Rattle.sqlite.specs.Collation.TheVariants.{Binary}
 use Rattle.sqlite.specs.Command.TheVariants.{Update}
 use Rattle.sqlite.specs.Effect.{Database}
 use Rattle.sqlite.specs.Listing.{understood}
-use Rattle.sqlite.specs.Order.{Row as Cells}
 use Rattle.sqlite.specs.State.{State as View, Executes}
 use Rattle.sqlite.specs.Term.{Term, lit, col, op2}
 use Rattle.sqlite.specs.Tree.{IsTable}
@@ -25,7 +24,8 @@ use Rattle.register_store.specs.declared.cells.KeyCells.{KeyCells}
 use Rattle.register_store.specs.declared.key.Key.{Key}
 use Rattle.register_store.specs.Cells.{ReplacesCells, params_of, row_of}
 use Rattle.register_store.specs.Schema.{keys, register_schema}
-use Rattle.register_store.specs.Tables.{Makes, Always, AreDates, IsKey, key_row, numbered, in_place, with_key_at}
+use Rattle.register_store.specs.Tables.{Makes, Always, ShowsPosts, AreDates, IsKey, key_row, numbered, in_place, with_key_at}
+use Rattle.register_store.proofs.Actions.{keys_idle}
 use Rattle.register_store.proofs.Numbers.{is_table}
 use Rattle.register_store.proofs.KeyRow.{in_range as in_its_range}
 
@@ -79,13 +79,16 @@ module _ (c : KeyCells) (key : Key) (is : row_of c ≡ key_row (c.number, key)) 
   replaces_key : (old new : View) (count : ℕ) → Executes replace_text (params_of c) old new (Ok count) → Makes Always (with_key_at c.number key) old.now new.now
   replaces_key old new count h t holds always =
       let ordered : IsTable (old.now.trees 1) = subst IsTable (sym holds.key_rows) (is_table t.keys) in
-      let did = changing.changes key_row (λ p. pos p.0) (λ _. refl) keys (params_of c) passes more set replace_text register_schema 1 refl replace_parts.0 replace_parts.1 (λ olds news. refl) (λ db. refl)
+      let did = changing.changes key_row (λ p. pos p.0) (λ _. refl) keys (params_of c) passes more set replace_text register_schema 1 refl replace_parts.0 replace_parts.1 keys_idle (λ db. refl)
       image (λ p. refl) old new count h holds.schema (numbered t.keys) holds.key_rows ordered in
       record {
         schema = did.0;
+        sound = did.3;
         meta_rows = did.2.0 (omega arith) ∙ holds.meta_rows;
         key_rows = did.1 ∙ each 1 t.keys;
         in_range = in_range 1 t.keys holds.in_range;
+        custodian_rows = subst (ShowsPosts t.custodians) (sym (did.2.1.1.0 (omega arith))) holds.custodian_rows;
+        approval_rows = subst (ShowsPosts t.approvals) (sym (did.2.1.1.1.0 (omega arith))) holds.approval_rows;
       }
 
 pub replaces_cells : (c : KeyCells) → IsName c.owner → IsPurpose c.purpose → (old new : View) (count : ℕ) → Executes replace_text (params_of c) old new (Ok count) → ReplacesCells c old.now new.now

@@ -18,7 +18,7 @@ use Rattle.register_core.specs.Purpose.{IsPurpose}
 use Rattle.register_store.specs.declared.cells.KeyCells.{KeyCells}
 use Rattle.register_store.specs.declared.key.Key.{Key}
 use Rattle.register_store.specs.Schema.{keys, register_schema}
-use Rattle.register_store.specs.Tables.{Makes, AreDates, IsKey, key_row, with_key}
+use Rattle.register_store.specs.Tables.{Makes, AreDates, IsKey, ShowsPosts, key_row, with_key}
 use Rattle.register_store.specs.Cells.{params_of, row_of, AddsCells}
 use Rattle.register_store.proofs.Numbers.{put_next}
 
@@ -53,9 +53,12 @@ adds_cells c name purpose old new count h k dates same t holds next =
     let news : edit.news ≡ row_of c ∷ [] = simp (cast_int, cast_null) in
     record {
       schema = did.0;
+      sound = w.sound;
       meta_rows = did.1.tables.0 (omega arith) ∙ holds.meta_rows;
       key_rows = did.1.rows ∙ ap (put_all (old.now.trees 1)) (news ∙ ap (λ row. row ∷ []) same) ∙ ap (put_row (key_row (c.number, k))) holds.key_rows ∙ put_next t.keys c.number k next;
       in_range = all_append IsKey t.keys k holds.in_range (in_range c k name purpose dates same);
+      custodian_rows = subst (ShowsPosts t.custodians) (sym (did.1.tables.1.1.0 (omega arith))) holds.custodian_rows;
+      approval_rows = subst (ShowsPosts t.approvals) (sym (did.1.tables.1.1.1.0 (omega arith))) holds.approval_rows;
     }
 
 -- a key is added by its cells

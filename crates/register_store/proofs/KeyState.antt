@@ -22,7 +22,8 @@ use Rattle.lifecycle_core.specs.declared.state.State.{State}
 use Rattle.lifecycle_core.specs.State.{state_code}
 use Rattle.register_store.specs.declared.key.Key.{Key}
 use Rattle.register_store.specs.Schema.{keys, register_schema}
-use Rattle.register_store.specs.Tables.{Makes, Always, IsKey, key_row, numbered, in_state, with_state}
+use Rattle.register_store.specs.Tables.{Makes, Always, ShowsPosts, IsKey, key_row, numbered, in_state, with_state}
+use Rattle.register_store.proofs.Actions.{keys_idle}
 use Rattle.register_store.proofs.Numbers.{is_table}
 
 abbrev pub state_text : List ℕ
@@ -73,11 +74,14 @@ module _ (number : ℕ) (state : State) where
   pub sets_state : (old new : View) (count : ℕ) → Executes state_text params old new (Ok count) → Makes Always (with_state number state) old.now new.now
   sets_state old new count h t holds always =
       let ordered : IsTable (old.now.trees 1) = subst IsTable (sym holds.key_rows) (is_table t.keys) in
-      let did = changing.changes key_row (λ p. pos p.0) (λ _. refl) keys params passes more set state_text register_schema 1 refl state_parts.0 state_parts.1 (λ olds news. refl) (λ db. refl)
+      let did = changing.changes key_row (λ p. pos p.0) (λ _. refl) keys params passes more set state_text register_schema 1 refl state_parts.0 state_parts.1 keys_idle (λ db. refl)
       (λ p. simp (cast_int, cast_null)) (λ p. refl) old new count h holds.schema (numbered t.keys) holds.key_rows ordered in
       record {
         schema = did.0;
+        sound = did.3;
         meta_rows = did.2.0 (omega arith) ∙ holds.meta_rows;
         key_rows = did.1 ∙ each 1 t.keys;
         in_range = in_range 1 t.keys holds.in_range;
+        custodian_rows = subst (ShowsPosts t.custodians) (sym (did.2.1.1.0 (omega arith))) holds.custodian_rows;
+        approval_rows = subst (ShowsPosts t.approvals) (sym (did.2.1.1.1.0 (omega arith))) holds.approval_rows;
       }

@@ -3,8 +3,15 @@ pub mod Texts
 pub mod Finding
 pub mod Advancing
 pub mod Founding
+pub mod Telling
+pub mod Actions
 pub mod Numbers
 pub mod KeyRow
 pub mod MetaRow
+pub mod Posts
+pub mod PostRow
+pub mod PostTests
+pub mod PostGone
+pub mod Naming
 pub mod KeyState
 pub mod KeyCells

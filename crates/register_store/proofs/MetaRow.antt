@@ -16,7 +16,8 @@ use Rattle.sql_steps.proofs.Changing as changing
 use Rattle.sql_steps.proofs.Queries.{compares}
 use Rattle.sql_steps.proofs.Statements.{plain_query, cast_int, cast_null}
 use Rattle.register_store.specs.Schema.{meta, register_schema}
-use Rattle.register_store.specs.Tables.{Tables, Makes, Always, meta_row, with_meta}
+use Rattle.register_store.specs.Tables.{Tables, Makes, Always, ShowsPosts, meta_row, with_meta}
+use Rattle.register_store.proofs.Actions.{meta_idle}
 
 abbrev pub meta_text : List ℕ
 meta_text = codes "UPDATE meta SET latest = ?1, key_count = ?2 WHERE id = 1"
@@ -44,11 +45,14 @@ module _ (latest key_count : ℕ) where
   pub records : (old new : State) (count : ℕ) → Executes meta_text params old new (Ok count) → Makes Always (with_meta latest key_count) old.now new.now
   records old new count h t holds always =
       let ordered : IsTable (old.now.trees 0) = subst IsTable (sym holds.meta_rows) (tt, tt) in
-      let did = changing.changes meta_row (λ _. pos 1) (λ _. refl) meta params passes more (with_meta latest key_count) meta_text register_schema 0 refl meta_parts.0 meta_parts.1 (λ olds news. refl) (λ db. refl)
+      let did = changing.changes meta_row (λ _. pos 1) (λ _. refl) meta params passes more (with_meta latest key_count) meta_text register_schema 0 refl meta_parts.0 meta_parts.1 meta_idle (λ db. refl)
       (λ t. simp (cast_int, cast_null)) (λ t. refl) old new count h holds.schema (t ∷ []) holds.meta_rows ordered in
       record {
         schema = did.0;
+        sound = did.3;
         meta_rows = did.1 ∙ ap (λ t. meta_row t ∷ []) (changed_is t);
         key_rows = did.2.1.0 (omega arith) ∙ holds.key_rows;
         in_range = holds.in_range;
+        custodian_rows = subst (ShowsPosts t.custodians) (sym (did.2.1.1.0 (omega arith))) holds.custodian_rows;
+        approval_rows = subst (ShowsPosts t.approvals) (sym (did.2.1.1.1.0 (omega arith))) holds.approval_rows;
       }

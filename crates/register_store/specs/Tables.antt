@@ -1,29 +1,35 @@
 -- What the tables of a register hold, and when a database holds them.
-use Rattle.std.specs.Prelude.{◌≡◌, ◌==◌, if◌then◌else◌, ℕ, suc, zero, pos, List, [], ◌∷◌, ◌++◌, length, map, slice_get, Option, None, Some}
+use Rattle.std.specs.Prelude.{◌≡◌, ◌==◌, if◌then◌else◌, ℕ, suc, zero, pos, not, List, [], ◌∷◌, ◌++◌, length, map, filter, drop, slice_get, Option, None, Some, IsTrue, IsPermutation}
 use Rattle.std.specs.List.{AllByRecursion, enumerate_from}
 use Rattle.sqlite.specs.declared.types.Value.TheVariants.{Null, Int, Text as Words}
 use Rattle.sqlite.specs.Order.{Row as Cells}
-use Rattle.sqlite.specs.Effect.{Database}
+use Rattle.sqlite.specs.Tree.{IsTable, rowid}
+use Rattle.sqlite.specs.Effect.{Database, IsDatabase}
+use Rattle.sqlite_trees.specs.View.{is_int}
 use Rattle.moment_core.specs.Moment.{IsMoment}
 use Rattle.lifecycle_core.specs.declared.dates.Dates.{Dates}
 use Rattle.lifecycle_core.specs.declared.state.State.{State}
 use Rattle.lifecycle_core.specs.State.{state_at, state_code}
 use Rattle.period_core.specs.KeyType.{key_type_code}
 use Rattle.register_core.specs.Name.{IsName}
+use Rattle.register_core.specs.Post.{is_post, is_at}
 use Rattle.register_core.specs.Purpose.{IsPurpose}
 use Rattle.register_core.specs.Request.{IsDate}
 use Rattle.register_store.specs.declared.key.Key.{Key}
 use Rattle.register_store.specs.Schema.{register_schema}
 
--- the rows of the tables: the one of meta, and those of keys by number, from 1
+-- The rows of the tables: the one of meta, and those of keys by number, from 1. The custodians and the approvals are
+-- posts, each a key's number and a name, in no order of meaning.
 pub record Tables : Type 0 where
   pub latest : ℕ
   pub key_count : ℕ
   pub keys : List Key
+  pub custodians : List (ℕ × List ℕ)
+  pub approvals : List (ℕ × List ℕ)
 
 -- the tables of an empty register
 abbrev pub no_rows : Tables
-no_rows = record { latest = 0; key_count = 0; keys = [] }
+no_rows = record { latest = 0; key_count = 0; keys = []; custodians = []; approvals = [] }
 
 -- ---- cells. A row begins with its rowid; the cell of an INTEGER PRIMARY KEY shows that, and is kept as NULL.
 
@@ -57,6 +63,10 @@ key_row numbered = Int (pos numbered.0) ∷ Null ∷ key_cells numbered.1
 abbrev pub numbered : List Key → List (ℕ × Key)
 numbered keys = enumerate_from 1 keys
 
+-- the cells of a post
+abbrev pub post_cells : ℕ × List ℕ → Cells
+post_cells post = Int (pos post.0) ∷ Words post.1 ∷ []
+
 -- ---- ranges
 
 pub record AreDates (d : Dates) : Type 0 where
@@ -75,13 +85,23 @@ pub record IsKey (k : Key) : Type 0 where
 
 -- ---- the refinement
 
--- The database holds the tables: its schema is the register's, and each table's rows are these. A table with an
--- INTEGER PRIMARY KEY keeps its rows in order of that, whatever the order in which they came.
+-- Past their rowids the rows are those of the posts, in any order. The rowids are whole numbers that rise, as in each
+-- table.
+pub record ShowsPosts (posts : List (ℕ × List ℕ)) (rows : List Cells) : Type 0 where
+  pub cells : IsPermutation (map (drop 1) rows) (map post_cells posts)
+  pub ordered : IsTable rows
+  pub counted : AllByRecursion (λ row. IsTrue (is_int (rowid row))) rows
+
+-- The database holds the tables: its schema is the register's, which its trees list and obey, and each table's rows are
+-- these. A table with an INTEGER PRIMARY KEY keeps its rows in order of that, whatever the order in which they came.
 pub record Holds (t : Tables) (db : Database) : Type 0 where
   pub schema : db.schema ≡ register_schema
+  pub sound : IsDatabase db
   pub meta_rows : db.trees 0 ≡ meta_row t ∷ []
   pub key_rows : db.trees 1 ≡ map key_row (numbered t.keys)
   pub in_range : AllByRecursion IsKey t.keys
+  pub custodian_rows : ShowsPosts t.custodians (db.trees 2)
+  pub approval_rows : ShowsPosts t.approvals (db.trees 4)
 
 -- ---- what the calls make of the tables
 
@@ -128,3 +148,26 @@ with_key_at number key t = record t { keys = map (in_place number key) (numbered
 abbrev pub key_at : List Key → ℕ → Option Key
 key_at keys zero = None
 key_at keys (suc before) = slice_get keys before
+
+-- ---- posts
+
+abbrev pub with_custodian : ℕ × List ℕ → Tables → Tables
+with_custodian post t = record t { custodians = t.custodians ++ post ∷ [] }
+
+abbrev pub with_approval : ℕ × List ℕ → Tables → Tables
+with_approval post t = record t { approvals = t.approvals ++ post ∷ [] }
+
+-- the posts but the one of this name at this key
+abbrev pub without_post : ℕ → List ℕ → List (ℕ × List ℕ) → List (ℕ × List ℕ)
+without_post key name posts = filter (λ post. not (is_post key name post)) posts
+
+-- the approval of one who is custodian no more goes too
+abbrev pub without_custodian : ℕ → List ℕ → Tables → Tables
+without_custodian key name t = record t { custodians = without_post key name t.custodians; approvals = without_post key name t.approvals }
+
+abbrev pub without_approval : ℕ → List ℕ → Tables → Tables
+without_approval key name t = record t { approvals = without_post key name t.approvals }
+
+-- no approval of this key's
+abbrev pub without_approvals : ℕ → Tables → Tables
+without_approvals key t = record t { approvals = filter (λ post. not (is_at key post)) t.approvals }

@@ -1,3 +1,4 @@
+use std::alloc::AllocFailed;
 use thiserror::Error;
 
 /// Why a call of the store failed. The transaction that it was in is to be given up.
@@ -9,4 +10,11 @@ pub enum StoreError {
     /// A row is one that no register holds, or one that a register holds is not there.
     #[error("the tables are those of no register")]
     NoRegister,
+}
+
+/// A want of memory is told as the database tells its own.
+impl<T: Drop> From<AllocFailed<T>> for StoreError {
+    fn from(error: AllocFailed<T>) -> StoreError {
+        StoreError::Database(sqlite::Error::from(error))
+    }
 }

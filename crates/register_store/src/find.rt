@@ -51,7 +51,7 @@ fn state_in(row: &sqlite::Row, at: usize) -> Result<State, StoreError>
 }
 
 /// The name in the cell.
-fn name_in(row: &sqlite::Row, at: usize) -> Result<Name, StoreError>
+pub(crate) fn name_in(row: &sqlite::Row, at: usize) -> Result<Name, StoreError>
     ensures { IfOk result (λ name. column row.now at ≡ Words name) }
 {
     let text: String = row.get(at)?;

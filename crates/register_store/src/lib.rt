@@ -9,6 +9,7 @@ mod error;
 mod find;
 mod key;
 mod making;
+mod people;
 
 pub use change::{add_key, record_request, set_key};
 pub use due::advance_due;
@@ -16,3 +17,7 @@ pub use error::StoreError;
 pub use find::{find_key, load_key};
 pub use key::Key;
 pub use making::{create, has_tables};
+pub use people::{
+    add_approval, add_custodian, end_approvals, find_approvals, find_custodians, remove_approval,
+    remove_custodian,
+};

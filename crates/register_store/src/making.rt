@@ -5,8 +5,8 @@ ghost use Rattle.sqlite.specs.State.{HasCleanDisk, Survives};
 ghost use Rattle.sqlite.specs.Held.{state};
 ghost use Rattle.sql_steps.specs.Steps.{StepsBy, TransactsBy};
 ghost use Rattle.sql_steps.specs.Creating.{Creates};
-ghost use Rattle.register_store.specs.Schema.{meta, keys, no_schema, meta_schema};
-ghost use Rattle.register_store.specs.Found.{HasTable, MakesEmpty, AddsMeta, TellsMeaning, TellsTable};
+ghost use Rattle.register_store.specs.Schema.{meta, keys, custodian, approval, no_schema, meta_schema, keys_schema, custodian_schema};
+ghost use Rattle.register_store.specs.Found.{HasOneOf, HasTable, MakesEmpty, AddsMeta, Tells, TellsMeaning};
 
 use crate::error::StoreError;
 use sqlite::{Alter, Connection, Error, Transaction};
@@ -23,15 +23,38 @@ fn has_meaning<S: Alter>(tx: &mut Transaction<'_, S>, sql: &str) -> Result<bool,
     }
 }
 
+/// Whether one of the two texts has a meaning.
+fn has_one_of<S: Alter>(
+    tx: &mut Transaction<'_, S>,
+    first: &str,
+    second: &str,
+) -> Result<bool, StoreError>
+    ensures same_reference { tx.new.conn.ghost_name ≡ tx.old.conn.ghost_name }
+    ensures told { StepsBy (Tells (HasOneOf first.now second.now)) (state S.Store tx.old.conn.now) (state S.Store tx.new.conn.now) result }
+{
+    if has_meaning(tx, first)? {
+        return Ok(true);
+    }
+    has_meaning(tx, second)
+}
+
 /// Whether one of the register's tables is there: the count of its rows has a meaning.
 fn has_table<S: Alter>(tx: &mut Transaction<'_, S>) -> Result<bool, StoreError>
     ensures same_reference { tx.new.conn.ghost_name ≡ tx.old.conn.ghost_name }
-    ensures told { StepsBy TellsTable (state S.Store tx.old.conn.now) (state S.Store tx.new.conn.now) result }
+    ensures told { StepsBy (Tells HasTable) (state S.Store tx.old.conn.now) (state S.Store tx.new.conn.now) result }
 {
-    if has_meaning(tx, "SELECT count(*) FROM meta")? {
+    if has_one_of(
+        tx,
+        "SELECT count(*) FROM meta",
+        "SELECT count(*) FROM keys",
+    )? {
         return Ok(true);
     }
-    has_meaning(tx, "SELECT count(*) FROM keys")
+    has_one_of(
+        tx,
+        "SELECT count(*) FROM custodian",
+        "SELECT count(*) FROM approval",
+    )
 }
 
 /// Whether one of the register's tables is there. It changes nothing: what was committed stands. Where the database
@@ -73,6 +96,28 @@ fn create_keys<S: Alter>(tx: &mut Transaction<'_, S>) -> Result<usize, Error>
     )
 }
 
+fn create_custodian<S: Alter>(tx: &mut Transaction<'_, S>) -> Result<usize, Error>
+    ensures same_reference { tx.new.conn.ghost_name ≡ tx.old.conn.ghost_name }
+    ensures created { StepsBy (λ _. Creates keys_schema custodian) (state S.Store tx.old.conn.now) (state S.Store tx.new.conn.now) result }
+{
+    tx.execute(
+        "CREATE TABLE custodian (key_no INTEGER NOT NULL REFERENCES keys(number), name TEXT NOT NULL, \
+        PRIMARY KEY (key_no, name)) STRICT",
+        &[],
+    )
+}
+
+fn create_approval<S: Alter>(tx: &mut Transaction<'_, S>) -> Result<usize, Error>
+    ensures same_reference { tx.new.conn.ghost_name ≡ tx.old.conn.ghost_name }
+    ensures created { StepsBy (λ _. Creates custodian_schema approval) (state S.Store tx.old.conn.now) (state S.Store tx.new.conn.now) result }
+{
+    tx.execute(
+        "CREATE TABLE approval (key_no INTEGER NOT NULL, name TEXT NOT NULL, PRIMARY KEY (key_no, name), \
+        FOREIGN KEY (key_no, name) REFERENCES custodian(key_no, name) ON DELETE CASCADE) STRICT",
+        &[],
+    )
+}
+
 /// Adds the one row of meta: the version of the tables, and that no request was accepted and no key made.
 fn insert_meta<S: Alter>(tx: &mut Transaction<'_, S>) -> Result<usize, Error>
     ensures same_reference { tx.new.conn.ghost_name ≡ tx.old.conn.ghost_name }
@@ -90,6 +135,8 @@ fn make_tables<S: Alter>(tx: &mut Transaction<'_, S>) -> Result<(), Error>
 {
     create_meta(tx)?;
     create_keys(tx)?;
+    create_custodian(tx)?;
+    create_approval(tx)?;
     insert_meta(tx)?;
     Ok(())
 }

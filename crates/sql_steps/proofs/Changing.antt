@@ -1,4 +1,4 @@
--- What an UPDATE of a table does that other tables don't refer to, where its rows stand for values of a type.
+-- What an UPDATE does that sets off no action, where the rows of its table stand for values of a type.
 use Rattle.std.proofs.Common.{◌≡◌, ℕ, ℤ, List, [], ◌∷◌, map, slice_get, false, Some, Ok, subst, ◌∙◌}
 use Rattle.std.specs.List.{AllByRecursion}
 use Rattle.std.specs.Prelude.{◌≢◌}
@@ -6,6 +6,7 @@ use Rattle.std.specs.List.Sorted.{IsPermutation}
 use Rattle.sqlite.specs.declared.types.Value.TheVariants.{Int}
 use Rattle.sqlite.specs.Command.TheVariants.{Update}
 use Rattle.sqlite.specs.Edit.{taken_by}
+use Rattle.sqlite.specs.Effect.{IsDatabase}
 use Rattle.sqlite.specs.Listing.{understood}
 use Rattle.sqlite.specs.Order.{Row}
 use Rattle.sqlite.specs.Program.{overlay}
@@ -28,13 +29,13 @@ module _ {A : Type 0} (enc : A → Row) (number : A → ℤ) (rowid_is : (a : A)
   abbrev pub changed : A → A
   changed = typed.updated enc number rowid_is table params passes more f
 
-  -- each value that passes is changed, and no other table
+  -- each value that passes is changed, and no other table; the new database is sound
   pub changes : (sql : List ℕ) (schema : Schema) (at : ℕ) → slice_get schema.tables at ≡ Some table
       → command_of (understood schema sql) ≡ Update at (record { lets = []; body = plain_query table.tree passes (col 1 0 ∷ more) }) → IsPlain (understood schema sql)
       → ((olds news : List Row) → works schema Enforced 0 table.tree olds news ≡ []) → ((db : Trees) → overlay db [] table.tree ≡ db table.tree)
       → ((a : A) → typed.g enc number rowid_is table params passes more f (enc a) ≡ enc (f a)) → ((a : A) → number (f a) ≡ number a)
       → (old new : State) (count : ℕ) → Executes sql params old new (Ok count) → old.now.schema ≡ schema → (items : List A) → old.now.trees table.tree ≡ map enc items → IsTable (old.now.trees table.tree)
-      → (new.now.schema ≡ schema) × (new.now.trees table.tree ≡ map enc (map changed items)) × AllByRecursion (λ (t : Table). t.tree ≢ table.tree → new.now.trees t.tree ≡ old.now.trees t.tree) schema.tables
+      → (new.now.schema ≡ schema) × (new.now.trees table.tree ≡ map enc (map changed items)) × AllByRecursion (λ (t : Table). t.tree ≢ table.tree → new.now.trees t.tree ≡ old.now.trees t.tree) schema.tables × IsDatabase new.now
   changes sql schema at there is plain idle low image same old new count h has items rows ordered =
       let q = plain_query table.tree passes (col 1 0 ∷ more) in
       let w = runs_as sql params old new schema has (Update at (record { lets = []; body = q })) is plain count h in
@@ -44,4 +45,4 @@ module _ {A : Type 0} (enc : A → Row) (number : A → ℤ) (rowid_is : (a : A)
       subst (λ rs. IsPermutation (picked params table.tree passes (col 1 0 ∷ more) rs) did.1) (low old.now.trees) (answers params table.tree passes (col 1 0 ∷ more) (overlay old.now.trees []) did.1 did.2) in
       let edit = updated old.step_limit (mode_of old) params old.now schema has at base did.1 in
       let applies = one_step schema Enforced old.now.trees new.now.trees edit (idle (taken_by old.now.trees edit) edit.news) did.3 in
-      (did.0, applies.rows ∙ typed.changes_each enc number rowid_is table params passes more f image same old.now.trees items rows ordered did.1 all applies.fresh, applies.tables)
+      (did.0, applies.rows ∙ typed.changes_each enc number rowid_is table params passes more f image same old.now.trees items rows ordered did.1 all applies.fresh, applies.tables, w.sound)

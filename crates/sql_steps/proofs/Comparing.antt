@@ -1,17 +1,20 @@
--- Natural numbers in cells are compared as they are.
-use Rattle.std.proofs.Common.{◌≡◌, inl, inr, ◌==◌, ℕ, pos, sym, ◌∙◌, arith}
+-- Natural numbers and texts in cells are compared as they are.
+use Rattle.std.proofs.Common.{◌≡◌, inl, inr, ◌==◌, ℕ, pos, List, Bool, true, false, Some, refl, sym, ap, ◌∙◌, arith}
 use Rattle.std.proofs.lemmas.Bool.Decides.{eqb_tells}
 use Rattle.std.proofs.lemmas.Int.{ints}
+use Rattle.std.proofs.lemmas.Map.Text.{is_eq-slice_cmp}
 use Rattle.std.specs.Cmp.{int_ranks}
 use Rattle.std.specs.Ordering.{MatchOrdering, is_eq, int_cmp}
+use Rattle.std.specs.Str.{bytes_eq}
 use Rattle.std.specs.Prelude.{◌<ℤ◌}
 use Rattle.std.specs.declared.cmp.Ordering.{Ordering}
 use Rattle.std.specs.declared.cmp.Ordering.TheVariants.{Less, Equal, Greater}
-use Rattle.sqlite.specs.declared.types.Value.TheVariants.{Int}
+use Rattle.sqlite.specs.declared.types.Value.TheVariants.{Int, Text}
 use Rattle.sqlite.specs.Collation.TheVariants.{Binary}
-use Rattle.sqlite.specs.Ops.{binary, is_true}
+use Rattle.sqlite.specs.Ops.{binary, from_truth, is_true}
 use Rattle.sqlite_sql.specs.declared.ops.BinaryOp.TheVariants.{Compare}
 use Rattle.sqlite_sql.specs.declared.ops.CompareOp.TheVariants.{Eq}
+use Rattle.sqlite_value.proofs.OrderLemmas.{value_cmp-Text}
 use Rattle.sql_steps.proofs.Queries.{compares}
 
 same_integer : (m n : ℕ) → is_eq (int_cmp (pos m) (pos n)) ≡ (m == n)
@@ -24,3 +27,11 @@ same_integer m n = ranked (int_cmp (pos m) (pos n)) (int_ranks (pos m) (pos n))
 
 pub equal_numbers : (m n : ℕ) → is_true (binary (Compare Eq Binary) (Int (pos m)) (Int (pos n))) ≡ (m == n)
 equal_numbers m n = compares Eq (pos m) (pos n) ∙ same_integer m n
+
+pub equal_words : (a b : List ℕ) → is_true (binary (Compare Eq Binary) (Text a) (Text b)) ≡ bytes_eq a b
+unfolding binary
+equal_words a b = ap (λ o. is_true (from_truth (Some (is_eq o)))) (value_cmp-Text a b) ∙ settled (is_eq _) ∙ is_eq-slice_cmp a b
+  where
+    settled : (v : Bool) → is_true (from_truth (Some v)) ≡ v
+    settled true = refl
+    settled false = refl

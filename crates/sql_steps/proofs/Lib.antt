@@ -9,3 +9,7 @@ pub mod Creating
 pub mod Changing
 pub mod Appending
 pub mod Comparing
+pub mod Deletes
+pub mod Removing
+pub mod Cascading
+pub mod Orphans

@@ -1,6 +1,8 @@
 -- Membership in lists.
-use Rattle.std.proofs.Common.{◌≡◌, inl, inr, zero, suc, List, [], ◌∷◌, map, filter, Bool, true, false, cond, refl, sym, ap, ◌∙◌, arith}
-use Rattle.std.specs.List.{Contains}
+use Rattle.std.proofs.Common.{◌≡◌, inl, inr, zero, suc, List, [], ◌∷◌, map, filter, Bool, true, false, cond, refl, sym, ap, subst, ◌∙◌, arith}
+use Rattle.std.specs.List.{Contains, flat_map}
+use Rattle.std.specs.List.Sorted.{IsPermutation}
+use Rattle.sqlite_trees.proofs.ListLemmas.{filter_as_flat_map, IsPermutation-flat_map}
 use Rattle.sqlite_rules.specs.Lists.{Has}
 
 pub contains_has : {A : Type 0} (xs : List A) (x : A) → Contains xs x → Has xs x
@@ -35,3 +37,9 @@ step_to f q y ys x later is false here (inr k) = later k
 pub to_picked : {A B : Type 0} (f : A → B) (q : A → Bool) (xs : List A) (x : A) → Has xs x → q x ≡ true → Has (map f (filter q xs)) (f x)
 to_picked f q [] x h is = absurd h
 to_picked f q (y ∷ ys) x h is = step_to f q y ys x (λ k. to_picked f q ys x k is) is (q y) refl h
+
+-- what passes of a permutation is a permutation of what passes
+pub filter_permutation : {A : Type 0} (q : A → Bool) (xs ys : List A) → IsPermutation xs ys → IsPermutation (filter q xs) (filter q ys)
+filter_permutation q xs ys same =
+    subst (λ l. IsPermutation l (filter q ys)) (sym (filter_as_flat_map q xs))
+    (subst (IsPermutation (flat_map (λ x. cond (q x) (x ∷ []) []) xs)) (sym (filter_as_flat_map q ys)) (IsPermutation-flat_map (λ x. cond (q x) (x ∷ []) []) xs ys same))

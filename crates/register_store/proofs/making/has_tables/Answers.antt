@@ -1,24 +1,26 @@
-use Rattle.std.proofs.Common.{◌≡◌, Bool, false, Ok, Err, Result, IfOk, IsTrue, sym, rules, subst}
+use Rattle.std.proofs.Common.{◌≡◌, Bool, true, false, Ok, Err, Result, IfOk, IsTrue, sym, rules, subst}
 use Rattle.std.specs.Bool.{OnTrue}
 use Rattle.std.specs.Result.{result_unwrap_or}
+use Rattle.sqlite.specs.Effect.{Database}
 use Rattle.sqlite.specs.State.{HasCleanDisk, Survives}
 use Rattle.sqlite.specs.Held.{state}
 use Rattle.sql_steps.proofs.Stepping.{given_up_found, given_up_kept, given_up_survives}
-use Rattle.register_store.specs.Found.{HasTable, TellsTable}
+use Rattle.register_store.specs.Found.{HasTable, Tells}
 use Rattle.register_store.proofs.making.has_tables.Goals as goal
 
 -- an answer, and `false` where there is none
-answered : {E : Type 0} (Claim : Type 0) (r : Result Bool E) (b : Bool) → b ≡ result_unwrap_or r false → IfOk r (λ there. OnTrue there Claim) → OnTrue b Claim
-answered Claim (Ok there) b is told = subst (λ b. OnTrue b Claim) (sym is) told
-answered Claim (Err e) b is told = subst (λ b. OnTrue b Claim) (sym is) tt
+answered : {E : Type 0} (old new : Database) (r : Result Bool E) (b : Bool) → b ≡ result_unwrap_or r false → IfOk r (λ there. Tells HasTable there old new) → OnTrue b (HasTable old.schema)
+answered old new (Ok true) b is told = subst (λ b. OnTrue b (HasTable old.schema)) (sym is) told
+answered old new (Ok false) b is told = subst (λ b. OnTrue b (HasTable old.schema)) (sym is) tt
+answered old new (Err e) b is told = subst (λ b. OnTrue b (HasTable old.schema)) (sym is) tt
 
 pub returns-clause-there : goal.returns-clause-there
 returns-clause-there g c clean =
     let end = c.drop-tx.new.self.0 in
     let same : end ≡ c.connection-1.given.0 = search rules in
-    let found = given_up_found TellsTable (state g.S.Store c.args.connection.now) (state g.S.Store c.has_table.new.tx.conn.now) (state g.S.Store end) c.has_table.result (rw c.transaction-tx.ensures.begun at c.has_table.ensures.told)
+    let found = given_up_found (Tells HasTable) (state g.S.Store c.args.connection.now) (state g.S.Store c.has_table.new.tx.conn.now) (state g.S.Store end) c.has_table.result (rw c.transaction-tx.ensures.begun at c.has_table.ensures.told)
     c.drop-tx.ensures.undone c.drop-tx.ensures.survives in
-    answered (HasTable c.args.connection.now.schema) c.has_table.result c.unwrap_or.result c.unwrap_or.ensures (found (subst (λ h. HasCleanDisk (state g.S.Store h)) (sym same) clean))
+    answered (state g.S.Store c.args.connection.now).now (state g.S.Store c.has_table.new.tx.conn.now).now c.has_table.result c.unwrap_or.result c.unwrap_or.ensures (found (subst (λ h. HasCleanDisk (state g.S.Store h)) (sym same) clean))
 
 pub returns-clause-kept : goal.returns-clause-kept
 returns-clause-kept g c =
@@ -26,7 +28,7 @@ returns-clause-kept g c =
     let end = c.drop-tx.new.self.0 in
     let same : end ≡ c.connection-1.given.0 = search rules in
     subst (λ h. HasCleanDisk (state g.S.Store h) → IsTrue (state g.S.Store h).is_open → ((state g.S.Store h).now ≡ old.committed) × ((state g.S.Store h).committed ≡ old.committed)) same
-    (given_up_kept TellsTable old (state g.S.Store c.has_table.new.tx.conn.now) (state g.S.Store end) c.has_table.result (rw c.transaction-tx.ensures.begun at c.has_table.ensures.told) c.drop-tx.ensures.undone c.drop-tx.ensures.survives)
+    (given_up_kept (Tells HasTable) old (state g.S.Store c.has_table.new.tx.conn.now) (state g.S.Store end) c.has_table.result (rw c.transaction-tx.ensures.begun at c.has_table.ensures.told) c.drop-tx.ensures.undone c.drop-tx.ensures.survives)
 
 pub returns-clause-survives : goal.returns-clause-survives
 returns-clause-survives g c =
@@ -34,4 +36,4 @@ returns-clause-survives g c =
     let end = c.drop-tx.new.self.0 in
     let same : end ≡ c.connection-1.given.0 = search rules in
     subst (λ h. Survives old (state g.S.Store h) (λ _. ⊥)) same
-    (given_up_survives TellsTable old (state g.S.Store c.has_table.new.tx.conn.now) (state g.S.Store end) c.has_table.result (rw c.transaction-tx.ensures.begun at c.has_table.ensures.told) c.drop-tx.ensures.undone c.drop-tx.ensures.survives)
+    (given_up_survives (Tells HasTable) old (state g.S.Store c.has_table.new.tx.conn.now) (state g.S.Store end) c.has_table.result (rw c.transaction-tx.ensures.begun at c.has_table.ensures.told) c.drop-tx.ensures.undone c.drop-tx.ensures.survives)

@@ -1,0 +1,67 @@
+-- What a DELETE of some rows takes out and leaves.
+use Rattle.std.proofs.Common.{◌≡◌, ℕ, ℤ, List, [], ◌∷◌, map, filter, not, Bool, true, IsTrue, sym, ap, subst, ◌∙◌}
+use Rattle.std.specs.Ordering.{is_eq}
+use Rattle.std.specs.List.Sorted.{IsPermutation}
+use Rattle.std.proofs.lemmas.Cmp.{tied_itself}
+use Rattle.std.proofs.lemmas.List.Sorted.{IsPermutation-sym}
+use Rattle.sqlite.specs.declared.types.Value.TheVariants.{Int}
+use Rattle.sqlite.specs.Edit.{id_in, row_at, without_all}
+use Rattle.sqlite.specs.Order.{Row, value_cmp}
+use Rattle.sqlite.specs.Term.{Term, col, eval_all}
+use Rattle.sqlite.specs.Tree.{IsTable, rowid, has_rowid}
+use Rattle.sqlite_trees.specs.View.{is_int}
+use Rattle.sqlite_rules.proofs.ListLemmas.{all_has}
+use Rattle.sqlite_rules.proofs.PlaceLemmas.{row_at_is}
+use Rattle.sqlite_rules.proofs.TableLemmas.{int_is}
+use Rattle.sqlite_rules.specs.Calls.{ids_of}
+use Rattle.sqlite_rules.specs.Lists.{Has}
+use Rattle.sqlite_value.proofs.OrderLemmas.{value_cmp_total}
+use Rattle.sql_steps.proofs.Appending.{AreCounted}
+use Rattle.sql_steps.proofs.Members.{from_picked, to_picked}
+use Rattle.sql_steps.proofs.SameRows.{deletes_each, has_map, map_has}
+use Rattle.sql_steps.proofs.Statements.{env_of, picked, is_picked}
+use Rattle.sql_steps.proofs.Updates.{has_permutation}
+
+-- a DELETE asks for the rowids of the rows that pass
+abbrev pub ids_shown : List Term
+ids_shown = col 1 0 ∷ []
+
+pub has_own : (x : Row) (id : ℤ) → rowid x ≡ Int id → has_rowid id x ≡ true
+has_own x id e = ap (λ v. is_eq (value_cmp v (Int id))) e ∙ ap is_eq (tied_itself value_cmp_total (Int id))
+
+module _ (params : Row) (tree : ℕ) (passes : List Term) (rows : List Row) (ordered : IsTable rows) (counted : AreCounted rows)
+    (answer : List Row) (answered : IsPermutation (picked params tree passes ids_shown rows) answer) where
+  abbrev p : Row → Bool
+  p = is_picked params tree passes ids_shown
+
+  id_of : (x : Row) → Has rows x → rowid x ≡ Int (id_in (rowid x))
+  id_of x h = int_is (rowid x) (all_has (λ row. IsTrue (is_int (rowid row))) rows x counted h)
+
+  ids_from : (id : ℤ) → Has (ids_of answer) id → (x : Row) × Has rows x × (p x ≡ true) × (rowid x ≡ Int id)
+  ids_from id h =
+      let s = map_has (λ r. id_in (rowid r)) answer id h in
+      let x = from_picked (λ r. eval_all ids_shown (env_of params tree passes ids_shown r)) p rows s.0 (has_permutation answer _ s.0 (IsPermutation-sym _ _ answered) s.1) in
+      (x.0, x.1, x.2, id_of x.0 x.1 ∙ ap (λ r. Int (id_in (rowid r))) (sym x.3) ∙ ap Int (sym s.2))
+
+  ids_all : (x : Row) → Has rows x → p x ≡ true → (id : ℤ) × Has (ids_of answer) id × (rowid x ≡ Int id)
+  ids_all x h is =
+      let shown = has_permutation _ answer _ answered (to_picked (λ r. eval_all ids_shown (env_of params tree passes ids_shown r)) p rows x h is) in
+      (id_in (rowid x), has_map (λ r. id_in (rowid r)) answer _ shown, id_of x h)
+
+  -- the rows that don't pass are left
+  pub left : without_all rows (ids_of answer) ≡ filter (λ r. not (p r)) rows
+  left = deletes_each rows (ids_of answer) p ordered ids_from ids_all
+
+  -- those that pass are taken, and no other
+  pub taken_all : (x : Row) → Has rows x → p x ≡ true → Has (map (row_at rows) (ids_of answer)) x
+  taken_all x h is =
+      let id = ids_all x h is in
+      let same = row_at_is rows id.0 x ordered h (has_own x id.0 id.2) in
+      subst (Has (map (row_at rows) (ids_of answer))) same (has_map (row_at rows) (ids_of answer) id.0 id.1)
+
+  pub taken_from : (y : Row) → Has (map (row_at rows) (ids_of answer)) y → Has rows y × (p y ≡ true)
+  taken_from y h =
+      let id = map_has (row_at rows) (ids_of answer) y h in
+      let x = ids_from id.0 id.1 in
+      let same : x.0 ≡ y = sym (row_at_is rows id.0 x.0 ordered x.1 (has_own x.0 id.0 x.3)) ∙ sym id.2 in
+      (subst (Has rows) same x.1, subst (λ y. p y ≡ true) same x.2)

@@ -1,0 +1,118 @@
+-- What a DELETE with its cascade leaves of the two tables.
+use Rattle.std.proofs.Common.{◌≡◌, ◌≢◌, inl, inr, ◌&&◌, ℕ, ℤ, List, [], ◌∷◌, filter, not, slice_get, Bool, cond, false, true, Some, Ok, IsTrue, sym, ap, subst, ◌∙◌}
+use Rattle.std.specs.List.{AllByRecursion}
+use Rattle.std.specs.List.Sorted.{IsPermutation}
+use Rattle.sqlite.specs.Command.TheVariants.{Delete}
+use Rattle.sqlite.specs.Edit.{id_in, taken_by, without_all}
+use Rattle.sqlite.specs.Effect.{IsDatabase}
+use Rattle.sqlite.specs.Listing.{understood}
+use Rattle.sqlite.specs.Order.{Row}
+use Rattle.sqlite.specs.Program.{overlay}
+use Rattle.sqlite.specs.Schema.{Schema}
+use Rattle.sqlite.specs.State.{State, mode_of, Executes}
+use Rattle.sqlite.specs.Table.{Table}
+use Rattle.sqlite.specs.Term.{Term}
+use Rattle.sqlite.specs.Tree.{Trees, IsTable, rowid}
+use Rattle.sqlite.proofs.Callers.{IsPlain, command_of, statement_of, runs_as}
+use Rattle.sqlite_rules.proofs.ListLemmas.{all_from, all_has, some_from, some_has}
+use Rattle.sqlite_rules.proofs.TableLemmas.{int_is}
+use Rattle.sqlite_rules.specs.Action.{works, pairs, loses, is_child_of, AreChildren}
+use Rattle.sqlite_rules.specs.Calls.{ids_of}
+use Rattle.sqlite_rules.specs.Lists.{Has}
+use Rattle.sqlite_schema.specs.Rules.{agree}
+use Rattle.sqlite_schema.specs.declared.schema.Keys.TheVariants.{Enforced}
+use Rattle.sqlite_schema.specs.declared.schema.Reference.{Reference}
+use Rattle.sqlite_trees.specs.View.{is_int}
+use Rattle.sqlite_value.specs.declared.keys.Order.{Order}
+use Rattle.sql_steps.proofs.Appending.{AreCounted}
+use Rattle.sql_steps.proofs.Cascading.{orphans, some_lose, is_orphan, drops_after}
+use Rattle.sql_steps.proofs.Deletes.{ids_shown, left, taken_all, taken_from}
+use Rattle.sql_steps.proofs.SameRows.{deletes_each}
+use Rattle.sql_steps.proofs.Statements.{plain_query, picked, is_picked, answers, deletes, deleted}
+
+pairs_from : (olds : List Row) (move : Row × Row) → Has (pairs olds []) move → Has olds move.0
+pairs_from [] move h = absurd h
+pairs_from (old ∷ olds) move (inl same) = inl (ap (λ (m : Row × Row). m.0) same)
+pairs_from (old ∷ olds) move (inr later) = inr (pairs_from olds move later)
+
+pairs_has : (olds : List Row) (old : Row) → Has olds old → Has (pairs olds []) (old, [])
+pairs_has [] old h = absurd h
+pairs_has (first ∷ olds) old (inl same) = inl (ap (λ (row : Row). (row, [])) same)
+pairs_has (first ∷ olds) old (inr later) = inr (pairs_has olds old later)
+
+right_part : (a b : Bool) → (a && b) ≡ true → b ≡ true
+right_part true b e = e
+right_part false b e = absurd (cc)
+
+both_parts : (a b : Bool) → a ≡ true → b ≡ true → (a && b) ≡ true
+both_parts true b p q = q
+both_parts false b p q = absurd (cc)
+
+module _ (schema : Schema) (base child : Table) (ref : Reference) (places : List ℕ) (order : Order) (params : Row) (passes : List Term) where
+  -- a table with no AUTOINCREMENT
+  abbrev parent : Table
+  parent = record base { is_counted = false }
+
+  abbrev p : Row → Bool
+  p = is_picked params parent.tree passes ids_shown
+
+  module _ (parents children : List Row) (c : Row → Bool)
+      (c_from : (r : Row) → Has children r → c r ≡ true → (x : Row) × Has parents x × (p x ≡ true) × (loses order places (x, []) ≡ true) × (agree order ref.columns r places x ≡ true))
+      (c_all : (r x : Row) → Has children r → Has parents x → p x ≡ true → agree order ref.columns r places x ≡ true → c r ≡ true)
+      (ordered : IsTable children) (counted : AreCounted children) (olds : List Row) (taken : (x : Row) → Has parents x → p x ≡ true → Has olds x) (was : (y : Row) → Has olds y → Has parents y × (p y ≡ true))
+      (next : Trees) (same : next child.tree ≡ children) (ids : List ℤ) (are : AreChildren next (orphans schema parent child ref places order olds) ids) where
+    orphan_passes : (r : Row) → Has children r → is_orphan schema parent child ref places order olds r ≡ true → c r ≡ true
+    orphan_passes r h is =
+        let move = some_has (is_child_of (orphans schema parent child ref places order olds) r) (pairs olds []) is in
+        let stood = was move.0.0 (pairs_from olds move.0 move.1) in
+        c_all r move.0.0 h stood.0 stood.1 (right_part _ _ move.2)
+
+    passing_orphan : (r : Row) → Has children r → c r ≡ true → is_orphan schema parent child ref places order olds r ≡ true
+    passing_orphan r h is =
+        let x = c_from r h is in
+        some_from (is_child_of (orphans schema parent child ref places order olds) r) (pairs olds []) (x.0, []) (pairs_has olds x.0 (taken x.0 x.1 x.2)) (both_parts _ _ x.3 x.4)
+
+    -- the children that pass are those that go
+    children_left : without_all children ids ≡ filter (λ r. not (c r)) children
+    children_left = deletes_each children ids c ordered
+        (λ id h. let it = are.sound id h in let here = subst (λ rows. Has rows it.0) same it.1 in (it.0, here, orphan_passes it.0 here it.2, it.3))
+        (λ r h is.
+        let own = int_is (rowid r) (all_has (λ row. IsTrue (is_int (rowid row))) children r counted h) in
+        (id_in (rowid r), are.complete r (id_in (rowid r)) (subst (λ rows. Has rows r) (sym same) h) (passing_orphan r h is) own, own))
+
+  -- the rows that pass go, and the rows of the other table for which c holds, and no other; the new database is sound
+  pub removes_both : (sql : List ℕ) (at : ℕ) → slice_get schema.tables at ≡ Some parent
+      → command_of (understood schema sql) ≡ Delete at (record { lets = []; body = plain_query parent.tree passes ids_shown }) → IsPlain (understood schema sql)
+      → ((olds : List Row) → works schema Enforced 0 parent.tree olds [] ≡ cond (some_lose schema parent child ref places order olds) (orphans schema parent child ref places order olds ∷ []) [])
+      → ((olds : List Row) → works schema Enforced 1 child.tree olds [] ≡ []) → ((db : Trees) → overlay db [] parent.tree ≡ db parent.tree)
+      → Has schema.tables parent → Has schema.tables child → child.tree ≢ parent.tree
+      → (old new : State) (count : ℕ) → Executes sql params old new (Ok count) → old.now.schema ≡ schema
+      → IsTable (old.now.trees parent.tree) → AreCounted (old.now.trees parent.tree) → IsTable (old.now.trees child.tree) → AreCounted (old.now.trees child.tree) → (c : Row → Bool)
+      → ((r : Row) → Has (old.now.trees child.tree) r → c r ≡ true → (x : Row) × Has (old.now.trees parent.tree) x × (p x ≡ true) × (loses order places (x, []) ≡ true) × (agree order ref.columns r places x ≡ true))
+      → ((r x : Row) → Has (old.now.trees child.tree) r → Has (old.now.trees parent.tree) x → p x ≡ true → agree order ref.columns r places x ≡ true → c r ≡ true)
+      → (new.now.schema ≡ schema) × (new.now.trees parent.tree ≡ filter (λ r. not (p r)) (old.now.trees parent.tree)) × (new.now.trees child.tree ≡ filter (λ r. not (c r)) (old.now.trees child.tree))
+      × AllByRecursion (λ (t : Table). t.tree ≢ parent.tree → t.tree ≢ child.tree → new.now.trees t.tree ≡ old.now.trees t.tree) schema.tables × IsDatabase new.now
+  removes_both sql at there is plain cascade idle low listed child_listed apart old new count h has ordered counted child_ordered child_counted c c_from c_all =
+      let q = plain_query parent.tree passes ids_shown in
+      let w = runs_as sql params old new schema has (Delete at (record { lets = []; body = q })) is plain count h in
+      let text = statement_of sql (understood schema sql) in
+      let did = deletes old.step_limit (mode_of old) params old.now schema has at base there q text w.tally new.now w.changed in
+      let parents = old.now.trees parent.tree in
+      let children = old.now.trees child.tree in
+      let all : IsPermutation (picked params parent.tree passes ids_shown parents) did.1 =
+      subst (λ rs. IsPermutation (picked params parent.tree passes ids_shown rs) did.1) (low old.now.trees) (answers params parent.tree passes ids_shown (overlay old.now.trees []) did.1 did.2) in
+      let fell = drops_after schema parent child ref places order cascade idle old.now.trees new.now.trees (ids_of did.1) did.3 in
+      let olds = taken_by old.now.trees (deleted old.step_limit (mode_of old) params old.now schema has at base did.1) in
+      let same : fell.0 child.tree ≡ children = all_has (λ (t : Table). t.tree ≢ parent.tree → fell.0 t.tree ≡ old.now.trees t.tree) schema.tables child fell.1.tables child_listed apart in
+      let stays = all_has (λ (t : Table). t.tree ≢ child.tree → new.now.trees t.tree ≡ fell.0 t.tree) schema.tables parent fell.2.others listed (λ e. apart (sym e)) in
+      (
+        did.0,
+        stays ∙ fell.1.rows ∙ left params parent.tree passes parents ordered counted did.1 all,
+        fell.2.rows ∙ ap (λ rows. without_all rows fell.2.ids) same
+            ∙ children_left parents children c c_from c_all child_ordered child_counted olds (taken_all params parent.tree passes parents ordered counted did.1 all) (taken_from params parent.tree passes parents ordered counted did.1 all)
+                fell.0 same fell.2.ids fell.2.are,
+        all_from _ schema.tables (λ t h not_parent not_child.
+            all_has (λ (t : Table). t.tree ≢ child.tree → new.now.trees t.tree ≡ fell.0 t.tree) schema.tables t fell.2.others h not_child
+            ∙ all_has (λ (t : Table). t.tree ≢ parent.tree → fell.0 t.tree ≡ old.now.trees t.tree) schema.tables t fell.1.tables h not_parent),
+        w.sound,
+      )
