@@ -138,7 +138,7 @@ agrees_named h q k names is new =
     let replies = reply_of_key h q k (dates_after (type h k) (dates h k) q.moment q.command) (key_named q.command (count h) k names) (dates_named h q k names) in
     (replies, (held_named h q k names is, people_lead h q k names new))
 
-change_named : (c : Command) (k : ℕ) (key : Held) (q : Request) → named c ≡ Some k → change_of (Some key) q c ≡ held_change k key q
+pub change_named : (c : Command) (k : ℕ) (key : Held) (q : Request) → named c ≡ Some k → change_of (Some key) q c ≡ held_change k key q
 change_named (Registers kind by activation protect_stop deactivation purpose) k key q names = cc
 change_named (Activate n) k key q names = cc
 change_named (SetDates n activation protect_stop deactivation) k key q names = cc

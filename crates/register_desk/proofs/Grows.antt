@@ -14,21 +14,25 @@ use Rattle.lifecycle_core.specs.State.{state_at}
 use Rattle.period_core.specs.declared.key_type.KeyType.{KeyType}
 use Rattle.register_core.specs.declared.request.Request.{Request}
 use Rattle.register_core.specs.declared.request.Command.{Command}
-use Rattle.register_core.specs.declared.request.Command.TheVariants.{Register as Registers, Activate, SetDates, Revoke, Assign, Advance}
+use Rattle.register_core.specs.declared.request.Command.TheVariants.{Register as Registers, Activate, SetDates, Revoke, Assign, AddCustodian, RemoveCustodian, Approve, Withdraw, Destroy, Advance}
 use Rattle.register_core.specs.declared.reply.Refusal.{Refusal}
 use Rattle.register_core.specs.declared.decision.Held.{Held as HeldKey}
 use Rattle.register_core.specs.declared.decision.Change.{Change}
 use Rattle.register_core.specs.declared.decision.Change.TheVariants.{Made, Held, Nothing}
-use Rattle.register_core.specs.Decision.{row_at, held_after, held_change, change_by}
-use Rattle.register_core.specs.History.{latest, Registration, registrations, count, key_of as key_of_command, made_by, is_key, type, dates, dates_after, given_dates, owner, owner_after, held}
+use Rattle.register_core.specs.Decision.{row_at, people_by, held_change, change_for, change_of, change_by, LeadsTo}
+use Rattle.register_core.specs.History.{latest, Registration, registrations, count, key_of as key_of_command, made_by, is_key, type, dates, dates_after, given_dates, owner, owner_after}
 use Rattle.register_core.proofs.Histories.{latest_grows, registrations_grow, count_grows, not_concerned, kind_other, owner_other, dates_other, kind_named, owner_named, dates_named, kind_made, owner_made, dates_made, key_named, not_same}
+use Rattle.register_core.specs.People.{custodians, approvals, all_custodians, all_approvals, held}
+use Rattle.register_core.proofs.Decisions.{change_named}
 use Rattle.register_core.specs.Verdict.{verdict, named, named_key}
 use Rattle.period_core.specs.Fitting.{filled}
 use Rattle.register_core.specs.Fold.{history_after, history, IsLawful}
 use Rattle.register_store.specs.declared.key.Key.{Key}
 use Rattle.register_store.specs.Tables.{Tables, advanced, in_place, key_at, numbered, with_keys_advanced}
 use Rattle.register_desk.specs.Register.{key_of, tables}
-use Rattle.register_desk.specs.Step.{named_at, held_of, held_in, made_count, with_change, with_request}
+use Rattle.register_desk.specs.declared.found.Found.{Found}
+use Rattle.register_desk.specs.Step.{held_of, held_in, key_in, made_count, with_change, with_request}
+use Rattle.register_desk.specs.Finding.{found_with, found_at, found_named}
 
 -- ---- lists
 
@@ -88,7 +92,7 @@ key_other h q k made other =
 
 -- the one that it names is what the command makes of it
 abbrev key_after : Key → ℕ → Command → Key
-key_after key t c = let it = held_after (held_of key) t c in record key { owner = it.owner; row = it.row }
+key_after key t c = record key { owner = owner_after key.owner c; row = row_at (dates_after key.kind key.row.dates t c) t }
 
 key_same : (h : List Request) (q : Request) (k : ℕ) (made : Registration) → named q.command ≡ Some k → key_of (h ++ q ∷ []) k made ≡ key_after (key_of h k made) q.moment q.command
 key_same h q k made names =
@@ -110,21 +114,18 @@ unequal m n apart = elim (eqb_tells m n) [ inl both ↦ absurd (apart both.1) | 
 concerns : (h : List Request) (q : Request) (k m : ℕ) → named q.command ≡ Some k → m ≢ k → is_key m (key_of_command (count h) q.command) ≡ false
 concerns h q k m names apart = ap (is_key m) (key_named q.command (count h) k names) ∙ unequal k m (λ same. apart (sym same))
 
-change_named : (c : Command) (k : ℕ) (key : HeldKey) (t : ℕ) → named c ≡ Some k → change_by (Some key) t c ≡ held_change k (held_after key t c)
-change_named (Registers kind by activation protect_stop deactivation purpose) k key t e = absurd (cc)
-change_named (Activate number) k key t e = let same : number ≡ k = cc in ap (λ (n : ℕ). held_change n (held_after key t (Activate number))) same
-change_named (SetDates number activation protect_stop deactivation) k key t e = let same : number ≡ k = cc in ap (λ (n : ℕ). held_change n (held_after key t (SetDates number activation protect_stop deactivation))) same
-change_named (Revoke number reason occurrence) k key t e = let same : number ≡ k = cc in ap (λ (n : ℕ). held_change n (held_after key t (Revoke number reason occurrence))) same
-change_named (Assign number by) k key t e = let same : number ≡ k = cc in ap (λ (n : ℕ). held_change n (held_after key t (Assign number by))) same
-change_named Advance k key t e = absurd (cc)
-
-change_missing : (c : Command) (k : ℕ) (t : ℕ) → named c ≡ Some k → change_by None t c ≡ Nothing
-change_missing (Registers kind by activation protect_stop deactivation purpose) k t e = absurd (cc)
-change_missing (Activate number) k t e = refl
-change_missing (SetDates number activation protect_stop deactivation) k t e = refl
-change_missing (Revoke number reason occurrence) k t e = refl
-change_missing (Assign number by) k t e = refl
-change_missing Advance k t e = absurd (cc)
+change_missing : (c : Command) (k : ℕ) (q : Request) → named c ≡ Some k → change_of None q c ≡ Nothing
+change_missing (Registers kind by activation protect_stop deactivation purpose) k q e = absurd (cc)
+change_missing (Activate number) k q e = refl
+change_missing (SetDates number activation protect_stop deactivation) k q e = refl
+change_missing (Revoke number reason occurrence) k q e = refl
+change_missing (Assign number by) k q e = refl
+change_missing (AddCustodian number name) k q e = refl
+change_missing (RemoveCustodian number name) k q e = refl
+change_missing (Approve number) k q e = refl
+change_missing (Withdraw number) k q e = refl
+change_missing (Destroy number) k q e = refl
+change_missing Advance k q e = absurd (cc)
 
 abbrev keys_after : List Request → Request → List Key
 keys_after h q = map (λ (key : ℕ × Registration). key_of (h ++ q ∷ []) key.0 key.1) (enumerate_from 1 (registrations h))
@@ -169,28 +170,40 @@ unnamed_keys h q none =
 
 -- ---- the tables
 
-pub change_counts : (key : Option HeldKey) (t : ℕ) (c : Command) → made_count (change_by key t c) ≡ made_by c
-change_counts key t (Registers kind by activation protect_stop deactivation purpose) = refl
-change_counts None t (Activate number) = refl
-change_counts (Some key) t (Activate number) = refl
-change_counts None t (SetDates number activation protect_stop deactivation) = refl
-change_counts (Some key) t (SetDates number activation protect_stop deactivation) = refl
-change_counts None t (Revoke number reason occurrence) = refl
-change_counts (Some key) t (Revoke number reason occurrence) = refl
-change_counts None t (Assign number by) = refl
-change_counts (Some key) t (Assign number by) = refl
-change_counts None t Advance = refl
-change_counts (Some key) t Advance = refl
+counts_for : (number : Option ℕ) (key : Option HeldKey) (q : Request) → made_count (change_for number key q) ≡ 0
+counts_for None key q = refl
+counts_for (Some number) None q = refl
+counts_for (Some number) (Some key) q = refl
 
-abbrev step_keys : List Request → Request → Option Key → List Key
-step_keys h q found = (with_change (change_by (held_in found) q.moment q.command) found (with_keys_advanced q.moment (tables h))).keys
+counts_of : (key : Option HeldKey) (q : Request) (c : Command) → made_count (change_of key q c) ≡ made_by c
+counts_of key q (Registers kind by activation protect_stop deactivation purpose) = refl
+counts_of key q (Activate number) = counts_for (Some number) key q
+counts_of key q (SetDates number activation protect_stop deactivation) = counts_for (Some number) key q
+counts_of key q (Revoke number reason occurrence) = counts_for (Some number) key q
+counts_of key q (Assign number by) = counts_for (Some number) key q
+counts_of key q (AddCustodian number name) = counts_for (Some number) key q
+counts_of key q (RemoveCustodian number name) = counts_for (Some number) key q
+counts_of key q (Approve number) = counts_for (Some number) key q
+counts_of key q (Withdraw number) = counts_for (Some number) key q
+counts_of key q (Destroy number) = counts_for (Some number) key q
+counts_of key q Advance = counts_for None key q
+
+pub change_counts : (key : Option HeldKey) (q : Request) → made_count (change_by key q) ≡ made_by q.command
+change_counts key q = counts_of key q q.command
+
+abbrev step_keys : List Request → Request → Option Found → List Key
+step_keys h q found = (with_change (change_by (held_in found) q) (key_in found) (with_keys_advanced q.moment (tables h))).keys
+
+-- the keys that a change makes, where no key is made or found
+abbrev changed_keys : List Request → Request → Change → Option Key → List Key
+changed_keys h q change key = (with_change change key (with_keys_advanced q.moment (tables h))).keys
 
 -- where no key is made, the keys of the longer history are those of the history
-keys_named : (h : List Request) (q : Request) (k : ℕ) (found : Option Key) → named q.command ≡ Some k → key_at (tables h).keys k ≡ found → keys_after h q ≡ step_keys h q found
+keys_named : (h : List Request) (q : Request) (k : ℕ) (found : Option Key) → named q.command ≡ Some k → key_at (tables h).keys k ≡ found → keys_after h q ≡ step_keys h q (option_map (found_with h k) found)
 keys_named h q k None names is =
-    named_missing h q k names is ∙ ap (λ (c : Change). (with_change c None (with_keys_advanced q.moment (tables h))).keys) (sym (change_missing q.command k q.moment names))
+    named_missing h q k names is ∙ ap (λ (c : Change). changed_keys h q c None) (sym (change_missing q.command k q names))
 keys_named h q k (Some key) names is =
-    named_found h q k key names is ∙ ap (λ (c : Change). (with_change c (Some key) (with_keys_advanced q.moment (tables h))).keys) (sym (change_named q.command k (held_of key) q.moment names))
+    named_found h q k key names is ∙ ap (λ (c : Change). changed_keys h q c (Some key)) (sym (change_named q.command k (held_of (found_with h k key)) q names))
 
 same_registrations : (h : List Request) (q : Request) → registrations (q ∷ []) ≡ [] → (tables (h ++ q ∷ [])).keys ≡ keys_after h q
 same_registrations h q none =
@@ -222,37 +235,57 @@ made_key h q kind by activation protect_stop deactivation purpose is =
     ∙ map-append one (enumerate_from 1 (registrations h)) ((1 + count h, made) ∷ [])
     ∙ ap (λ (ks : List Key). ks ++ one (1 + count h, made) ∷ []) (unnamed_keys h q (ap named is))
     ∙ ap (λ (k : Key). map (advanced t) (tables h).keys ++ k ∷ []) its
-    ∙ ap (λ (x : Command). (with_change (change_by None t x) None (with_keys_advanced t (tables h))).keys) (sym is)
+    ∙ ap (λ (x : Command). changed_keys h q (change_of None q x) None) (sym is)
 
 naming : (h : List Request) (q : Request) (c : Command) (k : ℕ) → q.command ≡ c → named c ≡ Some k → registrations (record q { command = c } ∷ []) ≡ []
-    → (tables (h ++ q ∷ [])).keys ≡ step_keys h q (named_at (tables h).keys q.command)
+    → (tables (h ++ q ∷ [])).keys ≡ step_keys h q (found_named h q.command)
 naming h q c k is names none =
     same_registrations h q (ap (λ (x : Command). registrations (record q { command = x } ∷ [])) is ∙ none)
     ∙ keys_named h q k (key_at (tables h).keys k) (ap named is ∙ names) refl
-    ∙ ap (step_keys h q) (sym (ap (named_at (tables h).keys) is ∙ ap (option_and_then (key_at (tables h).keys)) names))
+    ∙ ap (step_keys h q) (sym (ap (found_named h) is ∙ ap (option_and_then (found_at h)) names))
 
-keys_grow : (h : List Request) (q : Request) (c : Command) → q.command ≡ c → (tables (h ++ q ∷ [])).keys ≡ step_keys h q (named_at (tables h).keys q.command)
+keys_grow : (h : List Request) (q : Request) (c : Command) → q.command ≡ c → (tables (h ++ q ∷ [])).keys ≡ step_keys h q (found_named h q.command)
 keys_grow h q (Registers kind by activation protect_stop deactivation purpose) is =
-    made_key h q kind by activation protect_stop deactivation purpose is ∙ ap (step_keys h q) (sym (ap (named_at (tables h).keys) is))
+    made_key h q kind by activation protect_stop deactivation purpose is ∙ ap (step_keys h q) (sym (ap (found_named h) is))
 keys_grow h q (Activate key) is = naming h q (Activate key) key is refl refl
 keys_grow h q (SetDates key activation protect_stop deactivation) is = naming h q (SetDates key activation protect_stop deactivation) key is refl refl
 keys_grow h q (Revoke key reason occurrence) is = naming h q (Revoke key reason occurrence) key is refl refl
 keys_grow h q (Assign key by) is = naming h q (Assign key by) key is refl refl
+keys_grow h q (AddCustodian key name) is = naming h q (AddCustodian key name) key is refl refl
+keys_grow h q (RemoveCustodian key name) is = naming h q (RemoveCustodian key name) key is refl refl
+keys_grow h q (Approve key) is = naming h q (Approve key) key is refl refl
+keys_grow h q (Withdraw key) is = naming h q (Withdraw key) key is refl refl
+keys_grow h q (Destroy key) is = naming h q (Destroy key) key is refl refl
 keys_grow h q Advance is =
     same_registrations h q (ap (λ (x : Command). registrations (record q { command = x } ∷ [])) is)
     ∙ unnamed_keys h q (ap named is)
-    ∙ ap (λ (x : Command). (with_change (change_by None q.moment x) None (with_keys_advanced q.moment (tables h))).keys) (sym is)
-    ∙ ap (step_keys h q) (sym (ap (named_at (tables h).keys) is))
+    ∙ ap (λ (x : Command). changed_keys h q (change_of None q x) None) (sym is)
+    ∙ ap (step_keys h q) (sym (ap (found_named h) is))
+
+-- the people that a change leaves are those of the longer history, where the change leads to that
+record PeopleGrow (h : List Request) (q : Request) (change : Change) (key : Option Key) (t : Tables) : Type 0 where
+  custodians_are : all_custodians (h ++ q ∷ []) ≡ (with_change change key t).custodians
+  approvals_are : all_approvals (h ++ q ∷ []) ≡ (with_change change key t).approvals
+
+people_grow : (h : List Request) (q : Request) (change : Change) (key : Option Key) (moment : ℕ) → LeadsTo h q change → PeopleGrow h q change key (with_keys_advanced moment (tables h))
+people_grow h q (Made kind by purpose row) key moment leads = record { custodians_are = leads.1.custodians_are; approvals_are = leads.1.approvals_are }
+people_grow h q (Held number by row people) None moment leads = record { custodians_are = leads.1.custodians_are; approvals_are = leads.1.approvals_are }
+people_grow h q (Held number by row people) (Some key) moment leads = record { custodians_are = leads.1.custodians_are; approvals_are = leads.1.approvals_are }
+people_grow h q Nothing key moment leads = record { custodians_are = leads.custodians_are; approvals_are = leads.approvals_are }
 
 pub tables_grow : (h : List Request) (q : Request) →
-    let found = named_at (tables h).keys q.command in
-    tables (h ++ q ∷ []) ≡ with_request (count h) q.moment (change_by (held_in found) q.moment q.command) found (tables h)
-tables_grow h q =
-    let found = named_at (tables h).keys q.command in
-    let change = change_by (held_in found) q.moment q.command in
-    ap (λ (t : ℕ). record { latest = t; key_count = count (h ++ q ∷ []); keys = (tables (h ++ q ∷ [])).keys }) (latest_grows h q)
-    ∙ ap (λ (n : ℕ). record { latest = q.moment; key_count = n; keys = (tables (h ++ q ∷ [])).keys }) (count_grows h q ∙ ap (λ (n : ℕ). count h + n) (sym (change_counts (held_in found) q.moment q.command)))
-    ∙ ap (λ (ks : List Key). record { latest = q.moment; key_count = count h + made_count change; keys = ks }) (keys_grow h q q.command refl)
+    let found = found_named h q.command in
+    LeadsTo h q (change_by (held_in found) q) → tables (h ++ q ∷ []) ≡ with_request (count h) q.moment (change_by (held_in found) q) (key_in found) (tables h)
+tables_grow h q leads =
+    let found = found_named h q.command in
+    let change = change_by (held_in found) q in
+    let all = h ++ q ∷ [] in
+    let people = people_grow h q change (key_in found) q.moment leads in
+    ap (λ (t : ℕ). record { latest = t; key_count = count all; keys = (tables all).keys; custodians = all_custodians all; approvals = all_approvals all }) (latest_grows h q)
+    ∙ ap (λ (n : ℕ). record { latest = q.moment; key_count = n; keys = (tables all).keys; custodians = all_custodians all; approvals = all_approvals all }) (count_grows h q ∙ ap (λ (n : ℕ). count h + n) (sym (change_counts (held_in found) q)))
+    ∙ ap (λ (ks : List Key). record { latest = q.moment; key_count = count h + made_count change; keys = ks; custodians = all_custodians all; approvals = all_approvals all }) (keys_grow h q q.command refl)
+    ∙ ap (λ (posts : List (ℕ × List ℕ)). record { latest = q.moment; key_count = count h + made_count change; keys = step_keys h q found; custodians = posts; approvals = all_approvals all }) people.custodians_are
+    ∙ ap (λ (posts : List (ℕ × List ℕ)). record { latest = q.moment; key_count = count h + made_count change; keys = step_keys h q found; custodians = (with_change change (key_in found) (with_keys_advanced q.moment (tables h))).custodians; approvals = posts }) people.approvals_are
 
 -- ---- what a decision sees
 
@@ -271,53 +304,30 @@ abbrev held_if : Bool → Bool → HeldKey → Option HeldKey
 held_if low high key = cond (low && high) (Some key) None
 
 -- the key that is found is the one that the history holds
-held_found : (h : List Request) (k : ℕ) → held_in (key_at (tables h).keys k) ≡ held h k
+held_found : (h : List Request) (k : ℕ) → held_in (found_at h k) ≡ held h k
 held_found h zero = refl
 held_found h (suc i) =
     let low : nat_le 1 (suc i) ≡ true = le-leb 1 (suc i) (omega arith) in
-    let seen : HeldKey = record { kind = type h (suc i); owner = owner h (suc i); row = row_at (dates h (suc i)) (latest h) } in
+    let seen : HeldKey = record { kind = type h (suc i); owner = owner h (suc i); row = row_at (dates h (suc i)) (latest h); custodians = custodians h (suc i); approvals = approvals h (suc i) } in
+    let see : Option Key → Option HeldKey = λ key. held_in (option_map (found_with h (suc i)) key) in
     elim (place_of (registrations h) i) [
       | inl there ↦
           let next : 1 + i ≡ suc i = omega arith in
           let high : nat_le (suc i) (count h) ≡ true = le-leb (suc i) (count h) (omega (arith, there.2)) in
-          ap held_in (mapped_at (λ (key : ℕ × Registration). key_of h key.0 key.1) 1 (registrations h) i there.0 there.1)
-          ∙ ap (λ (k : ℕ). Some (held_of (key_of h k there.0))) next
+          ap see (mapped_at (λ (key : ℕ × Registration). key_of h key.0 key.1) 1 (registrations h) i there.0 there.1)
+          ∙ ap (λ (k : ℕ). Some (held_of (found_with h (suc i) (key_of h k there.0)))) next
           ∙ ap (λ (b : Bool). held_if true b seen) (sym high)
           ∙ ap (λ (b : Bool). held_if b (nat_le (suc i) (count h)) seen) (sym low)
       | inr missing ↦
           let high : nat_le (suc i) (count h) ≡ false = lt-leb (suc i) (count h) (omega (arith, missing.1)) in
-          ap held_in (mapped_past (λ (key : ℕ × Registration). key_of h key.0 key.1) 1 (registrations h) i missing.0)
+          ap see (mapped_past (λ (key : ℕ × Registration). key_of h key.0 key.1) 1 (registrations h) i missing.0)
           ∙ ap (λ (b : Bool). held_if true b seen) (sym high)
           ∙ ap (λ (b : Bool). held_if b (nat_le (suc i) (count h)) seen) (sym low)
     ]
 
-pub named_held : (h : List Request) (c : Command) → held_in (named_at (tables h).keys c) ≡ named_key h c
+pub named_held : (h : List Request) (c : Command) → held_in (found_named h c) ≡ named_key h c
 named_held h c = by_name (named c)
   where
-    by_name : (n : Option ℕ) → held_in (option_and_then (key_at (tables h).keys) n) ≡ option_and_then (held h) n
+    by_name : (n : Option ℕ) → held_in (option_and_then (found_at h) n) ≡ option_and_then (held h) n
     by_name None = refl
     by_name (Some k) = held_found h k
-
--- ---- lawful histories
-
-lawful_grows : (h : List Request) (q : Request) → IsLawful h → history [] (map (λ (p : Request). Some p) (h ++ q ∷ [])) ≡ history_after h (Some q)
-lawful_grows h q lawful =
-    ap (history []) (map-append (λ (p : Request). Some p) h (q ∷ []))
-    ∙ fold-append history_after [] (map (λ (p : Request). Some p) h) (Some q ∷ [])
-    ∙ ap (λ (g : List Request). history_after g (Some q)) lawful
-
-pub lawful_after : (h : List Request) (q : Request) → IsLawful h → IsLawful (history_after h (Some q))
-lawful_after h q lawful =
-    let grown = lawful_grows h q lawful in
-    elim (cases (is_none (verdict h q))) [
-      | inl accepted ↦
-          let same : history_after h (Some q) ≡ h ++ q ∷ [] = ap (λ (b : Bool). cond b (h ++ q ∷ []) h) accepted in
-          subst IsLawful (sym same) (grown ∙ same)
-      | inr refused ↦
-          let same : history_after h (Some q) ≡ h = ap (λ (b : Bool). cond b (h ++ q ∷ []) h) refused in
-          subst IsLawful (sym same) lawful
-    ]
-  where
-    cases : (b : Bool) → (b ≡ true) ⊎ (b ≡ false)
-    cases true = inl refl
-    cases false = inr refl

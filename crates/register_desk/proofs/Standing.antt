@@ -18,21 +18,30 @@ use Rattle.register_store.specs.Tables.{Tables, Holds, Makes, HasKeys}
 use Rattle.register_desk.specs.declared.desk.Desk.{Desk}
 use Rattle.register_desk.specs.Register.{tables, StandsFor, LeavesOneOf}
 use Rattle.register_core.specs.declared.decision.Change.{Change}
-use Rattle.register_core.specs.Decision.{change_by, IsViewOf}
+use Rattle.register_core.specs.Decision.{change_by, IsRightKey, IsViewOf, LeadsTo}
 use Rattle.register_core.specs.declared.request.Command.{Command}
 use Rattle.register_core.specs.History.{made_by}
 use Rattle.register_core.proofs.Histories.{count_grows}
 use Rattle.register_store.specs.declared.key.Key.{Key}
-use Rattle.register_desk.specs.Step.{named_at, held_in, made_count, with_request}
-use Rattle.register_desk.proofs.Grows.{tables_grow, change_counts, keys_counted, lawful_after, named_held}
+use Rattle.register_desk.specs.declared.found.Found.{Found}
+use Rattle.register_desk.specs.Step.{held_in, key_in, IsRightFound, made_count, with_request}
+use Rattle.register_desk.specs.Finding.{found_named}
+use Rattle.register_core.proofs.Lawful.{lawful_after}
+use Rattle.register_desk.proofs.Grows.{tables_grow, change_counts, keys_counted, named_held}
 
 -- what a decision rests on is the view of the history
-pub view_stands : {S : Type 0} (g : store.Ghosts S) (desk : Desk S g) (h : List Request) (c : Command) (found : Option Key) → StandsFor g desk h → found ≡ named_at (tables h).keys c
+pub view_stands : {S : Type 0} (g : store.Ghosts S) (desk : Desk S g) (h : List Request) (c : Command) (found : Option Found) → StandsFor g desk h → found ≡ found_named h c
     → IsViewOf (record { latest = desk.latest; keys = desk.keys; key = held_in found }) h c
 view_stands g desk h c found stands is = record { latest_is = stands.latest_is; keys_are = stands.keys_are; key_is = ap held_in is ∙ named_held h c }
 
+-- what was found stands right for the decision
+pub right_held : (found : Option Found) (t : ℕ) → IsRightFound found t → IsRightKey (held_in found) t
+right_held None t right = tt
+right_held (Some found) t right = right
+
 module _ {S : Type 0} (g : store.Ghosts S) (old : Desk S g) (h : List Request) (q : Request) (stands : StandsFor g old h) (accepted : verdict h q ≡ None)
-    (change : Change) (found : Option Key) (found_is : found ≡ named_at (tables h).keys q.command) (change_is : change ≡ change_by (held_in found) q.moment q.command) where
+    (change : Change) (found : Option Found) (found_is : found ≡ found_named h q.command) (change_is : change ≡ change_by (held_in found) q)
+    (leads : LeadsTo h q change) (key : Option Key) (key_is : key ≡ key_in found) where
   abbrev grown : List Request
   grown = h ++ q ∷ []
 
@@ -40,21 +49,24 @@ module _ {S : Type 0} (g : store.Ghosts S) (old : Desk S g) (h : List Request) (
   after_is = ap (λ (v : Option Refusal). cond (is_none v) grown h) accepted
 
   abbrev Made : Database → Database → Type 0
-  Made = Makes (HasKeys old.keys) (with_request old.keys q.moment change found)
+  Made = Makes (HasKeys old.keys) (with_request old.keys q.moment change key)
 
   -- what the request makes of the tables of the history are those of the history with it
   made_holds : (before after : Database) → Holds (tables h) before → Made before after → Holds (tables grown) after
   made_holds before after holds made =
       let keys : length (tables h).keys ≡ old.keys = keys_counted h ∙ sym stands.keys_are in
-      let same : with_request old.keys q.moment change found (tables h) ≡ tables grown =
-      ap (λ (n : ℕ). with_request n q.moment change found (tables h)) stands.keys_are
-      ∙ ap (λ (c : Change). with_request (count h) q.moment c found (tables h)) change_is
-      ∙ ap (λ (f : Option Key). with_request (count h) q.moment (change_by (held_in f) q.moment q.command) f (tables h)) found_is
-      ∙ sym (tables_grow h q) in
+      let leads_so : LeadsTo h q (change_by (held_in (found_named h q.command)) q) =
+      subst (LeadsTo h q) (change_is ∙ ap (λ (f : Option Found). change_by (held_in f) q) found_is) leads in
+      let same : with_request old.keys q.moment change key (tables h) ≡ tables grown =
+      ap (λ (n : ℕ). with_request n q.moment change key (tables h)) stands.keys_are
+      ∙ ap (λ (k : Option Key). with_request (count h) q.moment change k (tables h)) key_is
+      ∙ ap (λ (c : Change). with_request (count h) q.moment c (key_in found) (tables h)) change_is
+      ∙ ap (λ (f : Option Found). with_request (count h) q.moment (change_by (held_in f) q) (key_in f) (tables h)) found_is
+      ∙ sym (tables_grow h q leads_so) in
       subst (λ (t : Tables). Holds t after) same (made (tables h) holds keys)
 
   counted_after : made_count change ≡ made_by q.command
-  counted_after = ap made_count change_is ∙ change_counts (held_in found) q.moment q.command
+  counted_after = ap made_count change_is ∙ change_counts (held_in found) q
 
   module _ {A E : Type 0} (new : Desk S g) (r : Result A E) (whole : old.is_broken ≡ false) (written : TransactsBy Made (state g old.connection) (state g new.connection) r) where
     early : HasCleanDisk (state g new.connection) → HasCleanDisk (state g old.connection)

@@ -1,6 +1,7 @@
 pub mod End
 pub mod Register
 pub mod Step
+pub mod Finding
 pub mod Shown
 pub mod Opening
 pub mod Answer

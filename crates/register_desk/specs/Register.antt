@@ -9,6 +9,7 @@ use Rattle.sqlite.specs.Held.{state}
 use Rattle.lifecycle_core.specs.State.{state_at}
 use Rattle.register_core.specs.declared.request.Request.{Request}
 use Rattle.register_core.specs.History.{latest, Registration, registrations, count, type, dates, owner}
+use Rattle.register_core.specs.People.{all_custodians, all_approvals}
 use Rattle.register_core.specs.Fold.{IsLawful}
 use Rattle.register_store.specs.declared.key.Key.{Key}
 use Rattle.register_store.specs.Tables.{Tables, Holds}
@@ -28,6 +29,8 @@ tables h = record {
   latest = latest h;
   key_count = count h;
   keys = map (λ key. key_of h key.0 key.1) (enumerate_from 1 (registrations h));
+  custodians = all_custodians h;
+  approvals = all_approvals h;
 }
 
 -- a stop leaves these tables: each content that may be found after it is that of a database that holds them

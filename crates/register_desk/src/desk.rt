@@ -1,16 +1,18 @@
 ghost use Rattle.std.specs.Prelude.{◌≡◌, ◌≤◌, false};
 ghost use Rattle.register_core.specs.declared.limits.TheConstants.{KEY_LIMIT};
-ghost use Rattle.std.specs.Bool.{OnTrue};
-ghost use Rattle.register_desk.specs.Step.{held_in, IsRightFound};
+ghost use Rattle.register_desk.specs.Step.{IsRightFound};
 
 use crate::end::End;
+use crate::found::{Found, held_in, is_right, key_in, record_in};
 use crate::opening::{OpenRefusal, Unopened};
-use crate::record::{Names, Record};
+use crate::record::Record;
 use crate::serve::{commit_request, keys_after};
-use lifecycle_core::{Usage, state_of, usage_of};
+use lifecycle_core::{Usage, usage_of};
 use moment_core::Moment;
-use register_core::{Change, Command, Held, KEY_LIMIT, Refusal, Reply, Request, View, decide};
-use register_store::{Key, create, find_key, has_tables};
+use register_core::{Accept, Change, Command, KEY_LIMIT, Names, Refusal, Reply, Request, View, decide};
+use register_store::{
+    Key, create, find_approvals, find_custodians, find_key, has_tables,
+};
 use sqlite::{Alter, Connection};
 use std::alloc::Global;
 
@@ -53,12 +55,13 @@ pub struct Desk<S: Alter> {
 
 impl<S: Alter> Desk<S> {
     ghost use Rattle.std.specs.Prelude.{◌≡◌, ◌≤◌, ◌⊎◌, ◌+◌, ℕ, length, true, false, List, [], ◌∷◌, Some, None, Err, IfOk, IfErr, OnOk, OnErr};
-    ghost use Rattle.std.specs.Option.{option_map};
     ghost use Rattle.sqlite.specs.State.{HasCleanDisk};
     ghost use Rattle.sqlite.specs.Held.{state};
     ghost use Rattle.register_core.specs.declared.request.Request.{Request};
     ghost use Rattle.register_core.specs.History.{latest, count};
-    ghost use Rattle.register_core.specs.Verdict.{answer};
+    ghost use Rattle.register_core.specs.People.{custodians, approvals};
+    ghost use Rattle.register_core.specs.Verdict.{answer, judge, verdict, reply};
+    ghost use Rattle.register_core.specs.Decision.{change_by, LeadsTo};
     ghost use Rattle.register_core.specs.Fold.{history};
     ghost use Rattle.register_desk.specs.Answer.{answered};
     ghost use Rattle.sql_steps.specs.Steps.{TransactsBy};
@@ -66,8 +69,9 @@ impl<S: Alter> Desk<S> {
     ghost use Rattle.register_store.specs.Found.{HasTable};
     ghost use Rattle.register_store.specs.Schema.{no_schema};
     ghost use Rattle.register_desk.specs.Register.{StandsFor, LeavesOneOf, Leaves, tables};
-    ghost use Rattle.register_desk.specs.Shown.{shown, usage, record_with};
-    ghost use Rattle.register_desk.specs.Step.{made_count, named_at, with_request};
+    ghost use Rattle.register_desk.specs.Shown.{shown, usage};
+    ghost use Rattle.register_desk.specs.Step.{held_in, made_count, with_request};
+    ghost use Rattle.register_desk.specs.Finding.{found_at, found_named};
 
     /// Makes an empty register in the database, which has none yet.
     ///
@@ -163,25 +167,39 @@ impl<S: Alter> Desk<S> {
             return Err(End::Broken);
         }
         let found = self.named(&request.command)?;
-        let view = View {
-            latest: self.latest,
-            keys: self.keys,
-            key: held_in(&found),
-        };
-        match decide(&view, request) {
+        let key = key_in(&found);
+        match self.decided(found, request) {
             Err(refusal) => Ok(Answer::Refused(refusal)),
             Ok(accept) => {
-                self.accept(request.moment, &accept.change, &found)?;
+                self.accept(request.moment, &accept.change, &key)?;
                 Ok(Answer::Accepted(accept.reply))
             }
         }
     }
 
+    /// The decision on the request, where this key was found under the number that it names.
+    fn decided(&self, found: Option<Found>, request: &Request) -> Result<Accept, Refusal>
+        requires { IsRightFound found self.now.latest }
+        ensures accepted { IfOk result (λ accept. judge self.now.latest self.now.keys (held_in found) request.now ≡ None) }
+        ensures change { IfOk result (λ accept. accept.change ≡ change_by (held_in found) request.now) }
+        ensures verdict { (h : List Request) → StandsFor S.Store self.now h → found ≡ found_named h request.now.command
+            → IfErr result (λ refusal. verdict h request.now ≡ Some refusal) × IfOk result (λ accept. verdict h request.now ≡ None) }
+        ensures leads { (h : List Request) → StandsFor S.Store self.now h → found ≡ found_named h request.now.command
+            → IfOk result (λ accept. (accept.reply ≡ reply h request.now) × LeadsTo h request.now accept.change) }
+    {
+        let view = View {
+            latest: self.latest,
+            keys: self.keys,
+            key: held_in(found),
+        };
+        decide(&view, request)
+    }
+
     /// The key that the command names, if it names one that is there.
-    fn named(&mut self, command: &Command) -> Result<Option<Key>, End>
+    fn named(&mut self, command: &Command) -> Result<Option<Found>, End>
         requires { self.old.is_broken ≡ false }
         ensures found { (h : List Request) → StandsFor S.Store self.old h → HasCleanDisk (state S.Store self.new.connection)
-            → IfOk result (λ found. found ≡ named_at (tables h).keys command.now) }
+            → IfOk result (λ found. found ≡ found_named h command.now) }
         ensures right { IfOk result (λ found. IsRightFound found self.old.latest) }
         ensures same { (h : List Request) → StandsFor S.Store self.old h → StandsFor S.Store self.new h }
         ensures fields { OnOk result ((self.new.latest ≡ self.old.latest) × (self.new.keys ≡ self.old.keys) × (self.new.is_broken ≡ false)) }
@@ -194,7 +212,7 @@ impl<S: Alter> Desk<S> {
         let Some(number) = command.key() else {
             return Ok(None);
         };
-        let found = self.look(number)?;
+        let found = self.find(number)?;
         if is_right(&found, self.latest) {
             Ok(found)
         } else {
@@ -247,8 +265,7 @@ impl<S: Alter> Desk<S> {
         ensures stop { (h : List Request) → StandsFor S.Store self.old h → self.old.is_broken ≡ false → HasCleanDisk (state S.Store self.new.connection)
             → Leaves (tables h) (state S.Store self.new.connection) }
     {
-        let found = self.look(number)?;
-        Ok(self.record(number, &found))
+        Ok(record_in(self.find(number)?))
     }
 
     /// What the key with this number may be used for at the latest accepted moment, or `None` where there is no such
@@ -295,6 +312,70 @@ impl<S: Alter> Desk<S> {
         }
     }
 
+    /// The custodians of the key with this number.
+    fn custodians(&mut self, number: u32) -> Result<Names, End>
+        requires { self.old.is_broken ≡ false }
+        ensures found { (h : List Request) → StandsFor S.Store self.old h → HasCleanDisk (state S.Store self.new.connection)
+            → IfOk result (λ names. names ≡ custodians h number) }
+        ensures same { (h : List Request) → StandsFor S.Store self.old h → StandsFor S.Store self.new h }
+        ensures fields { OnOk result ((self.new.latest ≡ self.old.latest) × (self.new.keys ≡ self.old.keys) × (self.new.is_broken ≡ false)) }
+        ensures ends { IfErr result (λ end. end ≡ End.Store) }
+        ensures broken { OnErr result (self.new.is_broken ≡ true) }
+        ensures clean { HasCleanDisk (state S.Store self.new.connection) → HasCleanDisk (state S.Store self.old.connection) }
+        ensures stop { (h : List Request) → StandsFor S.Store self.old h → HasCleanDisk (state S.Store self.new.connection)
+            → Leaves (tables h) (state S.Store self.new.connection) }
+    {
+        match find_custodians(self.alloc, &mut self.connection, number) {
+            Ok(names) => Ok(names),
+            Err(_) => Err(self.break_off()),
+        }
+    }
+
+    /// Those who approve of the destruction of the key with this number.
+    fn approvals(&mut self, number: u32) -> Result<Names, End>
+        requires { self.old.is_broken ≡ false }
+        ensures found { (h : List Request) → StandsFor S.Store self.old h → HasCleanDisk (state S.Store self.new.connection)
+            → IfOk result (λ names. names ≡ approvals h number) }
+        ensures same { (h : List Request) → StandsFor S.Store self.old h → StandsFor S.Store self.new h }
+        ensures fields { OnOk result ((self.new.latest ≡ self.old.latest) × (self.new.keys ≡ self.old.keys) × (self.new.is_broken ≡ false)) }
+        ensures ends { IfErr result (λ end. end ≡ End.Store) }
+        ensures broken { OnErr result (self.new.is_broken ≡ true) }
+        ensures clean { HasCleanDisk (state S.Store self.new.connection) → HasCleanDisk (state S.Store self.old.connection) }
+        ensures stop { (h : List Request) → StandsFor S.Store self.old h → HasCleanDisk (state S.Store self.new.connection)
+            → Leaves (tables h) (state S.Store self.new.connection) }
+    {
+        match find_approvals(self.alloc, &mut self.connection, number) {
+            Ok(names) => Ok(names),
+            Err(_) => Err(self.break_off()),
+        }
+    }
+
+    /// The key with this number as it stands in the tables, with its people.
+    fn find(&mut self, number: u32) -> Result<Option<Found>, End>
+        ensures found { (h : List Request) → StandsFor S.Store self.old h → HasCleanDisk (state S.Store self.new.connection)
+            → IfOk result (λ found. found ≡ found_at h number) }
+        ensures same { (h : List Request) → StandsFor S.Store self.old h → StandsFor S.Store self.new h }
+        ensures fields { OnOk result ((self.new.latest ≡ self.old.latest) × (self.new.keys ≡ self.old.keys) × (self.new.is_broken ≡ false)) }
+        ensures ends { IfErr result (λ end. ((end ≡ End.Store) × (self.old.is_broken ≡ false)) ⊎ ((end ≡ End.Broken) × (self.new ≡ self.old))) }
+        ensures broken { OnErr result (self.new.is_broken ≡ true) }
+        ensures when_broken { self.old.is_broken ≡ true → result ≡ Err End.Broken }
+        ensures clean { HasCleanDisk (state S.Store self.new.connection) → HasCleanDisk (state S.Store self.old.connection) }
+        ensures stop { (h : List Request) → StandsFor S.Store self.old h → self.old.is_broken ≡ false → HasCleanDisk (state S.Store self.new.connection)
+            → Leaves (tables h) (state S.Store self.new.connection) }
+    {
+        let Some(key) = self.look(number)? else {
+            return Ok(None);
+        };
+        let custodians = self.custodians(number)?;
+        let approvals = self.approvals(number)?;
+        Ok(Some(Found {
+            number,
+            key,
+            custodians,
+            approvals,
+        }))
+    }
+
     /// Breaks the desk, and gives the end of the call that did.
     fn break_off(&mut self) -> End
         ensures end { result ≡ End.Store }
@@ -303,47 +384,5 @@ impl<S: Alter> Desk<S> {
     {
         self.is_broken = true;
         End::Store
-    }
-
-    /// The key that was found, as a reader is shown it.
-    fn record(&self, number: u32, found: &Option<Key>) -> Option<Record>
-        ensures { result ≡ option_map (record_with number) found.now }
-    {
-        match found {
-            Some(key) => Some(Record {
-                number,
-                kind: key.kind,
-                owner: key.owner,
-                purpose: key.purpose,
-                row: key.row,
-                custodians: Names::new(self.alloc),
-                approvals: Names::new(self.alloc),
-            }),
-            None => None,
-        }
-    }
-}
-
-/// What a decision sees of the key that was found.
-fn held_in(found: &Option<Key>) -> Option<Held>
-    ensures { result ≡ held_in found.now }
-{
-    match found {
-        Some(key) => Some(Held {
-            kind: key.kind,
-            owner: key.owner,
-            row: key.row,
-        }),
-        None => None,
-    }
-}
-
-/// Whether the stored state is the one that the dates give at the moment.
-fn is_right(found: &Option<Key>, at: Moment) -> bool
-    ensures { OnTrue result (IsRightFound found.now at) }
-{
-    match found {
-        Some(key) => key.row.state == state_of(&key.row.dates, at),
-        None => true,
     }
 }

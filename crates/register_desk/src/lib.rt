@@ -3,6 +3,7 @@
 
 mod desk;
 mod end;
+mod found;
 pub mod laws;
 mod lines;
 mod opening;
@@ -15,6 +16,6 @@ pub use desk::{Answer, Desk};
 pub use end::End;
 pub use lines::MOST_READ_TURNS;
 pub use opening::{OpenRefusal, Unopened};
-pub use record::{Names, Record};
+pub use record::Record;
 pub use runs::{Finish, MOST_IDLE_TURNS, Outcome, run};
 pub use watched::{ReadFault, Watched, WriteFault};

@@ -1,49 +1,6 @@
-ghost use Rattle.std.specs.Prelude.{◌≡◌, [], length};
-
 use lifecycle_core::Row;
 use period_core::KeyType;
-use register_core::{Name, Purpose};
-use std::alloc::Global;
-use std::marker::Model;
-
-/// A list of names. In a contract it is the list of their bytes.
-#[derive(Drop)]
-pub struct Names {
-    names: Vec<Name>,
-}
-
-impl Model for Names {
-    ghost use Rattle.std.specs.Prelude.{ℕ, List};
-
-    ghost Value = { List (List ℕ) };
-
-    ghost view = { λ n. n.names.items };
-}
-
-impl Names {
-    /// No name.
-    pub fn new(alloc: Global) -> Self
-        ensures { result ≡ [] }
-    {
-        Names {
-            names: Vec::new(alloc),
-        }
-    }
-
-    /// How many names there are.
-    pub fn len(&self) -> usize
-        ensures { result ≡ length self.now }
-    {
-        self.names.len()
-    }
-
-    /// The names.
-    pub fn as_slice(&self) -> &[Name]
-        ensures { result.now ≡ self.now }
-    {
-        &self.names
-    }
-}
+use register_core::{Name, Names, Purpose};
 
 /// A key as a reader is shown it.
 #[derive(Drop)]

@@ -2,12 +2,16 @@
 ghost use Rattle.std.specs.Prelude.{◌≡◌, ◌<◌, ◌≤◌, ◌^◌, ◌+◌, false};
 ghost use Rattle.sqlite.specs.Held.{state};
 ghost use Rattle.sql_steps.specs.Steps.{StepsBy, TransactsBy};
-ghost use Rattle.register_store.specs.Tables.{Makes, HasKeys};
-ghost use Rattle.register_desk.specs.Step.{made_count, with_change, with_request};
+ghost use Rattle.register_store.specs.Tables.{Makes, Always, HasKeys};
+ghost use Rattle.register_desk.specs.Step.{made_count, with_held, with_people, with_change, with_request};
 
+use lifecycle_core::Row;
 use moment_core::Moment;
-use register_core::Change;
-use register_store::{Key, StoreError, add_key, advance_due, record_request, set_key};
+use register_core::{Change, Name, People};
+use register_store::{
+    Key, StoreError, add_approval, add_custodian, add_key, advance_due, end_approvals,
+    record_request, remove_approval, remove_custodian, set_key,
+};
 use sqlite::{Alter, Connection, Transaction};
 
 /// How many keys there are after the change.
@@ -18,6 +22,49 @@ pub(crate) fn keys_after(keys: u32, change: &Change) -> u32
     match change {
         Change::Made { .. } => keys + 1,
         Change::Held { .. } | Change::Nothing => keys,
+    }
+}
+
+/// Writes the owner and the row of the key with this number, where it was found.
+fn write_held<S: Alter>(
+    tx: &mut Transaction<'_, S>,
+    number: u32,
+    owner: Name,
+    row: Row,
+    found: &Option<Key>,
+) -> Result<(), StoreError>
+    ensures same_reference { tx.new.conn.ghost_name ≡ tx.old.conn.ghost_name }
+    ensures written { StepsBy (λ _. Makes Always (with_held number owner row found.now)) (state S.Store tx.old.conn.now) (state S.Store tx.new.conn.now) result }
+{
+    match found {
+        Some(before) => {
+            let after = Key {
+                owner,
+                row,
+                ..*before
+            };
+            set_key(tx, number, &after)
+        }
+        None => Ok(()),
+    }
+}
+
+/// Writes what becomes of the people of the key with this number.
+fn write_people<S: Alter>(
+    tx: &mut Transaction<'_, S>,
+    number: u32,
+    people: &People,
+) -> Result<(), StoreError>
+    ensures same_reference { tx.new.conn.ghost_name ≡ tx.old.conn.ghost_name }
+    ensures written { StepsBy (λ _. Makes Always (with_people number people.now)) (state S.Store tx.old.conn.now) (state S.Store tx.new.conn.now) result }
+{
+    match people {
+        People::Kept => Ok(()),
+        People::CustodianAdded(name) => add_custodian(tx, number, name),
+        People::CustodianRemoved(name) => remove_custodian(tx, number, name),
+        People::Approved(name) => add_approval(tx, number, name),
+        People::Withdrawn(name) => remove_approval(tx, number, name),
+        People::ApprovalsEnded => end_approvals(tx, number),
     }
 }
 
@@ -47,17 +94,15 @@ fn write_change<S: Alter>(
             };
             add_key(tx, keys + 1, &key)
         }
-        Change::Held { key, owner, row } => match found {
-            Some(before) => {
-                let after = Key {
-                    owner: *owner,
-                    row: *row,
-                    ..*before
-                };
-                set_key(tx, *key, &after)
-            }
-            None => Ok(()),
-        },
+        Change::Held {
+            key,
+            owner,
+            row,
+            people,
+        } => {
+            write_held(tx, *key, *owner, *row, found)?;
+            write_people(tx, *key, people)
+        }
         Change::Nothing => Ok(()),
     }
 }
