@@ -43,11 +43,7 @@ fn has_table<S: Alter>(tx: &mut Transaction<'_, S>) -> Result<bool, StoreError>
     ensures same_reference { tx.new.conn.ghost_name ≡ tx.old.conn.ghost_name }
     ensures told { StepsBy (Tells HasTable) (state S.Store tx.old.conn.now) (state S.Store tx.new.conn.now) result }
 {
-    if has_one_of(
-        tx,
-        "SELECT count(*) FROM meta",
-        "SELECT count(*) FROM keys",
-    )? {
+    if has_one_of(tx, "SELECT count(*) FROM meta", "SELECT count(*) FROM keys")? {
         return Ok(true);
     }
     has_one_of(

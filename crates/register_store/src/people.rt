@@ -97,10 +97,7 @@ pub fn remove_approval<S: Alter>(
 ///
 /// # Errors
 /// [`StoreError::Database`] where the database refused.
-pub fn end_approvals<S: Alter>(
-    tx: &mut Transaction<'_, S>,
-    key: u32,
-) -> Result<(), StoreError>
+pub fn end_approvals<S: Alter>(tx: &mut Transaction<'_, S>, key: u32) -> Result<(), StoreError>
     ensures same_reference { tx.new.conn.ghost_name ≡ tx.old.conn.ghost_name }
     ensures ended { StepsBy (λ _. Makes Always (without_approvals key)) (state S.Store tx.old.conn.now) (state S.Store tx.new.conn.now) result }
 {
@@ -148,10 +145,7 @@ pub fn find_custodians<S: Alter>(
 {
     sorted_in(
         alloc,
-        connection.query_all(
-            "SELECT name FROM custodian WHERE key_no = ?1",
-            params![key],
-        ),
+        connection.query_all("SELECT name FROM custodian WHERE key_no = ?1", params![key]),
     )
 }
 
@@ -173,9 +167,6 @@ pub fn find_approvals<S: Alter>(
 {
     sorted_in(
         alloc,
-        connection.query_all(
-            "SELECT name FROM approval WHERE key_no = ?1",
-            params![key],
-        ),
+        connection.query_all("SELECT name FROM approval WHERE key_no = ?1", params![key]),
     )
 }

@@ -104,13 +104,12 @@ module _ (schema : Schema) (base child : Table) (ref : Reference) (places : List
       let fell = drops_after schema parent child ref places order cascade idle old.now.trees new.now.trees (ids_of did.1) did.3 in
       let olds = taken_by old.now.trees (deleted old.step_limit (mode_of old) params old.now schema has at base did.1) in
       let same : fell.0 child.tree ≡ children = all_has (λ (t : Table). t.tree ≢ parent.tree → fell.0 t.tree ≡ old.now.trees t.tree) schema.tables child fell.1.tables child_listed apart in
-      let stays = all_has (λ (t : Table). t.tree ≢ child.tree → new.now.trees t.tree ≡ fell.0 t.tree) schema.tables parent fell.2.others listed (λ e. apart (sym e)) in
-      (
+      let stays = all_has (λ (t : Table). t.tree ≢ child.tree → new.now.trees t.tree ≡ fell.0 t.tree) schema.tables parent fell.2.others listed (λ e. apart (sym e)) in (
         did.0,
         stays ∙ fell.1.rows ∙ left params parent.tree passes parents ordered counted did.1 all,
         fell.2.rows ∙ ap (λ rows. without_all rows fell.2.ids) same
             ∙ children_left parents children c c_from c_all child_ordered child_counted olds (taken_all params parent.tree passes parents ordered counted did.1 all) (taken_from params parent.tree passes parents ordered counted did.1 all)
-                fell.0 same fell.2.ids fell.2.are,
+            fell.0 same fell.2.ids fell.2.are,
         all_from _ schema.tables (λ t h not_parent not_child.
             all_has (λ (t : Table). t.tree ≢ child.tree → new.now.trees t.tree ≡ fell.0 t.tree) schema.tables t fell.2.others h not_child
             ∙ all_has (λ (t : Table). t.tree ≢ parent.tree → fell.0 t.tree ≡ old.now.trees t.tree) schema.tables t fell.1.tables h not_parent),
