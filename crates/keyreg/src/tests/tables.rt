@@ -1,6 +1,7 @@
 use super::served::serve;
 use super::worked_rows::{
-    ACTIVATED, ASSIGNED, COMPROMISED, DATES_SET, DEFAULTS, FIRST_DAY, STOP_FROZEN, TRIMMED,
+    ACTIVATED, APPROVALS_ENDED, APPROVED_TWICE, ASSIGNED, COMPROMISED, DATES_SET, DEFAULTS,
+    DESTROYED, EIGHT_CUSTODIANS, FIRST_DAY, ONE_APPROVAL, OWNER_AS_CUSTODIAN, STOP_FROZEN, TRIMMED,
     WorkedRow,
 };
 use crate::act::in_memory;
@@ -10,7 +11,7 @@ use period_core::KeyType;
 use register_core::{Name, Purpose};
 use register_desk::{Desk, OpenRefusal};
 use sqlite::Connection;
-use std::alloc::Global;
+use std::alloc::{AllocError, Global};
 use std::test::Fail;
 
 /// The state of each of the first three keys.
@@ -65,7 +66,7 @@ fn defaults_are_shown(rt: HostRuntime) -> Result<(), Fail> {
 }
 
 /// The state of key 1 after a row, and its dates behind the Initial Date, each in seconds.
-const SHOWN: [(WorkedRow, State, [Option<u64>; 6]); 6] = [
+const SHOWN: [(WorkedRow, State, [Option<u64>; 6]); 10] = [
     (
         TRIMMED,
         State::Active,
@@ -117,6 +118,26 @@ const SHOWN: [(WorkedRow, State, [Option<u64>; 6]); 6] = [
         State::Deactivated,
         [Some(50), Some(50), Some(50), None, None, None],
     ),
+    (
+        ONE_APPROVAL,
+        State::Active,
+        [Some(1000), Some(2000), Some(2000), None, None, None],
+    ),
+    (
+        APPROVED_TWICE,
+        State::DestroyedCompromised,
+        [None, None, None, Some(108), Some(109), Some(100)],
+    ),
+    (
+        APPROVALS_ENDED,
+        State::Compromised,
+        [None, None, None, None, Some(105), Some(50)],
+    ),
+    (
+        DESTROYED,
+        State::DestroyedCompromised,
+        [None, None, None, Some(108), Some(105), Some(50)],
+    ),
 ];
 
 /// The row of key 1 after a run over the input.
@@ -155,6 +176,56 @@ fn changed_keys_are_shown(rt: HostRuntime) {
     for (row, state, dates) in SHOWN {
         assert!(rt;
             is_shown(rt.alloc(), row.input, state, dates),
+            "{}",
+            row.name
+        );
+    }
+}
+
+/// The custodians of key 1 after a row, and those whose approval stands.
+const PEOPLE: [(WorkedRow, &str, &str); 6] = [
+    (ONE_APPROVAL, "cat dan ", "cat "),
+    (APPROVED_TWICE, "cat dan ", "cat dan "),
+    (EIGHT_CUSTODIANS, "cat dan fay gil hal ian joe kim ", ""),
+    (OWNER_AS_CUSTODIAN, "cat ", ""),
+    (APPROVALS_ENDED, "cat dan ", ""),
+    (DESTROYED, "cat dan ", "cat dan "),
+];
+
+/// The names, each with a space behind it.
+fn joined(alloc: Global, names: &[Name]) -> Result<String, AllocError> {
+    let mut text = String::new(alloc);
+    for name in names {
+        text.push_str(name.text())?;
+        text.push_str(" ")?;
+    }
+    Ok(text)
+}
+
+/// Whether key 1 has these custodians and these approvals after a run over the input.
+fn are_people(alloc: Global, input: &str, custodians: &str, approvals: &str) -> bool {
+    let Ok(mut served) = serve(alloc, input.as_bytes(), Vec::new(alloc)) else {
+        return false;
+    };
+    let Ok(Some(record)) = served.desk.show(1) else {
+        return false;
+    };
+    match (
+        joined(alloc, record.custodians.as_slice()),
+        joined(alloc, record.approvals.as_slice()),
+    ) {
+        (Ok(of_custodians), Ok(of_approvals)) => {
+            of_custodians.as_str() == custodians && of_approvals.as_str() == approvals
+        }
+        _ => false,
+    }
+}
+
+#[test]
+fn people_are_shown(rt: HostRuntime) {
+    for (row, custodians, approvals) in PEOPLE {
+        assert!(rt;
+            are_people(rt.alloc(), row.input, custodians, approvals),
             "{}",
             row.name
         );
@@ -203,6 +274,18 @@ fn one_table_is_enough_to_refuse(rt: HostRuntime) -> Result<(), Fail> {
             "INSERT INTO keys (note) VALUES ('a')",
             "SELECT note FROM keys",
             "SELECT count(*) FROM meta",
+        ),
+        (
+            "CREATE TABLE custodian (note TEXT) STRICT",
+            "INSERT INTO custodian (note) VALUES ('a')",
+            "SELECT note FROM custodian",
+            "SELECT count(*) FROM keys",
+        ),
+        (
+            "CREATE TABLE approval (note TEXT) STRICT",
+            "INSERT INTO approval (note) VALUES ('a')",
+            "SELECT note FROM approval",
+            "SELECT count(*) FROM keys",
         ),
     ];
     for (create, insert, kept, other) in tables {

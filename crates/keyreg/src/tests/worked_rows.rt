@@ -200,9 +200,9 @@ pub const ACTIVATED: WorkedRow = WorkedRow {
 
 const NOT_FOR_THEM: WorkedRow = WorkedRow {
     name: "refused to strangers",
-    input: "100 ann 1 register data-encryption bob 0 - - payroll disks\n200 zed 1 assign 1 zed\n200 zed 1 activate 9\n200 zed 1 revoke 1 2 201\n200 bob 1 revoke 1 5 100\n",
-    output: "ok 1 Active 100\nrefused 5 NotOwner\nrefused 4 UnknownKey\nrefused 19 OccurrenceLater\nrefused 1 BadLine\n",
-    replies: 5,
+    input: "100 ann 1 register data-encryption bob 0 - - payroll disks\n200 zed 1 assign 1 zed\n200 zed 1 approve 1\n200 zed 1 activate 9\n200 zed 1 revoke 1 2 201\n200 bob 1 revoke 1 5 100\n",
+    output: "ok 1 Active 100\nrefused 5 NotOwner\nrefused 6 NotCustodian\nrefused 4 UnknownKey\nrefused 19 OccurrenceLater\nrefused 1 BadLine\n",
+    replies: 6,
     rest: 0,
 };
 
@@ -214,8 +214,56 @@ pub const ASSIGNED: WorkedRow = WorkedRow {
     rest: 0,
 };
 
+pub const ONE_APPROVAL: WorkedRow = WorkedRow {
+    name: "one approval is too few",
+    input: "100 ann 1 register master bob 1000 2000 2000 root\n101 bob 1 add-custodian 1 cat\n102 bob 2 add-custodian 1 dan\n103 cat 1 approve 1\n1500 ann 2 advance\n2000 bob 3 destroy 1\n1999 bob 4 destroy 1\n",
+    output: "ok 1 Pre-Active 100\nok 1 Pre-Active 101\nok 1 Pre-Active 102\nok 1 Pre-Active 103\nok 0 - 1500\nrefused 18 ApprovalsMissing have=1 need=2\nrefused 7 WrongState state=Active\n",
+    replies: 7,
+    rest: 0,
+};
+
+pub const APPROVED_TWICE: WorkedRow = WorkedRow {
+    name: "approved anew by one who was removed",
+    input: "100 ann 1 register master bob - - - spare\n101 bob 1 add-custodian 1 cat\n102 bob 2 add-custodian 1 dan\n103 cat 1 approve 1\n104 dan 1 approve 1\n105 bob 3 remove-custodian 1 dan\n106 bob 4 destroy 1\n106 bob 4 add-custodian 1 dan\n107 dan 2 approve 1\n108 bob 5 destroy 1\n109 zed 1 revoke 1 2 -\n",
+    output: "ok 1 Pre-Active 100\nok 1 Pre-Active 101\nok 1 Pre-Active 102\nok 1 Pre-Active 103\nok 1 Pre-Active 104\nok 1 Pre-Active 105\nrefused 18 ApprovalsMissing have=1 need=2\nok 1 Pre-Active 106\nok 1 Pre-Active 107\nok 1 Destroyed 108\nok 1 Destroyed-Compromised 109\n",
+    replies: 11,
+    rest: 0,
+};
+
+pub const EIGHT_CUSTODIANS: WorkedRow = WorkedRow {
+    name: "eight custodians",
+    input: "100 ann 1 register master bob - - - spare\n100 bob 1 add-custodian 1 kim\n100 bob 2 add-custodian 1 joe\n100 bob 3 add-custodian 1 ian\n100 bob 4 add-custodian 1 hal\n100 bob 5 add-custodian 1 gil\n100 bob 6 add-custodian 1 fay\n100 bob 7 add-custodian 1 dan\n100 bob 8 add-custodian 1 cat\n100 bob 9 add-custodian 1 lea\n",
+    output: "ok 1 Pre-Active 100\nok 1 Pre-Active 100\nok 1 Pre-Active 100\nok 1 Pre-Active 100\nok 1 Pre-Active 100\nok 1 Pre-Active 100\nok 1 Pre-Active 100\nok 1 Pre-Active 100\nok 1 Pre-Active 100\nrefused 14 TooManyCustodians\n",
+    replies: 10,
+    rest: 0,
+};
+
+pub const OWNER_AS_CUSTODIAN: WorkedRow = WorkedRow {
+    name: "the owner as custodian",
+    input: "100 ann 1 register master bob - - - spare\n101 bob 1 add-custodian 1 cat\n102 bob 2 add-custodian 1 bob\n102 bob 2 add-custodian 1 cat\n102 bob 2 remove-custodian 1 dan\n",
+    output: "ok 1 Pre-Active 100\nok 1 Pre-Active 101\nrefused 15 OwnerCustodian\nrefused 12 AlreadyCustodian\nrefused 13 NoSuchCustodian\n",
+    replies: 5,
+    rest: 0,
+};
+
+pub const APPROVALS_ENDED: WorkedRow = WorkedRow {
+    name: "compromise ends the approvals",
+    input: "100 ann 1 register master bob - - - spare\n101 bob 1 add-custodian 1 cat\n102 bob 2 add-custodian 1 dan\n103 cat 1 approve 1\n104 dan 1 approve 1\n105 zed 1 revoke 1 3 50\n",
+    output: "ok 1 Pre-Active 100\nok 1 Pre-Active 101\nok 1 Pre-Active 102\nok 1 Pre-Active 103\nok 1 Pre-Active 104\nok 1 Compromised 105\n",
+    replies: 6,
+    rest: 0,
+};
+
+pub const DESTROYED: WorkedRow = WorkedRow {
+    name: "destroyed after a compromise",
+    input: "100 ann 1 register master bob - - - spare\n101 bob 1 add-custodian 1 cat\n102 bob 2 add-custodian 1 dan\n103 cat 1 approve 1\n104 dan 1 approve 1\n105 zed 1 revoke 1 3 50\n106 bob 3 destroy 1\n106 cat 2 approve 1\n107 dan 2 approve 1\n107 dan 3 approve 1\n107 dan 3 withdraw 1\n107 dan 4 withdraw 1\n107 dan 4 approve 1\n108 bob 4 destroy 1\n109 dan 5 withdraw 1\n110 bob 5 assign 1 cat\n",
+    output: "ok 1 Pre-Active 100\nok 1 Pre-Active 101\nok 1 Pre-Active 102\nok 1 Pre-Active 103\nok 1 Pre-Active 104\nok 1 Compromised 105\nrefused 18 ApprovalsMissing have=0 need=2\nok 1 Compromised 106\nok 1 Compromised 107\nrefused 16 AlreadyApproved\nok 1 Compromised 107\nrefused 17 NoApproval\nok 1 Compromised 107\nok 1 Destroyed-Compromised 108\nrefused 7 WrongState state=Destroyed-Compromised\nrefused 15 OwnerCustodian\n",
+    replies: 16,
+    rest: 0,
+};
+
 /// Each worked row.
-pub const WORKED_ROWS: [WorkedRow; 25] = [
+pub const WORKED_ROWS: [WorkedRow; 31] = [
     FIRST_DAY,
     NOTHING,
     NOT_A_REQUEST,
@@ -241,6 +289,12 @@ pub const WORKED_ROWS: [WorkedRow; 25] = [
     ACTIVATED,
     NOT_FOR_THEM,
     ASSIGNED,
+    ONE_APPROVAL,
+    APPROVED_TWICE,
+    EIGHT_CUSTODIANS,
+    OWNER_AS_CUSTODIAN,
+    APPROVALS_ENDED,
+    DESTROYED,
 ];
 
 /// How many lines of the bytes are whole.
