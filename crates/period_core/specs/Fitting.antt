@@ -85,10 +85,11 @@ out_of_order d = if are_in_order d then None else Some DateOrder
 abbrev pub out_of_range : Dates → Option DateRefusal
 out_of_range d = if is_some d.activation && (is_none d.protect_stop || is_none d.deactivation) then Some DateRange else None
 
-abbrev pub first_refusal : List (Option DateRefusal) → Option DateRefusal
-first_refusal [] = None
-first_refusal (None ∷ others) = first_refusal others
-first_refusal (Some refusal ∷ others) = Some refusal
+-- of refusals in order, each where its condition holds: the first that does
+abbrev pub first_that_holds : {R : Type 0} → List (Option R) → Option R
+first_that_holds [] = None
+first_that_holds (None ∷ others) = first_that_holds others
+first_that_holds (Some refusal ∷ others) = Some refusal
 
 -- the dates, unless a refusal holds of them
 abbrev pub unless_refused : Option DateRefusal → Dates → Result Dates DateRefusal
@@ -99,7 +100,7 @@ unless_refused (Some refusal) d = Err refusal
 abbrev pub fill_of : KeyType → Dates → Result Dates DateRefusal
 fill_of kind d =
     let full = filled kind d in
-    unless_refused (first_refusal (
+    unless_refused (first_that_holds (
     out_of_order full
     ∷ over_limit full.protect_stop (originator_limit kind full)
     ∷ over_limit full.deactivation (recipient_limit kind full)
@@ -110,7 +111,7 @@ fill_of kind d =
 abbrev pub trim_of : KeyType → Dates → Result Dates DateRefusal
 trim_of kind d =
     let full = trimmed kind d in
-    unless_refused (first_refusal (out_of_order full ∷ out_of_range full ∷ [])) full
+    unless_refused (first_that_holds (out_of_order full ∷ out_of_range full ∷ [])) full
 
 -- ---- what they owe
 

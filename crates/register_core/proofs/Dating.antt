@@ -7,8 +7,9 @@ use Rattle.lifecycle_core.specs.declared.dates.Dates.{Dates}
 use Rattle.period_core.specs.declared.key_type.KeyType.{KeyType}
 use Rattle.period_core.specs.declared.filling.DateRefusal.{DateRefusal}
 use Rattle.period_core.specs.declared.filling.DateRefusal.TheVariants.{DateOrder, PeriodTooLong, DateRange}
-use Rattle.period_core.specs.Fitting.{in_order, originator_limit, recipient_limit, are_in_order, Fits, with_protect_stop, with_deactivation, cut, filled, trimmed, over_limit, out_of_order, out_of_range, first_refusal, unless_refused, fill_of, trim_of}
+use Rattle.period_core.specs.Fitting.{in_order, originator_limit, recipient_limit, are_in_order, Fits, with_protect_stop, with_deactivation, cut, filled, trimmed, over_limit, out_of_order, out_of_range, unless_refused, fill_of, trim_of}
 use Rattle.register_core.specs.Verdict.{refused_dates}
+use Rattle.register_core.proofs.Filling.{none_holds}
 
 -- ---- what they keep
 
@@ -101,11 +102,6 @@ passes : (refusal : Option DateRefusal) (d : Dates) → refused_dates (unless_re
 passes None d e = refl
 passes (Some refusal) d e = absurd cc
 
-none_first : (refusals : List (Option DateRefusal)) → first_refusal refusals ≡ None → AllByRecursion (λ refusal. refusal ≡ None) refusals
-none_first [] none = tt
-none_first (None ∷ others) none = (refl, none_first others none)
-none_first (Some refusal ∷ others) none = absurd cc
-
 ordered : (b : Bool) → ◌≡◌ {A = Option DateRefusal} (cond b None (Some DateOrder)) None → b ≡ true
 ordered true e = refl
 ordered false e = absurd cc
@@ -143,7 +139,7 @@ whole d e = record {
 pub filled_fits : (kind : KeyType) (d : Dates) → refused_dates (fill_of kind d) ≡ None → Fits kind (filled kind d) × IsWhole (filled kind d)
 filled_fits kind d e =
     let full = filled kind d in
-    let each = none_first (out_of_order full ∷ over_limit full.protect_stop (originator_limit kind full) ∷ over_limit full.deactivation (recipient_limit kind full) ∷ out_of_range full ∷ []) (passes _ full e) in
+    let each = none_holds (out_of_order full ∷ over_limit full.protect_stop (originator_limit kind full) ∷ over_limit full.deactivation (recipient_limit kind full) ∷ out_of_range full ∷ []) (passes _ full e) in
     (record { order = ordered _ each.0; originator = limited full.protect_stop (originator_limit kind full) each.1.0; recipient = limited full.deactivation (recipient_limit kind full) each.1.1.0 }, whole full each.1.1.1.0)
 
 cut_within : (date limit : Option ℕ) → in_order (cut date limit) limit ≡ true
@@ -156,7 +152,7 @@ trimmed_fits kind d e =
     let full = trimmed kind d in
     let first = with_protect_stop kind d in
     let second = with_deactivation kind (stopped kind d) in
-    let each = none_first (out_of_order full ∷ out_of_range full ∷ []) (passes _ full e) in
+    let each = none_holds (out_of_order full ∷ out_of_range full ∷ []) (passes _ full e) in
     let limit : originator_limit kind full ≡ originator_limit kind first =
     end_kept (originator_limit kind) (record { stop = λ y date. refl; end = λ y date. refl }) kind (stopped kind d) in
     (record {

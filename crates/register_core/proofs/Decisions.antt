@@ -26,9 +26,10 @@ use Rattle.register_core.specs.declared.decision.Change.{Change}
 use Rattle.register_core.specs.declared.decision.Change.TheVariants as change
 use Rattle.register_core.specs.History.{latest, count, key_of, made_by, type, given_dates, dates_after, dates, owner_after, owner}
 use Rattle.register_core.specs.People.{custodians, approvals, held}
-use Rattle.register_core.specs.Verdict.{first_that_holds, behind, unknown, already_custodian, already_approved, entry_refusals, people_refusals, refusals, judge, named, named_key, reply}
+use Rattle.register_core.specs.Verdict.{behind, unknown, already_custodian, already_approved, entry_refusals, people_refusals, refusals, judge, named, named_key, reply}
 use Rattle.register_core.specs.Decision.{row_at, people_by, held_change, change_of, change_by, reply_to, IsViewOf, PeopleLead, Stands, LeadsTo}
 use Rattle.register_core.proofs.Histories.{latest_grows, count_grows, key_named, kind_named, owner_named, dates_named, kind_made, owner_made, dates_made}
+use Rattle.register_core.proofs.Filling.{none_holds}
 use Rattle.register_core.proofs.PeopleLeads.{not_refused, IsNew, nobody_changes, people_lead}
 
 -- ---- a key as it stands
@@ -205,12 +206,6 @@ agrees_by h q (Withdraw k) key is view admits = agrees_key h q k key (ap named i
 agrees_by h q (Destroy k) key is view admits = agrees_key h q k key (ap named is) (view ∙ ap (named_key h) is) admits
 
 -- ---- accepted requests
-
--- where no refusal holds first, none holds
-pub none_holds : (refusals : List (Option Refusal)) → first_that_holds refusals ≡ None → AllByRecursion (λ refusal. refusal ≡ None) refusals
-none_holds [] none = tt
-none_holds (None ∷ others) none = (refl, none_holds others none)
-none_holds (Some refusal ∷ others) none = absurd cc
 
 admitted : (last keys : ℕ) (key : Option Held) (q : Request) → judge last keys key q ≡ None → Admits key q
 admitted last keys key q accepted =

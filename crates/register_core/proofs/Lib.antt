@@ -1,3 +1,4 @@
+pub mod Filling
 pub mod Histories
 pub mod PeopleGrow
 pub mod PeopleLeads
@@ -8,7 +9,6 @@ pub mod NameOrder
 pub mod Fields
 pub mod Readers
 pub mod Lines
-pub mod Filling
 pub mod Decisions
 pub mod Lawful
 pub mod OnKey

@@ -15,7 +15,8 @@ use Rattle.register_core.specs.People.{held}
 use Rattle.register_core.specs.Verdict.{behind, unknown, is_for, wrong_state, frozen, unfit, already_custodian, already_approved, approvals_missing, entry_refusals, people_refusals, refusals, judge, named, named_key, verdict}
 use Rattle.register_core.proofs.Histories.{count_grows, not_same}
 use Rattle.register_core.proofs.PeopleLeads.{not_refused, IsNew}
-use Rattle.register_core.proofs.Decisions.{standing, is_there, none_holds, unknown_named, count_named, new_names}
+use Rattle.register_core.proofs.Filling.{none_holds}
+use Rattle.register_core.proofs.Decisions.{standing, is_there, unknown_named, count_named, new_names}
 
 -- ---- an accepted request that names key k
 

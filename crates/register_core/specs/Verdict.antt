@@ -19,7 +19,7 @@ use Rattle.register_core.specs.declared.reply.Refusal.TheVariants.{MomentBehind,
 use Rattle.lifecycle_core.specs.declared.dates.Dates.{Dates}
 use Rattle.period_core.specs.declared.filling.DateRefusal.{DateRefusal}
 use Rattle.period_core.specs.declared.filling.DateRefusal.TheVariants as dates
-use Rattle.period_core.specs.Fitting.{fill_of, trim_of}
+use Rattle.period_core.specs.Fitting.{first_that_holds, fill_of, trim_of}
 use Rattle.register_core.specs.Name.{is_among}
 use Rattle.register_core.specs.History.{latest, count, key_of, given_dates, edited_dates, dates as dates_of_key}
 use Rattle.register_core.specs.People.{held}
@@ -177,11 +177,6 @@ key_limit = 1_000_000
 abbrev pub too_many : ℕ → Command → Option Refusal
 too_many keys (Register kind owner activation protect_stop deactivation purpose) = if nat_le key_limit keys then Some Full else None
 too_many keys _ = None
-
-abbrev pub first_that_holds : List (Option Refusal) → Option Refusal
-first_that_holds [] = None
-first_that_holds (None ∷ others) = first_that_holds others
-first_that_holds (Some refusal ∷ others) = Some refusal
 
 -- Each refusal of a request, in order, where its condition holds; the key is the one that it names, as it stands. First
 -- those of who asks, of which key and when;
