@@ -250,7 +250,6 @@ fn commands_at_a_key(rt: HostRuntime) -> Result<(), Fail> {
     let bob = Name::new(b"bob").ok_or("a name")?;
     let early = Moment::new(150).ok_or("a moment")?;
     let active = Moment::new(250).ok_or("a moment")?;
-    let stopped = Moment::new(300).ok_or("a moment")?;
     let activated = Reply {
         key: 1,
         state: Some(State::Active),
@@ -271,6 +270,15 @@ fn commands_at_a_key(rt: HostRuntime) -> Result<(), Fail> {
         answer_to(alloc, active, ann, activation()),
         Some(Err(wrong_state))
     );
+    Ok(())
+}
+
+#[test]
+fn frozen_dates(rt: HostRuntime) -> Result<(), Fail> {
+    let alloc = rt.alloc();
+    let ann = Name::new(b"ann").ok_or("a name")?;
+    let active = Moment::new(250).ok_or("a moment")?;
+    let stopped = Moment::new(300).ok_or("a moment")?;
     let frozen = Some(Err(Refusal::DateFrozen));
     assert_eq!(rt;
         answer_to(alloc, active, ann, edits(Edit::Clear, Edit::Keep)),
@@ -281,24 +289,18 @@ fn commands_at_a_key(rt: HostRuntime) -> Result<(), Fail> {
         answer_to(alloc, stopped, ann, edits(Edit::Keep, Edit::Clear)),
         frozen
     );
+    Ok(())
+}
+
+#[test]
+fn later_occurrences(rt: HostRuntime) -> Result<(), Fail> {
+    let bob = Name::new(b"bob").ok_or("a name")?;
+    let at = Moment::new(250).ok_or("a moment")?;
     let later = Some(Err(Refusal::OccurrenceLater));
-    assert_eq!(rt;
-        answer_to(
-            alloc,
-            active,
-            bob,
-            revocation(Reason::KeyCompromise, Some(251))
-        ),
-        later
-    );
-    assert!(rt;
-        answer_to(
-            alloc,
-            active,
-            bob,
-            revocation(Reason::KeyCompromise, Some(250))
-        ) != later
-    );
+    let after = revocation(Reason::KeyCompromise, Some(251));
+    assert_eq!(rt; answer_to(rt.alloc(), at, bob, after), later);
+    let now = revocation(Reason::KeyCompromise, Some(250));
+    assert!(rt; answer_to(rt.alloc(), at, bob, now) != later);
     Ok(())
 }
 
