@@ -3,10 +3,16 @@ ghost use Rattle.std.specs.Prelude.{◌≤◌};
 ghost use Rattle.register_core.specs.declared.limits.TheConstants.{KEY_LIMIT};
 ghost use Rattle.register_core.specs.Decision.{IsRightKey};
 
+mod histories;
+mod keys;
+mod people;
+mod table;
+
 use super::*;
 use lifecycle_core::{Reason, Row, State, state_of};
 use moment_core::Moment;
 use period_core::KeyType;
+use std::alloc::Global;
 use std::test::Fail;
 
 #[test]
@@ -137,7 +143,7 @@ fn dates_of_registrations(rt: HostRuntime) -> Result<(), Fail> {
     ];
     for (line, protect_stop, deactivation) in rows {
         let request = read_request(line).ok_or("a request")?;
-        assert_eq!(rt; plain::verdict(&[], &request), None);
+        assert_eq!(rt; plain::verdict(rt.alloc(), &[], &request)?, None);
         let dates = plain::dates(&[request], 1);
         assert_eq!(rt; dates.protect_stop.map(|date| date.seconds()), protect_stop);
         assert_eq!(rt; dates.deactivation.map(|date| date.seconds()), deactivation);
@@ -186,7 +192,12 @@ fn answer_by(view: &View, caller: Name, command: Command) -> Option<Result<Reply
 }
 
 /// The answer to the caller's command at the moment, where it names the key that `registration` made at 100.
-fn answer_to(at: Moment, caller: Name, command: Command) -> Option<Result<Reply, Refusal>> {
+fn answer_to(
+    alloc: Global,
+    at: Moment,
+    caller: Name,
+    command: Command,
+) -> Option<Result<Reply, Refusal>> {
     let initial = Moment::new(100)?;
     let dates = given_dates(
         initial,
@@ -200,6 +211,8 @@ fn answer_to(at: Moment, caller: Name, command: Command) -> Option<Result<Reply,
         kind: KeyType::DataEncryption,
         owner,
         row: Row { dates, state },
+        custodians: Names::from_vec(Vec::new(alloc)),
+        approvals: Names::from_vec(Vec::new(alloc)),
     };
     let view = View {
         latest: at,
@@ -232,11 +245,11 @@ fn edits(activation: Edit, protect_stop: Edit) -> Command {
 
 #[test]
 fn commands_at_a_key(rt: HostRuntime) -> Result<(), Fail> {
+    let alloc = rt.alloc();
     let ann = Name::new(b"ann").ok_or("a name")?;
     let bob = Name::new(b"bob").ok_or("a name")?;
     let early = Moment::new(150).ok_or("a moment")?;
     let active = Moment::new(250).ok_or("a moment")?;
-    let stopped = Moment::new(300).ok_or("a moment")?;
     let activated = Reply {
         key: 1,
         state: Some(State::Active),
@@ -245,31 +258,49 @@ fn commands_at_a_key(rt: HostRuntime) -> Result<(), Fail> {
     let wrong_state = Refusal::WrongState {
         state: State::Active,
     };
-    assert_eq!(rt; answer_to(early, ann, activation()), Some(Ok(activated)));
     assert_eq!(rt;
-        answer_to(early, bob, activation()),
+        answer_to(alloc, early, ann, activation()),
+        Some(Ok(activated))
+    );
+    assert_eq!(rt;
+        answer_to(alloc, early, bob, activation()),
         Some(Err(Refusal::NotOwner))
     );
     assert_eq!(rt;
-        answer_to(active, ann, activation()),
+        answer_to(alloc, active, ann, activation()),
         Some(Err(wrong_state))
     );
+    Ok(())
+}
+
+#[test]
+fn frozen_dates(rt: HostRuntime) -> Result<(), Fail> {
+    let alloc = rt.alloc();
+    let ann = Name::new(b"ann").ok_or("a name")?;
+    let active = Moment::new(250).ok_or("a moment")?;
+    let stopped = Moment::new(300).ok_or("a moment")?;
     let frozen = Some(Err(Refusal::DateFrozen));
     assert_eq!(rt;
-        answer_to(active, ann, edits(Edit::Clear, Edit::Keep)),
+        answer_to(alloc, active, ann, edits(Edit::Clear, Edit::Keep)),
         frozen
     );
-    assert!(rt; answer_to(active, ann, edits(Edit::Keep, Edit::Clear)) != frozen);
+    assert!(rt; answer_to(alloc, active, ann, edits(Edit::Keep, Edit::Clear)) != frozen);
     assert_eq!(rt;
-        answer_to(stopped, ann, edits(Edit::Keep, Edit::Clear)),
+        answer_to(alloc, stopped, ann, edits(Edit::Keep, Edit::Clear)),
         frozen
     );
+    Ok(())
+}
+
+#[test]
+fn later_occurrences(rt: HostRuntime) -> Result<(), Fail> {
+    let bob = Name::new(b"bob").ok_or("a name")?;
+    let at = Moment::new(250).ok_or("a moment")?;
     let later = Some(Err(Refusal::OccurrenceLater));
-    assert_eq!(rt;
-        answer_to(active, bob, revocation(Reason::KeyCompromise, Some(251))),
-        later
-    );
-    assert!(rt; answer_to(active, bob, revocation(Reason::KeyCompromise, Some(250))) != later);
+    let after = revocation(Reason::KeyCompromise, Some(251));
+    assert_eq!(rt; answer_to(rt.alloc(), at, bob, after), later);
+    let now = revocation(Reason::KeyCompromise, Some(250));
+    assert!(rt; answer_to(rt.alloc(), at, bob, now) != later);
     Ok(())
 }
 
@@ -295,7 +326,7 @@ fn revoked_key(rt: HostRuntime) -> Result<(), Fail> {
         request(100, b"ann", registration()?)?,
         request(250, b"ann", revocation(Reason::Superseded, None))?,
     ];
-    let held = plain::held(&history, 1).ok_or("a key")?;
+    let held = plain::held(rt.alloc(), &history, 1)?.ok_or("a key")?;
     assert_eq!(rt; held.row.state, State::Deactivated);
     assert_eq!(rt; held.row.dates.protect_stop, Moment::new(250));
     assert_eq!(rt; held.row.dates.deactivation, Moment::new(250));
@@ -317,8 +348,8 @@ fn plain_history(rt: HostRuntime) -> Result<(), Fail> {
         plain::latest(&history),
         Moment::new(250).ok_or("a moment")?
     );
-    assert!(rt; plain::held(&history, 2).is_none());
-    let held = plain::held(&history, 1).ok_or("a key")?;
+    assert!(rt; plain::held(rt.alloc(), &history, 2)?.is_none());
+    let held = plain::held(rt.alloc(), &history, 1)?.ok_or("a key")?;
     assert_eq!(rt; held.owner.text(), "bob");
     assert_eq!(rt; held.row.state, State::Compromised);
     assert_eq!(rt; held.row.dates.compromise, Moment::new(250));
@@ -327,7 +358,10 @@ fn plain_history(rt: HostRuntime) -> Result<(), Fail> {
     let compromised = Refusal::WrongState {
         state: State::Compromised,
     };
-    assert_eq!(rt; plain::verdict(&history, &again), Some(compromised));
+    assert_eq!(rt;
+        plain::verdict(rt.alloc(), &history, &again)?,
+        Some(compromised)
+    );
     let items = history.map(Some);
     let answers = plain::answers(rt.alloc(), &items)?;
     assert!(rt; answers.iter().all(|answer| answer.is_ok()));

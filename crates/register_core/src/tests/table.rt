@@ -1,0 +1,171 @@
+//! Every command in every state of its key, by each caller.
+ghost use Rattle.std.specs.Prelude.{◌≤◌};
+ghost use Rattle.register_core.specs.declared.limits.TheConstants.{KEY_LIMIT};
+
+use super::keys::{STATES, answer_by, change_by, outcome_by, view_in};
+use crate::{Change, KEY_LIMIT, Refusal, View, read_request};
+use lifecycle_core::State;
+use moment_core::Moment;
+use std::alloc::Global;
+use std::test::Fail;
+
+/// What a cell of the table expects.
+#[derive(Clone, Copy)]
+enum Cell {
+    /// The command is accepted, and the key then is in this state.
+    To(State),
+    NotOwner,
+    NotCustodian,
+    /// The refusal that tells the state that the key is in.
+    WrongState,
+}
+
+/// The answer that the cell expects where the key is in this state.
+fn expected(cell: Cell, before: State) -> Result<State, Refusal> {
+    match cell {
+        Cell::To(after) => Ok(after),
+        Cell::NotOwner => Err(Refusal::NotOwner),
+        Cell::NotCustodian => Err(Refusal::NotCustodian),
+        Cell::WrongState => Err(Refusal::WrongState { state: before }),
+    }
+}
+
+// Accepted: the state after the command.
+const PRE: Cell = Cell::To(State::PreActive);
+
+const ACT: Cell = Cell::To(State::Active);
+
+const DEA: Cell = Cell::To(State::Deactivated);
+
+const COM: Cell = Cell::To(State::Compromised);
+
+const DES: Cell = Cell::To(State::Destroyed);
+
+const DCO: Cell = Cell::To(State::DestroyedCompromised);
+
+// Refused, by the refusal's number.
+const R5: Cell = Cell::NotOwner;
+
+const R6: Cell = Cell::NotCustodian;
+
+const R7: Cell = Cell::WrongState;
+
+/// A row for each command and caller: the owner bob, a custodian, and the stranger zed. The columns are the states of
+/// the key: Pre-Active, Active, Deactivated, Compromised, Destroyed, Destroyed-Compromised. Of the custodians cat
+/// has approved, and eve, who approves, has not.
+#[rattlefmt::skip]
+const TABLE: [(&str, [Cell; 6]); 33] = [
+    ("1000 bob 1 activate 1",             [ACT, R7,  R7,  R7,  R7,  R7]),
+    ("1000 cat 1 activate 1",             [R5,  R5,  R5,  R5,  R5,  R5]),
+    ("1000 zed 1 activate 1",             [R5,  R5,  R5,  R5,  R5,  R5]),
+    ("1000 bob 1 set 1 = = =",            [PRE, ACT, R7,  R7,  R7,  R7]),
+    ("1000 cat 1 set 1 = = =",            [R5,  R5,  R5,  R5,  R5,  R5]),
+    ("1000 zed 1 set 1 = = =",            [R5,  R5,  R5,  R5,  R5,  R5]),
+    ("1000 bob 1 revoke 1 5 -",           [R7,  DEA, R7,  R7,  R7,  R7]),
+    ("1000 cat 1 revoke 1 5 -",           [R5,  R5,  R5,  R5,  R5,  R5]),
+    ("1000 zed 1 revoke 1 5 -",           [R5,  R5,  R5,  R5,  R5,  R5]),
+    ("1000 bob 1 revoke 1 2 -",           [COM, COM, COM, R7,  DCO, R7]),
+    ("1000 cat 1 revoke 1 2 -",           [COM, COM, COM, R7,  DCO, R7]),
+    ("1000 zed 1 revoke 1 2 -",           [COM, COM, COM, R7,  DCO, R7]),
+    ("1000 bob 1 revoke 1 3 50",          [COM, COM, COM, R7,  DCO, R7]),
+    ("1000 cat 1 revoke 1 3 50",          [COM, COM, COM, R7,  DCO, R7]),
+    ("1000 zed 1 revoke 1 3 50",          [COM, COM, COM, R7,  DCO, R7]),
+    ("1000 bob 1 assign 1 gil",           [PRE, ACT, DEA, COM, DES, DCO]),
+    ("1000 cat 1 assign 1 gil",           [R5,  R5,  R5,  R5,  R5,  R5]),
+    ("1000 zed 1 assign 1 gil",           [R5,  R5,  R5,  R5,  R5,  R5]),
+    ("1000 bob 1 add-custodian 1 fay",    [PRE, ACT, DEA, COM, DES, DCO]),
+    ("1000 cat 1 add-custodian 1 fay",    [R5,  R5,  R5,  R5,  R5,  R5]),
+    ("1000 zed 1 add-custodian 1 fay",    [R5,  R5,  R5,  R5,  R5,  R5]),
+    ("1000 bob 1 remove-custodian 1 dan", [PRE, ACT, DEA, COM, R7,  R7]),
+    ("1000 cat 1 remove-custodian 1 dan", [R5,  R5,  R5,  R5,  R5,  R5]),
+    ("1000 zed 1 remove-custodian 1 dan", [R5,  R5,  R5,  R5,  R5,  R5]),
+    ("1000 bob 1 approve 1",              [R6,  R6,  R6,  R6,  R6,  R6]),
+    ("1000 eve 1 approve 1",              [PRE, R7,  DEA, COM, R7,  R7]),
+    ("1000 zed 1 approve 1",              [R6,  R6,  R6,  R6,  R6,  R6]),
+    ("1000 bob 1 withdraw 1",             [R6,  R6,  R6,  R6,  R6,  R6]),
+    ("1000 cat 1 withdraw 1",             [PRE, ACT, DEA, COM, R7,  R7]),
+    ("1000 zed 1 withdraw 1",             [R6,  R6,  R6,  R6,  R6,  R6]),
+    ("1000 bob 1 destroy 1",              [DES, R7,  DES, DCO, R7,  R7]),
+    ("1000 cat 1 destroy 1",              [R5,  R5,  R5,  R5,  R5,  R5]),
+    ("1000 zed 1 destroy 1",              [R5,  R5,  R5,  R5,  R5,  R5]),
+];
+
+/// The outcome of the line's request, where the key is in this state at 1000.
+fn outcome_in(
+    alloc: Global,
+    state: State,
+    line: &str,
+) -> Result<Option<Result<State, Refusal>>, Fail> {
+    let view = view_in(alloc, state)?;
+    let request = read_request(line.as_bytes()).ok_or("a request")?;
+    Ok(outcome_by(&view, &request))
+}
+
+#[test]
+fn commands_by_state_and_caller(rt: HostRuntime) -> Result<(), Fail> {
+    for (line, cells) in TABLE {
+        for (before, cell) in STATES.into_iter().zip(cells) {
+            let outcome = outcome_in(rt.alloc(), before, line)?;
+            let expected = Some(expected(cell, before));
+            assert_eq!(rt; outcome, expected, "{line}, {before:?}");
+        }
+    }
+    Ok(())
+}
+
+/// The key and the state of a reply, or the refusal.
+type Replied = Result<(u32, Option<State>), Refusal>;
+
+/// How many keys were made, a line that names none, and what is replied. Anybody may register and advance: the
+/// owner of other keys, a custodian, and the stranger.
+#[rattlefmt::skip]
+const WITHOUT_A_KEY: [(u32, &str, Replied); 10] = [
+    (1, "1000 bob 1 advance", Ok((0, None))),
+    (1, "1000 cat 1 advance", Ok((0, None))),
+    (1, "1000 zed 1 advance", Ok((0, None))),
+    (1_000_000, "1000 zed 1 advance", Ok((0, None))),
+    (1, "1000 bob 1 register master gil - - - x", Ok((2, Some(State::PreActive)))),
+    (1, "1000 cat 1 register master gil 1000 - - x", Ok((2, Some(State::Active)))),
+    (1, "1000 zed 1 register master gil 100 - 1000 x", Ok((2, Some(State::Deactivated)))),
+    (999_999, "1000 zed 1 register master gil - - - x", Ok((1_000_000, Some(State::PreActive)))),
+    (1_000_000, "1000 zed 1 register master gil - - - x", Err(Refusal::Full)),
+    (1_000_000, "1000 zed 1 register master gil 500 400 600 x", Err(Refusal::DateOrder)),
+];
+
+/// The reply to the line, where so many keys were made.
+fn reply_without(keys: u32, line: &str) -> Result<Replied, Fail>
+    requires { keys ≤ KEY_LIMIT }
+{
+    let view = View {
+        latest: Moment::new(600).ok_or("a moment")?,
+        keys,
+        key: None,
+    };
+    let request = read_request(line.as_bytes()).ok_or("a request")?;
+    match answer_by(&view, &request) {
+        Ok(reply) => Ok(Ok((reply.key, reply.state))),
+        Err(refusal) => Ok(Err(refusal)),
+    }
+}
+
+#[test]
+fn commands_without_a_key(rt: HostRuntime) -> Result<(), Fail> {
+    for (keys, line, expected) in WITHOUT_A_KEY {
+        assert!(rt; keys <= KEY_LIMIT);
+        let replied = reply_without(keys, line)?;
+        assert_eq!(rt; replied, expected, "{keys}, {line}");
+    }
+    Ok(())
+}
+
+#[test]
+fn advance_changes_nothing(rt: HostRuntime) -> Result<(), Fail> {
+    let view = View {
+        latest: Moment::new(600).ok_or("a moment")?,
+        keys: 1,
+        key: None,
+    };
+    let request = read_request(b"1000 zed 1 advance").ok_or("a request")?;
+    assert_eq!(rt; change_by(&view, &request), Some(Change::Nothing));
+    Ok(())
+}
