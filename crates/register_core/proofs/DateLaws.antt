@@ -1,18 +1,17 @@
 -- The dates of each key over lawful histories: they fit, and move only where they may.
-use Rattle.std.proofs.Common.{◌≡◌, ℕ, ◌+◌, ◌≤◌, List, [], ◌∷◌, ◌++◌, Option, None, Some, refl, sym, ap, ap₂, subst, ◌∙◌, arith, ◌⊎◌, inl, inr}
+use Rattle.std.proofs.Common.{◌≡◌, ℕ, List, [], ◌∷◌, ◌++◌, None, refl, sym, ap, subst, ◌∙◌, arith, inl, inr}
 use Rattle.lifecycle_core.specs.declared.dates.Dates.{Dates}
 use Rattle.period_core.specs.declared.key_type.KeyType.{KeyType}
 use Rattle.period_core.specs.Fitting.{filled}
 use Rattle.register_core.specs.declared.request.Request.{Request}
-use Rattle.register_core.specs.declared.request.Command.TheVariants.{Register as Registers}
-use Rattle.register_core.specs.History.{count, type, given_dates, dates_after, dates}
+use Rattle.register_core.specs.History.{type, given_dates, dates_after, dates}
 use Rattle.register_core.specs.Verdict.{unfit, verdict}
 use Rattle.register_core.specs.Fold.{IsLawful}
 use Rattle.register_core.specs.Laws.{IsAccepted, HasKey, MovesOnly}
 use Rattle.register_core.proofs.Histories.{count_grows, kind_other, dates_other, kind_named, dates_named, kind_made, dates_made}
 use Rattle.register_core.proofs.Decisions.{standing}
 use Rattle.register_core.proofs.Lawful.{lawful_holds}
-use Rattle.register_core.proofs.OnKey.{IsOn, IsMade, IsOther, Concerns, which}
+use Rattle.register_core.proofs.OnKey.{IsOn, IsMade, which}
 use Rattle.register_core.proofs.Dating.{filled_keeps, filled_fits}
 use Rattle.register_core.proofs.DateSteps.{nothing_moves, IsSound, sound_by, Steps, step}
 

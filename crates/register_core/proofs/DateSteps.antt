@@ -1,10 +1,9 @@
 -- What an accepted command makes of the dates of its key: they stay sound, and move only where they may.
-use Rattle.std.proofs.Common.{◌≡◌, ℕ, ◌≤◌, nat_le, Bool, true, false, not, ◌&&◌, ◌||◌, cond, List, [], ◌∷◌, Option, None, Some, refl, sym, ap, subst, ◌∙◌, arith, ◌⊎◌, inl, inr, IsTrue}
+use Rattle.std.proofs.Common.{◌≡◌, ℕ, ◌≤◌, Bool, true, false, not, ◌&&◌, ◌||◌, cond, [], ◌∷◌, Option, None, Some, refl, sym, ap, subst, ◌∙◌, arith, ◌⊎◌, inl, inr, IsTrue}
 use Rattle.std.specs.Prelude.{min, is_some}
 use Rattle.std.proofs.lemmas.Bool.{le-leb, leb-true, leb-false, and_parts, and_from, cases_lt}
-use Rattle.lifecycle_core.specs.declared.reason.Reason.{Reason}
 use Rattle.lifecycle_core.specs.declared.state.State.{State}
-use Rattle.lifecycle_core.specs.declared.state.State.TheVariants.{PreActive, Active, Deactivated, Compromised, Destroyed}
+use Rattle.lifecycle_core.specs.declared.state.State.TheVariants.{PreActive, Active, Deactivated, Destroyed}
 use Rattle.lifecycle_core.specs.declared.dates.Dates.{Dates}
 use Rattle.lifecycle_core.specs.State.{state_at, is_reached_at}
 use Rattle.lifecycle_core.specs.Reason.{is_compromise}
@@ -12,7 +11,7 @@ use Rattle.moment_core.specs.Calendar.{months_after}
 use Rattle.moment_core.proofs.Forward.{months_forward}
 use Rattle.period_core.specs.declared.key_type.KeyType.{KeyType}
 use Rattle.period_core.specs.Period.{periods}
-use Rattle.period_core.specs.Fitting.{in_order, months_on_date, originator_limit, recipient_limit, are_in_order, Fits, KeepsDate, cut, filled, trimmed}
+use Rattle.period_core.specs.Fitting.{in_order, months_on_date, Fits, KeepsDate, cut, filled, trimmed}
 use Rattle.register_core.specs.declared.request.Command.{Command}
 use Rattle.register_core.specs.declared.request.Command.TheVariants.{Register as Registers, Activate, SetDates, Revoke, Assign, AddCustodian, RemoveCustodian, Approve, Withdraw, Destroy, Advance}
 use Rattle.register_core.specs.declared.request.Edit.{Edit}

@@ -1,8 +1,7 @@
 -- What Fill and Trim make of dates: which they keep, and that dates which they do not refuse fit.
-use Rattle.std.proofs.Common.{◌≡◌, ℕ, ◌≤◌, nat_le, Bool, true, false, not, ◌&&◌, ◌||◌, cond, List, [], ◌∷◌, Option, None, Some, Result, Ok, Err, refl, sym, ap, subst, ◌∙◌, arith}
+use Rattle.std.proofs.Common.{◌≡◌, ℕ, nat_le, Bool, true, false, ◌&&◌, ◌||◌, cond, [], ◌∷◌, Option, None, Some, refl, ap, ◌∙◌, arith}
 use Rattle.std.specs.Prelude.{nat_lt, min, is_some, is_none}
-use Rattle.std.specs.List.{AllByRecursion}
-use Rattle.std.proofs.lemmas.Bool.{ltb-false, le-leb, and_parts, and_from}
+use Rattle.std.proofs.lemmas.Bool.{ltb-false, le-leb}
 use Rattle.lifecycle_core.specs.declared.dates.Dates.{Dates}
 use Rattle.period_core.specs.declared.key_type.KeyType.{KeyType}
 use Rattle.period_core.specs.declared.filling.DateRefusal.{DateRefusal}
@@ -154,9 +153,11 @@ trimmed_fits kind d e =
     let second = with_deactivation kind (stopped kind d) in
     let each = none_holds (out_of_order full ∷ out_of_range full ∷ []) (passes _ full e) in
     let limit : originator_limit kind full ≡ originator_limit kind first =
-    end_kept (originator_limit kind) (record { stop = λ y date. refl; end = λ y date. refl }) kind (stopped kind d) in
-    (record {
-      order = ordered _ each.0;
-      originator = ap (λ (o : Option ℕ). in_order o (originator_limit kind full)) (trimmed_stop_is kind d) ∙ ap (in_order (stopped kind d).protect_stop) limit ∙ cut_within first.protect_stop (originator_limit kind first);
-      recipient = cut_within second.deactivation (recipient_limit kind second);
-    }, whole full each.1.0)
+    end_kept (originator_limit kind) (record { stop = λ y date. refl; end = λ y date. refl }) kind (stopped kind d) in (
+      record {
+        order = ordered _ each.0;
+        originator = ap (λ (o : Option ℕ). in_order o (originator_limit kind full)) (trimmed_stop_is kind d) ∙ ap (in_order (stopped kind d).protect_stop) limit ∙ cut_within first.protect_stop (originator_limit kind first);
+        recipient = cut_within second.deactivation (recipient_limit kind second);
+      },
+      whole full each.1.0,
+    )

@@ -1,33 +1,26 @@
 -- What an accepted request changes is what the history with it at its end says of its key and of its people.
-use Rattle.std.proofs.Common.{◌≡◌, ℕ, ◌+◌, ◌≤◌, nat_le, Bool, true, false, not, ◌&&◌, cond, List, [], ◌∷◌, ◌++◌, filter, Option, None, Some, refl, sym, ap, subst, ◌∙◌, arith}
+use Rattle.std.proofs.Common.{◌≡◌, ℕ, ◌+◌, ◌≤◌, nat_le, Bool, true, false, ◌&&◌, cond, List, [], ◌∷◌, ◌++◌, Option, None, Some, refl, sym, ap, subst, ◌∙◌, arith}
 use Rattle.std.proofs.Math.Nat.{add-zero}
-use Rattle.std.specs.Prelude.{unwrap_or, is_none}
-use Rattle.std.specs.List.{AllByRecursion}
+use Rattle.std.specs.Prelude.{unwrap_or}
 use Rattle.std.specs.Option.{option_map}
 use Rattle.std.proofs.lemmas.Bool.{le-leb}
-use Rattle.std.proofs.lemmas.List.{append-nil}
 use Rattle.lifecycle_core.specs.declared.dates.Dates.{Dates}
-use Rattle.lifecycle_core.specs.declared.row.Row.{Row}
 use Rattle.lifecycle_core.specs.State.{state_at}
-use Rattle.lifecycle_core.specs.Reason.{is_compromise}
 use Rattle.period_core.specs.declared.key_type.KeyType.{KeyType}
 use Rattle.period_core.specs.Fitting.{filled}
 use Rattle.register_core.specs.declared.request.Request.{Request}
 use Rattle.register_core.specs.declared.request.Command.{Command}
 use Rattle.register_core.specs.declared.request.Command.TheVariants.{Register as Registers, Activate, SetDates, Revoke, Assign, AddCustodian, RemoveCustodian, Approve, Withdraw, Destroy, Advance}
 use Rattle.register_core.specs.declared.reply.Reply.{Reply}
-use Rattle.register_core.specs.declared.reply.Refusal.{Refusal}
 use Rattle.register_core.specs.declared.reply.Refusal.TheVariants.{UnknownKey, AlreadyCustodian, AlreadyApproved}
 use Rattle.register_core.specs.declared.decision.Held.{Held}
 use Rattle.register_core.specs.declared.decision.View.{View}
-use Rattle.register_core.specs.declared.decision.People.{People}
-use Rattle.register_core.specs.declared.decision.People.TheVariants.{Kept}
 use Rattle.register_core.specs.declared.decision.Change.{Change}
 use Rattle.register_core.specs.declared.decision.Change.TheVariants as change
 use Rattle.register_core.specs.History.{latest, count, key_of, made_by, type, given_dates, dates_after, dates, owner_after, owner}
 use Rattle.register_core.specs.People.{custodians, approvals, held}
-use Rattle.register_core.specs.Verdict.{behind, unknown, already_custodian, already_approved, entry_refusals, people_refusals, refusals, judge, named, named_key, reply}
-use Rattle.register_core.specs.Decision.{row_at, people_by, held_change, change_of, change_by, reply_to, IsViewOf, PeopleLead, Stands, LeadsTo}
+use Rattle.register_core.specs.Verdict.{unknown, already_custodian, already_approved, entry_refusals, people_refusals, refusals, judge, named, named_key, reply}
+use Rattle.register_core.specs.Decision.{row_at, held_change, change_of, change_by, reply_to, IsViewOf, Stands, LeadsTo}
 use Rattle.register_core.proofs.Histories.{latest_grows, count_grows, key_named, kind_named, owner_named, dates_named, kind_made, owner_made, dates_made}
 use Rattle.register_core.proofs.Filling.{none_holds}
 use Rattle.register_core.proofs.PeopleLeads.{not_refused, IsNew, nobody_changes, people_lead}
@@ -128,7 +121,7 @@ agrees_made : (h : List Request) (q : Request) (kind : KeyType) (by : List ℕ) 
     Agrees h q (change.Made kind by purpose (row_at (filled kind (given_dates q.moment activation protect_stop deactivation)) q.moment))
 agrees_made h q kind by activation protect_stop deactivation purpose is =
     let replies = reply_of_key h q (count h + 1) (filled kind (given_dates q.moment activation protect_stop deactivation)) (ap (key_of (count h)) is)
-        (dates_made h q kind by activation protect_stop deactivation purpose is) in
+    (dates_made h q kind by activation protect_stop deactivation purpose is) in
     let stands = held_made h q kind by activation protect_stop deactivation purpose is in
     let people = nobody_changes h q (count h + 1) (ap named is) in
     (replies, (stands, people))

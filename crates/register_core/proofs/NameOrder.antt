@@ -1,9 +1,8 @@
 -- A list of names has one sorted order.
-use Rattle.std.proofs.Common.{◌≡◌, ℕ, suc, ◌+◌, ◌≤◌, Bool, true, false, cond, List, [], ◌∷◌, length, refl, sym, ap, subst, ◌∙◌, arith, add-one, Ordering, Less, Equal, Greater, is_lt, is_gt, true≢false, IsPermutation, IsSorted}
+use Rattle.std.proofs.Common.{◌≡◌, ℕ, suc, ◌+◌, ◌≤◌, Bool, true, false, cond, List, [], ◌∷◌, refl, sym, ap, subst, ◌∙◌, arith, add-one, Ordering, Less, Equal, Greater, is_lt, is_gt, true≢false, IsPermutation, IsSorted}
 use Rattle.std.specs.List.{AllByRecursion, sum_by}
 use Rattle.std.specs.Str.{bytes_eq}
 use Rattle.std.specs.Ordering.{nat_cmp, ordering_reverse, is_eq}
-use Rattle.std.specs.Cmp.{IsTotalOrder}
 use Rattle.std.specs.Cmp.Lexicographic.{slice_cmp, nat_list_cmp_total, texts_ties}
 use Rattle.std.proofs.lemmas.Cmp.{tied_itself, upto}
 use Rattle.std.proofs.lemmas.Slice.Eq.{bytes_eq-Decides}
@@ -135,10 +134,10 @@ same_order (x ∷ xs) (y ∷ ys) ux uy same =
 pub in_order_from_sorted : (xs ys names : List (List ℕ)) → IsPermutation xs ys → IsSorted compared ys → IsPermutation xs names → ys ≡ in_order names
 in_order_from_sorted xs ys names moved sorted same =
     same_order ys (in_order names) (up_from_sorted ys sorted) (up_in_order names)
-      (λ v. sum_by-IsPermutation (is_it v) xs ys moved ∙ sym (sum_by-IsPermutation (is_it v) xs names same) ∙ sym (times_in_order v names))
+    (λ v. sum_by-IsPermutation (is_it v) xs ys moved ∙ sym (sum_by-IsPermutation (is_it v) xs names same) ∙ sym (times_in_order v names))
 
 -- names in another order have the same order
 pub in_order_same : (xs ys : List (List ℕ)) → IsPermutation xs ys → in_order xs ≡ in_order ys
 in_order_same xs ys same =
     same_order (in_order xs) (in_order ys) (up_in_order xs) (up_in_order ys)
-      (λ v. times_in_order v xs ∙ sym (sum_by-IsPermutation (is_it v) xs ys same) ∙ sym (times_in_order v ys))
+    (λ v. times_in_order v xs ∙ sym (sum_by-IsPermutation (is_it v) xs ys same) ∙ sym (times_in_order v ys))

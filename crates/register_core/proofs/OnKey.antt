@@ -1,6 +1,5 @@
 -- What is known where a request is accepted, of the key that it makes, names or leaves alone.
-use Rattle.std.proofs.Common.{◌≡◌, ◌≢◌, ◌⊎◌, inl, inr, ℕ, ◌+◌, ◌≤◌, ◌<◌, nat_le, Bool, true, false, ◌&&◌, cond, List, [], ◌∷◌, ◌++◌, Option, None, Some, refl, sym, ap, ◌∙◌, arith, eq-eqb}
-use Rattle.std.specs.Prelude.{nat_eq, nat_lt}
+use Rattle.std.proofs.Common.{◌≡◌, ◌⊎◌, inl, inr, ℕ, ◌+◌, ◌≤◌, Bool, true, false, cond, List, [], ◌∷◌, ◌++◌, Option, None, Some, refl, sym, ap, ◌∙◌, arith}
 use Rattle.std.proofs.lemmas.Bool.{and_parts, leb-true, ltb-false}
 use Rattle.std.proofs.lemmas.Bool.Decides.{eqb_tells}
 use Rattle.lifecycle_core.specs.State.{state_at}
@@ -12,11 +11,11 @@ use Rattle.register_core.specs.declared.reply.Refusal.{Refusal}
 use Rattle.register_core.specs.declared.decision.Held.{Held}
 use Rattle.register_core.specs.History.{latest, count, key_of, made_by, is_key, dates}
 use Rattle.register_core.specs.People.{held}
-use Rattle.register_core.specs.Verdict.{behind, unknown, is_for, wrong_state, frozen, unfit, already_custodian, already_approved, approvals_missing, entry_refusals, people_refusals, refusals, judge, named, named_key, verdict}
-use Rattle.register_core.proofs.Histories.{count_grows, not_same}
+use Rattle.register_core.specs.Verdict.{is_for, frozen, unfit, approvals_missing, entry_refusals, people_refusals, refusals, judge, named, named_key, verdict}
+use Rattle.register_core.proofs.Histories.{count_grows}
 use Rattle.register_core.proofs.PeopleLeads.{not_refused, IsNew}
 use Rattle.register_core.proofs.Filling.{none_holds}
-use Rattle.register_core.proofs.Decisions.{standing, is_there, unknown_named, count_named, new_names}
+use Rattle.register_core.proofs.Decisions.{standing, is_there, unknown_named, new_names}
 
 -- ---- an accepted request that names key k
 
@@ -66,6 +65,7 @@ on_key h q k accepted names = by (is_there h k) refl (sym (ap (judged h q) shown
   where
     shown : named_key h q.command ≡ held h k
     shown = ap (λ (n : Option ℕ). Rattle.std.specs.Option.option_and_then (held h) n) names
+
     by : (b : Bool) → is_there h k ≡ b → judged h q (cond b (Some (standing h k)) None) ≡ None → IsOn h q k
     by true there none = on_there h q k names there none
     by false there none =

@@ -1,5 +1,5 @@
 -- Each accepted request takes each key along the standard's transitions.
-use Rattle.std.proofs.Common.{◌≡◌, ℕ, ◌+◌, ◌≤◌, nat_le, Bool, true, false, cond, List, [], ◌∷◌, ◌++◌, Option, None, Some, refl, sym, ap, subst, ◌∙◌, arith, ◌⊎◌, inl, inr}
+use Rattle.std.proofs.Common.{◌≡◌, ℕ, ◌+◌, ◌≤◌, Bool, cond, List, [], ◌∷◌, ◌++◌, Option, None, Some, sym, ap, subst, ◌∙◌, arith, inl, inr}
 use Rattle.std.specs.Prelude.{is_some}
 use Rattle.std.proofs.lemmas.Bool.{le-leb, lt-leb}
 use Rattle.lifecycle_core.specs.declared.state.State.{State}
@@ -9,9 +9,9 @@ use Rattle.lifecycle_core.specs.Transition.{Leads}
 use Rattle.lifecycle_core.proofs.Transitions.{time_leads}
 use Rattle.period_core.specs.Fitting.{filled}
 use Rattle.register_core.specs.declared.request.Request.{Request}
-use Rattle.register_core.specs.History.{latest, count, type, given_dates, dates_after, dates}
+use Rattle.register_core.specs.History.{latest, count, type, given_dates, dates}
 use Rattle.register_core.specs.Laws.{IsAccepted, HasKey, MovesOnly, state_of_key}
-use Rattle.register_core.proofs.Histories.{count_grows, dates_other, dates_named, dates_made}
+use Rattle.register_core.proofs.Histories.{dates_other, dates_named, dates_made}
 use Rattle.register_core.proofs.OnKey.{not_behind, IsOn, IsMade, IsOther, which}
 use Rattle.register_core.proofs.Dating.{filled_keeps}
 use Rattle.register_core.proofs.DateLaws.{freeze}
@@ -31,7 +31,7 @@ made_path h q k made =
     ap (dates (h ++ q ∷ [])) made.next ∙ dates_made h q made.kind made.owner made.activation made.protect_stop made.deactivation made.purpose made.command in
     let keeps = filled_keeps made.kind given in
     from_none h k _ made.next
-      (subst (λ (d : Dates). Leads None (Some (state_at d q.moment))) (sym its) (path_made (filled made.kind given) q.moment (ap is_some keeps.destroy) (ap is_some keeps.compromise)))
+    (subst (λ (d : Dates). Leads None (Some (state_at d q.moment))) (sym its) (path_made (filled made.kind given) q.moment (ap is_some keeps.destroy) (ap is_some keeps.compromise)))
 
 on_path : (h : List Request) (q : Request) (k : ℕ) → IsAccepted h q → IsOn h q k → Leads (state_of_key h k) (Some (state_at (dates (h ++ q ∷ []) k) q.moment))
 on_path h q k is on =
@@ -39,14 +39,14 @@ on_path h q k is on =
     let its = dates_named h q k on.names in
     let moves = subst (MovesOnly d q.moment) its (freeze h q is k (on.low, on.high)) in
     from_there h k _ on.high (then _ (Some (state_at d q.moment)) _
-      (time_leads d (latest h) q.moment (not_behind h q is.accepted))
-      (subst (λ (x : Dates). Leads (Some (state_at d q.moment)) (Some (state_at x q.moment))) (sym its) (path_named (type h k) d q.moment k q.command on.names on.fits_state moves)))
+    (time_leads d (latest h) q.moment (not_behind h q is.accepted))
+    (subst (λ (x : Dates). Leads (Some (state_at d q.moment)) (Some (state_at x q.moment))) (sym its) (path_named (type h k) d q.moment k q.command on.names on.fits_state moves)))
 
 other_path : (h : List Request) (q : Request) (k : ℕ) → IsAccepted h q → IsOther h q k → Leads (state_of_key h k) (Some (state_at (dates (h ++ q ∷ []) k) q.moment))
 other_path h q k is other =
     from_there h k _ other.high
-      (subst (λ (x : Dates). Leads (Some (state_at (dates h k) (latest h))) (Some (state_at x q.moment))) (sym (dates_other h q k other.other))
-        (time_leads (dates h k) (latest h) q.moment (not_behind h q is.accepted)))
+    (subst (λ (x : Dates). Leads (Some (state_at (dates h k) (latest h))) (Some (state_at x q.moment))) (sym (dates_other h q k other.other))
+    (time_leads (dates h k) (latest h) q.moment (not_behind h q is.accepted)))
 
 pub path : (h : List Request) (q : Request) → IsAccepted h q → (k : ℕ) → HasKey (h ++ q ∷ []) k → Leads (state_of_key h k) (Some (state_at (dates (h ++ q ∷ []) k) q.moment))
 path h q is k has = elim (which h q k is.accepted has.1) [

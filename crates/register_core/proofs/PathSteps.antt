@@ -13,11 +13,10 @@ use Rattle.period_core.specs.Fitting.{filled, trimmed}
 use Rattle.register_core.specs.declared.request.Command.{Command}
 use Rattle.register_core.specs.declared.request.Command.TheVariants.{Register as Registers, Activate, SetDates, Revoke, Assign, AddCustodian, RemoveCustodian, Approve, Withdraw, Destroy, Advance}
 use Rattle.register_core.specs.declared.request.Edit.{Edit}
-use Rattle.register_core.specs.declared.decision.Held.{Held}
 use Rattle.register_core.specs.History.{edited_dates, compromised, deactivated, dates_after}
-use Rattle.register_core.specs.Verdict.{is_one_of, is_for, is_kept, frozen, named}
+use Rattle.register_core.specs.Verdict.{is_one_of, is_for, named}
 use Rattle.register_core.specs.Laws.{MovesOnly}
-use Rattle.register_core.proofs.Dating.{KeepsOthers, filled_keeps, trimmed_keeps}
+use Rattle.register_core.proofs.Dating.{filled_keeps, trimmed_keeps}
 use Rattle.register_core.proofs.Showing.{Shows, shows, state_is, is_pre_active, is_active, is_early}
 
 -- ---- paths
@@ -63,7 +62,7 @@ leads_open from d t no_destroy no_compromise path = subst (λ (s : State). Leads
 pub path_made : (d : Dates) (t : ℕ) → is_some d.destroy ≡ false → is_some d.compromise ≡ false → Leads None (Some (state_at d t))
 path_made d t no_destroy no_compromise =
     then None (Some PreActive) _ (one_step None PreActive refl)
-      (leads_open PreActive d t no_destroy no_compromise (from_pre_active (is_reached_at d.activation t) (is_reached_at d.deactivation t)))
+    (leads_open PreActive d t no_destroy no_compromise (from_pre_active (is_reached_at d.activation t) (is_reached_at d.deactivation t)))
 
 -- ---- each command
 
@@ -103,7 +102,7 @@ edited_path kind d t activation protect_stop deactivation early moves =
           let kept : new.activation ≡ d.activation = elim moves.activation [ inl pre ↦ absurd (let e = sym pre ∙ active in cc) | inr same ↦ same ] in
           let reached : is_reached_at new.activation t ≡ true = ap (λ (x : Option ℕ). is_reached_at x t) kept ∙ old.2 in
           as_from d new t Active active (leads_open Active new t (still_unset _ _ keeps.destroy old.0) (still_unset _ _ keeps.compromise old.1)
-            (subst (λ (b : Bool). Leads (Some Active) (Some (opened b (is_reached_at new.deactivation t)))) (sym reached) (from_active (is_reached_at new.deactivation t))))
+          (subst (λ (b : Bool). Leads (Some Active) (Some (opened b (is_reached_at new.deactivation t)))) (sym reached) (from_active (is_reached_at new.deactivation t))))
     ]
 
 deactivated_path : (d : Dates) (t : ℕ) → state_at d t ≡ Active → Goes d t (deactivated t d)

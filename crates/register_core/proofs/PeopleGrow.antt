@@ -3,7 +3,6 @@ use Rattle.std.proofs.Common.{◌≡◌, ℕ, Bool, true, false, not, ◌&&◌, 
 use Rattle.std.specs.List.{list_any}
 use Rattle.std.proofs.lemmas.List.{append-nil}
 use Rattle.register_core.specs.declared.request.Request.{Request}
-use Rattle.register_core.specs.declared.request.Command.{Command}
 use Rattle.register_core.specs.People.{added_by, is_about, stays_custodian, custodian_of, all_custodians, approved_by, ends_by, is_ended, approval_of, approvals_from, all_approvals}
 
 -- ---- lists
@@ -53,9 +52,9 @@ pub all_custodians_grow : (h : List Request) (q : Request) → all_custodians (h
 all_custodians_grow [] q = append-nil _ ∙ filter_every _ (λ post. refl) (added_by q.command)
 all_custodians_grow (p ∷ h) q =
     ap₂ ◌++◌
-      (filter_twice (stays_custodian h) (λ post. not (is_about post q.command)) (stays_custodian (h ++ q ∷ []))
-        (λ post. ap not (any_grows (λ (r : Request). is_about post r.command) h q) ∙ neither _ _) (added_by p.command))
-      (all_custodians_grow h q)
+    (filter_twice (stays_custodian h) (λ post. not (is_about post q.command)) (stays_custodian (h ++ q ∷ []))
+    (λ post. ap not (any_grows (λ (r : Request). is_about post r.command) h q) ∙ neither _ _) (added_by p.command))
+    (all_custodians_grow h q)
     ∙ sym (append_assoc (filter (λ post. not (is_about post q.command)) (custodian_of p h)) (filter (λ post. not (is_about post q.command)) (all_custodians h)) (added_by q.command))
     ∙ ap (λ l. l ++ added_by q.command) (sym (filter_joined (λ post. not (is_about post q.command)) (custodian_of p h) (all_custodians h)))
 
@@ -86,9 +85,9 @@ approvals_grow_from before (p ∷ h) q =
     let whole : front ++ h ≡ before ++ p ∷ h = append_assoc before (p ∷ []) h in
     let new = approved_by q.caller q.command in
     ap₂ ◌++◌
-      (filter_twice (λ post. not (is_ended front post h)) (left_by (before ++ p ∷ h) q) (λ post. not (is_ended front post (h ++ q ∷ [])))
-        (λ post. ap not (ended_grows front h q post ∙ ap (λ (b : List Request). is_ended front post h || ends_by b post q.caller q.command) whole) ∙ neither _ _) (approved_by p.caller p.command))
-      (approvals_grow_from front h q ∙ ap (λ (b : List Request). filter (left_by b q) (approvals_from front h) ++ new) whole)
+    (filter_twice (λ post. not (is_ended front post h)) (left_by (before ++ p ∷ h) q) (λ post. not (is_ended front post (h ++ q ∷ [])))
+    (λ post. ap not (ended_grows front h q post ∙ ap (λ (b : List Request). is_ended front post h || ends_by b post q.caller q.command) whole) ∙ neither _ _) (approved_by p.caller p.command))
+    (approvals_grow_from front h q ∙ ap (λ (b : List Request). filter (left_by b q) (approvals_from front h) ++ new) whole)
     ∙ sym (append_assoc (filter (left_by (before ++ p ∷ h) q) (approval_of before p h)) (filter (left_by (before ++ p ∷ h) q) (approvals_from front h)) new)
     ∙ ap (λ l. l ++ new) (sym (filter_joined (left_by (before ++ p ∷ h) q) (approval_of before p h) (approvals_from front h)))
 

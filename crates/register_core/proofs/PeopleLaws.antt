@@ -1,5 +1,5 @@
 -- Laws of the people of keys, over lawful histories.
-use Rattle.std.proofs.Common.{◌≡◌, ℕ, ◌+◌, ◌<◌, ◌≤◌, Bool, true, false, cond, List, [], ◌∷◌, ◌++◌, Option, None, Some, refl, sym, ap, ◌∙◌, length, arith, IsSome, ◌⊎◌, inl, inr}
+use Rattle.std.proofs.Common.{◌≡◌, ℕ, ◌<◌, ◌≤◌, Bool, true, false, cond, List, [], ◌∷◌, ◌++◌, Option, None, Some, refl, sym, ap, ◌∙◌, length, arith, IsSome, ◌⊎◌, inl, inr}
 use Rattle.std.specs.Prelude.{nat_eq, nat_lt, is_some}
 use Rattle.std.proofs.lemmas.Bool.{ltb-false}
 use Rattle.std.proofs.lemmas.Bool.Decides.{eqb_tells}
@@ -106,13 +106,13 @@ approved_next h q lawful accepted before k has set = elim (which h q k accepted 
       let none : is_some (dates (h ++ q ∷ []) k).destroy ≡ false = ap (λ (d : Dates). is_some d.destroy) its ∙ ap is_some (filled_keeps made.kind given).destroy in
       absurd (let e = sym none ∙ set in cc)
   | inr (inl on) ↦ elim (destroy_same (type h k) (dates h k) q.moment k q.command on.names) [
-      | inl destruction ↦ destroyed_enough h q k destruction.0 on destruction.1
-      | inr same ↦
-          let was : IsSome (dates h k).destroy = sym (ap is_some (ap (λ (d : Dates). d.destroy) (dates_named h q k on.names) ∙ same)) ∙ set in
-          let enough = before k (on.low, on.high) was in
-          let stays = stay h q (record { lawful = lawful; accepted = accepted }) k (on.low, on.high) was in
-          omega (arith, enough, ap length stays)
-    ]
+    | inl destruction ↦ destroyed_enough h q k destruction.0 on destruction.1
+    | inr same ↦
+        let was : IsSome (dates h k).destroy = sym (ap is_some (ap (λ (d : Dates). d.destroy) (dates_named h q k on.names) ∙ same)) ∙ set in
+        let enough = before k (on.low, on.high) was in
+        let stays = stay h q (record { lawful = lawful; accepted = accepted }) k (on.low, on.high) was in
+        omega (arith, enough, ap length stays)
+  ]
   | inr (inr other) ↦
       let was : IsSome (dates h k).destroy = sym (ap (λ (d : Dates). is_some d.destroy) (dates_other h q k other.other)) ∙ set in
       let enough = before k (has.0, other.high) was in

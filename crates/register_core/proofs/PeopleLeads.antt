@@ -1,5 +1,5 @@
 -- What an accepted request makes of the people of its key is what the history with it at its end says.
-use Rattle.std.proofs.Common.{◌≡◌, ℕ, ◌==◌, Bool, true, false, not, ◌&&◌, ◌||◌, cond, List, [], ◌∷◌, ◌++◌, filter, map, Option, None, Some, refl, sym, ap, subst, ◌∙◌, is_gt}
+use Rattle.std.proofs.Common.{◌≡◌, ℕ, Bool, true, false, not, ◌&&◌, ◌||◌, cond, List, [], ◌∷◌, ◌++◌, filter, map, Option, None, Some, refl, sym, ap, subst, ◌∙◌, is_gt}
 use Rattle.std.specs.Prelude.{is_none}
 use Rattle.std.specs.List.{list_any}
 use Rattle.std.specs.Str.{bytes_eq}
@@ -11,7 +11,6 @@ use Rattle.register_core.specs.declared.request.Request.{Request}
 use Rattle.register_core.specs.declared.request.Command.{Command}
 use Rattle.register_core.specs.declared.request.Command.TheVariants.{Register as Registers, Activate, SetDates, Revoke, Assign, AddCustodian, RemoveCustodian, Approve, Withdraw, Destroy, Advance}
 use Rattle.register_core.specs.declared.reply.Refusal.{Refusal}
-use Rattle.register_core.specs.declared.reply.Refusal.TheVariants.{AlreadyCustodian, AlreadyApproved}
 use Rattle.register_core.specs.declared.decision.People.{People}
 use Rattle.register_core.specs.declared.decision.People.TheVariants.{Kept, ApprovalsEnded}
 use Rattle.register_core.specs.Post.{is_post, is_at, names_of, with_name, in_order}
@@ -20,7 +19,7 @@ use Rattle.register_core.specs.History.{dates}
 use Rattle.register_core.specs.People.{added_by, is_about, all_custodians, approved_by, ends_by, all_approvals, custodians, approvals}
 use Rattle.register_core.specs.Verdict.{named}
 use Rattle.register_core.specs.Decision.{people_by, custodians_by, approvals_by, PeopleLead}
-use Rattle.register_core.proofs.PeopleGrow.{filter_every, all_custodians_grow, left_by, all_approvals_grow}
+use Rattle.register_core.proofs.PeopleGrow.{filter_every, all_custodians_grow, all_approvals_grow}
 
 -- ---- a name that is not among those of the key
 
@@ -142,14 +141,16 @@ people_lead h q k names new = by q.command refl names
         → PeopleLead h q k (people_by (dates h k) q.caller q.command)
     unchanged c is kept no_one none_added ends_none none_given =
         subst (PeopleLead h q k) (sym (ap (people_by (dates h k) q.caller) is ∙ kept))
-          (lead h q c k Kept is
-            (ap (λ l. filter (λ post. not (is_about post c)) (all_custodians h) ++ l) none_added ∙ same_posts (λ post. is_about post c) no_one (all_custodians h))
-            (ap (λ l. filter (λ post. not (ends_by h post q.caller c)) (all_approvals h) ++ l) none_given ∙ same_posts (λ post. ends_by h post q.caller c) ends_none (all_approvals h)))
+        (lead h q c k Kept is
+        (ap (λ l. filter (λ post. not (is_about post c)) (all_custodians h) ++ l) none_added ∙ same_posts (λ post. is_about post c) no_one (all_custodians h))
+        (ap (λ l. filter (λ post. not (ends_by h post q.caller c)) (all_approvals h) ++ l) none_given ∙ same_posts (λ post. ends_by h post q.caller c) ends_none (all_approvals h)))
+
     changed : (c : Command) → q.command ≡ c
         → custodians_then c (all_custodians h) ≡ custodians_by k (people_by (dates h k) q.caller c) (all_custodians h)
         → approvals_then h q.caller c (all_approvals h) ≡ approvals_by k (people_by (dates h k) q.caller c) (all_approvals h)
         → PeopleLead h q k (people_by (dates h k) q.caller q.command)
     changed c is cs given = subst (PeopleLead h q k) (sym (ap (people_by (dates h k) q.caller) is)) (lead h q c k _ is cs given)
+
     by : (c : Command) → q.command ≡ c → named c ≡ Some k → PeopleLead h q k (people_by (dates h k) q.caller q.command)
     by (Registers kind owner activation protect_stop deactivation purpose) is e = absurd cc
     by (Activate n) is e = unchanged (Activate n) is refl (λ post. refl) refl (λ post. refl) refl
@@ -157,22 +158,22 @@ people_lead h q k names new = by q.command refl names
     by (Revoke n reason occurrence) is e =
         let here : q.command ≡ Revoke k reason occurrence = is ∙ ap (λ (x : ℕ). Revoke x reason occurrence) (same_key n k e) in
         changed (Revoke k reason occurrence) here
-          (same_posts (λ post. false) (λ post. refl) (all_custodians h) ∙ sym (kept_custodians k (is_compromise reason && is_none (dates h k).destroy) (all_custodians h)))
-          (revoked h q k (is_compromise reason) (is_none (dates h k).destroy) (all_approvals h))
+        (same_posts (λ post. false) (λ post. refl) (all_custodians h) ∙ sym (kept_custodians k (is_compromise reason && is_none (dates h k).destroy) (all_custodians h)))
+        (revoked h q k (is_compromise reason) (is_none (dates h k).destroy) (all_approvals h))
     by (Assign n owner) is e = unchanged (Assign n owner) is refl (λ post. refl) refl (λ post. refl) refl
     by (AddCustodian n name) is e =
         let here : q.command ≡ AddCustodian k name = is ∙ ap (λ (x : ℕ). AddCustodian x name) (same_key n k e) in
         changed (AddCustodian k name) here
-          (ap (λ l. l ++ (k, name) ∷ []) (absent k name (all_custodians h) (new.custodian name here)))
-          (same_posts (λ post. false) (λ post. refl) (all_approvals h))
+        (ap (λ l. l ++ (k, name) ∷ []) (absent k name (all_custodians h) (new.custodian name here)))
+        (same_posts (λ post. false) (λ post. refl) (all_approvals h))
     by (RemoveCustodian n name) is e =
         let here : q.command ≡ RemoveCustodian k name = is ∙ ap (λ (x : ℕ). RemoveCustodian x name) (same_key n k e) in
         changed (RemoveCustodian k name) here (append-nil _) (append-nil _)
     by (Approve n) is e =
         let here : q.command ≡ Approve k = is ∙ ap (λ (x : ℕ). Approve x) (same_key n k e) in
         changed (Approve k) here
-          (same_posts (λ post. false) (λ post. refl) (all_custodians h))
-          (ap (λ l. l ++ (k, q.caller) ∷ []) (absent k q.caller (all_approvals h) (new.approval here)))
+        (same_posts (λ post. false) (λ post. refl) (all_custodians h))
+        (ap (λ l. l ++ (k, q.caller) ∷ []) (absent k q.caller (all_approvals h) (new.approval here)))
     by (Withdraw n) is e =
         let here : q.command ≡ Withdraw k = is ∙ ap (λ (x : ℕ). Withdraw x) (same_key n k e) in
         changed (Withdraw k) here (same_posts (λ post. false) (λ post. refl) (all_custodians h)) (append-nil _)

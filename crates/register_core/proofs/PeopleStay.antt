@@ -1,11 +1,11 @@
 -- Who stays as they were: the people of other keys, and the approvals of a key that is destroyed.
-use Rattle.std.proofs.Common.{◌≡◌, ℕ, ◌==◌, ◌≤◌, Bool, true, false, not, ◌&&◌, cond, List, [], ◌∷◌, ◌++◌, filter, map, Option, None, Some, refl, sym, ap, ap₂, subst, ◌∙◌, length, arith, ◌⊎◌, inl, inr}
+use Rattle.std.proofs.Common.{◌≡◌, ℕ, Bool, true, false, not, ◌&&◌, cond, List, [], ◌∷◌, ◌++◌, filter, map, Option, None, Some, refl, sym, ap, ◌∙◌, ◌⊎◌, inl, inr}
 use Rattle.std.specs.Prelude.{is_some, is_none, nat_eq}
 use Rattle.std.specs.Str.{bytes_eq}
 use Rattle.std.proofs.lemmas.Bool.Decides.{eqb_tells}
 use Rattle.std.proofs.lemmas.List.{append-nil}
 use Rattle.lifecycle_core.specs.declared.state.State.{State}
-use Rattle.lifecycle_core.specs.declared.state.State.TheVariants.{PreActive, Active, Deactivated, Compromised, Destroyed, DestroyedCompromised}
+use Rattle.lifecycle_core.specs.declared.state.State.TheVariants.{Destroyed, DestroyedCompromised}
 use Rattle.lifecycle_core.specs.declared.dates.Dates.{Dates}
 use Rattle.lifecycle_core.specs.State.{state_at}
 use Rattle.lifecycle_core.specs.Reason.{is_compromise}
@@ -15,10 +15,10 @@ use Rattle.register_core.specs.declared.request.Command.TheVariants.{Register as
 use Rattle.register_core.specs.declared.decision.People.{People}
 use Rattle.register_core.specs.declared.decision.People.TheVariants.{Kept, CustodianAdded, CustodianRemoved, Approved, Withdrawn, ApprovalsEnded}
 use Rattle.register_core.specs.Post.{is_post, is_at, names_of, in_order}
-use Rattle.register_core.specs.History.{count, dates}
-use Rattle.register_core.specs.People.{all_custodians, custodians, all_approvals, approvals}
+use Rattle.register_core.specs.History.{dates}
+use Rattle.register_core.specs.People.{all_custodians, all_approvals, approvals}
 use Rattle.register_core.specs.Verdict.{named, is_for, verdict}
-use Rattle.register_core.specs.Decision.{people_by, custodians_by, approvals_by, PeopleLead}
+use Rattle.register_core.specs.Decision.{people_by, custodians_by, approvals_by}
 use Rattle.register_core.proofs.PeopleLeads.{nobody_changes, people_lead}
 use Rattle.register_core.proofs.Walks.{names_joined}
 use Rattle.register_core.proofs.OnKey.{IsOn, on_key}
@@ -31,6 +31,7 @@ kept_names k p all (post ∷ posts) = by (p post) (is_at k post) refl refl (kept
   where
     rest : List (ℕ × List ℕ)
     rest = filter p posts
+
     by : (b here : Bool) → p post ≡ b → is_at k post ≡ here → names_of k rest ≡ names_of k posts → names_of k (cond b (post ∷ rest) rest) ≡ map (λ (x : ℕ × List ℕ). x.1) (cond here (post ∷ filter (is_at k) posts) (filter (is_at k) posts))
     by true true e at same = ap (λ (b : Bool). map (λ (x : ℕ × List ℕ). x.1) (cond b (post ∷ filter (is_at k) rest) (filter (is_at k) rest))) at ∙ ap (λ l. post.1 ∷ l) same
     by true false e at same = ap (λ (b : Bool). map (λ (x : ℕ × List ℕ). x.1) (cond b (post ∷ filter (is_at k) rest) (filter (is_at k) rest))) at ∙ same
@@ -98,6 +99,7 @@ destroyed_state d t x set = by (is_some d.compromise) refl
   where
     its : is_some d.destroy ≡ true
     its = ap is_some set
+
     by : (b : Bool) → is_some d.compromise ≡ b → (state_at d t ≡ Destroyed) ⊎ (state_at d t ≡ DestroyedCompromised)
     by true e = inr (rw (its, e) refl)
     by false e = inl (rw (its, e) refl)
@@ -132,4 +134,4 @@ pub approvals_stay : (h : List Request) (q : Request) (k x : ℕ) → IsOn h q k
 approvals_stay h q k x on set =
     let lead = people_lead h q k on.names on.new in
     ap (λ posts. in_order (names_of k posts))
-      (lead.approvals_are ∙ stay_by (dates h k) q.caller q.command (state_at (dates h k) q.moment) x k (all_approvals h) set (destroyed_state (dates h k) q.moment x set) on.fits_state)
+    (lead.approvals_are ∙ stay_by (dates h k) q.caller q.command (state_at (dates h k) q.moment) x k (all_approvals h) set (destroyed_state (dates h k) q.moment x set) on.fits_state)

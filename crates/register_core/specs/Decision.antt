@@ -39,7 +39,7 @@ people_by d caller _ = Kept
 abbrev pub held_change : ℕ → Held → Request → Change
 held_change key held q =
     change.Held key (owner_after held.owner q.command) (row_at (dates_after held.kind held.row.dates q.moment q.command) q.moment)
-      (people_by held.row.dates q.caller q.command)
+    (people_by held.row.dates q.caller q.command)
 
 -- what an accepted request changes, where it names a key by this number, and that stands so
 abbrev pub change_for : Option ℕ → Option Held → Request → Change

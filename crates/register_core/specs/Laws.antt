@@ -1,5 +1,5 @@
 -- What the requests that are accepted make of a key, said of every lawful history.
-use Rattle.std.specs.Prelude.{◌≡◌, ◌⊎◌, ℕ, ◌≤◌, nat_le, length, List, Option, None, Some, IsSome, IsTrue, if◌then◌else◌}
+use Rattle.std.specs.Prelude.{◌≡◌, ◌⊎◌, ℕ, ◌≤◌, nat_le, List, Option, None, Some, IsTrue, if◌then◌else◌}
 use Rattle.lifecycle_core.specs.declared.state.State.{State}
 use Rattle.lifecycle_core.specs.declared.state.State.TheVariants.{PreActive, Active}
 use Rattle.lifecycle_core.specs.declared.dates.Dates.{Dates}

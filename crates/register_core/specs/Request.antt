@@ -1,5 +1,5 @@
 -- Requests in their ranges, and the one line of each. All of it is this register's own.
-use Rattle.std.specs.Prelude.{◌≡◌, false, ℕ, ◌≤◌, List, ◌++◌, length, codes, decimal, Option, None, Some, IsSome}
+use Rattle.std.specs.Prelude.{◌≡◌, false, ℕ, ◌≤◌, List, ◌++◌, length, codes, decimal, Option, None, Some}
 use Rattle.moment_core.specs.Moment.{IsMoment}
 use Rattle.register_core.specs.Name.{IsName}
 use Rattle.register_core.specs.Number.{IsNumber}

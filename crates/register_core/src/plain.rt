@@ -172,11 +172,7 @@ pub fn dates(history: &[Request], key: u32) -> Dates
 }
 
 /// The key as it stands at the latest moment, or `None` where there is no such key.
-pub fn held(
-    alloc: Global,
-    history: &[Request],
-    key: u32,
-) -> Result<Option<Held>, AllocError>
+pub fn held(alloc: Global, history: &[Request], key: u32) -> Result<Option<Held>, AllocError>
     requires { length history.now + 1 < 2 ^ 32 }
     ensures { IfOk result (λ found. found ≡ held history.now key) }
 {

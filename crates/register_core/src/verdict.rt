@@ -1,8 +1,24 @@
 //! The verdict on a request, where the key that it names is known.
 ghost use Rattle.std.specs.Prelude.{◌≡◌, IsSome};
 ghost use Rattle.register_core.specs.History.{given_dates, edited, edited_dates};
-ghost use Rattle.register_core.specs.Verdict.{refused_dates, behind, unknown, is_owners, not_owner, is_custodians, not_custodian, is_for, wrong_state, is_kept, frozen, unfit,
-    refused_entry, occurs_later, too_many, judge};
+ghost use Rattle.register_core.specs.Verdict.{
+  refused_dates,
+  behind,
+  unknown,
+  is_owners,
+  not_owner,
+  is_custodians,
+  not_custodian,
+  is_for,
+  wrong_state,
+  is_kept,
+  frozen,
+  unfit,
+  refused_entry,
+  occurs_later,
+  too_many,
+  judge,
+};
 ghost use Rattle.period_core.specs.Fitting.{fill_of, trim_of};
 
 use crate::decision::{Held, View};

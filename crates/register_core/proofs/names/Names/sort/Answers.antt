@@ -5,4 +5,4 @@ use Rattle.register_core.proofs.names.Names.sort.Goals as goal
 pub returns : goal.returns
 returns c names same =
     in_order_from_sorted _ _ names c.sort_unstable.ensures.permutation c.sort_unstable.ensures.sorted
-      (subst (λ (l : List (List ℕ)). IsPermutation l names) (sym c.self.view_is) same)
+    (subst (λ (l : List (List ℕ)). IsPermutation l names) (sym c.self.view_is) same)
