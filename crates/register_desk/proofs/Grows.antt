@@ -1,32 +1,28 @@
 -- The tables of a history with one more request are one step from the tables of the history.
-use Rattle.std.proofs.Common.{◌≡◌, ◌≢◌, ◌==◌, ℕ, zero, suc, ◌+◌, ◌-◌, ◌≤◌, ◌<◌, Bool, true, false, cond, List, [], ◌∷◌, ◌++◌, length, Option, None, Some, refl, sym, ap, subst, ◌∙◌, arith, eq-eqb}
+use Rattle.std.proofs.Common.{◌≡◌, ◌≢◌, ◌==◌, ℕ, zero, suc, ◌+◌, ◌≤◌, ◌<◌, Bool, true, false, cond, List, [], ◌∷◌, ◌++◌, length, Option, None, Some, refl, sym, ap, subst, ◌∙◌, arith}
 use Rattle.std.proofs.lemmas.Bool.{le-leb, lt-leb}
-use Rattle.std.specs.Prelude.{◌⊎◌, nat_le, ◌&&◌, map, fold, is_none, slice_get, nat_eq}
+use Rattle.std.specs.Prelude.{◌⊎◌, nat_le, ◌&&◌, map, slice_get}
 use Rattle.std.specs.List.{enumerate_from}
 use Rattle.std.specs.Option.{option_map, option_and_then}
 use Rattle.std.proofs.Common.{inl, inr}
 use Rattle.std.proofs.lemmas.Bool.Decides.{eqb_tells}
-use Rattle.std.proofs.lemmas.List.{map-append, length-map, length-append}
-use Rattle.std.proofs.lemmas.List.Sums.{fold-append}
+use Rattle.std.proofs.lemmas.List.{map-append, length-map}
 use Rattle.std.proofs.lemmas.List.FromFn.{length-enumerate_from}
 use Rattle.lifecycle_core.specs.declared.dates.Dates.{Dates}
-use Rattle.lifecycle_core.specs.State.{state_at}
 use Rattle.period_core.specs.declared.key_type.KeyType.{KeyType}
 use Rattle.register_core.specs.declared.request.Request.{Request}
 use Rattle.register_core.specs.declared.request.Command.{Command}
 use Rattle.register_core.specs.declared.request.Command.TheVariants.{Register as Registers, Activate, SetDates, Revoke, Assign, AddCustodian, RemoveCustodian, Approve, Withdraw, Destroy, Advance}
-use Rattle.register_core.specs.declared.reply.Refusal.{Refusal}
 use Rattle.register_core.specs.declared.decision.Held.{Held as HeldKey}
 use Rattle.register_core.specs.declared.decision.Change.{Change}
 use Rattle.register_core.specs.declared.decision.Change.TheVariants.{Made, Held, Nothing}
-use Rattle.register_core.specs.Decision.{row_at, people_by, held_change, change_for, change_of, change_by, LeadsTo}
+use Rattle.register_core.specs.Decision.{row_at, change_for, change_of, change_by, LeadsTo}
 use Rattle.register_core.specs.History.{latest, Registration, registrations, count, key_of as key_of_command, made_by, is_key, type, dates, dates_after, given_dates, owner, owner_after}
-use Rattle.register_core.proofs.Histories.{latest_grows, registrations_grow, count_grows, not_concerned, kind_other, owner_other, dates_other, kind_named, owner_named, dates_named, kind_made, owner_made, dates_made, key_named, not_same}
+use Rattle.register_core.proofs.Histories.{latest_grows, registrations_grow, count_grows, not_concerned, kind_other, owner_other, dates_other, kind_named, owner_named, dates_named, kind_made, owner_made, dates_made, key_named}
 use Rattle.register_core.specs.People.{custodians, approvals, all_custodians, all_approvals, held}
 use Rattle.register_core.proofs.Decisions.{change_named}
-use Rattle.register_core.specs.Verdict.{verdict, named, named_key}
+use Rattle.register_core.specs.Verdict.{named, named_key}
 use Rattle.period_core.specs.Fitting.{filled}
-use Rattle.register_core.specs.Fold.{history_after, history, IsLawful}
 use Rattle.register_store.specs.declared.key.Key.{Key}
 use Rattle.register_store.specs.Tables.{Tables, advanced, in_place, key_at, numbered, with_keys_advanced}
 use Rattle.register_desk.specs.Register.{key_of, tables}

@@ -1,11 +1,11 @@
 -- What the calls of one accepted request make of the tables, one after the other.
-use Rattle.std.proofs.Common.{◌≡◌, ℕ, ◌+◌, List, length, Option, map, subst, ◌∙◌}
+use Rattle.std.proofs.Common.{◌≡◌, ℕ, ◌+◌, Option, subst, ◌∙◌}
 use Rattle.std.proofs.lemmas.List.{length-map}
 use Rattle.sqlite.specs.Effect.{Database}
 use Rattle.sql_steps.specs.Steps.{Then}
 use Rattle.register_core.specs.declared.decision.Change.{Change}
 use Rattle.register_store.specs.declared.key.Key.{Key}
-use Rattle.register_store.specs.Tables.{Tables, Holds, Makes, Always, HasKeys, advanced, with_keys_advanced, with_meta}
+use Rattle.register_store.specs.Tables.{Holds, Makes, Always, HasKeys, advanced, with_keys_advanced, with_meta}
 use Rattle.register_desk.specs.Step.{made_count, with_change, with_request}
 
 pub makes_request : (keys at count : ℕ) (change : Change) (found : Option Key) → count ≡ keys + made_count change → (old new : Database)

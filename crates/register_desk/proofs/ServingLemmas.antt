@@ -13,7 +13,6 @@ use Rattle.register_core.specs.declared.request.Request.{Request}
 use Rattle.register_core.specs.declared.reply.Reply.{Reply}
 use Rattle.register_core.specs.declared.reply.Refusal.{Refusal}
 use Rattle.register_core.specs.Request.{IsItem}
-use Rattle.register_core.specs.Verdict.{verdict}
 use Rattle.register_core.specs.Fold.{history, history_after, answers, answer_to}
 use Rattle.register_desk.specs.declared.lines.TheConstants.{LINE_FEED}
 use Rattle.register_desk.specs.declared.end.End.{End}

@@ -11,7 +11,7 @@ use Rattle.sql_steps.proofs.Stepping.{leaves_alone}
 use Rattle.register_core.specs.declared.request.Request.{Request}
 use Rattle.register_core.specs.declared.reply.Refusal.{Refusal}
 use Rattle.register_core.specs.History.{latest, count}
-use Rattle.register_core.specs.Verdict.{judge, verdict}
+use Rattle.register_core.specs.Verdict.{verdict}
 use Rattle.register_core.specs.Fold.{history_after}
 use Rattle.register_core.proofs.Histories.{latest_grows}
 use Rattle.register_store.specs.Tables.{Tables, Holds, Makes, HasKeys}

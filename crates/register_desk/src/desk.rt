@@ -9,10 +9,10 @@ use crate::record::Record;
 use crate::serve::{commit_request, keys_after};
 use lifecycle_core::{Usage, usage_of};
 use moment_core::Moment;
-use register_core::{Accept, Change, Command, KEY_LIMIT, Names, Refusal, Reply, Request, View, decide};
-use register_store::{
-    Key, create, find_approvals, find_custodians, find_key, has_tables,
+use register_core::{
+    Accept, Change, Command, KEY_LIMIT, Names, Refusal, Reply, Request, View, decide,
 };
+use register_store::{Key, create, find_approvals, find_custodians, find_key, has_tables};
 use sqlite::{Alter, Connection};
 use std::alloc::Global;
 

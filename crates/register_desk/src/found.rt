@@ -25,12 +25,14 @@ pub(crate) fn held_in(found: Option<Found>) -> Option<Held>
     ensures { result ≡ held_in found }
 {
     match found {
-        Some(Found {
-            number: _,
-            key,
-            custodians,
-            approvals,
-        }) => Some(Held {
+        Some(
+            Found {
+                number: _,
+                key,
+                custodians,
+                approvals,
+            },
+        ) => Some(Held {
             kind: key.kind,
             owner: key.owner,
             row: key.row,
@@ -66,12 +68,14 @@ pub(crate) fn record_in(found: Option<Found>) -> Option<Record>
     ensures { result ≡ option_map record_of found }
 {
     match found {
-        Some(Found {
-            number,
-            key,
-            custodians,
-            approvals,
-        }) => Some(Record {
+        Some(
+            Found {
+                number,
+                key,
+                custodians,
+                approvals,
+            },
+        ) => Some(Record {
             number,
             kind: key.kind,
             owner: key.owner,
