@@ -20,3 +20,5 @@ pub mod DateLaws
 pub mod PathSteps
 pub mod PathLaws
 pub mod PeopleLaws
+pub mod PeopleOnce
+pub mod Approvers

@@ -11,7 +11,7 @@ use Rattle.register_core.specs.declared.reply.Refusal.{Refusal}
 use Rattle.register_core.specs.declared.decision.Held.{Held}
 use Rattle.register_core.specs.History.{latest, count, key_of, made_by, is_key, dates}
 use Rattle.register_core.specs.People.{held}
-use Rattle.register_core.specs.Verdict.{is_for, frozen, unfit, approvals_missing, entry_refusals, people_refusals, refusals, judge, named, named_key, verdict}
+use Rattle.register_core.specs.Verdict.{not_custodian, is_for, frozen, unfit, approvals_missing, entry_refusals, people_refusals, refusals, judge, named, named_key, verdict}
 use Rattle.register_core.proofs.Histories.{count_grows}
 use Rattle.register_core.proofs.PeopleLeads.{not_refused, IsNew}
 use Rattle.register_core.proofs.Filling.{none_holds}
@@ -27,6 +27,7 @@ pub record IsOn (h : List Request) (q : Request) (k : ℕ) : Type 0 where
   pub not_frozen : frozen (Some (standing h k)) q.moment q.command ≡ None
   pub fit : unfit (Some (standing h k)) q.moment q.command ≡ None
   pub enough : approvals_missing (Some (standing h k)) q.command ≡ None
+  pub custodians_own : not_custodian (Some (standing h k)) q.caller q.command ≡ None
   pub new : IsNew h q k
 
 right_state : (b : Bool) (refusal : Refusal) → cond b None (Some refusal) ≡ None → b ≡ true
@@ -57,6 +58,7 @@ on_there h q k names there accepted =
       not_frozen = each.1.0;
       fit = each.1.1.0;
       enough = people.1.1.1.1.1.1.0;
+      custodians_own = entry.1.1.1.0;
       new = new_names h q k people.0 people.1.1.1.1.0;
     }
 

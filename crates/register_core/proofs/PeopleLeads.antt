@@ -23,7 +23,7 @@ use Rattle.register_core.proofs.PeopleGrow.{filter_every, all_custodians_grow, a
 
 -- ---- a name that is not among those of the key
 
-any_with : (p : List ℕ → Bool) (name : List ℕ) (names : List (List ℕ)) → list_any p (with_name name names) ≡ p name || list_any p names
+pub any_with : (p : List ℕ → Bool) (name : List ℕ) (names : List (List ℕ)) → list_any p (with_name name names) ≡ p name || list_any p names
 any_with p name [] = refl
 any_with p name (first ∷ others) =
     elim (is_gt (slice_cmp nat_cmp name first)) as (λ b. list_any p (cond b (first ∷ with_name name others) (name ∷ first ∷ others)) ≡ p name || (p first || list_any p others)) [
@@ -36,11 +36,11 @@ any_with p name (first ∷ others) =
     swapped true false c = refl
     swapped false b c = refl
 
-any_in_order : (p : List ℕ → Bool) (names : List (List ℕ)) → list_any p (in_order names) ≡ list_any p names
+pub any_in_order : (p : List ℕ → Bool) (names : List (List ℕ)) → list_any p (in_order names) ≡ list_any p names
 any_in_order p [] = refl
 any_in_order p (name ∷ others) = any_with p name (in_order others) ∙ ap (λ (b : Bool). p name || b) (any_in_order p others)
 
-any_of_key : (key : ℕ) (name : List ℕ) (posts : List (ℕ × List ℕ)) → list_any (λ other. bytes_eq other name) (names_of key posts) ≡ list_any (is_post key name) posts
+pub any_of_key : (key : ℕ) (name : List ℕ) (posts : List (ℕ × List ℕ)) → list_any (λ other. bytes_eq other name) (names_of key posts) ≡ list_any (is_post key name) posts
 any_of_key key name [] = refl
 any_of_key key name (post ∷ posts) = by (is_at key post) (any_of_key key name posts)
   where

@@ -1,11 +1,12 @@
 -- What the requests that are accepted make of a key, said of every lawful history.
-use Rattle.std.specs.Prelude.{◌≡◌, ◌⊎◌, ℕ, ◌≤◌, nat_le, List, Option, None, Some, IsTrue, if◌then◌else◌}
+use Rattle.std.specs.Prelude.{◌≡◌, ◌⊎◌, ℕ, ◌≤◌, nat_le, false, List, [], ◌∷◌, Option, None, Some, IsTrue, if◌then◌else◌}
 use Rattle.lifecycle_core.specs.declared.state.State.{State}
 use Rattle.lifecycle_core.specs.declared.state.State.TheVariants.{PreActive, Active}
 use Rattle.lifecycle_core.specs.declared.dates.Dates.{Dates}
 use Rattle.lifecycle_core.specs.State.{state_at, is_reached_at}
 use Rattle.period_core.specs.Fitting.{KeepsDate}
 use Rattle.register_core.specs.declared.request.Request.{Request}
+use Rattle.register_core.specs.Name.{is_among}
 use Rattle.register_core.specs.History.{latest, count, dates}
 use Rattle.register_core.specs.Fold.{IsLawful}
 use Rattle.register_core.specs.Verdict.{verdict}
@@ -36,3 +37,8 @@ pub record MovesOnly (before : Dates) (t : ℕ) (after : Dates) : Type 0 where
   pub destroy : KeepsDate before.destroy after.destroy
   pub compromise : KeepsDate before.compromise after.compromise
   pub compromise_occurrence : KeepsDate before.compromise_occurrence after.compromise_occurrence
+
+-- no name stands twice
+abbrev pub AreDifferent : List (List ℕ) → Type 0
+AreDifferent [] = Unit {0}
+AreDifferent (name ∷ others) = (is_among name others ≡ false) × AreDifferent others

@@ -1,5 +1,5 @@
 //! Laws about this crate's definitions. Each function does nothing: its contract is the law.
-ghost use Rattle.std.specs.Prelude.{◌≡◌, ◌<◌, ◌≤◌, ◌++◌, ℕ, List, [], ◌∷◌, length, Some, IsSome};
+ghost use Rattle.std.specs.Prelude.{◌≡◌, ◌<◌, ◌≤◌, ◌++◌, ℕ, List, [], ◌∷◌, length, true, Some, IsSome};
 ghost use Rattle.lifecycle_core.specs.State.{state_at};
 ghost use Rattle.lifecycle_core.specs.Transition.{Leads};
 ghost use Rattle.period_core.specs.Fitting.{Fits};
@@ -7,7 +7,8 @@ ghost use Rattle.register_core.specs.declared.request.Request.{Request};
 ghost use Rattle.register_core.specs.declared.request.Command.{Command};
 ghost use Rattle.register_core.specs.Fold.{IsLawful};
 ghost use Rattle.register_core.specs.History.{count, type, dates};
-ghost use Rattle.register_core.specs.Laws.{IsAccepted, HasKey, MovesOnly, state_of_key};
+ghost use Rattle.register_core.specs.Laws.{IsAccepted, HasKey, MovesOnly, AreDifferent, state_of_key};
+ghost use Rattle.register_core.specs.Name.{is_among};
 ghost use Rattle.register_core.specs.People.{custodians, approvals};
 ghost use Rattle.register_core.specs.Request.{IsLineOf};
 ghost use Rattle.register_core.specs.Verdict.{approvals_needed};
@@ -53,4 +54,15 @@ pub fn destruction_is_approved()
 /// A key that is not made yet has no custodian, and nobody approves of its destruction.
 pub fn new_keys_have_nobody()
     ensures { (h : List Request) → IsLawful h → (k : ℕ) → count h < k → (custodians h k ≡ []) × (approvals h k ≡ []) }
+{}
+
+/// No name is the custodian of a key twice, or approves twice of its destruction.
+pub fn people_are_different()
+    ensures { (h : List Request) (k : ℕ) → AreDifferent (custodians h k) × AreDifferent (approvals h k) }
+{}
+
+/// Who approves of a key's destruction is one of its custodians.
+pub fn custodians_approve()
+    ensures { (h : List Request) → IsLawful h → (k : ℕ) (name : List ℕ) →
+        is_among name (approvals h k) ≡ true → is_among name (custodians h k) ≡ true }
 {}
