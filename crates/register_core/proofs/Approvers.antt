@@ -36,12 +36,15 @@ left post r (other ∷ posts) = by (is_post post.0 post.1 other) refl (r other) 
   where
     rest : Bool
     rest = list_any (is_post post.0 post.1) (filter r posts)
+
     or_true : (b : Bool) → b || true ≡ true
     or_true true = refl
     or_true false = refl
+
     absorbs : (a b : Bool) → b ≡ true → true || (a && b) ≡ (true || a) && b
     absorbs a true e = refl
     absorbs a false e = absurd cc
+
     by : (here : Bool) → is_post post.0 post.1 other ≡ here → (b : Bool) → r other ≡ b → rest ≡ list_any (is_post post.0 post.1) posts && r post
         → list_any (is_post post.0 post.1) (cond b (other ∷ filter r posts) (filter r posts)) ≡ (here || list_any (is_post post.0 post.1) posts) && r post
     by true is true chosen same =
@@ -147,9 +150,9 @@ all_own_next h q lawful accepted before = by (named q.command) refl
         let on = on_key h q n accepted names in
         let people = people_by (dates h n) q.caller q.command in
         led h q n people (people_lead h q n names on.new)
-          (own_next n people (all_approvals h) (all_custodians h)
-            (λ name is. sym (among_posts n name (all_custodians h)) ∙ approver (standing h n) q.caller q.command name is on.custodians_own)
-            before)
+        (own_next n people (all_approvals h) (all_custodians h)
+        (λ name is. sym (among_posts n name (all_custodians h)) ∙ approver (standing h n) q.caller q.command name is on.custodians_own)
+        before)
 
 all_own : (h : List Request) → IsLawful h → AllOwn h
 all_own h lawful = lawful_holds AllOwn all_own_next (λ k name there. absurd cc) h lawful

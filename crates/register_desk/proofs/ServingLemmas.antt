@@ -258,7 +258,7 @@ wrote_then v w x written count bytes wrote appends counted =
 module _ {S : Type 0} (g : Ghosts S) where
   -- what an item leaves, as bytes written
   pub wrote_part : (v w x : Option (List ℕ)) (kept now : Desk S g) (item : Option Request) (end : End) (written part : ℕ) → Wrote v w written → LeavesItem g kept now w x item end part → Wrote v x (written + part)
-  wrote_part v w x kept now item Memory written part wrote leaves = absurd leaves
+  wrote_part v w x kept now item Memory written part wrote leaves = wrote_then v w x written part [] wrote leaves.1 leaves.2
   wrote_part v w x kept now item Store written part wrote leaves = wrote_then v w x written part [] wrote leaves.1 leaves.2
   wrote_part v w x kept now item Broken written part wrote leaves = wrote_then v w x written part [] wrote leaves.1 leaves.2
   wrote_part v w x kept now item WriteFault written part wrote leaves =
@@ -271,7 +271,8 @@ module _ {S : Type 0} (g : Ghosts S) where
   pub stopped_so : (before middle after old so_far new : Option (List ℕ)) (kept mid now : Desk S g) (replies : ℕ) (line : List ℕ) (item : Option Request) (end : End) (part : ℕ) →
       Served g before middle old so_far kept mid replies → IsNextLine middle after line item → LeavesItem g mid now so_far new item end part →
       ServesTo g before old new kept now replies (Ended end)
-  stopped_so before middle after old so_far new kept mid now replies line item Memory part served next leaves = absurd leaves
+  stopped_so before middle after old so_far new kept mid now replies line item Memory part served next leaves =
+      record { middle = middle; after = after; so_far = so_far; mid = mid; line = line; item = item; part = part; served = served; next = next; leaves = leaves }
   stopped_so before middle after old so_far new kept mid now replies line item Store part served next leaves =
       record { middle = middle; after = after; so_far = so_far; mid = mid; line = line; item = item; part = part; served = served; next = next; leaves = leaves }
   stopped_so before middle after old so_far new kept mid now replies line item Broken part served next leaves =
@@ -322,7 +323,10 @@ module _ {S : Type 0} (g : Ghosts S) where
       let ended = ended_so g one h bytes all rest has serves.middle old new kept now replies serves.served serves.after serves.rest serves.unbroken serves.consumed serves.at_end in
       (answered_so g one h bytes all rest has serves.middle old new kept now replies serves.served stands clean, ended.0, serves.counted ∙ ended.1)
   runs_known one h bytes all rest old new kept now replies (Ended ReadFault) has stands clean serves = answered_so g one h bytes all rest has serves.middle old new kept now replies serves.served stands clean
-  runs_known one h bytes all rest old new kept now replies (Ended Memory) has stands clean serves = absurd serves.leaves
+  runs_known one h bytes all rest old new kept now replies (Ended Memory) has stands clean serves =
+      let back = serves.leaves.0 in
+      let still = served_still (Some bytes) serves.middle old serves.so_far new kept serves.mid now replies serves.served serves.leaves.1 back.stands back.clean in
+      answered_so g one h bytes all rest has serves.middle old new kept now replies still stands clean
   runs_known one h bytes all rest old new kept now replies (Ended Store) has stands clean serves =
       let stop = serves.leaves.0 in
       let still = served_still (Some bytes) serves.middle old serves.so_far new kept serves.mid now replies serves.served serves.leaves.1 stop.stands stop.clean in

@@ -1,5 +1,5 @@
 -- What the items that were served so far made of the desk and of the bytes. That it is what the history says is proved of `run`.
-use Rattle.std.specs.Prelude.{◌≡◌, ℕ, ◌≤◌, true, List, [], ◌∷◌, ◌++◌, length, take, Option, Some}
+use Rattle.std.specs.Prelude.{◌≡◌, ℕ, ◌≤◌, true, false, List, [], ◌∷◌, ◌++◌, length, take, Option, Some}
 use Rattle.std.specs.List.{AllByRecursion}
 use Rattle.std.specs.Io.KnownBytes.{Consumes, Appends, IsAtEnd}
 use Rattle.sqlite_trees.specs.declared.store.Store.{Ghosts}
@@ -77,10 +77,16 @@ module _ {S : Type 0} (g : Ghosts S) where
     pub broken : now.is_broken ≡ true
     pub same : now ≡ kept
 
+  -- memory gave out before the item was applied, and the desk goes on to stand for what it stood for
+  pub record HoldsBack (kept now : Desk S g) : Type 0 where
+    pub whole : now.is_broken ≡ false
+    pub stands : (h : List Request) → StandsFor g kept h → StandsFor g now h
+    pub clean : WasClean kept now
+
   abbrev pub StopsItem : Desk S g → Desk S g → Option Request → End → Type 0
   StopsItem kept now item Store = BreaksAt kept now item
   StopsItem kept now item Broken = IsBrokenAt kept now item
-  StopsItem kept now item Memory = ⊥
+  StopsItem kept now item Memory = HoldsBack kept now
   StopsItem kept now item ReadFault = ⊥
   StopsItem kept now item WriteFault = ⊥
 
@@ -94,7 +100,7 @@ module _ {S : Type 0} (g : Ghosts S) where
 
   -- what an item leaves whose answer was not written whole
   abbrev pub LeavesItem : Desk S g → Desk S g → Option (List ℕ) → Option (List ℕ) → Option Request → End → ℕ → Type 0
-  LeavesItem kept now old new item Memory part = StopsItem kept now item Memory
+  LeavesItem kept now old new item Memory part = StopsItem kept now item Memory × Appends old new [] × (part ≡ 0)
   LeavesItem kept now old new item Store part = StopsItem kept now item Store × Appends old new [] × (part ≡ 0)
   LeavesItem kept now old new item Broken part = StopsItem kept now item Broken × Appends old new [] × (part ≡ 0)
   LeavesItem kept now old new item ReadFault part = StopsItem kept now item ReadFault

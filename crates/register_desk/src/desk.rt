@@ -12,7 +12,9 @@ use moment_core::Moment;
 use register_core::{
     Accept, Change, Command, KEY_LIMIT, Names, Refusal, Reply, Request, View, decide,
 };
-use register_store::{Key, create, find_approvals, find_custodians, find_key, has_tables};
+use register_store::{
+    Key, StoreError, create, find_approvals, find_custodians, find_key, has_tables,
+};
 use sqlite::{Alter, Connection};
 use std::alloc::Global;
 
@@ -54,7 +56,7 @@ pub struct Desk<S: Alter> {
 }
 
 impl<S: Alter> Desk<S> {
-    ghost use Rattle.std.specs.Prelude.{◌≡◌, ◌≤◌, ◌⊎◌, ◌+◌, ℕ, length, true, false, List, [], ◌∷◌, Some, None, Err, IfOk, IfErr, OnOk, OnErr};
+    ghost use Rattle.std.specs.Prelude.{◌≡◌, ◌≢◌, ◌≤◌, ◌⊎◌, ◌+◌, ℕ, length, true, false, List, [], ◌∷◌, Some, None, Err, IfOk, IfErr, OnOk, OnErr};
     ghost use Rattle.sqlite.specs.State.{HasCleanDisk};
     ghost use Rattle.sqlite.specs.Held.{state};
     ghost use Rattle.register_core.specs.declared.request.Request.{Request};
@@ -143,7 +145,8 @@ impl<S: Alter> Desk<S> {
     ///
     /// # Errors
     /// [`End::Store`] where the database refused, which breaks the desk: the register is as before or has the whole
-    /// request. [`End::Broken`] on a broken desk; nothing changed.
+    /// request. [`End::Memory`] where memory gave out outside a transaction; nothing changed, and the desk goes on.
+    /// [`End::Broken`] on a broken desk; nothing changed.
     pub fn apply(&mut self, request: &Request) -> Result<Answer, End>
         // The answer is the verdict over the history that the desk stands for.
         ensures answer { (h : List Request) → StandsFor S.Store self.old h → HasCleanDisk (state S.Store self.new.connection)
@@ -153,9 +156,10 @@ impl<S: Alter> Desk<S> {
             → OnOk result (StandsFor S.Store self.new (history h (Some request.now ∷ []))) }
         ensures whole { OnOk result (self.new.is_broken ≡ false) }
         ensures clean { HasCleanDisk (state S.Store self.new.connection) → HasCleanDisk (state S.Store self.old.connection) }
-        // An end leaves the desk broken, with the latest moment and the number of keys as before.
-        ensures ends { IfErr result (λ end. ((end ≡ End.Store) × (self.old.is_broken ≡ false)) ⊎ ((end ≡ End.Broken) × (self.new ≡ self.old))) }
-        ensures broken { OnErr result (self.new.is_broken ≡ true) }
+        // An end but 30 leaves the desk broken, with the latest moment and the number of keys as before.
+        ensures ends { IfErr result (λ end. ((end ≡ End.Store) × (self.old.is_broken ≡ false)) ⊎ ((end ≡ End.Broken) × (self.new ≡ self.old))
+            ⊎ ((end ≡ End.Memory) × (self.old.is_broken ≡ false) × (self.new.is_broken ≡ false))) }
+        ensures broken { IfErr result (λ end. end ≢ End.Memory → self.new.is_broken ≡ true) }
         ensures err { (h : List Request) → StandsFor S.Store self.old h → OnErr result (StandsFor S.Store self.new h) }
         // The end 32 comes exactly on a broken desk.
         ensures when_broken { self.old.is_broken ≡ true → result ≡ Err End.Broken }
@@ -203,8 +207,8 @@ impl<S: Alter> Desk<S> {
         ensures right { IfOk result (λ found. IsRightFound found self.old.latest) }
         ensures same { (h : List Request) → StandsFor S.Store self.old h → StandsFor S.Store self.new h }
         ensures fields { OnOk result ((self.new.latest ≡ self.old.latest) × (self.new.keys ≡ self.old.keys) × (self.new.is_broken ≡ false)) }
-        ensures ends { IfErr result (λ end. end ≡ End.Store) }
-        ensures broken { OnErr result (self.new.is_broken ≡ true) }
+        ensures ends { IfErr result (λ end. (end ≡ End.Store) ⊎ ((end ≡ End.Memory) × (self.new.is_broken ≡ false))) }
+        ensures broken { IfErr result (λ end. end ≢ End.Memory → self.new.is_broken ≡ true) }
         ensures clean { HasCleanDisk (state S.Store self.new.connection) → HasCleanDisk (state S.Store self.old.connection) }
         ensures stop { (h : List Request) → StandsFor S.Store self.old h → HasCleanDisk (state S.Store self.new.connection)
             → Leaves (tables h) (state S.Store self.new.connection) }
@@ -253,14 +257,15 @@ impl<S: Alter> Desk<S> {
     ///
     /// # Errors
     /// [`End::Store`] where the database refused or the row is one that no register holds, which breaks the desk;
-    /// [`End::Broken`] on a broken desk.
+    /// [`End::Memory`] where memory gave out, and the desk goes on; [`End::Broken`] on a broken desk.
     pub fn show(&mut self, number: u32) -> Result<Option<Record>, End>
         ensures shown { (h : List Request) → StandsFor S.Store self.old h → HasCleanDisk (state S.Store self.new.connection)
             → IfOk result (λ found. found ≡ shown h number) }
         ensures same { (h : List Request) → StandsFor S.Store self.old h → StandsFor S.Store self.new h }
         ensures whole { OnOk result (self.new.is_broken ≡ false) }
-        ensures ends { IfErr result (λ end. ((end ≡ End.Store) × (self.old.is_broken ≡ false)) ⊎ ((end ≡ End.Broken) × (self.new ≡ self.old))) }
-        ensures broken { OnErr result (self.new.is_broken ≡ true) }
+        ensures ends { IfErr result (λ end. ((end ≡ End.Store) × (self.old.is_broken ≡ false)) ⊎ ((end ≡ End.Broken) × (self.new ≡ self.old))
+            ⊎ ((end ≡ End.Memory) × (self.old.is_broken ≡ false) × (self.new.is_broken ≡ false))) }
+        ensures broken { IfErr result (λ end. end ≢ End.Memory → self.new.is_broken ≡ true) }
         ensures when_broken { self.old.is_broken ≡ true → result ≡ Err End.Broken }
         ensures stop { (h : List Request) → StandsFor S.Store self.old h → self.old.is_broken ≡ false → HasCleanDisk (state S.Store self.new.connection)
             → Leaves (tables h) (state S.Store self.new.connection) }
@@ -319,14 +324,15 @@ impl<S: Alter> Desk<S> {
             → IfOk result (λ names. names ≡ custodians h number) }
         ensures same { (h : List Request) → StandsFor S.Store self.old h → StandsFor S.Store self.new h }
         ensures fields { OnOk result ((self.new.latest ≡ self.old.latest) × (self.new.keys ≡ self.old.keys) × (self.new.is_broken ≡ false)) }
-        ensures ends { IfErr result (λ end. end ≡ End.Store) }
-        ensures broken { OnErr result (self.new.is_broken ≡ true) }
+        ensures ends { IfErr result (λ end. (end ≡ End.Store) ⊎ ((end ≡ End.Memory) × (self.new.is_broken ≡ false))) }
+        ensures broken { IfErr result (λ end. end ≢ End.Memory → self.new.is_broken ≡ true) }
         ensures clean { HasCleanDisk (state S.Store self.new.connection) → HasCleanDisk (state S.Store self.old.connection) }
         ensures stop { (h : List Request) → StandsFor S.Store self.old h → HasCleanDisk (state S.Store self.new.connection)
             → Leaves (tables h) (state S.Store self.new.connection) }
     {
         match find_custodians(self.alloc, &mut self.connection, number) {
             Ok(names) => Ok(names),
+            Err(StoreError::Memory) => Err(End::Memory),
             Err(_) => Err(self.break_off()),
         }
     }
@@ -338,14 +344,15 @@ impl<S: Alter> Desk<S> {
             → IfOk result (λ names. names ≡ approvals h number) }
         ensures same { (h : List Request) → StandsFor S.Store self.old h → StandsFor S.Store self.new h }
         ensures fields { OnOk result ((self.new.latest ≡ self.old.latest) × (self.new.keys ≡ self.old.keys) × (self.new.is_broken ≡ false)) }
-        ensures ends { IfErr result (λ end. end ≡ End.Store) }
-        ensures broken { OnErr result (self.new.is_broken ≡ true) }
+        ensures ends { IfErr result (λ end. (end ≡ End.Store) ⊎ ((end ≡ End.Memory) × (self.new.is_broken ≡ false))) }
+        ensures broken { IfErr result (λ end. end ≢ End.Memory → self.new.is_broken ≡ true) }
         ensures clean { HasCleanDisk (state S.Store self.new.connection) → HasCleanDisk (state S.Store self.old.connection) }
         ensures stop { (h : List Request) → StandsFor S.Store self.old h → HasCleanDisk (state S.Store self.new.connection)
             → Leaves (tables h) (state S.Store self.new.connection) }
     {
         match find_approvals(self.alloc, &mut self.connection, number) {
             Ok(names) => Ok(names),
+            Err(StoreError::Memory) => Err(End::Memory),
             Err(_) => Err(self.break_off()),
         }
     }
@@ -356,8 +363,9 @@ impl<S: Alter> Desk<S> {
             → IfOk result (λ found. found ≡ found_at h number) }
         ensures same { (h : List Request) → StandsFor S.Store self.old h → StandsFor S.Store self.new h }
         ensures fields { OnOk result ((self.new.latest ≡ self.old.latest) × (self.new.keys ≡ self.old.keys) × (self.new.is_broken ≡ false)) }
-        ensures ends { IfErr result (λ end. ((end ≡ End.Store) × (self.old.is_broken ≡ false)) ⊎ ((end ≡ End.Broken) × (self.new ≡ self.old))) }
-        ensures broken { OnErr result (self.new.is_broken ≡ true) }
+        ensures ends { IfErr result (λ end. ((end ≡ End.Store) × (self.old.is_broken ≡ false)) ⊎ ((end ≡ End.Broken) × (self.new ≡ self.old))
+            ⊎ ((end ≡ End.Memory) × (self.old.is_broken ≡ false) × (self.new.is_broken ≡ false))) }
+        ensures broken { IfErr result (λ end. end ≢ End.Memory → self.new.is_broken ≡ true) }
         ensures when_broken { self.old.is_broken ≡ true → result ≡ Err End.Broken }
         ensures clean { HasCleanDisk (state S.Store self.new.connection) → HasCleanDisk (state S.Store self.old.connection) }
         ensures stop { (h : List Request) → StandsFor S.Store self.old h → self.old.is_broken ≡ false → HasCleanDisk (state S.Store self.new.connection)

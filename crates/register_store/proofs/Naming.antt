@@ -1,5 +1,5 @@
 -- What the searches for the names of a key's posts find.
-use Rattle.std.proofs.Common.{◌≡◌, ℕ, pos, List, [], ◌∷◌, map, filter, drop, codes, Bool, false, Result, Ok, Err, Vec, IfOk, refl, sym, ap, subst, ◌∙◌}
+use Rattle.std.proofs.Common.{◌≡◌, ℕ, pos, List, [], ◌∷◌, map, filter, drop, codes, Bool, false, Result, Ok, Err, IfOk, IfErr, refl, sym, ap, subst, ◌∙◌}
 use Rattle.std.proofs.lemmas.List.Sorted.{IsPermutation-map, IsPermutation-sym, IsPermutation-trans}
 use Rattle.std.specs.List.Sorted.{IsPermutation}
 use Rattle.std.specs.declared.alloc.Global.{Global}
@@ -21,6 +21,7 @@ use Rattle.sql_steps.proofs.Queries.{gives_all, only_reads}
 use Rattle.sql_steps.proofs.Statements.{plain_query, picked, is_picked}
 use Rattle.register_core.specs.Post.{is_at, in_order, names_of}
 use Rattle.register_store.specs.declared.error.StoreError.{StoreError}
+use Rattle.register_store.specs.declared.error.StoreError.TheVariants.{Memory}
 use Rattle.register_store.specs.Found.{ReadsNames}
 use Rattle.register_store.specs.Schema.{register_schema}
 use Rattle.register_store.specs.Tables.{Tables, Holds, ShowsPosts, post_cells}
@@ -78,21 +79,29 @@ module _ (text : List ℕ) (tree : ℕ) (is : command_of (understood register_sc
       (IsPermutation-map (λ (cells : Cells). column cells 1) _ _ (cells_filtered passing (is_at key) (key_past tree name_shown key) (key_is tree name_shown key) posts rows shows.cells)))
 
   module _ (posts_of : Tables → List (ℕ × List ℕ)) (rows_of : (t : Tables) (old : State) → Holds t old.now → ShowsPosts (posts_of t) (old.now.trees tree)) (old new : State) (t : Tables) (holds : Holds t old.now) where
-    -- what is read of the answer is the names, in order
-    pub found_so : (r : Result (Vec Cells Global) Error) (q : Result (List (List ℕ)) StoreError) → IfOk q (ReadsNames r) → IfOk r (λ rows. Shown text params old new rows.items)
+    -- an answer leaves all as it was
+    pub unchanged_so : (rows : List Cells) → Shown text params old new rows → IsUnchanged old new
+    unchanged_so rows asked = only_reads text params old new register_schema holds.schema tree at_key name_shown name_column is plain unlisted (low old.now.trees) rows asked
+
+    -- what is read of it is the names, in order
+    pub found_so : (rows : List Cells) (q : Result (List (List ℕ)) StoreError) → IfOk q (ReadsNames rows) → Shown text params old new rows
         → IfOk q (λ names. (names ≡ in_order (names_of key (posts_of t))) × IsUnchanged old new)
-    found_so r (Err e) reads asked = tt
-    found_so (Err e) (Ok names) reads asked = absurd reads
-    found_so (Ok rows) (Ok names) reads asked =
-        let all = gives_all text params old new register_schema holds.schema tree at_key name_shown name_column is plain unlisted (low old.now.trees) rows.items asked in
+    found_so rows (Err e) reads asked = tt
+    found_so rows (Ok names) reads asked =
+        let all = gives_all text params old new register_schema holds.schema tree at_key name_shown name_column is plain unlisted (low old.now.trees) rows asked in
         let shown = IsPermutation-trans _ _ _ (IsPermutation-sym _ _ (IsPermutation-map (λ (row : Cells). column row 0) _ _ all)) (found_names (posts_of t) (old.now.trees tree) (rows_of t old holds)) in
-        (reads (names_of key (posts_of t)) shown, only_reads text params old new register_schema holds.schema tree at_key name_shown name_column is plain unlisted (low old.now.trees) rows.items asked)
+        (reads (names_of key (posts_of t)) shown, unchanged_so rows asked)
 
     -- it commits nothing
     pub commits_none : Survives old new (CommitsShowing text params old) → Survives old new (λ _. ⊥)
     commits_none survives =
         let bare = subst (λ s. IsPlain (understood s text)) (sym holds.schema) plain in
         survives_weaker old new (CommitsShowing text params old) (λ _. ⊥) (λ _ db commits. never_commits text params old db bare commits) survives
+
+-- what holds anyhow holds where memory gave out
+pub at_memory : {A : Type 0} (r : Result A StoreError) (P : Type 0) → P → IfErr r (λ error. error ≡ Memory → P)
+at_memory (Ok x) P holds = tt
+at_memory (Err error) P holds = λ is. holds
 
 -- ---- the texts
 

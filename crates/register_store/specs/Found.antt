@@ -21,10 +21,9 @@ abbrev pub Reads : Result Row Error → Option Key → Type 0
 Reads (Ok cells) found = (key : Key) × (found ≡ Some key) × ((k : Key) → IsKey k → cells ≡ key_cells k → key ≡ k)
 Reads (Err error) found = (error ≡ QueryReturnedNoRows) × (found ≡ None)
 
--- what is read of the answer to a search for names: where its first column shows some names, these in order
-abbrev pub ReadsNames : Result (Vec Row Global) Error → List (List ℕ) → Type 0
-ReadsNames (Ok rows) found = (names : List (List ℕ)) → IsPermutation (map (λ row. column row 0) rows.items) (map Words names) → found ≡ in_order names
-ReadsNames (Err error) found = ⊥
+-- what is read of the rows of a search for names: where their first column shows some names, these in order
+abbrev pub ReadsNames : List Row → List (List ℕ) → Type 0
+ReadsNames rows found = (names : List (List ℕ)) → IsPermutation (map (λ row. column row 0) rows) (map Words names) → found ≡ in_order names
 
 -- a key is found as it stands in the tables, and the finding changes nothing
 abbrev pub FindsKey : ℕ → Option Key → Database → Database → Type 0

@@ -7,14 +7,16 @@ pub enum StoreError {
     /// A call of the database was refused.
     #[error("the database refused: {0}")]
     Database(#[from] sqlite::Error),
+    /// A growth of the store's own was refused, outside a transaction. Nothing changed.
+    #[error("out of memory")]
+    Memory,
     /// A row is one that no register holds, or one that a register holds is not there.
     #[error("the tables are those of no register")]
     NoRegister,
 }
 
-/// A want of memory is told as the database tells its own.
 impl<T: Drop> From<AllocFailed<T>> for StoreError {
-    fn from(error: AllocFailed<T>) -> StoreError {
-        StoreError::Database(sqlite::Error::from(error))
+    fn from(_: AllocFailed<T>) -> StoreError {
+        StoreError::Memory
     }
 }

@@ -1,5 +1,5 @@
 //! Who has a post at a key: its custodians, and those of them who approve of its destruction.
-ghost use Rattle.std.specs.Prelude.{◌≡◌, false, map, IfOk};
+ghost use Rattle.std.specs.Prelude.{◌≡◌, false, map, IfOk, IfErr};
 ghost use Rattle.sqlite.specs.State.{HasCleanDisk, IsUnchanged, Survives};
 ghost use Rattle.sqlite.specs.declared.types.Value.TheVariants.{Text as Words};
 ghost use Rattle.sqlite.specs.Held.{state};
@@ -12,7 +12,7 @@ ghost use Rattle.register_store.specs.Tables.{Tables, Holds, Makes, Always, with
 use crate::error::StoreError;
 use crate::find::name_in;
 use register_core::{Name, Names};
-use sqlite::{Alter, Connection, Error, Row, Transaction, params};
+use sqlite::{Alter, Connection, Row, Transaction, params};
 use std::alloc::Global;
 
 /// Makes the name a custodian of the key.
@@ -117,11 +117,10 @@ fn names_in(alloc: Global, rows: &[Row]) -> Result<Vec<Name>, StoreError>
 }
 
 /// The names that a search for names found, in order of their bytes.
-fn sorted_in(alloc: Global, answer: Result<Vec<Row>, Error>) -> Result<Names, StoreError>
-    ensures { IfOk result (ReadsNames answer) }
+fn sorted_in(alloc: Global, rows: &[Row]) -> Result<Names, StoreError>
+    ensures { IfOk result (ReadsNames rows.now) }
 {
-    let rows = answer?;
-    let mut names = Names::from_vec(names_in(alloc, &rows)?);
+    let mut names = Names::from_vec(names_in(alloc, rows)?);
     names.sort();
     Ok(names)
 }
@@ -129,8 +128,8 @@ fn sorted_in(alloc: Global, answer: Result<Vec<Row>, Error>) -> Result<Names, St
 /// The custodians of the key, in order of the bytes of their names. It changes nothing.
 ///
 /// # Errors
-/// [`StoreError::Database`] where the database refused or memory gave out, and [`StoreError::NoRegister`] where a row
-/// is one that no register holds.
+/// [`StoreError::Database`] where the database refused, [`StoreError::Memory`] where memory gave out behind its answer,
+/// and [`StoreError::NoRegister`] where a row is one that no register holds.
 pub fn find_custodians<S: Alter>(
     alloc: Global,
     connection: &mut Connection<S>,
@@ -140,13 +139,15 @@ pub fn find_custodians<S: Alter>(
     ensures idle { connection.new.in_transaction ≡ false }
     ensures found { HasCleanDisk (state S.Store connection.new) → (t : Tables) → Holds t (state S.Store connection.old).now →
         IfOk result (λ names. (names ≡ in_order (names_of key t.custodians)) × IsUnchanged (state S.Store connection.old) (state S.Store connection.new)) }
+    ensures memory { HasCleanDisk (state S.Store connection.new) → (t : Tables) → Holds t (state S.Store connection.old).now →
+        IfErr result (λ error. error ≡ StoreError.Memory → IsUnchanged (state S.Store connection.old) (state S.Store connection.new)) }
     ensures clean { HasCleanDisk (state S.Store connection.new) → HasCleanDisk (state S.Store connection.old) }
     ensures survives { (t : Tables) → Holds t (state S.Store connection.old).now → Survives (state S.Store connection.old) (state S.Store connection.new) (λ _. ⊥) }
 {
-    sorted_in(
-        alloc,
-        connection.query_all("SELECT name FROM custodian WHERE key_no = ?1", params![key]),
-    )
+    match connection.query_all("SELECT name FROM custodian WHERE key_no = ?1", params![key]) {
+        Ok(rows) => sorted_in(alloc, &rows),
+        Err(error) => Err(StoreError::Database(error)),
+    }
 }
 
 /// Those who approve of the key's destruction, in order of the bytes of their names. It changes nothing.
@@ -162,11 +163,13 @@ pub fn find_approvals<S: Alter>(
     ensures idle { connection.new.in_transaction ≡ false }
     ensures found { HasCleanDisk (state S.Store connection.new) → (t : Tables) → Holds t (state S.Store connection.old).now →
         IfOk result (λ names. (names ≡ in_order (names_of key t.approvals)) × IsUnchanged (state S.Store connection.old) (state S.Store connection.new)) }
+    ensures memory { HasCleanDisk (state S.Store connection.new) → (t : Tables) → Holds t (state S.Store connection.old).now →
+        IfErr result (λ error. error ≡ StoreError.Memory → IsUnchanged (state S.Store connection.old) (state S.Store connection.new)) }
     ensures clean { HasCleanDisk (state S.Store connection.new) → HasCleanDisk (state S.Store connection.old) }
     ensures survives { (t : Tables) → Holds t (state S.Store connection.old).now → Survives (state S.Store connection.old) (state S.Store connection.new) (λ _. ⊥) }
 {
-    sorted_in(
-        alloc,
-        connection.query_all("SELECT name FROM approval WHERE key_no = ?1", params![key]),
-    )
+    match connection.query_all("SELECT name FROM approval WHERE key_no = ?1", params![key]) {
+        Ok(rows) => sorted_in(alloc, &rows),
+        Err(error) => Err(StoreError::Database(error)),
+    }
 }

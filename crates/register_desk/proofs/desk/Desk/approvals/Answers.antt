@@ -29,3 +29,16 @@ returns-in-Err-clause-stop g c h stands clean =
     let found = subst (λ k. HasCleanDisk (state g.S.Store k)) same clean in
     subst (λ k. Leaves (tables h) (state g.S.Store k)) (sym same)
     (leaves_still g.S.Store c.args.self.now c.find_approvals.new.connection h stands c.requires c.find_approvals.ensures.survives c.find_approvals.ensures.clean found)
+
+pub returns-in-Err-Memory-clause-same : goal.returns-in-Err-Memory-clause-same
+returns-in-Err-Memory-clause-same g c h stands = record {
+  lawful = stands.lawful;
+  latest_is = stands.latest_is;
+  keys_are = stands.keys_are;
+  keeps = λ _. keeps_still g.S.Store c.args.self.now c.find_approvals.new.connection h stands c.requires c.find_approvals.ensures.survives c.find_approvals.ensures.clean
+      (λ clean. c.in-Err-Memory.ensures.memory clean (tables h) (stands.keeps c.requires (c.find_approvals.ensures.clean clean)).holds c.in-Err-Memory.field-0-is);
+}
+
+pub returns-in-Err-Memory-clause-stop : goal.returns-in-Err-Memory-clause-stop
+returns-in-Err-Memory-clause-stop g c h stands clean =
+    leaves_still g.S.Store c.args.self.now c.find_approvals.new.connection h stands c.requires c.find_approvals.ensures.survives c.find_approvals.ensures.clean clean
