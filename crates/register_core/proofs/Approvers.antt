@@ -4,7 +4,6 @@ use Rattle.std.specs.Prelude.{is_none}
 use Rattle.std.specs.List.{list_any}
 use Rattle.std.specs.Str.{bytes_eq}
 use Rattle.std.proofs.lemmas.Bool.{and_parts}
-use Rattle.lifecycle_core.specs.declared.dates.Dates.{Dates}
 use Rattle.lifecycle_core.specs.Reason.{is_compromise}
 use Rattle.register_core.specs.declared.request.Request.{Request}
 use Rattle.register_core.specs.declared.request.Command.{Command}
@@ -23,8 +22,8 @@ use Rattle.register_core.specs.Verdict.{not_custodian, named, verdict}
 use Rattle.register_core.specs.Decision.{people_by, custodians_by, approvals_by, PeopleLead}
 use Rattle.register_core.proofs.Decisions.{standing}
 use Rattle.register_core.proofs.Lawful.{lawful_holds}
-use Rattle.register_core.proofs.OnKey.{IsOn, on_key}
-use Rattle.register_core.proofs.PeopleLeads.{any_in_order, any_of_key, not_refused, nobody_changes, people_lead}
+use Rattle.register_core.proofs.OnKey.{on_key}
+use Rattle.register_core.proofs.PeopleLeads.{any_in_order, any_of_key, nobody_changes, people_lead}
 use Rattle.register_core.proofs.PeopleOnce.{any_joined, same_post}
 
 -- ---- lists with a post fewer or more

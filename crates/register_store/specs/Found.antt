@@ -1,6 +1,5 @@
 -- What is found of a register in a database.
-use Rattle.std.specs.Prelude.{◌≡◌, ◌⊎◌, ℕ, pos, Bool, true, false, List, [], map, codes, Option, None, Some, Result, Ok, Err, Vec, IsPermutation}
-use Rattle.std.specs.declared.alloc.Global.{Global}
+use Rattle.std.specs.Prelude.{◌≡◌, ◌⊎◌, ℕ, pos, Bool, true, false, List, [], map, codes, Option, None, Some, Result, Ok, Err, IsPermutation}
 use Rattle.sqlite.specs.declared.types.Value.TheVariants.{Int, Text as Words}
 use Rattle.sqlite.specs.Order.{Row, column}
 use Rattle.sqlite.specs.declared.error.Error.{Error}
