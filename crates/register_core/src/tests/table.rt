@@ -31,63 +31,63 @@ fn expected(cell: Cell, before: State) -> Result<State, Refusal> {
 }
 
 // Accepted: the state after the command.
-const PRE: Cell = Cell::To(State::PreActive);
+const PRE_ACTIVE: Cell = Cell::To(State::PreActive);
 
-const ACT: Cell = Cell::To(State::Active);
+const ACTIVE: Cell = Cell::To(State::Active);
 
-const DEA: Cell = Cell::To(State::Deactivated);
+const DEACTIVATED: Cell = Cell::To(State::Deactivated);
 
-const COM: Cell = Cell::To(State::Compromised);
+const COMPROMISED: Cell = Cell::To(State::Compromised);
 
-const DES: Cell = Cell::To(State::Destroyed);
+const DESTROYED: Cell = Cell::To(State::Destroyed);
 
-const DCO: Cell = Cell::To(State::DestroyedCompromised);
+const DESTROYED_COMPROMISED: Cell = Cell::To(State::DestroyedCompromised);
 
-// Refused, by the refusal's number.
-const R5: Cell = Cell::NotOwner;
+const WRONG_STATE: Cell = Cell::WrongState;
 
-const R6: Cell = Cell::NotCustodian;
+// Refused in every state.
+const NOT_OWNER: [Cell; 6] = [Cell::NotOwner; 6];
 
-const R7: Cell = Cell::WrongState;
+const NOT_CUSTODIAN: [Cell; 6] = [Cell::NotCustodian; 6];
 
 /// A row for each command and caller: the owner bob, a custodian, and the stranger zed. The columns are the states of
 /// the key: Pre-Active, Active, Deactivated, Compromised, Destroyed, Destroyed-Compromised. Of the custodians cat
 /// has approved, and eve, who approves, has not.
 #[rattlefmt::skip]
 const TABLE: [(&str, [Cell; 6]); 33] = [
-    ("1000 bob 1 activate 1",             [ACT, R7,  R7,  R7,  R7,  R7]),
-    ("1000 cat 1 activate 1",             [R5,  R5,  R5,  R5,  R5,  R5]),
-    ("1000 zed 1 activate 1",             [R5,  R5,  R5,  R5,  R5,  R5]),
-    ("1000 bob 1 set 1 = = =",            [PRE, ACT, R7,  R7,  R7,  R7]),
-    ("1000 cat 1 set 1 = = =",            [R5,  R5,  R5,  R5,  R5,  R5]),
-    ("1000 zed 1 set 1 = = =",            [R5,  R5,  R5,  R5,  R5,  R5]),
-    ("1000 bob 1 revoke 1 5 -",           [R7,  DEA, R7,  R7,  R7,  R7]),
-    ("1000 cat 1 revoke 1 5 -",           [R5,  R5,  R5,  R5,  R5,  R5]),
-    ("1000 zed 1 revoke 1 5 -",           [R5,  R5,  R5,  R5,  R5,  R5]),
-    ("1000 bob 1 revoke 1 2 -",           [COM, COM, COM, R7,  DCO, R7]),
-    ("1000 cat 1 revoke 1 2 -",           [COM, COM, COM, R7,  DCO, R7]),
-    ("1000 zed 1 revoke 1 2 -",           [COM, COM, COM, R7,  DCO, R7]),
-    ("1000 bob 1 revoke 1 3 50",          [COM, COM, COM, R7,  DCO, R7]),
-    ("1000 cat 1 revoke 1 3 50",          [COM, COM, COM, R7,  DCO, R7]),
-    ("1000 zed 1 revoke 1 3 50",          [COM, COM, COM, R7,  DCO, R7]),
-    ("1000 bob 1 assign 1 gil",           [PRE, ACT, DEA, COM, DES, DCO]),
-    ("1000 cat 1 assign 1 gil",           [R5,  R5,  R5,  R5,  R5,  R5]),
-    ("1000 zed 1 assign 1 gil",           [R5,  R5,  R5,  R5,  R5,  R5]),
-    ("1000 bob 1 add-custodian 1 fay",    [PRE, ACT, DEA, COM, DES, DCO]),
-    ("1000 cat 1 add-custodian 1 fay",    [R5,  R5,  R5,  R5,  R5,  R5]),
-    ("1000 zed 1 add-custodian 1 fay",    [R5,  R5,  R5,  R5,  R5,  R5]),
-    ("1000 bob 1 remove-custodian 1 dan", [PRE, ACT, DEA, COM, R7,  R7]),
-    ("1000 cat 1 remove-custodian 1 dan", [R5,  R5,  R5,  R5,  R5,  R5]),
-    ("1000 zed 1 remove-custodian 1 dan", [R5,  R5,  R5,  R5,  R5,  R5]),
-    ("1000 bob 1 approve 1",              [R6,  R6,  R6,  R6,  R6,  R6]),
-    ("1000 eve 1 approve 1",              [PRE, R7,  DEA, COM, R7,  R7]),
-    ("1000 zed 1 approve 1",              [R6,  R6,  R6,  R6,  R6,  R6]),
-    ("1000 bob 1 withdraw 1",             [R6,  R6,  R6,  R6,  R6,  R6]),
-    ("1000 cat 1 withdraw 1",             [PRE, ACT, DEA, COM, R7,  R7]),
-    ("1000 zed 1 withdraw 1",             [R6,  R6,  R6,  R6,  R6,  R6]),
-    ("1000 bob 1 destroy 1",              [DES, R7,  DES, DCO, R7,  R7]),
-    ("1000 cat 1 destroy 1",              [R5,  R5,  R5,  R5,  R5,  R5]),
-    ("1000 zed 1 destroy 1",              [R5,  R5,  R5,  R5,  R5,  R5]),
+    ("1000 bob 1 activate 1", [ACTIVE, WRONG_STATE, WRONG_STATE, WRONG_STATE, WRONG_STATE, WRONG_STATE]),
+    ("1000 cat 1 activate 1", NOT_OWNER),
+    ("1000 zed 1 activate 1", NOT_OWNER),
+    ("1000 bob 1 set 1 = = =", [PRE_ACTIVE, ACTIVE, WRONG_STATE, WRONG_STATE, WRONG_STATE, WRONG_STATE]),
+    ("1000 cat 1 set 1 = = =", NOT_OWNER),
+    ("1000 zed 1 set 1 = = =", NOT_OWNER),
+    ("1000 bob 1 revoke 1 5 -", [WRONG_STATE, DEACTIVATED, WRONG_STATE, WRONG_STATE, WRONG_STATE, WRONG_STATE]),
+    ("1000 cat 1 revoke 1 5 -", NOT_OWNER),
+    ("1000 zed 1 revoke 1 5 -", NOT_OWNER),
+    ("1000 bob 1 revoke 1 2 -", [COMPROMISED, COMPROMISED, COMPROMISED, WRONG_STATE, DESTROYED_COMPROMISED, WRONG_STATE]),
+    ("1000 cat 1 revoke 1 2 -", [COMPROMISED, COMPROMISED, COMPROMISED, WRONG_STATE, DESTROYED_COMPROMISED, WRONG_STATE]),
+    ("1000 zed 1 revoke 1 2 -", [COMPROMISED, COMPROMISED, COMPROMISED, WRONG_STATE, DESTROYED_COMPROMISED, WRONG_STATE]),
+    ("1000 bob 1 revoke 1 3 50", [COMPROMISED, COMPROMISED, COMPROMISED, WRONG_STATE, DESTROYED_COMPROMISED, WRONG_STATE]),
+    ("1000 cat 1 revoke 1 3 50", [COMPROMISED, COMPROMISED, COMPROMISED, WRONG_STATE, DESTROYED_COMPROMISED, WRONG_STATE]),
+    ("1000 zed 1 revoke 1 3 50", [COMPROMISED, COMPROMISED, COMPROMISED, WRONG_STATE, DESTROYED_COMPROMISED, WRONG_STATE]),
+    ("1000 bob 1 assign 1 gil", [PRE_ACTIVE, ACTIVE, DEACTIVATED, COMPROMISED, DESTROYED, DESTROYED_COMPROMISED]),
+    ("1000 cat 1 assign 1 gil", NOT_OWNER),
+    ("1000 zed 1 assign 1 gil", NOT_OWNER),
+    ("1000 bob 1 add-custodian 1 fay", [PRE_ACTIVE, ACTIVE, DEACTIVATED, COMPROMISED, DESTROYED, DESTROYED_COMPROMISED]),
+    ("1000 cat 1 add-custodian 1 fay", NOT_OWNER),
+    ("1000 zed 1 add-custodian 1 fay", NOT_OWNER),
+    ("1000 bob 1 remove-custodian 1 dan", [PRE_ACTIVE, ACTIVE, DEACTIVATED, COMPROMISED, WRONG_STATE, WRONG_STATE]),
+    ("1000 cat 1 remove-custodian 1 dan", NOT_OWNER),
+    ("1000 zed 1 remove-custodian 1 dan", NOT_OWNER),
+    ("1000 bob 1 approve 1", NOT_CUSTODIAN),
+    ("1000 eve 1 approve 1", [PRE_ACTIVE, WRONG_STATE, DEACTIVATED, COMPROMISED, WRONG_STATE, WRONG_STATE]),
+    ("1000 zed 1 approve 1", NOT_CUSTODIAN),
+    ("1000 bob 1 withdraw 1", NOT_CUSTODIAN),
+    ("1000 cat 1 withdraw 1", [PRE_ACTIVE, ACTIVE, DEACTIVATED, COMPROMISED, WRONG_STATE, WRONG_STATE]),
+    ("1000 zed 1 withdraw 1", NOT_CUSTODIAN),
+    ("1000 bob 1 destroy 1", [DESTROYED, WRONG_STATE, DESTROYED, DESTROYED_COMPROMISED, WRONG_STATE, WRONG_STATE]),
+    ("1000 cat 1 destroy 1", NOT_OWNER),
+    ("1000 zed 1 destroy 1", NOT_OWNER),
 ];
 
 /// The outcome of the line's request, where the key is in this state at 1000.
