@@ -68,6 +68,8 @@ fn answer_item<S: Alter>(desk: &mut Desk<S>, item: &Option<Request>) -> Result<R
     ensures clean { OnOk result (WasClean S.Store desk.old desk.new) }
     ensures short { IfOk result (λ line. length line ≤ REPLY_LIMIT) }
     ensures stop { IfErr result (λ end. StopsItem S.Store desk.old desk.new item.now end) }
+    ensures whole { desk.old.is_broken ≡ false → OnOk result (desk.new.is_broken ≡ false) }
+    ensures stays { desk.old.is_broken ≡ false → IfErr result (λ end. end ≢ End.Store → desk.new.is_broken ≡ false) }
 {
     let outcome = match item {
         Some(request) => desk.apply(request)?.outcome(),
@@ -92,6 +94,8 @@ fn serve_item<W: Write, S: Alter>(
     ensures within { IfErr result (λ stop. stop.written ≤ REPLY_LIMIT) }
     ensures flushed { OnOk result (writer.new.unflushed ≡ false) }
     ensures untouched { IfErr result (λ stop. stop.end ≢ End.WriteFault → writer.new ≡ writer.old) }
+    ensures whole { desk.old.is_broken ≡ false → OnOk result (desk.new.is_broken ≡ false) }
+    ensures stays { desk.old.is_broken ≡ false → IfErr result (λ stop. stop.end ≢ End.Store → desk.new.is_broken ≡ false) }
 {
     let line = match answer_item(desk, item) {
         Ok(line) => line,
@@ -126,6 +130,8 @@ fn serve_lines<R: Read, W: Write, S: Alter>(
     // At the end of the input the reader has no more, and whatever was written is flushed unless the writer failed.
     ensures at_end { (rest : ℕ) → result.end ≡ Finish.AtEnd rest → IsAtEnd (R.remaining reader.new.inner) }
     ensures flushed { result.end ≢ Finish.Ended End.WriteFault → writer.old.unflushed ≡ false → writer.new.unflushed ≡ false }
+    // A desk that is whole stays so unless the run ends by 31.
+    ensures whole { desk.old.is_broken ≡ false → result.end ≢ Finish.Ended End.Store → desk.new.is_broken ≡ false }
 {
     let mut lines = Lines::new();
     let mut written: u64 = 0;
@@ -181,6 +187,8 @@ pub fn run<R: Read, W: Write, S: Alter>(
     // At the end of the input the reader has no more, and whatever was written is flushed unless the writer failed.
     ensures at_end { (rest : ℕ) → result.end ≡ Finish.AtEnd rest → IsAtEnd (R.remaining reader.new.inner) }
     ensures flushed { result.end ≢ Finish.Ended End.WriteFault → writer.old.unflushed ≡ false → writer.new.unflushed ≡ false }
+    // A desk that is whole stays so unless the run ends by 31.
+    ensures whole { desk.old.is_broken ≡ false → result.end ≢ Finish.Ended End.Store → desk.new.is_broken ≡ false }
 {
     reader.begin();
     writer.begin();

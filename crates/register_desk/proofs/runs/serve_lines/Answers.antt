@@ -19,6 +19,7 @@ loop-lines-init g c =
       some = omega (arith, ap (work_left c.args.reader.now.turns) unread);
       short = omega arith;
       flushed = λ e. e;
+      whole = λ e. e;
     }
 
 pub loop-lines-preserved : goal.loop-lines-preserved
@@ -36,6 +37,7 @@ loop-lines-preserved g c =
       some = omega (arith, less, invariant.some);
       short = omega (arith, invariant.short, c.in-Ok.ensures.short);
       flushed = λ e. c.in-Ok.ensures.flushed;
+      whole = λ e. c.in-Ok.ensures.whole (invariant.whole e);
     }
 
 pub returns-clause-serves : goal.returns-clause-serves
@@ -97,4 +99,14 @@ returns-clause-flushed g c sound before =
           ap (λ x. x.unflushed) w.writer-is ∙ ap (λ x. x.unflushed) untouched ∙ kept
       | in-Ok-End w ↦ ap (λ x. x.unflushed) w.writer-is ∙ kept
       | in-Err w ↦ ap (λ x. x.unflushed) w.writer-is ∙ kept
+    ]
+
+pub returns-clause-whole : goal.returns-clause-whole
+returns-clause-whole g c before sound =
+    let kept = c.loop-lines.invariant.whole before in
+    elim c.match-next.branch [
+      | in-Ok-Line+in-Err-serve_item w ↦
+          ap (λ x. x.is_broken) w.desk-is ∙ w.in-Err-serve_item.ensures.stays kept (λ store. sound (w.end-is ∙ ap (λ (end : End). Ended end) store))
+      | in-Ok-End w ↦ ap (λ x. x.is_broken) w.desk-is ∙ kept
+      | in-Err w ↦ ap (λ x. x.is_broken) w.desk-is ∙ kept
     ]

@@ -16,6 +16,7 @@ invariant-loop-lines g l = record {
   some : l.replies + work_left l.reader.turns l.lines.unread ≤ work_left l.fn.reader.turns [];
   short : l.written ≤ REPLY_LIMIT * l.replies;
   flushed : l.fn.writer.unflushed ≡ false → l.writer.unflushed ≡ false;
+  whole : l.fn.desk.is_broken ≡ false → l.desk.is_broken ≡ false;
 }
 
 abbrev pub decreases-loop-lines : goal.decreases-loop-lines
