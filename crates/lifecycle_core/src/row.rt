@@ -1,3 +1,4 @@
+//! A key's row: its dates, and the state that is kept beside them.
 ghost use Rattle.std.specs.Prelude.{◌≡◌, ◌≤◌, ℕ};
 ghost use Rattle.lifecycle_core.specs.State.{state_at, is_reached_at};
 ghost use Rattle.lifecycle_core.specs.Row.{IsRightAt};
@@ -11,6 +12,17 @@ use moment_core::Moment;
 pub struct Row {
     pub dates: Dates,
     pub state: State,
+}
+
+impl Row {
+    ghost use Rattle.std.specs.Prelude.{◌↔◌, IsTrue};
+
+    /// Whether the kept state is the one that the dates give at a moment.
+    pub fn is_right_at(&self, at: Moment) -> bool
+        ensures { IsTrue result ↔ IsRightAt self.now at }
+    {
+        self.state == state_of(&self.dates, at)
+    }
 }
 
 /// Whether the date is set and at most the moment.
