@@ -4,8 +4,8 @@ use Rattle.std.specs.List.{AllByRecursion}
 use Rattle.std.proofs.lemmas.List.{append-nil}
 use Rattle.register_core.specs.declared.request.Request.{Request}
 use Rattle.register_core.specs.Request.{IsLineOf, IsItem}
-use Rattle.register_desk.specs.declared.lines.TheConstants.{LINE_FEED}
-use Rattle.register_desk.specs.Lines.{HasNoLineFeed}
+use Rattle.streams.specs.declared.lines.TheConstants.{LINE_FEED}
+use Rattle.streams.specs.Lines.{HasNoLineFeed}
 use Rattle.register_desk.specs.Input.{with_line_feeds, AreItems, HasItems}
 
 -- what is cut off at the first line feed

@@ -1,5 +1,4 @@
 pub mod InputLemmas
-pub mod LinesLemmas
 pub mod Requests
 pub mod Grows
 pub mod Standing

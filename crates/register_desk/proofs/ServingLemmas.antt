@@ -14,13 +14,13 @@ use Rattle.register_core.specs.declared.reply.Reply.{Reply}
 use Rattle.register_core.specs.declared.reply.Refusal.{Refusal}
 use Rattle.register_core.specs.Request.{IsItem}
 use Rattle.register_core.specs.Fold.{history, history_after, answers, answer_to}
-use Rattle.register_desk.specs.declared.lines.TheConstants.{LINE_FEED}
+use Rattle.streams.specs.declared.lines.TheConstants.{LINE_FEED}
 use Rattle.register_desk.specs.declared.end.End.{End}
 use Rattle.register_desk.specs.declared.end.End.TheVariants.{Memory, Store, Broken, ReadFault, WriteFault}
 use Rattle.register_desk.specs.declared.runs.Finish.{Finish}
 use Rattle.register_desk.specs.declared.runs.Finish.TheVariants.{AtEnd, Ended}
 use Rattle.register_desk.specs.declared.desk.Desk.{Desk}
-use Rattle.register_desk.specs.Lines.{Cut, HasNoLineFeed, Takes}
+use Rattle.streams.specs.Lines.{Cut, HasNoLineFeed, Takes}
 use Rattle.register_desk.specs.Input.{with_line_feeds, AreItems, HasItems}
 use Rattle.register_desk.specs.Register.{StandsFor, LeavesOneOf}
 use Rattle.register_desk.specs.Run.{answer_line, answer_lines, Answered, AnsweredInPart, RunsOver}

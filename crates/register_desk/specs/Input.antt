@@ -3,8 +3,8 @@ use Rattle.std.specs.Prelude.{◌≡◌, ℕ, List, [], ◌∷◌, ◌++◌, Opt
 use Rattle.std.specs.List.{AllByRecursion}
 use Rattle.register_core.specs.declared.request.Request.{Request}
 use Rattle.register_core.specs.Request.{IsItem}
-use Rattle.register_desk.specs.declared.lines.TheConstants.{LINE_FEED}
-use Rattle.register_desk.specs.Lines.{HasNoLineFeed}
+use Rattle.streams.specs.declared.lines.TheConstants.{LINE_FEED}
+use Rattle.streams.specs.Lines.{HasNoLineFeed}
 
 -- the lines one after the other, each with a line feed behind it
 abbrev pub with_line_feeds : List (List ℕ) → List ℕ

@@ -5,8 +5,6 @@ pub mod Finding
 pub mod Shown
 pub mod Opening
 pub mod Answer
-pub mod Watched
-pub mod Lines
 pub mod Input
 pub mod Run
 pub mod Serving

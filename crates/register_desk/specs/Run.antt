@@ -1,5 +1,5 @@
 -- What a run over an input writes and leaves.
-use Rattle.std.specs.Prelude.{◌≡◌, ◌⊎◌, ℕ, ◌+◌, ◌≤◌, Bool, true, List, [], ◌∷◌, ◌++◌, length, take, flat_map, Option, Some, Result, slice_get}
+use Rattle.std.specs.Prelude.{◌≡◌, ℕ, ◌+◌, ◌≤◌, true, List, [], ◌∷◌, ◌++◌, length, take, flat_map, Option, Some, Result, slice_get}
 use Rattle.std.specs.Io.KnownBytes.{Appends}
 use Rattle.sqlite_trees.specs.declared.store.Store.{Ghosts}
 use Rattle.sqlite.specs.Held.{state}
@@ -8,7 +8,7 @@ use Rattle.register_core.specs.declared.reply.Reply.{Reply}
 use Rattle.register_core.specs.declared.reply.Refusal.{Refusal}
 use Rattle.register_core.specs.Reply.{reply_text}
 use Rattle.register_core.specs.Fold.{history, answers}
-use Rattle.register_desk.specs.declared.lines.TheConstants.{LINE_FEED}
+use Rattle.streams.specs.declared.lines.TheConstants.{LINE_FEED}
 use Rattle.register_desk.specs.declared.end.End.TheVariants.{Memory, Store, Broken, ReadFault, WriteFault}
 use Rattle.register_desk.specs.declared.runs.Finish.{Finish}
 use Rattle.register_desk.specs.declared.runs.Finish.TheVariants.{AtEnd, Ended}
@@ -64,16 +64,3 @@ RunsOver g h items rest (Ended Broken) replies old new desk =
     Answered g h items replies old new desk × StopsAtRequest items replies desk
 RunsOver g h items rest (Ended ReadFault) replies old new desk = Answered g h items replies old new desk
 RunsOver g h items rest (Ended WriteFault) replies old new desk = AnsweredInPart g h items replies old new desk
-
--- ---- faults
-
--- the bound on the reads of a run, and that on the interrupted turns in a row at its writer
-abbrev pub most_reads : ℕ
-most_reads = 2_000_000_000
-
-abbrev pub most_idle : ℕ
-most_idle = 10_000
-
--- a turn failed, or the bound on turns was met
-abbrev pub IsFaulted : Bool → ℕ → ℕ → Type 0
-IsFaulted failed most turns = (failed ≡ true) ⊎ (most ≤ turns)

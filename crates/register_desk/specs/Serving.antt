@@ -8,13 +8,13 @@ use Rattle.sqlite.specs.Held.{state}
 use Rattle.register_core.specs.declared.request.Request.{Request}
 use Rattle.register_core.specs.Request.{IsItem}
 use Rattle.register_core.specs.Fold.{history, history_after, answers, answer_to}
-use Rattle.register_desk.specs.declared.lines.TheConstants.{LINE_FEED}
+use Rattle.streams.specs.declared.lines.TheConstants.{LINE_FEED}
 use Rattle.register_desk.specs.declared.end.End.{End}
 use Rattle.register_desk.specs.declared.end.End.TheVariants.{Memory, Store, Broken, ReadFault, WriteFault}
 use Rattle.register_desk.specs.declared.runs.Finish.{Finish}
 use Rattle.register_desk.specs.declared.runs.Finish.TheVariants.{AtEnd, Ended}
 use Rattle.register_desk.specs.declared.desk.Desk.{Desk}
-use Rattle.register_desk.specs.Lines.{HasNoLineFeed}
+use Rattle.streams.specs.Lines.{HasNoLineFeed}
 use Rattle.register_desk.specs.Input.{with_line_feeds, AreItems}
 use Rattle.register_desk.specs.Register.{StandsFor, LeavesOneOf}
 use Rattle.register_desk.specs.Run.{answer_line, answer_lines}

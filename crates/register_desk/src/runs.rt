@@ -6,24 +6,19 @@ ghost use Rattle.sqlite.specs.Held.{state};
 ghost use Rattle.register_core.specs.declared.request.Request.{Request};
 ghost use Rattle.register_core.specs.declared.line.TheConstants.{LINE_LIMIT, REPLY_LIMIT};
 ghost use Rattle.register_core.specs.Request.{IsItem};
-ghost use Rattle.register_desk.specs.declared.lines.TheConstants.{PIECE};
-ghost use Rattle.register_desk.specs.Lines.{work_left};
+ghost use Rattle.streams.specs.Watched.{IsFaulted};
 ghost use Rattle.register_desk.specs.Input.{HasItems};
 ghost use Rattle.register_desk.specs.Register.{StandsFor};
-ghost use Rattle.register_desk.specs.Run.{RunsOver, IsFaulted, most_reads, most_idle};
+ghost use Rattle.register_desk.specs.Run.{RunsOver};
 ghost use Rattle.register_desk.specs.Serving.{AnswersItem, WasClean, ServesItem, StopsItem, LeavesItem, ServesTo, Wrote, TookBytes};
 
 use crate::desk::Desk;
 use crate::end::End;
-use crate::lines::{Lines, Next};
-use crate::watched::{ReadFault, Watched};
 use register_core::laws::one_request;
-use register_core::{Refusal, ReplyLine, Request, read_request, reply_line};
+use register_core::{LINE_LIMIT, Refusal, ReplyLine, Request, read_request, reply_line};
 use sqlite::Alter;
 use std::io::{Read, Write};
-
-/// The most interrupted turns in a row at its writer that a call takes.
-pub const MOST_IDLE_TURNS: u64 = 10_000;
+use streams::{Lines, MAX_IDLE_TURNS, MAX_READS, Next, ReadFault, Watched};
 
 /// How a run ended.
 #[derive(Clone, Copy, Debug, PartialEq, Eq)]
@@ -55,7 +50,7 @@ struct Stop {
 }
 
 /// What the line that was cut off last stands for. No line longer than the limit is one of a request.
-fn item_of(lines: &Lines) -> Option<Request>
+fn item_of(lines: &Lines<LINE_LIMIT>) -> Option<Request>
     ensures { (line : List ℕ) → lines.now.line_length ≡ length line
         → (length line ≤ LINE_LIMIT → lines.now.line ≡ line) → IsItem line result }
 {
@@ -90,7 +85,7 @@ fn serve_item<W: Write, S: Alter>(
     ensures stop { IfErr result (λ stop. LeavesItem S.Store desk.old desk.new (W.contents writer.old.inner)
         (W.contents writer.new.inner) item.now stop.end stop.written) }
     ensures cause { IfErr result (λ stop. stop.end ≡ End.WriteFault →
-        IsFaulted writer.new.failed most_idle writer.new.idle) }
+        IsFaulted writer.new.failed MAX_IDLE_TURNS writer.new.idle) }
     ensures within { IfErr result (λ stop. stop.written ≤ REPLY_LIMIT) }
     ensures flushed { OnOk result (writer.new.unflushed ≡ false) }
     ensures untouched { IfErr result (λ stop. stop.end ≢ End.WriteFault → writer.new ≡ writer.old) }
@@ -101,7 +96,7 @@ fn serve_item<W: Write, S: Alter>(
         Ok(line) => line,
         Err(end) => return Err(Stop { end, written: 0 }),
     };
-    match writer.write_flushed(MOST_IDLE_TURNS, line.as_bytes()) {
+    match writer.write_flushed(MAX_IDLE_TURNS, line.as_bytes()) {
         Ok(()) => Ok(line.as_bytes().len()),
         Err(fault) => Err(Stop {
             end: End::WriteFault,
@@ -124,9 +119,9 @@ fn serve_lines<R: Read, W: Write, S: Alter>(
     ensures read { TookBytes (R.remaining reader.old.inner) (R.remaining reader.new.inner) result.read }
     ensures written { Wrote (W.contents writer.old.inner) (W.contents writer.new.inner) result.written }
     ensures read_fault { result.end ≡ Finish.Ended End.ReadFault →
-        IsFaulted reader.new.failed most_reads reader.new.turns }
+        IsFaulted reader.new.failed MAX_READS reader.new.turns }
     ensures write_fault { result.end ≡ Finish.Ended End.WriteFault →
-        IsFaulted writer.new.failed most_idle writer.new.idle }
+        IsFaulted writer.new.failed MAX_IDLE_TURNS writer.new.idle }
     // At the end of the input the reader has no more, and whatever was written is flushed unless the writer failed.
     ensures at_end { (rest : ℕ) → result.end ≡ Finish.AtEnd rest → IsAtEnd (R.remaining reader.new.inner) }
     ensures flushed { result.end ≢ Finish.Ended End.WriteFault → writer.old.unflushed ≡ false → writer.new.unflushed ≡ false }
@@ -156,7 +151,7 @@ fn serve_lines<R: Read, W: Write, S: Alter>(
         }
     };
     Outcome {
-        read: lines.taken(),
+        read: lines.bytes_taken(),
         written,
         replies,
         end,
@@ -181,9 +176,9 @@ pub fn run<R: Read, W: Write, S: Alter>(
     ensures read { TookBytes (R.remaining reader.old.inner) (R.remaining reader.new.inner) result.read }
     ensures written { Wrote (W.contents writer.old.inner) (W.contents writer.new.inner) result.written }
     ensures read_fault { result.end ≡ Finish.Ended End.ReadFault →
-        IsFaulted reader.new.failed most_reads reader.new.turns }
+        IsFaulted reader.new.failed MAX_READS reader.new.turns }
     ensures write_fault { result.end ≡ Finish.Ended End.WriteFault →
-        IsFaulted writer.new.failed most_idle writer.new.idle }
+        IsFaulted writer.new.failed MAX_IDLE_TURNS writer.new.idle }
     // At the end of the input the reader has no more, and whatever was written is flushed unless the writer failed.
     ensures at_end { (rest : ℕ) → result.end ≡ Finish.AtEnd rest → IsAtEnd (R.remaining reader.new.inner) }
     ensures flushed { result.end ≢ Finish.Ended End.WriteFault → writer.old.unflushed ≡ false → writer.new.unflushed ≡ false }

@@ -1,7 +1,7 @@
 use super::memory_streams::{BrokenAfter, Short, Trouble, Troubled};
 use super::served::serve;
 use super::worked_rows::{FIRST_DAY, first_lines, line_count};
-use register_desk::{Desk, End, Finish, MOST_IDLE_TURNS};
+use register_desk::{Desk, End, Finish, MAX_IDLE_TURNS};
 use sqlite::MemStore;
 use std::test::Fail;
 
@@ -65,7 +65,7 @@ fn a_troubled_writer_ends_the_run(rt: HostRuntime) -> Result<(), Fail> {
                 "{name} after {lines}"
             );
             assert_eq!(rt; served.writer.failed(), fails, "{name} after {lines}");
-            let idle = if fails { 0 } else { MOST_IDLE_TURNS };
+            let idle = if fails { 0 } else { MAX_IDLE_TURNS };
             assert_eq!(rt; served.writer.idle(), idle, "{name} after {lines}");
             assert!(rt;
                 stands_after(&served.desk, lines.saturating_add(1)),

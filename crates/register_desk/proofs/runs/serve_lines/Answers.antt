@@ -2,7 +2,7 @@ use Rattle.std.proofs.Common.{◌≡◌, sym, ◌+◌, ap, refl, ◌∙◌, arit
 use Rattle.register_desk.specs.declared.end.End.{End}
 use Rattle.register_desk.specs.declared.end.End.TheVariants.{ReadFault}
 use Rattle.register_desk.specs.declared.runs.Finish.TheVariants.{AtEnd, Ended}
-use Rattle.register_desk.specs.Lines.{Cut, work_left}
+use Rattle.streams.specs.Lines.{Cut, work_left}
 use Rattle.register_desk.proofs.ServingLemmas.{served_begin, took_begin, took_then, wrote_item, wrote_part, wrote_begin, stopped_so, all_so, served_more, serves_same, wrote_same}
 use Rattle.register_desk.proofs.runs.serve_lines.Goals as goal
 use Rattle.register_desk.proofs.runs.serve_lines.Goals.{in-Ok-Line+in-Err-serve_item, in-Ok-End, in-Err}
@@ -69,7 +69,7 @@ returns-clause-serves g c =
 pub returns-clause-read : goal.returns-clause-read
 returns-clause-read g c =
     let took = took_then _ _ _ c.loop-lines.lines.taken c.loop-lines.lines c.next.new.self c.loop-lines.invariant.took refl c.next.ensures.taken in
-    (took.0, took.1, c.taken.ensures ∙ took.2)
+    (took.0, took.1, c.bytes_taken.ensures ∙ took.2)
 
 pub returns-clause-written : goal.returns-clause-written
 returns-clause-written g c =

@@ -1,8 +1,8 @@
 use Rattle.std.proofs.Common.{◌≡◌, false, ◌+◌, ◌*◌, ◌≤◌, []}
 use Rattle.std.specs.Io.KnownBytes.{prepend_known}
 use Rattle.register_core.specs.declared.line.TheConstants.{REPLY_LIMIT}
-use Rattle.register_desk.specs.declared.lines.TheConstants.{PIECE}
-use Rattle.register_desk.specs.Lines.{work_left}
+use Rattle.streams.specs.declared.lines.TheConstants.{MAX_PIECE_LENGTH}
+use Rattle.streams.specs.Lines.{work_left}
 use Rattle.register_desk.specs.Serving.{Served, Wrote, TookBytes}
 use Rattle.register_desk.proofs.runs.serve_lines.Given as goal
 
@@ -12,7 +12,7 @@ invariant-loop-lines g l = record {
       (g.W.Write.contents l.fn.writer.inner) (g.W.Write.contents l.writer.inner) l.fn.desk l.desk l.replies;
   took : TookBytes (g.R.Read.remaining l.fn.reader.inner) (g.R.Read.remaining l.reader.inner) l.lines.taken;
   wrote : Wrote (g.W.Write.contents l.fn.writer.inner) (g.W.Write.contents l.writer.inner) l.written;
-  within : l.lines.taken ≤ PIECE * l.reader.turns;
+  within : l.lines.taken ≤ MAX_PIECE_LENGTH * l.reader.turns;
   some : l.replies + work_left l.reader.turns l.lines.unread ≤ work_left l.fn.reader.turns [];
   short : l.written ≤ REPLY_LIMIT * l.replies;
   flushed : l.fn.writer.unflushed ≡ false → l.writer.unflushed ≡ false;
