@@ -17,6 +17,3 @@ pub use row::{Row, advance, state_of};
 pub use state::State;
 pub use transition::may;
 pub use usage::{Process, Usage, usage_of};
-
-#[cfg(test)]
-mod tests;

@@ -7,6 +7,3 @@ mod moment;
 mod text;
 
 pub use moment::{LAST_SECOND, Moment};
-
-#[cfg(test)]
-mod tests;

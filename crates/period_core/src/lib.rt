@@ -11,6 +11,3 @@ pub use dates::{filled, trimmed};
 pub use filling::{DateRefusal, fill, trim};
 pub use key_type::KeyType;
 pub use period::{Period, period_of};
-
-#[cfg(test)]
-mod tests;

@@ -9,6 +9,9 @@ returns-then-take_to_line_feed-clause-line g c =
     let (part, unbroken, split, more) = c.if-take_to_line_feed.ensures.found in
     (so_far ++ part, CutsLine-at_line_feed _ _ c.loop-self.self c.take_to_line_feed.new.self so_far part begun unbroken split more)
 
+pub returns-then-take_to_line_feed-clause-end : goal.returns-then-take_to_line_feed-clause-end
+returns-then-take_to_line_feed-clause-end g c = search rules
+
 pub returns-in_err-refill-clause-taken : goal.returns-in_err-refill-clause-taken
 returns-in_err-refill-clause-taken g c =
     let (bytes, before) = c.loop-self.invariant.taken in
