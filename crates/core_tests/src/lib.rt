@@ -1,5 +1,6 @@
-//! Tests of the crates below the store: what no contract says of them, and outcomes that were worked out elsewhere. They
-//! stand here, since a library that has tests is proved once more for them.
+//! Tests of the crates below the store: what no contract says of them, and outcomes that were
+//! worked out elsewhere. They stand here, since a library that has tests is proved once more for
+//! them.
 #![tactic(auto)]
 
 #[cfg(test)]
@@ -8,3 +9,5 @@ mod lifecycle;
 mod moments;
 #[cfg(test)]
 mod periods;
+#[cfg(test)]
+mod requests;

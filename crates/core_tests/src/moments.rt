@@ -1,4 +1,5 @@
-//! Sums with calendar months and days, compared with the worked rows and with the calendar of Python's datetime.
+//! Sums with calendar months and days, compared with the worked rows and with the calendar of
+//! Python's datetime.
 mod edges;
 mod later_month_ends;
 mod month_ends;

@@ -17,8 +17,8 @@ const ENDED: u8 = 3;
 const FAULTED: u8 = 4;
 
 /// Names the end on `faults`, and gives its exit status.
-pub fn told(end: End, faults: &mut impl Write) -> u8 {
-    // Nobody is left to be told of a fault in telling of one.
+pub fn report_end(end: End, faults: &mut impl Write) -> u8 {
+    // Nobody is left to hear of a fault in reporting one.
     let _ = writeln!(faults, "keyreg: {}", end.name());
     match end {
         End::Memory | End::Store | End::Broken => ENDED,
@@ -27,13 +27,13 @@ pub fn told(end: End, faults: &mut impl Write) -> u8 {
 }
 
 /// Names the refusal on `faults`, and gives its exit status.
-pub fn told_unopened(refusal: OpenRefusal, faults: &mut impl Write) -> u8 {
+pub fn report_refusal(refusal: OpenRefusal, faults: &mut impl Write) -> u8 {
     let _ = writeln!(faults, "keyreg: {}", refusal.name());
     UNOPENED
 }
 
 /// A new register in memory.
-pub fn in_memory(alloc: Global) -> Result<Desk<MemStore>, OpenRefusal> {
+pub fn create_in_memory(alloc: Global) -> Result<Desk<MemStore>, OpenRefusal> {
     let connection = match Connection::open_in_memory(alloc) {
         Ok(connection) => connection,
         Err(_) => return Err(OpenRefusal::Memory),
@@ -44,9 +44,9 @@ pub fn in_memory(alloc: Global) -> Result<Desk<MemStore>, OpenRefusal> {
     }
 }
 
-/// Runs over the request lines of `input`. Gives the exit status: 0 at the end of the input, 1 where there is any
-/// word, 2 where the register could not be made, 3 after an end of the register and 4 after a fault of a stream; for
-/// 2 to 4 it names the cause on `faults`.
+/// Runs over the request lines of `input`. Gives the exit status: 0 at the end of the input, 1
+/// where there is any word, 2 where the register could not be made, 3 after an end of the register
+/// and 4 after a fault of a stream; for 2 to 4 it names the cause on `faults`.
 pub fn act<R: Read + Drop, W: Write + Drop>(
     alloc: Global,
     words: usize,
@@ -57,14 +57,14 @@ pub fn act<R: Read + Drop, W: Write + Drop>(
     if words > 0 {
         return USAGE;
     }
-    let mut desk = match in_memory(alloc) {
+    let mut desk = match create_in_memory(alloc) {
         Ok(desk) => desk,
-        Err(refusal) => return told_unopened(refusal, faults),
+        Err(refusal) => return report_refusal(refusal, faults),
     };
     let mut reader = Watched::new(input);
     let mut writer = Watched::new(output);
     match run(&mut reader, &mut writer, &mut desk).end {
         Finish::AtEnd { .. } => 0,
-        Finish::Ended(end) => told(end, faults),
+        Finish::Ended(end) => report_end(end, faults),
     }
 }

@@ -1,10 +1,10 @@
-//! The register's program: it reads request lines from standard input and writes their reply lines to standard
-//! output, over a new register in memory.
+//! The register's program: it reads request lines from standard input and writes their reply lines
+//! to standard output, over a new register in memory.
 #![tactic(auto)]
 
 mod act;
 
-use act::{USAGE, act, told};
+use act::{USAGE, act, report_end};
 use register_desk::End;
 use std::env;
 use std::io::ErrorKind;
@@ -18,7 +18,7 @@ fn main(rt: HostRuntime) -> ExitCode {
             act(rt.alloc(), words, rt.stdin(), rt.stdout(), &mut rt.stderr())
         }
         Err(error) if error.kind() == ErrorKind::OutOfMemory => {
-            told(End::Memory, &mut rt.stderr())
+            report_end(End::Memory, &mut rt.stderr())
         }
         // A word that is no text is a word.
         Err(_) => USAGE,

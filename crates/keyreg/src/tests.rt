@@ -1,10 +1,9 @@
 //! The program's tests: the worked rows of docs/SPECIFICATION.md, and runs over streams that fail.
 
 mod acts;
+mod desks;
 mod faults;
+mod fresh_run;
 mod long_lines;
-mod memory_streams;
 mod rows;
-mod served;
-mod tables;
 mod worked_rows;

@@ -60,7 +60,8 @@ one_step from to passes = ((Some from, to) ∷ [], (refl, listed (Some from) to 
 -- the states before and after, by the dates reached before and after
 moves : (destroyed compromised activated deactivated activated' deactivated' : Bool) →
     (activated ≡ true → activated' ≡ true) → (deactivated ≡ true → deactivated' ≡ true) →
-    Leads (Some (state_by destroyed compromised activated deactivated)) (Some (state_by destroyed compromised activated' deactivated'))
+    Leads (Some (state_by destroyed compromised activated deactivated))
+    (Some (state_by destroyed compromised activated' deactivated'))
 moves true true _ _ _ _ stay stay' = stays _
 moves true false _ _ _ _ stay stay' = stays _
 moves false true _ _ _ _ stay stay' = stays _

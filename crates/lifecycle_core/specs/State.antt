@@ -1,4 +1,5 @@
--- The states of a key, and the one that its dates give: KMIP 1.2 section 3.22, with the order of the lines of this register's own.
+-- The states of a key, and the one that its dates give: KMIP 1.2 section 3.22, with the order of
+-- the lines of this register's own.
 use Rattle.std.specs.Prelude.{ℕ, Bool, false, not, ◌&&◌, nat_le, List, codes, Option, None, Some, is_some, if◌then◌else◌}
 use Rattle.lifecycle_core.specs.declared.state.State.{State}
 use Rattle.lifecycle_core.specs.declared.state.State.TheVariants.{PreActive, Active, Deactivated, Compromised, Destroyed, DestroyedCompromised}

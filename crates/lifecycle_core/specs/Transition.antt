@@ -3,8 +3,8 @@ use Rattle.std.specs.Prelude.{◌≡◌, List, [], ◌∷◌, Contains, Option, 
 use Rattle.lifecycle_core.specs.declared.state.State.{State}
 use Rattle.lifecycle_core.specs.declared.state.State.TheVariants.{PreActive, Active, Deactivated, Compromised, Destroyed, DestroyedCompromised}
 
--- the ten transitions in the standard's order, each from a state to a state; the first creates the key, which has no
--- state before it
+-- the ten transitions in the standard's order, each from a state to a state; the first creates the
+-- key, which has no state before it
 abbrev pub transitions : List (Option State × State)
 transitions =
     (None, PreActive) ∷
@@ -25,7 +25,8 @@ IsTransition from to = Contains transitions (from, to)
 -- a path is a list of transitions, perhaps empty, joined end to end
 abbrev pub IsPath : Option State → List (Option State × State) → Option State → Type 0
 IsPath from [] to = from ≡ to
-IsPath from (step ∷ path) to = (step.0 ≡ from) × IsTransition step.0 step.1 × IsPath (Some step.1) path to
+IsPath from (step ∷ path) to =
+    (step.0 ≡ from) × IsTransition step.0 step.1 × IsPath (Some step.1) path to
 
 -- a path leads from the one to the other
 abbrev pub Leads : Option State → Option State → Type 0

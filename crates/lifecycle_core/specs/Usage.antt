@@ -14,8 +14,8 @@ process_text Yes = codes "yes"
 process_text Special = codes "special"
 process_text No = codes "no"
 
--- whether a key processes protected data: a deactivated or compromised one does so only under extraordinary
--- circumstances, with special permission
+-- whether a key processes protected data: a deactivated or compromised one does so only under
+-- extraordinary circumstances, with special permission
 abbrev pub process_in : State → Process
 process_in PreActive = No
 process_in Active = Yes
@@ -38,7 +38,8 @@ abbrev pub is_ahead_at : Option ℕ → ℕ → Bool
 is_ahead_at None t = false
 is_ahead_at (Some date) t = nat_lt t date
 
--- the usage at t; the Protect Stop Date ends the protecting of a key of any type (this register's own)
+-- the usage at t; the Protect Stop Date ends the protecting of a key of any type (this register's
+-- own)
 abbrev pub usage_at : Dates → ℕ → Usage
 usage_at d t = record {
   protect = is_active (state_at d t) && is_ahead_at d.protect_stop t;

@@ -1,3 +1,4 @@
+//! The date attributes of a key.
 use moment_core::Moment;
 
 /// The date attributes of a key (KMIP 1.2, sections 3.23 to 3.29), `None` where one is not set.

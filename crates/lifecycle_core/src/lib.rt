@@ -1,6 +1,13 @@
-//! The lifecycle of a key: its states and the transitions between them, its dates, the state that the dates give at a
-//! moment, what the key may be used for then, and the reasons of a revocation. The states, their transitions and the
-//! dates are those of the State attribute of OASIS KMIP 1.2, section 3.22.
+//! The lifecycle of a key: its states and the transitions between them, its dates, the state that
+//! the dates give at a moment, what the key may be used for then, and the reasons of a revocation.
+//! The states, their transitions and the dates are those of the State attribute of OASIS KMIP 1.2,
+//! section 3.22.
+//!
+//! ```
+//! let before = row.state;
+//! advance(&mut row, now); // `row.state` is then `state_of(&row.dates, now)`
+//! if usage_of(&row.dates, now).protect { /* the key may protect data */ }
+//! ```
 #![tactic(auto)]
 
 mod dates;

@@ -1,3 +1,4 @@
+//! The reasons for which a key is revoked.
 ghost use Rattle.std.specs.Prelude.{◌≡◌};
 
 /// A revocation reason of KMIP 1.2, section 3.31.
@@ -16,7 +17,8 @@ impl Reason {
     ghost use Rattle.std.specs.Prelude.{◌<◌, ◌⊎◌, IfSome, IfNone};
     ghost use Rattle.lifecycle_core.specs.Reason.{reason_code, is_compromise};
 
-    /// The reason's value in the Revocation Reason Code Enumeration of KMIP 1.2 (section 9.1.3.2), from 1 to 7.
+    /// The reason's value in the Revocation Reason Code Enumeration of KMIP 1.2 (section 9.1.3.2),
+    /// from 1 to 7.
     pub fn code(self) -> u8
         ensures { result ≡ reason_code self }
     {
@@ -48,7 +50,8 @@ impl Reason {
         }
     }
 
-    /// Whether a key that is revoked for this reason is compromised. That both compromises count is this register's own.
+    /// Whether a key that is revoked for this reason is compromised. That both compromises count is
+    /// this register's own.
     pub fn is_compromise(self) -> bool
         ensures { result ≡ is_compromise self }
     {

@@ -55,7 +55,8 @@ pub fn state_of(dates: &Dates, at: Moment) -> State
     }
 }
 
-/// Moves the row to its state at a moment that is not before the one at which it is right. The dates stay.
+/// Moves the row to its state at a moment that is not before the one at which it is right. The
+/// dates stay.
 pub fn advance(row: &mut Row, at: Moment)
     requires { (before : ℕ) × (before ≤ at) × IsRightAt row.old before }
     ensures dates { row.new.dates ≡ row.old.dates }

@@ -1,3 +1,4 @@
+//! The states of a key.
 ghost use Rattle.std.specs.Prelude.{◌≡◌};
 
 /// A state of KMIP 1.2, section 3.22.
@@ -28,6 +29,7 @@ impl State {
             State::DestroyedCompromised => "Destroyed-Compromised",
         }
     }
+
     /// The state's value in the State Enumeration of KMIP 1.2 (section 9.1.3.2), from 1 to 6.
     pub fn code(self) -> u8
         ensures { result ≡ state_code self }

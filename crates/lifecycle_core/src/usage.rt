@@ -1,3 +1,4 @@
+//! What a key may be used for at a moment.
 ghost use Rattle.std.specs.Prelude.{◌≡◌};
 ghost use Rattle.lifecycle_core.specs.Usage.{usage_at};
 
@@ -10,7 +11,8 @@ use moment_core::Moment;
 #[derive(Clone, Copy, Debug, PartialEq, Eq, Hash)]
 pub enum Process {
     Yes,
-    /// Only under extraordinary circumstances, and with special permission (KMIP 1.2, section 3.22).
+    /// Only under extraordinary circumstances, and with special permission (KMIP 1.2, section
+    /// 3.22).
     Special,
     No,
 }
@@ -38,7 +40,8 @@ pub struct Usage {
     pub process: Process,
 }
 
-/// What a key with these dates may be used for at a moment. A key with no Protect Stop Date protects nothing.
+/// What a key with these dates may be used for at a moment. A key with no Protect Stop Date
+/// protects nothing.
 pub fn usage_of(dates: &Dates, at: Moment) -> Usage
     ensures { result ≡ usage_at dates.now at }
 {

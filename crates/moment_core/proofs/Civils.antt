@@ -22,7 +22,8 @@ days_of_months_more y zero le = absurd (omega arith)
 days_of_months_more y (suc m) le =
     let back : suc m - 1 ≡ m = omega arith in
     let place : m + 1 ≡ suc m = omega arith in
-    ap (λ (k : ℕ). days_of_months y m + month_days y k) place ∙ ap (λ (k : ℕ). days_of_months y k + month_days y (suc m)) (sym back)
+    ap (λ (k : ℕ). days_of_months y m + month_days y k) place
+    ∙ ap (λ (k : ℕ). days_of_months y k + month_days y (suc m)) (sym back)
 
 days_of_years_suc : (n : ℕ) → days_of_years (suc n) ≡ days_of_years n + year_days (1970 + n)
 unfolding days_of_years
@@ -48,31 +49,47 @@ next_in_month c is lt = record {
   number = omega (arith, is.day.0);
 }
 
-next_month : (c : Civil) → IsCivil c → month_days c.year c.month ≤ c.day → c.month < 12 → IsNext c (record { year = c.year; month = c.month + 1; day = 1 })
+next_month : (c : Civil) → IsCivil c → month_days c.year c.month ≤ c.day → c.month < 12
+    → IsNext c (record { year = c.year; month = c.month + 1; day = 1 })
 next_month c is le lt = record {
-  civil = record { year = is.year; month = (omega arith, omega arith); day = (omega arith, omega (arith, month_days_bounds c.year (c.month + 1))) };
+  civil = record {
+    year = is.year;
+    month = (omega arith, omega arith);
+    day =
+        (omega arith, omega (arith, month_days_bounds c.year (c.month + 1)));
+  };
   number =
       let back : c.month + 1 - 1 ≡ c.month = omega arith in
       let more = ap (days_of_months c.year) back ∙ days_of_months_more c.year c.month is.month.0 in
       omega (arith, more, is.day.0, is.day.1);
 }
 
-next_year : (c : Civil) → IsCivil c → month_days c.year c.month ≤ c.day → 12 ≤ c.month → IsNext c (record { year = c.year + 1; month = 1; day = 1 })
+next_year : (c : Civil) → IsCivil c → month_days c.year c.month ≤ c.day → 12 ≤ c.month
+    → IsNext c (record { year = c.year + 1; month = 1; day = 1 })
 next_year c is le last = record {
-  civil = record { year = omega (arith, is.year); month = (omega arith, omega arith); day = (omega arith, omega (arith, month_days_bounds (c.year + 1) 1)) };
+  civil = record {
+    year = omega (arith, is.year);
+    month = (omega arith, omega arith);
+    day =
+        (omega arith, omega (arith, month_days_bounds (c.year + 1) 1));
+  };
   number =
       let december : c.month ≡ 12 = omega (arith, is.month.1) in
       let years = days_of_years_more (c.year - 1970) (c.year + 1 - 1970) (omega (arith, is.year)) in
       let same : 1970 + (c.year - 1970) ≡ c.year = omega (arith, is.year) in
       let length = ap year_days same in
-      let first = ap (days_of_months (c.year + 1)) (let e : 1 - 1 ≡ 0 = omega arith in e) ∙ days_of_months_none (c.year + 1) in
+      let first = ap (days_of_months (c.year + 1)) (let e : 1 - 1 ≡ 0 = omega arith in e)
+      ∙ days_of_months_none (c.year + 1) in
       let months = days_of_months_more c.year c.month is.month.0 in
       let all = ap (days_of_months c.year) december ∙ days_of_months_all c.year in
       omega (arith, years, length, first, months, all, is.day.0, is.day.1);
 }
 
-pick_next : (c : Civil) → IsCivil c → (in_month in_year : Bool) → nat_lt c.day (month_days c.year c.month) ≡ in_month → nat_lt c.month 12 ≡ in_year →
-    IsNext c (cond in_month (record c { day = c.day + 1 }) (cond in_year (record { year = c.year; month = c.month + 1; day = 1 }) (record { year = c.year + 1; month = 1; day = 1 })))
+pick_next : (c : Civil) → IsCivil c → (in_month in_year : Bool) → nat_lt c.day (month_days c.year c.month) ≡ in_month
+    → nat_lt c.month 12 ≡ in_year →
+    IsNext c (cond in_month (record c { day = c.day + 1 })
+    (cond in_year (record { year = c.year; month = c.month + 1; day = 1 })
+    (record { year = c.year + 1; month = 1; day = 1 })))
 pick_next c is true in_year e f = next_in_month c is (ltb-true _ _ e)
 pick_next c is false true e f = next_month c is (ltb-false _ _ e) (ltb-true _ _ f)
 pick_next c is false false e f = next_year c is (ltb-false _ _ e) (ltb-false _ _ f)
@@ -88,7 +105,15 @@ pub record IsDateOf (n : ℕ) (c : Civil) : Type 0 where
 
 first_day : IsDateOf 0 (record { year = 1970; month = 1; day = 1 })
 unfolding days_of_years days_of_months
-first_day = record { civil = record { year = omega arith; month = (omega arith, omega arith); day = (omega arith, omega (arith, month_days_bounds 1970 1)) }; number = refl }
+first_day = record {
+  civil = record {
+    year = omega arith;
+    month = (omega arith, omega arith);
+    day =
+        (omega arith, omega (arith, month_days_bounds 1970 1));
+  };
+  number = refl;
+}
 
 pub civil_is : (n : ℕ) → IsDateOf n (civil n)
 unfolding civil
@@ -100,7 +125,12 @@ civil_is (suc n) =
 
 pub days_of_years_mono : (n k : ℕ) → days_of_years n ≤ days_of_years (k + n)
 days_of_years_mono n zero = omega (arith, ap days_of_years (let e : 0 + n ≡ n = omega arith in e))
-days_of_years_mono n (suc k) = omega (arith, days_of_years_mono n k, days_of_years_more (k + n) (suc k + n) (omega arith))
+days_of_years_mono n (suc k) = omega (
+  arith,
+  days_of_years_mono n k,
+  days_of_years_more (k + n) (suc k + n)
+      (omega arith),
+)
 
 pub days_of_years_none : days_of_years 0 ≡ 0
 unfolding days_of_years

@@ -51,10 +51,16 @@ later_first k (suc n) low =
     omega (arith, later_first k n low, next_first (n + k) (omega (arith, low)), ap first_of place)
 
 -- the number of a date, by its months
-number_by : (c : Civil) (months : ℕ) → c.year ≡ months / 12 → c.month ≡ months % 12 + 1 → day_number c ≡ first_of months + (c.day - 1)
+number_by : (c : Civil) (months : ℕ) → c.year ≡ months / 12 → c.month ≡ months % 12 + 1
+    → day_number c ≡ first_of months + (c.day - 1)
 number_by c months year month =
     let back : c.month - 1 ≡ months % 12 = omega (arith, month) in
-    omega (arith, ap (λ (y : ℕ). days_of_years (y - 1970)) year, ap (λ (y : ℕ). days_of_months y (c.month - 1)) year, ap (days_of_months (months / 12)) back)
+    omega (
+      arith,
+      ap (λ (y : ℕ). days_of_years (y - 1970)) year,
+      ap (λ (y : ℕ). days_of_months y (c.month - 1)) year,
+      ap (days_of_months (months / 12)) back,
+    )
 
 forward : (c : Civil) (n : ℕ) → IsCivil c → day_number c ≤ day_number (months_on c n)
 forward c n is = by n
@@ -65,7 +71,14 @@ forward c n is = by n
         let year : c.year ≡ months / 12 = omega (arith, is.month.0, is.month.1) in
         let month : c.month ≡ months % 12 + 1 = omega (arith, is.month.0, is.month.1) in
         let days = ap (λ (y : ℕ). month_days y c.month) year ∙ ap (month_days (months / 12)) month in
-        omega (arith, number_by c months year month, number_by (months_on c 0) months refl refl, days, is.day.0, is.day.1)
+        omega (
+          arith,
+          number_by c months year month,
+          number_by (months_on c 0) months refl refl,
+          days,
+          is.day.0,
+          is.day.1,
+        )
     by (suc n) =
         let here = c.year * 12 + (c.month - 1) in
         let months = here + suc n in
@@ -76,7 +89,17 @@ forward c n is = by n
         let next = next_first here low in
         let later = later_first (here + 1) n (omega (arith, low)) in
         let place : n + (here + 1) ≡ months = omega arith in
-        omega (arith, number_by c here year month, number_by (months_on c (suc n)) months refl refl, days, is.day.0, is.day.1, next, later, ap first_of place)
+        omega (
+          arith,
+          number_by c here year month,
+          number_by (months_on c (suc n)) months refl refl,
+          days,
+          is.day.0,
+          is.day.1,
+          next,
+          later,
+          ap first_of place,
+        )
 
 sum_in_range : (seconds r : ℕ) (b : Bool) → cond b (Some seconds) None ≡ Some r → seconds ≡ r
 sum_in_range seconds r true e = cc

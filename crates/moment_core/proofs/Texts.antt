@@ -13,7 +13,8 @@ abbrev pub date_at : ℕ → Civil
 date_at m = civil (m / 86_400)
 
 -- a moment's text, from the parts of its date
-pub text_is : (m s year month day : ℕ) → s ≡ m → year ≡ (date_at s).year → month ≡ (date_at s).month → day ≡ (date_at s).day → date_text year month day ++ time_text (s % 86_400) ≡ moment_text m
+pub text_is : (m s year month day : ℕ) → s ≡ m → year ≡ (date_at s).year → month ≡ (date_at s).month
+    → day ≡ (date_at s).day → date_text year month day ++ time_text (s % 86_400) ≡ moment_text m
 unfolding moment_text
 text_is m s year month day e y mo d =
     ap (λ (k : ℕ). date_text k month day ++ time_text (s % 86_400)) y
@@ -61,7 +62,8 @@ in_years m is =
     }
 
 -- a moment from its parts
-pub from_parts : (m : ℕ) → m ≡ day_number (date_at m) * 86_400 + m % 86_400 / 3600 * 3600 + m % 86_400 / 60 % 60 * 60 + m % 86_400 % 60
+pub from_parts : (m : ℕ) → m ≡ day_number (date_at m) * 86_400 + m % 86_400 / 3600 * 3600 + m % 86_400 / 60 % 60 *
+    60 + m % 86_400 % 60
 from_parts m = omega (arith, (civil_is (m / 86_400)).number)
 
 pub text_length : (text : List ℕ) (m : ℕ) → text ≡ moment_text m → length text ≡ 20
@@ -72,7 +74,8 @@ pub some_same : (a b : ℕ) → Some a ≡ Some b → a ≡ b
 some_same a b e = cc
 
 -- the moment of a second that is one
-pub some_is : (o : Option ℕ) (m n : ℕ) → IsMoment m → n ≡ m → (IsSome o ↔ IsMoment n) → IfSome o (λ k. k ≡ n) → o ≡ Some m
+pub some_is : (o : Option ℕ) (m n : ℕ) → IsMoment m → n ≡ m → (IsSome o ↔ IsMoment n) → IfSome o (λ k. k ≡ n)
+    → o ≡ Some m
 some_is None m n is e in_range value = absurd (cc (in_range.1 (omega (arith, is, e))))
 some_is (Some k) m n is e in_range value = ap (λ (k : ℕ). Some k) (value ∙ e)
 
@@ -87,12 +90,14 @@ pub record IsDateRead (hundreds ones of_month of_day m : ℕ) : Type 0 where
   pub day : of_day ≡ (date_at m).day
 
 pub date_read : (text : List ℕ) (m century year month day : ℕ) → IsMoment m → text ≡ moment_text m
-    → ReadsAs (take 2 (drop 0 text)) century → ReadsAs (take 2 (drop 2 text)) year → ReadsAs (take 2 (drop 5 text)) month → ReadsAs (take 2 (drop 8 text)) day
+    → ReadsAs (take 2 (drop 0 text)) century → ReadsAs (take 2 (drop 2 text)) year
+    → ReadsAs (take 2 (drop 5 text)) month → ReadsAs (take 2 (drop 8 text)) day
     → IsDateRead century year month day m
 date_read text m century year month day is e of_century of_year of_month of_day =
     let years = in_years m is in
     let at = text_of text m e in
-    let high = some_same century ((date_at m).year / 100) (of_century ((date_at m).year / 100) (omega (arith, years.last)) at.century) in
+    let high = some_same century ((date_at m).year / 100)
+    (of_century ((date_at m).year / 100) (omega (arith, years.last)) at.century) in
     let low = some_same year ((date_at m).year % 100) (of_year ((date_at m).year % 100) (omega arith) at.year) in
     record {
       year = omega (arith, high, low);
@@ -102,7 +107,8 @@ date_read text m century year month day is e of_century of_year of_month of_day 
 
 -- and so for the time of day
 pub time_read : (text : List ℕ) (m hour minute second : ℕ) → text ≡ moment_text m
-    → ReadsAs (take 2 (drop 11 text)) hour → ReadsAs (take 2 (drop 14 text)) minute → ReadsAs (take 2 (drop 17 text)) second
+    → ReadsAs (take 2 (drop 11 text)) hour → ReadsAs (take 2 (drop 14 text)) minute
+    → ReadsAs (take 2 (drop 17 text)) second
     → m ≡ day_number (date_at m) * 86_400 + hour * 3600 + minute * 60 + second
 time_read text m hour minute second e of_hour of_minute of_second =
     let at = text_of text m e in
@@ -121,12 +127,15 @@ one_number a b a_in b_in e =
 -- the text of a moment reads as the moment's own parts
 pub one_moment : (m n : ℕ) → IsMoment m → IsMoment n → moment_text m ≡ moment_text n → m ≡ n
 one_moment m n of_m of_n e =
-    let reads = λ (digits : List ℕ) (a : ℕ) (a_in : a < 100) (same : digits ≡ two_digits a) (b : ℕ) (b_in : b < 100) (other : digits ≡ two_digits b).
+    let reads = λ (digits : List ℕ) (a : ℕ) (a_in : a < 100) (same : digits ≡ two_digits a) (b : ℕ) (b_in : b < 100)
+    (other : digits ≡ two_digits b).
     ap (λ (k : ℕ). Some k) (one_number a b a_in b_in (sym same ∙ other)) in
     let years = in_years m of_m in
     let at = text_of (moment_text m) m refl in
-    let date = date_read (moment_text m) n ((date_at m).year / 100) ((date_at m).year % 100) (date_at m).month (date_at m).day of_n e
-    (reads _ _ (omega (arith, years.last)) at.century) (reads _ _ (omega arith) at.year) (reads _ _ years.month at.month) (reads _ _ years.day at.day) in
+    let date = date_read (moment_text m) n ((date_at m).year / 100) ((date_at m).year % 100) (date_at m).month
+    (date_at m).day of_n e
+    (reads _ _ (omega (arith, years.last)) at.century) (reads _ _ (omega arith) at.year)
+    (reads _ _ years.month at.month) (reads _ _ years.day at.day) in
     let time = time_read (moment_text m) n (m % 86_400 / 3600) (m % 86_400 / 60 % 60) (m % 86_400 % 60) e
     (reads _ _ (omega arith) at.hour) (reads _ _ (omega arith) at.minute) (reads _ _ (omega arith) at.second) in
     let year : (date_at m).year ≡ (date_at n).year = omega (arith, date.year) in

@@ -1,6 +1,8 @@
--- The civil calendar of UTC, by its own rules (ISO 8601, the Gregorian calendar), and months added to moments.
+-- The civil calendar of UTC, by its own rules (ISO 8601, the Gregorian calendar), and months added
+-- to moments.
 use Rattle.std.specs.Prelude.{ℕ, zero, suc, ◌+◌, ◌-◌, ◌*◌, ◌/◌, ◌%◌, ◌==◌, nat_lt, nat_le, min, Bool, not, ◌&&◌, ◌||◌, Option, None, Some, if◌then◌else◌}
 use Rattle.moment_core.specs.declared.moment.TheConstants.{LAST_SECOND}
+use Rattle.moment_core.specs.declared.calendar.TheConstants.{DAY_SECONDS}
 
 -- a civil date: the year, the month from 1 to 12, and the day of the month from 1
 pub record Civil : Type 0 where
@@ -61,8 +63,10 @@ in_range seconds = if nat_le seconds LAST_SECOND then Some seconds else None
 
 -- the moment so many months on: its day's date so many months on, at the same second of the day
 unfoldable pub months_after : ℕ → ℕ → Option ℕ
-months_after moment n = in_range (day_number (months_on (civil (moment / 86400)) n) * 86400 + moment % 86400)
+months_after moment n =
+    let day = day_number (months_on (civil (moment / DAY_SECONDS)) n) in
+    in_range (day * DAY_SECONDS + moment % DAY_SECONDS)
 
 -- the moment so many days on
 abbrev pub days_after : ℕ → ℕ → Option ℕ
-days_after moment n = in_range (moment + 86400 * n)
+days_after moment n = in_range (moment + DAY_SECONDS * n)

@@ -1,6 +1,7 @@
 //! Calendar months and days added to moments.
 ghost use Rattle.std.specs.Prelude.{◌≡◌, ◌≤◌, ◌<◌, ◌≤ℤ◌, pos, min, MatchOption, IfSome, Some};
-ghost use Rattle.moment_core.specs.Calendar.{Civil, civil, month_days, months_on, day_number, months_after, days_after};
+ghost use Rattle.moment_core.specs.Calendar.{Civil, civil, month_days, months_on, day_number};
+ghost use Rattle.moment_core.specs.Calendar.{months_after, days_after};
 ghost use Rattle.moment_core.specs.Dates.{IsCivil, HasParts};
 
 use crate::moment::Moment;
@@ -9,12 +10,15 @@ use jiff_core::civil::Date;
 /// The seconds of a day.
 pub(crate) const DAY_SECONDS: u64 = 86_400;
 
+/// The day of the last moment, counted from 1970-01-01.
+const LAST_DAY: u64 = 2_932_896;
+
 /// The days from jiff's first date, -9999-01-01, to 1970-01-01.
 const DAYS_BEFORE: u32 = 4_371_587;
 
 /// The date of a day counted from 1970-01-01.
 pub(crate) fn date_of(day: u64) -> Date
-    requires { day ≤ 2_932_896 }
+    requires { day ≤ LAST_DAY }
     ensures { HasParts result (civil day) }
 {
     Date::from_days_since_min(day as u32 + DAYS_BEFORE)
@@ -33,8 +37,9 @@ pub(crate) fn day_of(year: u32, month: u8, day: u8) -> Option<u64>
     requires year_in { year ≤ 9999 }
     requires month_in { month < 100 }
     requires day_in { day < 100 }
-    ensures value { (c : Civil) → IsCivil c → year ≡ c.year → month ≡ c.month → day ≡ c.day → result ≡ Some (day_number c) }
-    ensures within { IfSome result (λ day. day ≤ 2_932_896) }
+    ensures value { (c : Civil) → IsCivil c → year ≡ c.year → month ≡ c.month → day ≡ c.day
+        → result ≡ Some (day_number c) }
+    ensures within { IfSome result (λ day. day ≤ LAST_DAY) }
 {
     let Ok(date) = Date::new(year as i16, month as i8, day as i8) else {
         return None;
@@ -61,9 +66,10 @@ fn clamped(year: u32, month: u32, day: u8) -> Date
 /// The day so many months after a date, or `None` after the year 9999.
 fn day_after_months(date: Date, months: u16) -> Option<u64>
     requires { (c : Civil) × HasParts date c }
-    ensures day { (c : Civil) → HasParts date c → MatchOption result (9999 < (months_on c months).year)
+    ensures day { (c : Civil) → HasParts date c →
+        MatchOption result (9999 < (months_on c months).year)
         (λ day. day ≡ day_number (months_on c months)) }
-    ensures within { IfSome result (λ day. day ≤ 2_932_896) }
+    ensures within { IfSome result (λ day. day ≤ LAST_DAY) }
 {
     let months = year_of(&date) * 12 + u32::from(date.month - 1) + u32::from(months);
     let year = months / 12;
@@ -75,8 +81,8 @@ fn day_after_months(date: Date, months: u16) -> Option<u64>
 }
 
 impl Moment {
-    /// The moment so many calendar months later: the same second of the same day of the month, or of that month's
-    /// last day where there is no such day. `None` past the last moment.
+    /// The moment so many calendar months later: the same second of the same day of the month, or
+    /// of that month's last day where there is no such day. `None` past the last moment.
     pub fn plus_months(self, months: u16) -> Option<Moment>
         ensures { result ≡ months_after self months }
     {

@@ -62,7 +62,8 @@ fn number(digits: &[u8]) -> Option<u8>
     }
 }
 
-/// The moment whose text this is, if it is a moment's. Of another text it is some moment, or `None`.
+/// The moment whose text this is, if it is a moment's. Of another text it is some moment, or
+/// `None`.
 fn candidate(text: &[u8]) -> Option<Moment>
     ensures { (m : ℕ) → IsMoment m → text.now ≡ moment_text m → result ≡ Some m }
 {
@@ -82,8 +83,9 @@ fn candidate(text: &[u8]) -> Option<Moment>
 }
 
 impl Moment {
-    /// The moment whose text is `text`, or `None` where no moment has this text: [`Moment::write`] says which form a text
-    /// has, and each part has to be in its range, as a day that its month has, an hour below 24 or a year from 1970 on.
+    /// The moment whose text is `text`, or `None` where no moment has this text: [`Moment::write`]
+    /// says which form a text has, and each part has to be in its range, as a day that its month
+    /// has, an hour below 24 or a year from 1970 on.
     pub fn read(text: &[u8]) -> Option<Moment>
         ensures found { IfSome result (λ m. text.now ≡ moment_text m) }
         ensures none { IfNone result ((m : ℕ) → IsMoment m → text.now ≢ moment_text m) }
@@ -96,7 +98,8 @@ impl Moment {
         }
     }
 
-    /// The moment's text in UTC, as `1970-01-01T00:00:00Z`: 4 digits of the year, then 2 digits of each other part.
+    /// The moment's text in UTC, as `1970-01-01T00:00:00Z`: 4 digits of the year, then 2 digits of
+    /// each other part.
     pub fn write(self) -> [u8; 20]
         ensures { result ≡ moment_text self }
     {

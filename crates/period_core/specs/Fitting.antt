@@ -1,4 +1,5 @@
--- Which dates fit a type of key, and what Fill and Trim make of dates. All of it is this register's own.
+-- Which dates fit a type of key, and what Fill and Trim make of dates. All of it is this register's
+-- own.
 use Rattle.std.specs.Prelude.{◌≡◌, ℕ, nat_lt, nat_le, min, Bool, true, ◌&&◌, ◌||◌, List, [], ◌∷◌, Option, None, Some, is_some, is_none, Result, Ok, Err, IsTrue, if◌then◌else◌}
 use Rattle.lifecycle_core.specs.declared.dates.Dates.{Dates}
 use Rattle.moment_core.specs.Calendar.{months_after}
@@ -8,10 +9,10 @@ use Rattle.period_core.specs.declared.filling.DateRefusal.TheVariants.{DateOrder
 use Rattle.period_core.specs.Period.{periods}
 
 -- the first date is not after the second, where both are set
-abbrev pub in_order : Option ℕ → Option ℕ → Bool
-in_order (Some first) (Some second) = nat_le first second
-in_order (Some first) None = true
-in_order None second = true
+abbrev pub is_not_after : Option ℕ → Option ℕ → Bool
+is_not_after (Some first) (Some second) = nat_le first second
+is_not_after (Some first) None = true
+is_not_after None second = true
 
 -- so many months after a date, where the date is set and the sum is a moment
 abbrev pub months_on_date : Option ℕ → ℕ → Option ℕ
@@ -27,13 +28,16 @@ recipient_limit kind d = months_on_date d.protect_stop (periods kind).recipient
 
 -- Activation, Protect Stop and Deactivation are in this order
 abbrev pub are_in_order : Dates → Bool
-are_in_order d = in_order d.activation d.protect_stop && in_order d.protect_stop d.deactivation && in_order d.activation d.deactivation
+are_in_order d =
+    is_not_after d.activation d.protect_stop && is_not_after d.protect_stop d.deactivation
+    && is_not_after d.activation d.deactivation
 
--- dates fit a type: they are in order, and neither usage period is longer than the type's. A limit past the range limits nothing
+-- dates fit a type: they are in order, and neither usage period is longer than the type's. A limit
+-- past the range limits nothing
 pub record Fits (kind : KeyType) (d : Dates) : Type 0 where
   pub order : IsTrue (are_in_order d)
-  pub originator : IsTrue (in_order d.protect_stop (originator_limit kind d))
-  pub recipient : IsTrue (in_order d.deactivation (recipient_limit kind d))
+  pub originator : IsTrue (is_not_after d.protect_stop (originator_limit kind d))
+  pub recipient : IsTrue (is_not_after d.deactivation (recipient_limit kind d))
 
 -- ---- defaults
 
@@ -46,12 +50,14 @@ earlier (Some first) (Some second) = Some (min first second)
 -- step 1: Protect Stop, where Activation is set and it is not
 abbrev pub with_protect_stop : KeyType → Dates → Dates
 with_protect_stop kind d =
-    if is_some d.activation && is_none d.protect_stop then record d { protect_stop = earlier (originator_limit kind d) d.deactivation } else d
+    if is_some d.activation && is_none d.protect_stop
+    then record d { protect_stop = earlier (originator_limit kind d) d.deactivation } else d
 
 -- step 2: Deactivation, where Activation is set and it is not
 abbrev pub with_deactivation : KeyType → Dates → Dates
 with_deactivation kind d =
-    if is_some d.activation && is_none d.deactivation then record d { deactivation = recipient_limit kind d } else d
+    if is_some d.activation && is_none d.deactivation
+    then record d { deactivation = recipient_limit kind d } else d
 
 -- the date, but no later than the limit
 abbrev pub cut : Option ℕ → Option ℕ → Option ℕ
@@ -66,7 +72,8 @@ filled kind d = with_deactivation kind (with_protect_stop kind d)
 abbrev pub trimmed : KeyType → Dates → Dates
 trimmed kind d =
     let first = with_protect_stop kind d in
-    let stopped = record first { protect_stop = cut first.protect_stop (originator_limit kind first) } in
+    let stop = cut first.protect_stop (originator_limit kind first) in
+    let stopped = record first { protect_stop = stop } in
     let second = with_deactivation kind stopped in
     record second { deactivation = cut second.deactivation (recipient_limit kind second) }
 
@@ -83,7 +90,9 @@ out_of_order d = if are_in_order d then None else Some DateOrder
 
 -- a default was past the range, and its date is still unset
 abbrev pub out_of_range : Dates → Option DateRefusal
-out_of_range d = if is_some d.activation && (is_none d.protect_stop || is_none d.deactivation) then Some DateRange else None
+out_of_range d =
+    if is_some d.activation && (is_none d.protect_stop || is_none d.deactivation)
+    then Some DateRange else None
 
 -- of refusals in order, each where its condition holds: the first that does
 abbrev pub first_that_holds : {R : Type 0} → List (Option R) → Option R

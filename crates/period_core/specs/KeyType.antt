@@ -1,4 +1,5 @@
--- The types of keys: SP 800-57 Part 1 Revision 5, section 5.1.1, those that this register keeps. The texts are its own.
+-- The types of keys: SP 800-57 Part 1 Revision 5, section 5.1.1, those that this register keeps.
+-- The texts are its own.
 use Rattle.std.specs.Prelude.{ℕ, List, codes}
 use Rattle.period_core.specs.declared.key_type.KeyType.{KeyType}
 use Rattle.period_core.specs.declared.key_type.KeyType.TheVariants.{DataEncryption, Authentication, KeyWrapping, PrivateSignature, PrivateAuthentication, PrivateTransport, Master}

@@ -1,4 +1,5 @@
--- The usage periods of the key types, in months. The months are this register's own; what they bound is modelled on SP 800-57 Part 1 Revision 5, sections 5.3.4 and 5.3.5.
+-- The usage periods of the key types, in months. The months are this register's own; what they
+-- bound is modelled on SP 800-57 Part 1 Revision 5, sections 5.3.4 and 5.3.5.
 use Rattle.period_core.specs.declared.key_type.KeyType.{KeyType}
 use Rattle.period_core.specs.declared.key_type.KeyType.TheVariants.{DataEncryption, Authentication, KeyWrapping, PrivateSignature, PrivateAuthentication, PrivateTransport, Master}
 use Rattle.period_core.specs.declared.period.Period.{Period}

@@ -1,7 +1,9 @@
+//! Fill and Trim, which give dates their defaults or refuse them.
 ghost use Rattle.std.specs.Prelude.{◌≡◌, ◌≢◌, ℕ, IsSome, IfErr, OnOk};
-ghost use Rattle.period_core.specs.Fitting.{out_of_order, over_limit, out_of_range, fill_of, trim_of, Fits, KeepsGiven, Gives};
+ghost use Rattle.period_core.specs.Fitting.{out_of_order, over_limit, out_of_range, fill_of};
+ghost use Rattle.period_core.specs.Fitting.{trim_of, Fits, KeepsGiven, Gives};
 
-use crate::dates::{are_in_order, filled, originator_limit, recipient_limit, trimmed};
+use crate::fitting::{are_in_order, filled, originator_limit, recipient_limit, trimmed};
 use crate::key_type::KeyType;
 use lifecycle_core::Dates;
 use moment_core::Moment;
@@ -9,9 +11,11 @@ use moment_core::Moment;
 /// Why dates are refused.
 #[derive(Clone, Copy, Debug, PartialEq, Eq)]
 pub enum DateRefusal {
-    /// Activation is after Protect Stop, Protect Stop after Deactivation, or Activation after Deactivation.
+    /// Activation is after Protect Stop, Protect Stop after Deactivation, or Activation after
+    /// Deactivation.
     DateOrder,
-    /// A usage period is longer than the type's: the originator's first, with the limit that is passed.
+    /// A usage period is longer than the type's: the originator's first, with the limit that is
+    /// passed.
     PeriodTooLong { limit: Moment },
     /// A date that is not given would be past the last moment.
     DateRange,
@@ -54,9 +58,9 @@ fn out_of_range(dates: &Dates) -> Option<DateRefusal>
     }
 }
 
-/// Fill: gives Protect Stop and Deactivation their defaults where Activation is set and they are not. A Protect Stop
-/// becomes Activation plus the originator months, or the Deactivation if that is earlier; a Deactivation becomes
-/// Protect Stop plus the recipient months.
+/// Fill: gives Protect Stop and Deactivation their defaults where Activation is set and they are
+/// not. A Protect Stop becomes Activation plus the originator months, or the Deactivation if that
+/// is earlier; a Deactivation becomes Protect Stop plus the recipient months.
 ///
 /// # Errors
 /// The first that holds of the dates with their defaults, which leaves them as they were.
@@ -82,7 +86,8 @@ pub fn fill(kind: KeyType, dates: &mut Dates) -> Result<(), DateRefusal>
     Ok(())
 }
 
-/// Trim, for an activation: as [`fill`], but a date past its limit becomes the limit, so that no period is too long.
+/// Trim, for an activation: as [`fill`], but a date past its limit becomes the limit, so that no
+/// period is too long.
 ///
 /// # Errors
 /// [`DateRefusal::DateOrder`] or [`DateRefusal::DateRange`], which leaves the dates as they were.
@@ -90,7 +95,8 @@ pub fn trim(kind: KeyType, dates: &mut Dates) -> Result<(), DateRefusal>
     requires { IsSome dates.old.activation }
     ensures gives { Gives (trim_of kind dates.old) result dates.old dates.new }
     ensures fits { OnOk result (Fits kind dates.new) }
-    ensures never_too_long { IfErr result (λ refusal. (limit : ℕ) → refusal ≢ DateRefusal.PeriodTooLong limit) }
+    ensures never_too_long { IfErr result (λ refusal.
+        (limit : ℕ) → refusal ≢ DateRefusal.PeriodTooLong limit) }
 {
     let full = trimmed(kind, *dates);
     if let Some(refusal) = out_of_order(&full) {

@@ -1,3 +1,4 @@
+//! The types of keys.
 ghost use Rattle.std.specs.Prelude.{◌≡◌};
 
 use std::fmt;

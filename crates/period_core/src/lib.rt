@@ -1,13 +1,21 @@
-//! The types of keys and their usage periods, modelled on the cryptoperiods of NIST SP 800-57 Part 1: which dates fit
-//! a type, and what a date becomes that is not given.
+//! The types of keys and their usage periods, modelled on the cryptoperiods of NIST SP 800-57 Part
+//! 1: which dates fit a type, and what a date becomes that is not given.
+//!
+//! ```
+//! let mut dates = Dates { activation: Some(now), ..dates };
+//! match fill(KeyType::DataEncryption, &mut dates) {
+//!     Ok(()) => { /* Protect Stop and Deactivation are set, and fit the type */ }
+//!     Err(refusal) => { /* `dates` are as they were */ }
+//! }
+//! ```
 #![tactic(auto)]
 
-mod dates;
 mod filling;
+mod fitting;
 mod key_type;
 mod period;
 
-pub use dates::{filled, trimmed};
 pub use filling::{DateRefusal, fill, trim};
+pub use fitting::{filled, trimmed};
 pub use key_type::KeyType;
 pub use period::{Period, period_of};

@@ -1,3 +1,4 @@
+//! The usage periods of the types of keys.
 ghost use Rattle.std.specs.Prelude.{◌≡◌};
 ghost use Rattle.period_core.specs.Period.{periods};
 
@@ -12,8 +13,8 @@ pub struct Period {
     pub recipient: u16,
 }
 
-/// The longest usage periods of a type. The months are this register's own, chosen with the suggestions of SP 800-57
-/// Part 1 (section 5.3.6) in view.
+/// The longest usage periods of a type. The months are this register's own, chosen with the
+/// suggestions of SP 800-57 Part 1 (section 5.3.6) in view.
 pub fn period_of(kind: KeyType) -> Period
     ensures { result ≡ periods kind }
 {

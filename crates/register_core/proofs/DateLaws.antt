@@ -4,11 +4,13 @@ use Rattle.lifecycle_core.specs.declared.dates.Dates.{Dates}
 use Rattle.period_core.specs.declared.key_type.KeyType.{KeyType}
 use Rattle.period_core.specs.Fitting.{filled}
 use Rattle.register_core.specs.declared.request.Request.{Request}
-use Rattle.register_core.specs.History.{type, given_dates, dates_after, dates}
+use Rattle.register_core.specs.History.{type, dates}
+use Rattle.register_core.specs.Effect.{given_dates, dates_after}
 use Rattle.register_core.specs.Verdict.{unfit, verdict}
 use Rattle.register_core.specs.Fold.{IsLawful}
 use Rattle.register_core.specs.Laws.{IsAccepted, HasKey, MovesOnly}
 use Rattle.register_core.proofs.Histories.{count_grows, kind_other, dates_other, kind_named, dates_named, kind_made, dates_made}
+use Rattle.register_core.proofs.Subjects.{is_registration}
 use Rattle.register_core.proofs.Decisions.{standing}
 use Rattle.register_core.proofs.Lawful.{lawful_holds}
 use Rattle.register_core.proofs.OnKey.{IsOn, IsMade, which}
@@ -21,11 +23,12 @@ sound_as kind other_kind d other same_kind same sound = subst (λ (k : KeyType).
 -- the dates that the key is registered with
 pub made_sound : (h : List Request) (q : Request) (k : ℕ) → IsMade h q k → IsSound (type (h ++ q ∷ []) k) (dates (h ++ q ∷ []) k)
 made_sound h q k made =
-    let given : Dates = given_dates q.moment made.activation made.protect_stop made.deactivation in
-    let fit = filled_fits made.kind given (sym (ap (unfit None q.moment) made.command) ∙ made.fit) in
-    let kind = ap (type (h ++ q ∷ [])) made.next ∙ kind_made h q made.kind made.owner made.activation made.protect_stop made.deactivation made.purpose made.command in
-    let its = ap (dates (h ++ q ∷ [])) made.next ∙ dates_made h q made.kind made.owner made.activation made.protect_stop made.deactivation made.purpose made.command in
-    sound_as made.kind _ (filled made.kind given) _ kind its (sound_by made.kind given (filled made.kind given) fit (filled_keeps made.kind given) refl)
+    let r = made.registration in
+    let given : Dates = given_dates q.moment r.activation r.protect_stop r.deactivation in
+    let fit = filled_fits r.kind given (sym (ap (unfit None q.moment) (is_registration q.command r made.makes)) ∙ made.fit) in
+    let kind = ap (type (h ++ q ∷ [])) made.next ∙ kind_made h q r made.makes in
+    let its = ap (dates (h ++ q ∷ [])) made.next ∙ dates_made h q r made.makes in
+    sound_as r.kind _ (filled r.kind given) _ kind its (sound_by r.kind given (filled r.kind given) fit (filled_keeps r.kind given) refl)
 
 -- what the request makes of the dates of the key that it names
 on_steps : (h : List Request) (q : Request) (k : ℕ) → IsOn h q k → IsSound (type h k) (dates h k) → Steps (type h k) (dates h k) q.moment (dates_after (type h k) (dates h k) q.moment q.command)

@@ -11,16 +11,17 @@ use Rattle.moment_core.specs.Calendar.{months_after}
 use Rattle.moment_core.proofs.Forward.{months_forward}
 use Rattle.period_core.specs.declared.key_type.KeyType.{KeyType}
 use Rattle.period_core.specs.Period.{periods}
-use Rattle.period_core.specs.Fitting.{in_order, months_on_date, Fits, KeepsDate, cut, filled, trimmed}
+use Rattle.period_core.specs.Fitting.{is_not_after, months_on_date, Fits, KeepsDate, cut, filled, trimmed}
 use Rattle.register_core.specs.declared.request.Command.{Command}
-use Rattle.register_core.specs.declared.request.Command.TheVariants.{Register as Registers, Activate, SetDates, Revoke, Assign, AddCustodian, RemoveCustodian, Approve, Withdraw, Destroy, Advance}
+use Rattle.register_core.specs.declared.request.Command.TheVariants.{Register as Registers, Activate, SetDates, Revoke, Destroy}
 use Rattle.register_core.specs.declared.request.Edit.{Edit}
 use Rattle.register_core.specs.declared.request.Edit.TheVariants.{Keep, Clear, Set}
-use Rattle.register_core.specs.declared.decision.Held.{Held}
-use Rattle.register_core.specs.History.{edited, edited_dates, no_later_than, compromised, deactivated, dates_after}
-use Rattle.register_core.specs.Verdict.{is_one_of, is_for, is_kept, frozen, unfit, named}
+use Rattle.register_core.specs.declared.view.Held.{Held}
+use Rattle.register_core.specs.Effect.{edited, edited_dates, no_later_than, compromised, deactivated, dates_after}
+use Rattle.register_core.specs.Verdict.{is_one_of, is_for, is_kept, frozen, unfit}
+use Rattle.register_core.specs.Subject.{named}
 use Rattle.register_core.specs.Laws.{MovesOnly}
-use Rattle.register_core.proofs.PeopleLeads.{not_refused}
+use Rattle.register_core.proofs.CustodyLeads.{not_refused}
 use Rattle.register_core.proofs.Dating.{KeepsOthers, IsWhole, filled_keeps, trimmed_keeps, filled_stop, trimmed_stop, filled_fits, trimmed_fits}
 use Rattle.register_core.proofs.Showing.{Shows, shows, is_pre_active, is_active, is_early, not_destroyed, not_compromised}
 
@@ -158,17 +159,17 @@ compromised_moves d t occurrence none occurs = record {
 
 -- the dates of an active key that is deactivated fit still
 record FitsSo (kind : KeyType) (act stop end : Option ℕ) : Type 0 where
-  first : in_order act stop ≡ true
-  second : in_order stop end ≡ true
-  third : in_order act end ≡ true
-  originator : in_order stop (months_on_date act (periods kind).originator) ≡ true
-  recipient : in_order end (months_on_date stop (periods kind).recipient) ≡ true
+  first : is_not_after act stop ≡ true
+  second : is_not_after stop end ≡ true
+  third : is_not_after act end ≡ true
+  originator : is_not_after stop (months_on_date act (periods kind).originator) ≡ true
+  recipient : is_not_after end (months_on_date stop (periods kind).recipient) ≡ true
 
-within_limit : (earlier later : ℕ) (limit : Option ℕ) → earlier ≤ later → in_order (Some later) limit ≡ true → in_order (Some earlier) limit ≡ true
+within_limit : (earlier later : ℕ) (limit : Option ℕ) → earlier ≤ later → is_not_after (Some later) limit ≡ true → is_not_after (Some earlier) limit ≡ true
 within_limit earlier later None le fits = refl
 within_limit earlier later (Some limit) le fits = let high = leb-true later limit fits in le-leb earlier limit (omega (arith, le, high))
 
-before_limit : (t n : ℕ) (limit : Option ℕ) → limit ≡ months_after t n → in_order (Some t) limit ≡ true
+before_limit : (t n : ℕ) (limit : Option ℕ) → limit ≡ months_after t n → is_not_after (Some t) limit ≡ true
 before_limit t n None is = refl
 before_limit t n (Some limit) is = le-leb t limit (months_forward t n limit (sym is))
 
@@ -189,17 +190,17 @@ shortened kind t (Some a) (Some p) (Some x) fits active open_end stopped ended =
       recipient = elim (cases_lt p t) [
         | inl early ↦
             let same : min p t ≡ p = omega (arith, early) in
-            ap (λ (s : ℕ). in_order (Some t) (months_after s (periods kind).recipient)) same ∙ within_limit t x (months_after p (periods kind).recipient) (omega (arith, ends)) fits.recipient
+            ap (λ (s : ℕ). is_not_after (Some t) (months_after s (periods kind).recipient)) same ∙ within_limit t x (months_after p (periods kind).recipient) (omega (arith, ends)) fits.recipient
         | inr late ↦
             let same : min p t ≡ t = omega (arith, late) in
-            ap (λ (s : ℕ). in_order (Some t) (months_after s (periods kind).recipient)) same ∙ before_limit t (periods kind).recipient (months_after t (periods kind).recipient) refl
+            ap (λ (s : ℕ). is_not_after (Some t) (months_after s (periods kind).recipient)) same ∙ before_limit t (periods kind).recipient (months_after t (periods kind).recipient) refl
       ];
     }
 
 parts : (kind : KeyType) (d : Dates) → Fits kind d → FitsSo kind d.activation d.protect_stop d.deactivation
 parts kind d fits =
-    let outer = and_parts (in_order d.activation d.protect_stop && in_order d.protect_stop d.deactivation) (in_order d.activation d.deactivation) fits.order in
-    let inner = and_parts (in_order d.activation d.protect_stop) (in_order d.protect_stop d.deactivation) outer.0 in
+    let outer = and_parts (is_not_after d.activation d.protect_stop && is_not_after d.protect_stop d.deactivation) (is_not_after d.activation d.deactivation) fits.order in
+    let inner = and_parts (is_not_after d.activation d.protect_stop) (is_not_after d.protect_stop d.deactivation) outer.0 in
     record { first = inner.0; second = inner.1; third = outer.1; originator = fits.originator; recipient = fits.recipient }
 
 joined : (kind : KeyType) (d : Dates) → FitsSo kind d.activation d.protect_stop d.deactivation → Fits kind d
@@ -274,11 +275,6 @@ step key t k (SetDates n activation protect_stop deactivation) names sound fits_
       moves = edited_moves key.kind d t activation protect_stop deactivation (is_early (state_at d t) fits_state) (not_refused _ _ free);
     }
 step key t k (Revoke n reason occurrence) names sound fits_state free fit = revoked key.kind key.row.dates t (is_compromise reason) occurrence sound fits_state
-step key t k (Assign n owner) names sound fits_state free fit = same_step key.kind key.row.dates t sound
-step key t k (AddCustodian n name) names sound fits_state free fit = same_step key.kind key.row.dates t sound
-step key t k (RemoveCustodian n name) names sound fits_state free fit = same_step key.kind key.row.dates t sound
-step key t k (Approve n) names sound fits_state free fit = same_step key.kind key.row.dates t sound
-step key t k (Withdraw n) names sound fits_state free fit = same_step key.kind key.row.dates t sound
 step key t k (Destroy n) names sound fits_state free fit =
     let d : Dates = key.row.dates in
     let still = nothing_moves d t in
@@ -294,4 +290,4 @@ step key t k (Destroy n) names sound fits_state free fit =
         compromise_occurrence = still.compromise_occurrence;
       };
     }
-step key t k Advance names sound fits_state free fit = absurd cc
+step key t k c names sound fits_state free fit = same_step key.kind key.row.dates t sound

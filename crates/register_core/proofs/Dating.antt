@@ -6,9 +6,9 @@ use Rattle.lifecycle_core.specs.declared.dates.Dates.{Dates}
 use Rattle.period_core.specs.declared.key_type.KeyType.{KeyType}
 use Rattle.period_core.specs.declared.filling.DateRefusal.{DateRefusal}
 use Rattle.period_core.specs.declared.filling.DateRefusal.TheVariants.{DateOrder, PeriodTooLong, DateRange}
-use Rattle.period_core.specs.Fitting.{in_order, originator_limit, recipient_limit, are_in_order, Fits, with_protect_stop, with_deactivation, cut, filled, trimmed, over_limit, out_of_order, out_of_range, unless_refused, fill_of, trim_of}
+use Rattle.period_core.specs.Fitting.{is_not_after, originator_limit, recipient_limit, Fits, with_protect_stop, with_deactivation, cut, filled, trimmed, over_limit, out_of_order, out_of_range, unless_refused, fill_of, trim_of}
 use Rattle.register_core.specs.Verdict.{refused_dates}
-use Rattle.register_core.proofs.Filling.{none_holds}
+use Rattle.register_core.proofs.Filling.{past}
 
 -- ---- what they keep
 
@@ -45,23 +45,21 @@ pub record KeepsOthers (old new : Dates) : Type 0 where
   pub compromise : new.compromise ≡ old.compromise
   pub compromise_occurrence : new.compromise_occurrence ≡ old.compromise_occurrence
 
-pub filled_keeps : (kind : KeyType) (d : Dates) → KeepsOthers d (filled kind d)
-filled_keeps kind d = record {
-  activation = filled_kept (λ x. x.activation) (record { stop = λ x date. refl; end = λ x date. refl }) kind d;
-  initial = filled_kept (λ x. x.initial) (record { stop = λ x date. refl; end = λ x date. refl }) kind d;
-  destroy = filled_kept (λ x. x.destroy) (record { stop = λ x date. refl; end = λ x date. refl }) kind d;
-  compromise = filled_kept (λ x. x.compromise) (record { stop = λ x date. refl; end = λ x date. refl }) kind d;
-  compromise_occurrence = filled_kept (λ x. x.compromise_occurrence) (record { stop = λ x date. refl; end = λ x date. refl }) kind d;
+-- what keeps all that looks at neither Protect Stop nor Deactivation keeps these
+keeps_by : (old new : Dates) → ((X : Type 0) (f : Dates → X) → IsApart f → f new ≡ f old) → KeepsOthers old new
+keeps_by old new kept_by = record {
+  activation = kept_by (Option ℕ) (λ x. x.activation) (record { stop = λ x date. refl; end = λ x date. refl });
+  initial = kept_by ℕ (λ x. x.initial) (record { stop = λ x date. refl; end = λ x date. refl });
+  destroy = kept_by (Option ℕ) (λ x. x.destroy) (record { stop = λ x date. refl; end = λ x date. refl });
+  compromise = kept_by (Option ℕ) (λ x. x.compromise) (record { stop = λ x date. refl; end = λ x date. refl });
+  compromise_occurrence = kept_by (Option ℕ) (λ x. x.compromise_occurrence) (record { stop = λ x date. refl; end = λ x date. refl });
 }
 
+pub filled_keeps : (kind : KeyType) (d : Dates) → KeepsOthers d (filled kind d)
+filled_keeps kind d = keeps_by d (filled kind d) (λ X f apart. filled_kept f apart kind d)
+
 pub trimmed_keeps : (kind : KeyType) (d : Dates) → KeepsOthers d (trimmed kind d)
-trimmed_keeps kind d = record {
-  activation = trimmed_kept (λ x. x.activation) (record { stop = λ x date. refl; end = λ x date. refl }) kind d;
-  initial = trimmed_kept (λ x. x.initial) (record { stop = λ x date. refl; end = λ x date. refl }) kind d;
-  destroy = trimmed_kept (λ x. x.destroy) (record { stop = λ x date. refl; end = λ x date. refl }) kind d;
-  compromise = trimmed_kept (λ x. x.compromise) (record { stop = λ x date. refl; end = λ x date. refl }) kind d;
-  compromise_occurrence = trimmed_kept (λ x. x.compromise_occurrence) (record { stop = λ x date. refl; end = λ x date. refl }) kind d;
-}
+trimmed_keeps kind d = keeps_by d (trimmed kind d) (λ X f apart. trimmed_kept f apart kind d)
 
 never_empty : (b : Bool) (o : Option ℕ) (x : ℕ) → o ≡ Some x → b && is_none o ≡ false
 never_empty true None x set = absurd cc
@@ -109,7 +107,7 @@ ranged : (b : Bool) → ◌≡◌ {A = Option DateRefusal} (cond b (Some DateRan
 ranged true e = absurd cc
 ranged false e = refl
 
-limited : (date limit : Option ℕ) → over_limit date limit ≡ None → in_order date limit ≡ true
+limited : (date limit : Option ℕ) → over_limit date limit ≡ None → is_not_after date limit ≡ true
 limited None limit e = refl
 limited (Some date) None e = refl
 limited (Some date) (Some limit) e = by (nat_lt limit date) refl e
@@ -138,10 +136,21 @@ whole d e = record {
 pub filled_fits : (kind : KeyType) (d : Dates) → refused_dates (fill_of kind d) ≡ None → Fits kind (filled kind d) × IsWhole (filled kind d)
 filled_fits kind d e =
     let full = filled kind d in
-    let each = none_holds (out_of_order full ∷ over_limit full.protect_stop (originator_limit kind full) ∷ over_limit full.deactivation (recipient_limit kind full) ∷ out_of_range full ∷ []) (passes _ full e) in
-    (record { order = ordered _ each.0; originator = limited full.protect_stop (originator_limit kind full) each.1.0; recipient = limited full.deactivation (recipient_limit kind full) each.1.1.0 }, whole full each.1.1.1.0)
+    let originator = over_limit full.protect_stop (originator_limit kind full) in
+    let recipient = over_limit full.deactivation (recipient_limit kind full) in
+    let order = past (out_of_order full) (originator ∷ recipient ∷ out_of_range full ∷ []) (passes _ full e) in
+    let first = past originator (recipient ∷ out_of_range full ∷ []) order.later in
+    let second = past recipient (out_of_range full ∷ []) first.later in
+    let range = past (out_of_range full) [] second.later in (
+      record {
+        order = ordered _ order.here;
+        originator = limited full.protect_stop (originator_limit kind full) first.here;
+        recipient = limited full.deactivation (recipient_limit kind full) second.here;
+      },
+      whole full range.here,
+    )
 
-cut_within : (date limit : Option ℕ) → in_order (cut date limit) limit ≡ true
+cut_within : (date limit : Option ℕ) → is_not_after (cut date limit) limit ≡ true
 cut_within None limit = refl
 cut_within (Some date) None = refl
 cut_within (Some date) (Some limit) = le-leb (min date limit) limit (omega arith)
@@ -151,13 +160,14 @@ trimmed_fits kind d e =
     let full = trimmed kind d in
     let first = with_protect_stop kind d in
     let second = with_deactivation kind (stopped kind d) in
-    let each = none_holds (out_of_order full ∷ out_of_range full ∷ []) (passes _ full e) in
+    let ordering = past (out_of_order full) (out_of_range full ∷ []) (passes _ full e) in
+    let range = past (out_of_range full) [] ordering.later in
     let limit : originator_limit kind full ≡ originator_limit kind first =
     end_kept (originator_limit kind) (record { stop = λ y date. refl; end = λ y date. refl }) kind (stopped kind d) in (
       record {
-        order = ordered _ each.0;
-        originator = ap (λ (o : Option ℕ). in_order o (originator_limit kind full)) (trimmed_stop_is kind d) ∙ ap (in_order (stopped kind d).protect_stop) limit ∙ cut_within first.protect_stop (originator_limit kind first);
+        order = ordered _ ordering.here;
+        originator = ap (λ (o : Option ℕ). is_not_after o (originator_limit kind full)) (trimmed_stop_is kind d) ∙ ap (is_not_after (stopped kind d).protect_stop) limit ∙ cut_within first.protect_stop (originator_limit kind first);
         recipient = cut_within second.deactivation (recipient_limit kind second);
       },
-      whole full each.1.0,
+      whole full range.here,
     )

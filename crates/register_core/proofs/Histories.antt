@@ -1,6 +1,7 @@
 -- What a history with one more request at its end says.
-use Rattle.std.proofs.Common.{◌≡◌, ℕ, ◌+◌, ◌≤◌, ◌<◌, Bool, true, false, cond, List, [], ◌∷◌, ◌++◌, length, get_or, take, Option, None, Some, refl, sym, ap, ◌∙◌, arith, append_assoc, zero-add, inl, inr, eq-eqb}
+use Rattle.std.proofs.Common.{◌≡◌, ℕ, ◌+◌, ◌≤◌, ◌<◌, Bool, true, false, cond, List, [], ◌∷◌, ◌++◌, length, get_or, take, None, Some, refl, sym, ap, ◌∙◌, arith, append_assoc, zero-add, inl, inr, eq-eqb}
 use Rattle.std.specs.Prelude.{nat_eq, fold}
+use Rattle.std.specs.List.{filter_map}
 use Rattle.std.proofs.lemmas.Bool.Decides.{eqb_tells}
 use Rattle.std.proofs.lemmas.List.{length-append, append-nil, take_more}
 use Rattle.std.proofs.lemmas.List.Elements.{filter_map-append}
@@ -11,9 +12,10 @@ use Rattle.period_core.specs.declared.key_type.KeyType.TheVariants.{DataEncrypti
 use Rattle.period_core.specs.Fitting.{filled}
 use Rattle.register_core.specs.declared.request.Request.{Request}
 use Rattle.register_core.specs.declared.request.Command.{Command}
-use Rattle.register_core.specs.declared.request.Command.TheVariants.{Register as Registers, Activate, SetDates, Revoke, Assign, AddCustodian, RemoveCustodian, Approve, Withdraw, Destroy, Advance}
-use Rattle.register_core.specs.History.{latest, registration_of, registrations, count, key_of, made_by, is_key, own_from, own, kind_after, type, no_dates, given_dates, dates_after, dates, owner_after, owner}
-use Rattle.register_core.specs.Verdict.{named}
+use Rattle.register_core.specs.History.{latest, registrations, count, own_from, own, type, dates, owner}
+use Rattle.register_core.specs.Subject.{Registration, Subject, Makes, Names, NoKey, subject, registration_by, named_by, key_by, count_by, registration_of, named, key_of, made_by, is_key}
+use Rattle.register_core.proofs.Subjects.{is_registration, is_named}
+use Rattle.register_core.specs.Effect.{kind_by, kind_after, no_dates, given_dates, dates_after, owner_after}
 
 -- ---- lists with one more
 
@@ -23,21 +25,13 @@ latest_grows h q = fold-append (λ (before : ℕ) (p : Request). p.moment) 0 h (
 pub registrations_grow : (h : List Request) (q : Request) → registrations (h ++ q ∷ []) ≡ registrations h ++ registrations (q ∷ [])
 registrations_grow h q = filter_map-append (λ (p : Request). registration_of p.command) h (q ∷ [])
 
-pub count_one : (q : Request) → (c : Command) → length (registrations (record q { command = c } ∷ [])) ≡ made_by c
-count_one q (Registers kind owner activation protect_stop deactivation purpose) = refl
-count_one q (Activate key) = refl
-count_one q (SetDates key activation protect_stop deactivation) = refl
-count_one q (Revoke key reason occurrence) = refl
-count_one q (Assign key owner) = refl
-count_one q (AddCustodian key name) = refl
-count_one q (RemoveCustodian key name) = refl
-count_one q (Approve key) = refl
-count_one q (Withdraw key) = refl
-count_one q (Destroy key) = refl
-count_one q Advance = refl
-
 pub made_one : (q : Request) → count (q ∷ []) ≡ made_by q.command
-made_one q = count_one q q.command
+made_one q =
+    elim (subject q.command) as (λ s. length (filter_map (λ (p : Request). registration_by s) (q ∷ [])) ≡ count_by s) [
+      | Makes r ↦ refl
+      | Names k ↦ refl
+      | NoKey ↦ refl
+    ]
 
 pub count_grows : (h : List Request) (q : Request) → count (h ++ q ∷ []) ≡ count h + made_by q.command
 count_grows h q = ap length (registrations_grow h q) ∙ length-append (registrations h) (registrations (q ∷ [])) ∙ ap (λ (n : ℕ). count h + n) (made_one q)
@@ -67,44 +61,19 @@ not_same m n lt = elim (eqb_tells m n) [ inl both ↦ absurd (omega (arith, both
 
 -- a command that names no key concerns none that was there before
 pub not_concerned : (c : Command) (keys k : ℕ) → k ≤ keys → named c ≡ None → is_key k (key_of keys c) ≡ false
-not_concerned (Registers kind owner activation protect_stop deactivation purpose) keys k le none = not_same (keys + 1) k (omega arith)
-not_concerned (Activate key) keys k le none = cc
-not_concerned (SetDates key activation protect_stop deactivation) keys k le none = cc
-not_concerned (Revoke key reason occurrence) keys k le none = cc
-not_concerned (Assign key owner) keys k le none = cc
-not_concerned (AddCustodian key name) keys k le none = cc
-not_concerned (RemoveCustodian key name) keys k le none = cc
-not_concerned (Approve key) keys k le none = cc
-not_concerned (Withdraw key) keys k le none = cc
-not_concerned (Destroy key) keys k le none = cc
-not_concerned Advance keys k le none = refl
+not_concerned c keys k le none = by (subject c) none
+  where
+    by : (s : Subject) → named_by s ≡ None → is_key k (key_by keys s) ≡ false
+    by (Makes r) e = not_same (keys + 1) k (omega arith)
+    by (Names n) e = absurd cc
+    by NoKey e = refl
 
 -- a command that names a key makes none
 pub key_named : (c : Command) (keys k : ℕ) → named c ≡ Some k → key_of keys c ≡ Some k
-key_named (Registers kind owner activation protect_stop deactivation purpose) keys k names = cc
-key_named (Activate key) keys k names = names
-key_named (SetDates key activation protect_stop deactivation) keys k names = names
-key_named (Revoke key reason occurrence) keys k names = names
-key_named (Assign key owner) keys k names = names
-key_named (AddCustodian key name) keys k names = names
-key_named (RemoveCustodian key name) keys k names = names
-key_named (Approve key) keys k names = names
-key_named (Withdraw key) keys k names = names
-key_named (Destroy key) keys k names = names
-key_named Advance keys k names = cc
+key_named c keys k names = ap (key_by keys) (is_named (subject c) k names)
 
 pub kind_kept : (c : Command) (k : ℕ) (before : KeyType) → named c ≡ Some k → kind_after before c ≡ before
-kind_kept (Registers kind owner activation protect_stop deactivation purpose) k before names = cc
-kind_kept (Activate key) k before names = refl
-kind_kept (SetDates key activation protect_stop deactivation) k before names = refl
-kind_kept (Revoke key reason occurrence) k before names = refl
-kind_kept (Assign key owner) k before names = refl
-kind_kept (AddCustodian key name) k before names = refl
-kind_kept (RemoveCustodian key name) k before names = refl
-kind_kept (Approve key) k before names = refl
-kind_kept (Withdraw key) k before names = refl
-kind_kept (Destroy key) k before names = refl
-kind_kept Advance k before names = refl
+kind_kept c k before names = ap (kind_by before) (is_named (subject c) k names)
 
 concerned : (c : Command) (keys k : ℕ) → key_of keys c ≡ Some k → is_key k (key_of keys c) ≡ true
 concerned c keys k is = ap (is_key k) is ∙ eq-eqb k k refl
@@ -115,9 +84,6 @@ own_same h q k other = own_grows h q k ∙ ap (λ (b : Bool). own h k ++ cond b 
 -- the requests of the key that a command makes or names end with it
 pub own_ends : (h : List Request) (q : Request) (k : ℕ) → key_of (count h) q.command ≡ Some k → own (h ++ q ∷ []) k ≡ own h k ++ q ∷ []
 own_ends h q k is = own_grows h q k ∙ ap (λ (b : Bool). own h k ++ cond b (q ∷ []) []) (concerned q.command (count h) k is)
-
-pub own_made : (h : List Request) (q : Request) → key_of (count h) q.command ≡ Some (count h + 1) → own (h ++ q ∷ []) (count h + 1) ≡ own h (count h + 1) ++ q ∷ []
-own_made h q makes = own_ends h q (count h + 1) makes
 
 -- ---- what the requests of a key give it, with one more
 
@@ -166,24 +132,21 @@ dates_named h q k names =
 
 -- ---- the registration of the key, which overrides whatever came before
 
-pub kind_made : (h : List Request) (q : Request) (kind : KeyType) (by : List ℕ) (activation protect_stop deactivation : Option ℕ) (purpose : List ℕ) →
-    q.command ≡ Registers kind by activation protect_stop deactivation purpose → type (h ++ q ∷ []) (count h + 1) ≡ kind
-kind_made h q kind by activation protect_stop deactivation purpose is =
-    fold_ends kind_step DataEncryption h q (count h + 1) (ap (key_of (count h)) is) ∙ ap (kind_after (type h (count h + 1))) is
+pub kind_made : (h : List Request) (q : Request) (r : Registration) → subject q.command ≡ Makes r → type (h ++ q ∷ []) (count h + 1) ≡ r.kind
+kind_made h q r makes =
+    fold_ends kind_step DataEncryption h q (count h + 1) (ap (key_by (count h)) makes) ∙ ap (kind_by (type h (count h + 1))) makes
 
-pub owner_made : (h : List Request) (q : Request) (kind : KeyType) (by : List ℕ) (activation protect_stop deactivation : Option ℕ) (purpose : List ℕ) →
-    q.command ≡ Registers kind by activation protect_stop deactivation purpose → owner (h ++ q ∷ []) (count h + 1) ≡ by
-owner_made h q kind by activation protect_stop deactivation purpose is =
-    fold_ends owner_step [] h q (count h + 1) (ap (key_of (count h)) is) ∙ ap (owner_after (owner h (count h + 1))) is
+pub owner_made : (h : List Request) (q : Request) (r : Registration) → subject q.command ≡ Makes r → owner (h ++ q ∷ []) (count h + 1) ≡ r.owner
+owner_made h q r makes =
+    fold_ends owner_step [] h q (count h + 1) (ap (key_by (count h)) makes) ∙ ap (owner_after (owner h (count h + 1))) (is_registration q.command r makes)
 
-pub dates_made : (h : List Request) (q : Request) (kind : KeyType) (by : List ℕ) (activation protect_stop deactivation : Option ℕ) (purpose : List ℕ) →
-    q.command ≡ Registers kind by activation protect_stop deactivation purpose →
-    dates (h ++ q ∷ []) (count h + 1) ≡ filled kind (given_dates q.moment activation protect_stop deactivation)
-dates_made h q kind by activation protect_stop deactivation purpose is =
+pub dates_made : (h : List Request) (q : Request) (r : Registration) → subject q.command ≡ Makes r →
+    dates (h ++ q ∷ []) (count h + 1) ≡ filled r.kind (given_dates q.moment r.activation r.protect_stop r.deactivation)
+dates_made h q r makes =
     let of_type : KeyType = type (h ++ q ∷ []) (count h + 1) in
     let before : Dates = fold (dates_step of_type) no_dates (own h (count h + 1)) in
-    fold_ends (dates_step of_type) no_dates h q (count h + 1) (ap (key_of (count h)) is)
-    ∙ ap (λ (c : Command). dates_after of_type before q.moment c) is
+    fold_ends (dates_step of_type) no_dates h q (count h + 1) (ap (key_by (count h)) makes)
+    ∙ ap (λ (c : Command). dates_after of_type before q.moment c) (is_registration q.command r makes)
 
 -- ---- the front of a history, one request longer
 

@@ -9,7 +9,7 @@ use Rattle.std.proofs.lemmas.Bool.Decides.{nat_tests}
 use Rattle.std.proofs.lemmas.Fmt.{decimal_is_IsNumeral}
 use Rattle.std.proofs.lemmas.Slice.Eq.{bytes_eq-Decides}
 use Rattle.std.proofs.lemmas.Str.Parse.{digit_from_value}
-use Rattle.register_core.specs.declared.line.TheConstants.{LINE_LIMIT}
+use Rattle.register_core.specs.declared.line.TheConstants.{MAX_LINE_LENGTH}
 use Rattle.lifecycle_core.specs.declared.reason.Reason.{Reason}
 use Rattle.lifecycle_core.specs.Reason.{reason_code}
 use Rattle.period_core.specs.declared.key_type.KeyType.{KeyType}
@@ -21,10 +21,10 @@ use Rattle.register_core.specs.declared.request.Edit.{Edit}
 use Rattle.register_core.specs.declared.request.Edit.TheVariants.{Keep, Clear, Set}
 use Rattle.register_core.specs.Name.{IsName, is_name_byte}
 use Rattle.period_core.specs.KeyType.{key_type_text}
-use Rattle.register_core.specs.Request.{IsCommand, IsDate, IsEdit, IsKeyNumber, IsRequest, IsLineOf, IsItem, date_text, edit_text, command_text, request_text}
+use Rattle.register_core.specs.Request.{IsCommand, IsDate, IsEdit, IsKeyNumber, IsRequest, IsLineOf, StandsFor, IsItem, date_text, edit_text, command_text, request_text}
 use Rattle.register_core.specs.CommandText.{IsCommandText, IsCommandItem}
-use Rattle.register_core.specs.Reading.{◌>>=◌, is_space, field_at, field_as, moment_at, date_at, edit_at, key_number_at, reason_at, occurrence_at, request_number_at, name_at, key_type_at, purpose_at, register_at, activate_at, set_at, revoke_at, assign_at, add_custodian_at, remove_custodian_at, approve_at, withdraw_at, destroy_at, people_at, behind_at, worded_at, command_at, fields_at, request_at}
-use Rattle.register_core.proofs.Fields.{bind_some, some_is, HasNoSpace, field_takes, field_again, as_takes, as_again}
+use Rattle.register_core.specs.Reading.{◌>>=◌, is_space, field_at, field_as, moment_at, date_at, edit_at, key_number_at, reason_at, occurrence_at, request_number_at, name_at, key_type_at, purpose_at, register_at, set_at, revoke_at, key_and_name_at, key_command, name_command, keyed_by, keyed_at, behind_at, worded_at, command_at, fields_at, request_at}
+use Rattle.register_core.proofs.Fields.{bind_some, some_is, none_from, HasNoSpace, field_takes, field_again, as_takes, as_again}
 use Rattle.register_core.proofs.Readers.{moment_reader, date_reader, edit_reader, moment_small, key_number_reader, key_number_small, request_number_reader, request_number_small, name_reader, purpose_reader, key_type_reader, reason_reader, reason_text, reason_small, occurrence_reader, not_space}
 
 -- ---- what has no space
@@ -92,18 +92,20 @@ joined_named word k n = simp append_assoc
 joined_request : (m c n d : List ℕ) → m ++ codes " " ++ c ++ codes " " ++ n ++ codes " " ++ d ≡ before m (before c (before n d))
 joined_request m c n d = simp append_assoc
 
+-- the same of fields that were read one after the other
 nested_register : (b k b1 o b2 a b3 p b4 d b5 u : List ℕ) → b ≡ before k b1 → b1 ≡ before o b2 → b2 ≡ before a b3 → b3 ≡ before p b4 → b4 ≡ before d b5 → b5 ≡ u
-    → before (codes "register") b ≡ before (codes "register") (before k (before o (before a (before p (before d u)))))
-nested_register b k b1 o b2 a b3 p b4 d b5 u ek eo ea ep ed eu = rw (ek, eo, ea, ep, ed, eu) refl
+    → before (codes "register") b ≡ codes "register " ++ k ++ codes " " ++ o ++ codes " " ++ a ++ codes " " ++ p ++ codes " " ++ d ++ codes " " ++ u
+nested_register b k b1 o b2 a b3 p b4 d b5 u ek eo ea ep ed eu = rw (ek, eo, ea, ep, ed, eu) (sym (joined_register k o a p d u))
 
-nested_set : (b k b1 a b2 p b3 d : List ℕ) → b ≡ before k b1 → b1 ≡ before a b2 → b2 ≡ before p b3 → b3 ≡ d → before (codes "set") b ≡ before (codes "set") (before k (before a (before p d)))
-nested_set b k b1 a b2 p b3 d ek ea ep ed = rw (ek, ea, ep, ed) refl
+nested_set : (b k b1 a b2 p b3 d : List ℕ) → b ≡ before k b1 → b1 ≡ before a b2 → b2 ≡ before p b3 → b3 ≡ d
+    → before (codes "set") b ≡ codes "set " ++ k ++ codes " " ++ a ++ codes " " ++ p ++ codes " " ++ d
+nested_set b k b1 a b2 p b3 d ek ea ep ed = rw (ek, ea, ep, ed) (sym (joined_set k a p d))
 
-nested_revoke : (b k b1 r b2 o : List ℕ) → b ≡ before k b1 → b1 ≡ before r b2 → b2 ≡ o → before (codes "revoke") b ≡ before (codes "revoke") (before k (before r o))
-nested_revoke b k b1 r b2 o ek er eo = rw (ek, er, eo) refl
+nested_revoke : (b k b1 r b2 o : List ℕ) → b ≡ before k b1 → b1 ≡ before r b2 → b2 ≡ o → before (codes "revoke") b ≡ codes "revoke " ++ k ++ codes " " ++ r ++ codes " " ++ o
+nested_revoke b k b1 r b2 o ek er eo = rw (ek, er, eo) (sym (joined_revoke k r o))
 
-nested_request : (b m b1 c b2 n b3 d : List ℕ) → b ≡ before m b1 → b1 ≡ before c b2 → b2 ≡ before n b3 → b3 ≡ d → b ≡ before m (before c (before n d))
-nested_request b m b1 c b2 n b3 d em ec en ed = rw (em, ec, en, ed) refl
+nested_request : (b m b1 c b2 n b3 d : List ℕ) → b ≡ before m b1 → b1 ≡ before c b2 → b2 ≡ before n b3 → b3 ≡ d → b ≡ m ++ codes " " ++ c ++ codes " " ++ n ++ codes " " ++ d
+nested_request b m b1 c b2 n b3 d em ec en ed = rw (em, ec, en, ed) (sym (joined_request m c n d))
 
 -- ---- the steps of register_at
 
@@ -127,6 +129,10 @@ record IsBehind (word bytes : List ℕ) (q : Command) : Type 0 where
   in_range : IsCommand q
   text : before word bytes ≡ command_text q
 
+-- the command that was read behind this word
+behind_this : (this bytes : List ℕ) (made q : Command) → IsCommand made → before this bytes ≡ command_text made → Some made ≡ Some q → IsBehind this bytes q
+behind_this this bytes made q in_range text e = subst (IsBehind this bytes) (some_is made q e) (record { in_range = in_range; text = text })
+
 register_takes : (bytes : List ℕ) (q : Command) → register_at bytes ≡ Some q → IsBehind (codes "register") bytes q
 unfolding register_at
 register_takes bytes q e =
@@ -143,11 +149,8 @@ register_takes bytes q e =
     let td = as_takes date_reader p.0.1 d.0 d.1 in
     let tu = purpose_reader.takes d.0.1 u.0 u.1 in
     let made : Command = Register k.0.0 o.0.0 a.0.0 p.0.0 d.0.0 u.0 in
-    let read : before (codes "register") bytes ≡ before (codes "register") (before (key_type_text k.0.0) (before o.0.0 (before (date_text a.0.0) (before (date_text p.0.0) (before (date_text d.0.0) u.0))))) = nested_register bytes (key_type_text k.0.0) k.0.1 o.0.0 o.0.1 (date_text a.0.0) a.0.1 (date_text p.0.0) p.0.1 (date_text d.0.0) d.0.1 u.0 tk.1 to.1 ta.1 tp.1 td.1 tu.1 in
-    subst (IsBehind (codes "register") bytes) (some_is made q u.2) (record {
-      in_range = (to.0, ta.0, tp.0, td.0, tu.0);
-      text = read ∙ sym (joined_register (key_type_text k.0.0) o.0.0 (date_text a.0.0) (date_text p.0.0) (date_text d.0.0) u.0);
-    })
+    let read = nested_register bytes (key_type_text k.0.0) k.0.1 o.0.0 o.0.1 (date_text a.0.0) a.0.1 (date_text p.0.0) p.0.1 (date_text d.0.0) d.0.1 u.0 tk.1 to.1 ta.1 tp.1 td.1 tu.1 in
+    behind_this (codes "register") bytes made q (to.0, ta.0, tp.0, td.0, tu.0) read u.2
 
 register_again : (k : KeyType) (o : List ℕ) (a p d : Option ℕ) (u : List ℕ) → IsCommand (Register k o a p d u)
     → register_at (before (key_type_text k) (before o (before (date_text a) (before (date_text p) (before (date_text d) u))))) ≡ Some (Register k o a p d u)
@@ -163,61 +166,40 @@ register_again k o a p d u in_range =
       purpose_reader.again u in_range.4,
     ) refl
 
--- ---- the words before a key's number alone
+-- ---- a key's number, alone or with a name
 
-abbrev key_as : (ℕ → Command) → List ℕ → Option Command
-key_as make bytes = key_number_at bytes >>= λ k. Some (make k)
+key_and_name_takes : (bytes : List ℕ) (y : ℕ × List ℕ) → key_and_name_at bytes ≡ Some y → IsKeyNumber y.0 × IsName y.1 × (bytes ≡ before (decimal y.0) y.1)
+unfolding key_and_name_at
+key_and_name_takes bytes y e =
+    let k = bind_some (field_as key_number_at bytes) (λ x. name_at x.1 >>= λ n. Some (x.0, n)) y e in
+    let n = bind_some (name_at k.0.1) (λ x. Some (k.0.0, x)) y k.2 in
+    let number = as_takes key_number_reader bytes k.0 k.1 in
+    let name = name_reader.takes k.0.1 n.0 n.1 in
+    let made : ℕ × List ℕ = (k.0.0, n.0) in
+    subst (λ (z : ℕ × List ℕ). IsKeyNumber z.0 × IsName z.1 × (bytes ≡ before (decimal z.0) z.1)) (some_is made y n.2)
+    (number.0, name.0, number.1 ∙ ap (before (decimal k.0.0)) name.1)
 
-key_takes : (word : List ℕ) (make : ℕ → Command) → ((k : ℕ) → IsKeyNumber k → IsCommand (make k)) → ((k : ℕ) → before word (decimal k) ≡ command_text (make k))
-    → (bytes : List ℕ) (q : Command) → key_as make bytes ≡ Some q → IsBehind word bytes q
-key_takes word make in_range text bytes q e =
-    let k = bind_some (key_number_at bytes) (λ x. Some (make x)) q e in
-    let tk = key_number_reader.takes bytes k.0 k.1 in
-    subst (IsBehind word bytes) (some_is (make k.0) q k.2) (record {
-      in_range = in_range k.0 tk.0;
-      text = ap (before word) tk.1 ∙ text k.0;
-    })
+key_and_name_again : (key : ℕ) (n : List ℕ) → IsKeyNumber key → IsName n → key_and_name_at (before (decimal key) n) ≡ Some (key, n)
+unfolding key_and_name_at
+key_and_name_again key n in_range name = rw (as_again key_number_reader key n in_range (key_number_solid key in_range), name_reader.again n name) refl
 
-key_again : (make : ℕ → Command) (key : ℕ) → IsKeyNumber key → key_as make (decimal key) ≡ Some (make key)
-key_again make key in_range = rw (key_number_reader.again key in_range) refl
+-- a number alone has no name behind it
+no_space_in : (xs rest : List ℕ) → HasNoSpace (before xs rest) → ⊥
+no_space_in [] rest solid = cc
+no_space_in (x ∷ xs) rest solid = no_space_in xs rest (and_parts _ _ solid).1
 
-activate_takes : (bytes : List ℕ) (q : Command) → activate_at bytes ≡ Some q → IsBehind (codes "activate") bytes q
-unfolding activate_at
-activate_takes bytes q e = key_takes (codes "activate") Activate (λ k h. h) (λ k. refl) bytes q e
+no_name : (key : ℕ) → IsKeyNumber key → key_and_name_at (decimal key) ≡ None
+no_name key in_range =
+    none_from (key_and_name_at (decimal key)) (λ (y : ℕ × List ℕ) (e : key_and_name_at (decimal key) ≡ Some y).
+    no_space_in (decimal y.0) y.1 (subst HasNoSpace (key_and_name_takes (decimal key) y e).2 (key_number_solid key in_range)))
 
-activate_again : (key : ℕ) → IsKeyNumber key → activate_at (decimal key) ≡ Some (Activate key)
-unfolding activate_at
-activate_again key in_range = key_again Activate key in_range
+single_again : (word : List ℕ) (key : ℕ) (q : Command) → IsKeyNumber key → key_command word key ≡ Some q → keyed_at word (decimal key) ≡ Some q
+unfolding keyed_at
+single_again word key q in_range read = rw (no_name key in_range, key_number_reader.again key in_range) read
 
--- ---- the words before a key's number and a name
-
-abbrev key_and_name_as : (ℕ → List ℕ → Command) → List ℕ → Option Command
-key_and_name_as make bytes = field_as key_number_at bytes >>= λ k. (name_at k.1 >>= λ n. Some (make k.0 n))
-
-named_takes : (word : List ℕ) (make : ℕ → List ℕ → Command) → ((k : ℕ) (n : List ℕ) → IsKeyNumber k → IsName n → IsCommand (make k n))
-    → ((k : ℕ) (n : List ℕ) → (word ++ codes " ") ++ decimal k ++ codes " " ++ n ≡ command_text (make k n))
-    → (bytes : List ℕ) (q : Command) → key_and_name_as make bytes ≡ Some q → IsBehind word bytes q
-named_takes word make in_range text bytes q e =
-    let k = bind_some (field_as key_number_at bytes) (λ x. name_at x.1 >>= λ n. Some (make x.0 n)) q e in
-    let n = bind_some (name_at k.0.1) (λ x. Some (make k.0.0 x)) q k.2 in
-    let tk = as_takes key_number_reader bytes k.0 k.1 in
-    let tn = name_reader.takes k.0.1 n.0 n.1 in
-    let read : before word bytes ≡ before word (before (decimal k.0.0) n.0) = ap (before word) (tk.1 ∙ ap (before (decimal k.0.0)) tn.1) in
-    subst (IsBehind word bytes) (some_is (make k.0.0 n.0) q n.2) (record {
-      in_range = in_range k.0.0 n.0 tk.0 tn.0;
-      text = read ∙ sym (joined_named word (decimal k.0.0) n.0) ∙ text k.0.0 n.0;
-    })
-
-named_again : (make : ℕ → List ℕ → Command) (key : ℕ) (n : List ℕ) → IsKeyNumber key → IsName n → key_and_name_as make (before (decimal key) n) ≡ Some (make key n)
-named_again make key n in_range name = rw (as_again key_number_reader key n in_range (key_number_solid key in_range), name_reader.again n name) refl
-
-assign_takes : (bytes : List ℕ) (q : Command) → assign_at bytes ≡ Some q → IsBehind (codes "assign") bytes q
-unfolding assign_at
-assign_takes bytes q e = named_takes (codes "assign") Assign (λ k n hk hn. (hk, hn)) (λ k n. refl) bytes q e
-
-assign_again : (key : ℕ) (o : List ℕ) → IsCommand (Assign key o) → assign_at (before (decimal key) o) ≡ Some (Assign key o)
-unfolding assign_at
-assign_again key o in_range = named_again Assign key o in_range.0 in_range.1
+pair_again : (word : List ℕ) (key : ℕ) (n : List ℕ) (q : Command) → IsKeyNumber key → IsName n → name_command word key n ≡ Some q → keyed_at word (before (decimal key) n) ≡ Some q
+unfolding keyed_at
+pair_again word key n q in_range name read = rw (key_and_name_again key n in_range name) read
 
 -- ---- the words set and revoke
 
@@ -243,10 +225,7 @@ set_takes bytes q e =
     let td = edit_reader.takes p.0.1 d.0 d.1 in
     let made : Command = SetDates k.0.0 a.0.0 p.0.0 d.0 in
     let read = nested_set bytes (decimal k.0.0) k.0.1 (edit_text a.0.0) a.0.1 (edit_text p.0.0) p.0.1 (edit_text d.0) tk.1 ta.1 tp.1 td.1 in
-    subst (IsBehind (codes "set") bytes) (some_is made q d.2) (record {
-      in_range = (tk.0, ta.0, tp.0, td.0);
-      text = read ∙ sym (joined_set (decimal k.0.0) (edit_text a.0.0) (edit_text p.0.0) (edit_text d.0));
-    })
+    behind_this (codes "set") bytes made q (tk.0, ta.0, tp.0, td.0) read d.2
 
 set_again : (key : ℕ) (a p d : Edit) → IsCommand (SetDates key a p d)
     → set_at (before (decimal key) (before (edit_text a) (before (edit_text p) (edit_text d)))) ≡ Some (SetDates key a p d)
@@ -276,10 +255,7 @@ revoke_takes bytes q e =
     let to = (occurrence_reader r.0.0).takes r.0.1 o.0 o.1 in
     let made : Command = Revoke k.0.0 r.0.0 o.0 in
     let read = nested_revoke bytes (decimal k.0.0) k.0.1 (reason_text r.0.0) r.0.1 (date_text o.0) tk.1 tr.1 to.1 in
-    subst (IsBehind (codes "revoke") bytes) (some_is made q o.2) (record {
-      in_range = (tk.0, to.0.0, to.0.1);
-      text = read ∙ sym (joined_revoke (decimal k.0.0) (reason_text r.0.0) (date_text o.0));
-    })
+    behind_this (codes "revoke") bytes made q (tk.0, to.0.0, to.0.1) read o.2
 
 revoke_again : (key : ℕ) (r : Reason) (o : Option ℕ) → IsCommand (Revoke key r o) → revoke_at (before (decimal key) (before (reason_text r) (date_text o))) ≡ Some (Revoke key r o)
 unfolding revoke_at
@@ -289,6 +265,20 @@ revoke_again key r o in_range =
       as_again reason_reader r (date_text o) tt (reason_solid r),
       (occurrence_reader r).again o (in_range.1, in_range.2),
     ) refl
+
+-- ---- texts that are read exactly where they are a value's
+
+module _ {A : Type 0} (read_by : List ℕ → Option A) (IsText : List ℕ → A → Type 0)
+    (takes : (bytes : List ℕ) (x : A) → read_by bytes ≡ Some x → IsText bytes x) (again : (bytes : List ℕ) (x : A) → IsText bytes x → read_by bytes ≡ Some x) where
+  stands_as : (bytes : List ℕ) (o : Option A) → read_by bytes ≡ o → StandsFor IsText bytes o
+  stands_as bytes None e = λ x h. let found = again bytes x h in absurd (cc (e, found))
+  stands_as bytes (Some x) e = takes bytes x e
+
+  stands_for : (bytes : List ℕ) (o : Option A) → o ≡ read_by bytes → StandsFor IsText bytes o
+  stands_for bytes o e = stands_as bytes o (sym e)
+
+  same_value : (bytes : List ℕ) (x y : A) → IsText bytes x → IsText bytes y → x ≡ y
+  same_value bytes x y hx hy = some_is x y (sym (again bytes x hx) ∙ again bytes y hy)
 
 -- ---- commands
 
@@ -309,22 +299,43 @@ worded_as word this bytes q read other e here behind = elim (pick (bytes_eq word
   | inr rest ↦ behind rest.1
 ]
 
-people_takes : (word bytes : List ℕ) (q : Command) → people_at word bytes ≡ Some q → IsBehind word bytes q
-unfolding people_at add_custodian_at remove_custodian_at approve_at withdraw_at destroy_at
-people_takes word bytes q e =
-    worded_as word (codes "add-custodian") bytes q _ _ e (named_takes (codes "add-custodian") AddCustodian (λ k n hk hn. (hk, hn)) (λ k n. refl) bytes q) (λ e1.
-    worded_as word (codes "remove-custodian") bytes q _ _ e1 (named_takes (codes "remove-custodian") RemoveCustodian (λ k n hk hn. (hk, hn)) (λ k n. refl) bytes q) (λ e2.
-    worded_as word (codes "approve") bytes q _ _ e2 (key_takes (codes "approve") Approve (λ k h. h) (λ k. refl) bytes q) (λ e3.
-    worded_as word (codes "withdraw") bytes q _ _ e3 (key_takes (codes "withdraw") Withdraw (λ k h. h) (λ k. refl) bytes q) (λ e4.
-    worded_as word (codes "destroy") bytes q _ _ e4 (key_takes (codes "destroy") Destroy (λ k h. h) (λ k. refl) bytes q) (λ e5. absurd (none_read q e5))))))
+key_command_takes : (word : List ℕ) (key : ℕ) (q : Command) → IsKeyNumber key → key_command word key ≡ Some q → IsBehind word (decimal key) q
+unfolding key_command
+key_command_takes word key q in_range e =
+    let bytes = decimal key in
+    worded_as word (codes "activate") bytes q _ _ e (behind_this (codes "activate") bytes (Activate key) q in_range refl) (λ e1.
+    worded_as word (codes "approve") bytes q _ _ e1 (behind_this (codes "approve") bytes (Approve key) q in_range refl) (λ e2.
+    worded_as word (codes "withdraw") bytes q _ _ e2 (behind_this (codes "withdraw") bytes (Withdraw key) q in_range refl) (λ e3.
+    worded_as word (codes "destroy") bytes q _ _ e3 (behind_this (codes "destroy") bytes (Destroy key) q in_range refl) (λ e4. absurd (none_read q e4)))))
+
+name_command_takes : (word : List ℕ) (key : ℕ) (n : List ℕ) (q : Command) → IsKeyNumber key → IsName n → name_command word key n ≡ Some q → IsBehind word (before (decimal key) n) q
+unfolding name_command
+name_command_takes word key n q number name e =
+    let bytes = before (decimal key) n in
+    let text = λ (this : List ℕ). sym (joined_named this (decimal key) n) in
+    worded_as word (codes "assign") bytes q _ _ e (behind_this (codes "assign") bytes (Assign key n) q (number, name) (text (codes "assign"))) (λ e1.
+    worded_as word (codes "add-custodian") bytes q _ _ e1 (behind_this (codes "add-custodian") bytes (AddCustodian key n) q (number, name) (text (codes "add-custodian"))) (λ e2.
+    worded_as word (codes "remove-custodian") bytes q _ _ e2 (behind_this (codes "remove-custodian") bytes (RemoveCustodian key n) q (number, name) (text (codes "remove-custodian"))) (λ e3.
+    absurd (none_read q e3))))
+
+keyed_takes : (word bytes : List ℕ) (q : Command) → keyed_at word bytes ≡ Some q → IsBehind word bytes q
+unfolding keyed_at
+keyed_takes word bytes q e = by (key_and_name_at bytes) refl e
+  where
+    by : (o : Option (ℕ × List ℕ)) → key_and_name_at bytes ≡ o → keyed_by word bytes o ≡ Some q → IsBehind word bytes q
+    by (Some y) is read =
+        let taken = key_and_name_takes bytes y is in
+        subst (λ (b : List ℕ). IsBehind word b q) (sym taken.2) (name_command_takes word y.0 y.1 q taken.0 taken.1 read)
+    by None is read =
+        let k = bind_some (key_number_at bytes) (λ key. key_command word key) q read in
+        let taken = key_number_reader.takes bytes k.0 k.1 in
+        subst (λ (b : List ℕ). IsBehind word b q) (sym taken.1) (key_command_takes word k.0 q taken.0 k.2)
 
 behind_takes : (word bytes : List ℕ) (q : Command) → behind_at word bytes ≡ Some q → IsBehind word bytes q
 behind_takes word bytes q e =
     worded_as word (codes "register") bytes q _ _ e (register_takes bytes q) (λ e1.
-    worded_as word (codes "activate") bytes q _ _ e1 (activate_takes bytes q) (λ e2.
-    worded_as word (codes "set") bytes q _ _ e2 (set_takes bytes q) (λ e3.
-    worded_as word (codes "revoke") bytes q _ _ e3 (revoke_takes bytes q) (λ e4.
-    worded_as word (codes "assign") bytes q _ _ e4 (assign_takes bytes q) (people_takes word bytes q)))))
+    worded_as word (codes "set") bytes q _ _ e1 (set_takes bytes q) (λ e2.
+    worded_as word (codes "revoke") bytes q _ _ e2 (revoke_takes bytes q) (keyed_takes word bytes q)))
 
 worded_takes : (bytes : List ℕ) (q : Command) → worded_at bytes ≡ Some q → IsCommandText bytes q
 unfolding worded_at
@@ -346,14 +357,23 @@ worded_again : (word bytes : List ℕ) (q : Command) → HasNoSpace word → byt
 unfolding command_at worded_at
 worded_again word bytes q solid other read = rw (other, field_again word bytes solid) read
 
+single_text : (word : List ℕ) (key : ℕ) (q : Command) → HasNoSpace word → bytes_eq (before word (decimal key)) (codes "advance") ≡ false
+    → behind_at word (decimal key) ≡ keyed_at word (decimal key) → IsKeyNumber key → key_command word key ≡ Some q → command_at (before word (decimal key)) ≡ Some q
+single_text word key q solid other behind in_range read = worded_again word (decimal key) q solid other (behind ∙ single_again word key q in_range read)
+
+pair_text : (word : List ℕ) (key : ℕ) (n : List ℕ) (q : Command) → HasNoSpace word → bytes_eq (before word (before (decimal key) n)) (codes "advance") ≡ false
+    → behind_at word (before (decimal key) n) ≡ keyed_at word (before (decimal key) n) → IsKeyNumber key → IsName n → name_command word key n ≡ Some q
+    → command_at ((word ++ codes " ") ++ decimal key ++ codes " " ++ n) ≡ Some q
+pair_text word key n q solid other behind in_range name read =
+    ap command_at (joined_named word (decimal key) n) ∙ worded_again word (before (decimal key) n) q solid other (behind ∙ pair_again word key n q in_range name read)
+
 command_again : (q : Command) → IsCommand q → command_at (command_text q) ≡ Some q
-unfolding command_at people_at add_custodian_at remove_custodian_at approve_at withdraw_at destroy_at
+unfolding command_at key_command name_command
 command_again Advance in_range = refl
 command_again (Register k o a p d u) in_range =
     let behind : List ℕ = before (key_type_text k) (before o (before (date_text a) (before (date_text p) (before (date_text d) u)))) in
     ap command_at (joined_register (key_type_text k) o (date_text a) (date_text p) (date_text d) u)
     ∙ worded_again (codes "register") behind _ refl refl (register_again k o a p d u in_range)
-command_again (Activate key) in_range = worded_again (codes "activate") (decimal key) _ refl refl (activate_again key in_range)
 command_again (SetDates key a p d) in_range =
     let behind : List ℕ = before (decimal key) (before (edit_text a) (before (edit_text p) (edit_text d))) in
     ap command_at (joined_set (decimal key) (edit_text a) (edit_text p) (edit_text d))
@@ -362,32 +382,23 @@ command_again (Revoke key r o) in_range =
     let behind : List ℕ = before (decimal key) (before (reason_text r) (date_text o)) in
     ap command_at (joined_revoke (decimal key) (reason_text r) (date_text o))
     ∙ worded_again (codes "revoke") behind _ refl refl (revoke_again key r o in_range)
-command_again (Assign key o) in_range =
-    ap command_at (joined_named (codes "assign") (decimal key) o)
-    ∙ worded_again (codes "assign") (before (decimal key) o) _ refl refl (assign_again key o in_range)
-command_again (AddCustodian key n) in_range =
-    ap command_at (joined_named (codes "add-custodian") (decimal key) n)
-    ∙ worded_again (codes "add-custodian") (before (decimal key) n) _ refl refl (named_again AddCustodian key n in_range.0 in_range.1)
-command_again (RemoveCustodian key n) in_range =
-    ap command_at (joined_named (codes "remove-custodian") (decimal key) n)
-    ∙ worded_again (codes "remove-custodian") (before (decimal key) n) _ refl refl (named_again RemoveCustodian key n in_range.0 in_range.1)
-command_again (Approve key) in_range = worded_again (codes "approve") (decimal key) _ refl refl (key_again Approve key in_range)
-command_again (Withdraw key) in_range = worded_again (codes "withdraw") (decimal key) _ refl refl (key_again Withdraw key in_range)
-command_again (Destroy key) in_range = worded_again (codes "destroy") (decimal key) _ refl refl (key_again Destroy key in_range)
+command_again (Activate key) in_range = single_text (codes "activate") key _ refl refl refl in_range refl
+command_again (Approve key) in_range = single_text (codes "approve") key _ refl refl refl in_range refl
+command_again (Withdraw key) in_range = single_text (codes "withdraw") key _ refl refl refl in_range refl
+command_again (Destroy key) in_range = single_text (codes "destroy") key _ refl refl refl in_range refl
+command_again (Assign key n) in_range = pair_text (codes "assign") key n _ refl refl refl in_range.0 in_range.1 refl
+command_again (AddCustodian key n) in_range = pair_text (codes "add-custodian") key n _ refl refl refl in_range.0 in_range.1 refl
+command_again (RemoveCustodian key n) in_range = pair_text (codes "remove-custodian") key n _ refl refl refl in_range.0 in_range.1 refl
 
 command_read : (bytes : List ℕ) (q : Command) → IsCommandText bytes q → command_at bytes ≡ Some q
 command_read bytes q h = ap command_at h.1 ∙ command_again q h.0
 
-command_item_of : (bytes : List ℕ) (o : Option Command) → command_at bytes ≡ o → IsCommandItem bytes o
-command_item_of bytes None e = λ q h. let again = command_read bytes q h in absurd (cc (e, again))
-command_item_of bytes (Some q) e = command_takes bytes q e
-
 pub is_command_item : (bytes : List ℕ) (o : Option Command) → o ≡ command_at bytes → IsCommandItem bytes o
-is_command_item bytes o e = command_item_of bytes o (sym e)
+is_command_item = stands_for command_at IsCommandText command_takes command_read
 
 -- No bytes are the text of two commands.
 pub same_command : (bytes : List ℕ) (p q : Command) → IsCommandText bytes p → IsCommandText bytes q → p ≡ q
-same_command bytes p q hp hq = some_is p q (sym (command_read bytes p hp) ∙ command_read bytes q hq)
+same_command = same_value command_at IsCommandText command_takes command_read
 
 -- ---- lines
 
@@ -420,7 +431,7 @@ fields_takes line q e =
     let read = nested_request line (decimal m.0.0) m.0.1 c.0.0 c.0.1 (decimal n.0.0) n.0.1 (command_text d.0) tm.1 tc.1 tn.1 td.1 in
     subst (IsFieldsOf line) (some_is made q d.2) (record {
       in_range = record { moment = tm.0; caller = tc.0; number = tn.0; command = td.0 };
-      text = read ∙ sym (joined_request (decimal m.0.0) c.0.0 (decimal n.0.0) (command_text d.0));
+      text = read;
     })
 
 fields_again : (q : Request) → IsRequest q → fields_at (request_text q) ≡ Some q
@@ -443,25 +454,21 @@ guard_none false o q e = (refl, e)
 pub request_takes : (line : List ℕ) (q : Request) → request_at line ≡ Some q → IsLineOf line q
 unfolding request_at
 request_takes line q e =
-    let g = guard_none (nat_lt LINE_LIMIT (length line)) (fields_at line) q e in
+    let g = guard_none (nat_lt MAX_LINE_LENGTH (length line)) (fields_at line) q e in
     let taken = fields_takes line q g.1 in
-    record { request = taken.in_range; within = ltb-false LINE_LIMIT (length line) g.0; text = taken.text }
+    record { request = taken.in_range; within = ltb-false MAX_LINE_LENGTH (length line) g.0; text = taken.text }
 
 -- Each line of a request is read.
 pub request_again : (line : List ℕ) (q : Request) → IsLineOf line q → request_at line ≡ Some q
 unfolding request_at
 request_again line q h =
-    let short : nat_lt LINE_LIMIT (length line) ≡ false = le-ltb LINE_LIMIT (length line) h.within in
+    let short : nat_lt MAX_LINE_LENGTH (length line) ≡ false = le-ltb MAX_LINE_LENGTH (length line) h.within in
     let fields : fields_at line ≡ Some q = ap fields_at h.text ∙ fields_again q h.request in
     rw (short, fields) refl
 
-item_of : (line : List ℕ) (o : Option Request) → request_at line ≡ o → IsItem line o
-item_of line None e = λ q h. let again = request_again line q h in absurd (cc (e, again))
-item_of line (Some q) e = request_takes line q e
-
 pub is_item : (line : List ℕ) (o : Option Request) → o ≡ request_at line → IsItem line o
-is_item line o e = item_of line o (sym e)
+is_item = stands_for request_at IsLineOf request_takes request_again
 
 -- No bytes are the line of two requests.
 pub same_request : (line : List ℕ) (p q : Request) → IsLineOf line p → IsLineOf line q → p ≡ q
-same_request line p q hp hq = some_is p q (sym (request_again line p hp) ∙ request_again line q hq)
+same_request = same_value request_at IsLineOf request_takes request_again

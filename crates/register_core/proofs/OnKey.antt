@@ -1,20 +1,20 @@
 -- What is known where a request is accepted, of the key that it makes, names or leaves alone.
 use Rattle.std.proofs.Common.{◌≡◌, ◌⊎◌, inl, inr, ℕ, ◌+◌, ◌≤◌, Bool, true, false, cond, List, [], ◌∷◌, ◌++◌, Option, None, Some, refl, sym, ap, ◌∙◌, arith}
+use Rattle.std.specs.Option.{option_and_then}
 use Rattle.std.proofs.lemmas.Bool.{and_parts, leb-true, ltb-false}
 use Rattle.std.proofs.lemmas.Bool.Decides.{eqb_tells}
 use Rattle.lifecycle_core.specs.State.{state_at}
-use Rattle.period_core.specs.declared.key_type.KeyType.{KeyType}
 use Rattle.register_core.specs.declared.request.Request.{Request}
-use Rattle.register_core.specs.declared.request.Command.{Command}
-use Rattle.register_core.specs.declared.request.Command.TheVariants.{Register as Registers, Activate, SetDates, Revoke, Assign, AddCustodian, RemoveCustodian, Approve, Withdraw, Destroy, Advance}
 use Rattle.register_core.specs.declared.reply.Refusal.{Refusal}
-use Rattle.register_core.specs.declared.decision.Held.{Held}
-use Rattle.register_core.specs.History.{latest, count, key_of, made_by, is_key, dates}
-use Rattle.register_core.specs.People.{held}
-use Rattle.register_core.specs.Verdict.{not_custodian, is_for, frozen, unfit, approvals_missing, entry_refusals, people_refusals, refusals, judge, named, named_key, verdict}
+use Rattle.register_core.specs.declared.view.Held.{Held}
+use Rattle.register_core.specs.History.{latest, count, dates}
+use Rattle.register_core.specs.Subject.{Registration, Subject, Makes, Names, NoKey, subject, named_by, key_by, count_by, key_of, is_key, named}
+use Rattle.register_core.specs.Custody.{held}
+use Rattle.register_core.specs.Verdict.{not_custodian, is_for, frozen, unfit, judge, named_key, verdict}
+use Rattle.register_core.specs.CustodyRefusal.{approvals_missing}
 use Rattle.register_core.proofs.Histories.{count_grows}
-use Rattle.register_core.proofs.PeopleLeads.{not_refused, IsNew}
-use Rattle.register_core.proofs.Filling.{none_holds}
+use Rattle.register_core.proofs.CustodyLeads.{not_refused, IsNew}
+use Rattle.register_core.proofs.Refusals.{passes}
 use Rattle.register_core.proofs.Decisions.{standing, is_there, unknown_named, new_names}
 
 -- ---- an accepted request that names key k
@@ -39,42 +39,36 @@ judged h q key = judge (latest h) (count h) key q
 
 pub not_behind : (h : List Request) (q : Request) → verdict h q ≡ None → latest h ≤ q.moment
 not_behind h q accepted =
-    let each = none_holds (refusals (latest h) (count h) (named_key h q.command) q) accepted in
-    let entry = none_holds (entry_refusals (latest h) (named_key h q.command) q) each.0 in
-    ltb-false _ _ (not_refused _ _ entry.0)
+    ltb-false _ _ (not_refused _ _ (passes (latest h) (count h) (named_key h q.command) q accepted).in_time)
 
 on_there : (h : List Request) (q : Request) (k : ℕ) → named q.command ≡ Some k → is_there h k ≡ true → judged h q (Some (standing h k)) ≡ None → IsOn h q k
 on_there h q k names there accepted =
     let key : Option Held = Some (standing h k) in
-    let each = none_holds (refusals (latest h) (count h) key q) accepted in
-    let entry = none_holds (entry_refusals (latest h) key q) each.0 in
-    let people = none_holds (people_refusals key q.caller q.command) each.1.1.1.0 in
+    let passed = passes (latest h) (count h) key q accepted in
     let both = and_parts _ _ there in
     record {
       names = names;
       low = leb-true _ _ both.0;
       high = leb-true _ _ both.1;
-      fits_state = right_state _ _ entry.1.1.1.1.0;
-      not_frozen = each.1.0;
-      fit = each.1.1.0;
-      enough = people.1.1.1.1.1.1.0;
-      custodians_own = entry.1.1.1.0;
-      new = new_names h q k people.0 people.1.1.1.1.0;
+      fits_state = right_state _ _ passed.state;
+      not_frozen = passed.free;
+      fit = passed.fit;
+      enough = passed.approved;
+      custodians_own = passed.custodians;
+      new = new_names h q k passed.new_custodian passed.new_approval;
     }
 
 pub on_key : (h : List Request) (q : Request) (k : ℕ) → verdict h q ≡ None → named q.command ≡ Some k → IsOn h q k
 on_key h q k accepted names = by (is_there h k) refl (sym (ap (judged h q) shown) ∙ accepted)
   where
     shown : named_key h q.command ≡ held h k
-    shown = ap (λ (n : Option ℕ). Rattle.std.specs.Option.option_and_then (held h) n) names
+    shown = ap (λ (n : Option ℕ). option_and_then (held h) n) names
 
     by : (b : Bool) → is_there h k ≡ b → judged h q (cond b (Some (standing h k)) None) ≡ None → IsOn h q k
     by true there none = on_there h q k names there none
     by false there none =
-        let each = none_holds (refusals (latest h) (count h) None q) none in
-        let entry = none_holds (entry_refusals (latest h) None q) each.0 in
         let missing = unknown_named q.command k names in
-        let known = entry.1.0 in
+        let known = (passes (latest h) (count h) None q none).known in
         absurd cc
 
 -- ---- each key
@@ -82,13 +76,8 @@ on_key h q k accepted names = by (is_there h k) refl (sym (ap (judged h q) shown
 -- the request makes key k
 pub record IsMade (h : List Request) (q : Request) (k : ℕ) : Type 0 where
   pub next : k ≡ count h + 1
-  pub kind : KeyType
-  pub owner : List ℕ
-  pub activation : Option ℕ
-  pub protect_stop : Option ℕ
-  pub deactivation : Option ℕ
-  pub purpose : List ℕ
-  pub command : q.command ≡ Registers kind owner activation protect_stop deactivation purpose
+  pub registration : Registration
+  pub makes : subject q.command ≡ Makes registration
   pub fit : unfit None q.moment q.command ≡ None
 
 -- it neither makes nor names it
@@ -99,38 +88,26 @@ pub record IsOther (h : List Request) (q : Request) (k : ℕ) : Type 0 where
 abbrev pub Concerns : List Request → Request → ℕ → Type 0
 Concerns h q k = IsMade h q k ⊎ IsOn h q k ⊎ IsOther h q k
 
-naming : (h : List Request) (q : Request) (c : Command) (n k : ℕ) → verdict h q ≡ None → q.command ≡ c → named c ≡ Some n → key_of (count h) c ≡ Some n → made_by c ≡ 0
-    → k ≤ count (h ++ q ∷ []) → Concerns h q k
-naming h q c n k accepted is names key makes high = elim (eqb_tells n k) [
-  | inl both ↦ inr (inl (on_key h q k accepted (ap named is ∙ names ∙ ap (λ (x : ℕ). Some x) both.1)))
-  | inr apart ↦
-      let none = ap made_by is ∙ makes in
-      inr (inr (record { high = omega (arith, high, count_grows h q, none); other = ap (is_key k) (ap (key_of (count h)) is ∙ key) ∙ apart.0 }))
-]
+-- a subject that is not key k leaves the number of keys
+apart_from : (h : List Request) (q : Request) (s : Subject) (k : ℕ) → subject q.command ≡ s → is_key k (key_by (count h) s) ≡ false → k ≤ count h → IsOther h q k
+apart_from h q s k is other high = record { high = high; other = ap (λ (x : Subject). is_key k (key_by (count h) x)) is ∙ other }
 
 pub which : (h : List Request) (q : Request) (k : ℕ) → verdict h q ≡ None → k ≤ count (h ++ q ∷ []) → Concerns h q k
-which h q k accepted high = by q.command refl
+which h q k accepted high = by (subject q.command) refl
   where
-    by : (c : Command) → q.command ≡ c → Concerns h q k
-    by (Registers kind owner activation protect_stop deactivation purpose) is = elim (eqb_tells (count h + 1) k) [
+    counted : (s : Subject) → subject q.command ≡ s → count (h ++ q ∷ []) ≡ count h + count_by s
+    counted s is = count_grows h q ∙ ap (λ (x : Subject). count h + count_by x) is
+
+    by : (s : Subject) → subject q.command ≡ s → Concerns h q k
+    by (Makes r) is = elim (eqb_tells (count h + 1) k) [
       | inl both ↦
-          let c = Registers kind owner activation protect_stop deactivation purpose in
-          let shown : named_key h q.command ≡ None = ap (named_key h) is in
-          let each = none_holds (refusals (latest h) (count h) None q) (sym (ap (judged h q) shown) ∙ accepted) in
-          inl (record { next = sym both.1; kind = kind; owner = owner; activation = activation; protect_stop = protect_stop; deactivation = deactivation; purpose = purpose; command = is; fit = each.1.1.0 })
-      | inr apart ↦
-          let one = ap made_by is in
-          inr (inr (record { high = omega (arith, high, count_grows h q, one, apart.1); other = ap (is_key k) (ap (key_of (count h)) is) ∙ apart.0 }))
+          let shown : named_key h q.command ≡ None = ap (λ (s : Subject). option_and_then (held h) (named_by s)) is in
+          let passed = passes (latest h) (count h) None q (sym (ap (judged h q) shown) ∙ accepted) in
+          inl (record { next = sym both.1; registration = r; makes = is; fit = passed.fit })
+      | inr apart ↦ let more = counted (Makes r) is in inr (inr (apart_from h q (Makes r) k is apart.0 (omega (arith, high, more, apart.1))))
     ]
-    by (Activate n) is = naming h q (Activate n) n k accepted is refl refl refl high
-    by (SetDates n activation protect_stop deactivation) is = naming h q (SetDates n activation protect_stop deactivation) n k accepted is refl refl refl high
-    by (Revoke n reason occurrence) is = naming h q (Revoke n reason occurrence) n k accepted is refl refl refl high
-    by (Assign n owner) is = naming h q (Assign n owner) n k accepted is refl refl refl high
-    by (AddCustodian n name) is = naming h q (AddCustodian n name) n k accepted is refl refl refl high
-    by (RemoveCustodian n name) is = naming h q (RemoveCustodian n name) n k accepted is refl refl refl high
-    by (Approve n) is = naming h q (Approve n) n k accepted is refl refl refl high
-    by (Withdraw n) is = naming h q (Withdraw n) n k accepted is refl refl refl high
-    by (Destroy n) is = naming h q (Destroy n) n k accepted is refl refl refl high
-    by Advance is =
-        let none = ap made_by is in
-        inr (inr (record { high = omega (arith, high, count_grows h q, none); other = ap (is_key k) (ap (key_of (count h)) is) }))
+    by (Names n) is = elim (eqb_tells n k) [
+      | inl both ↦ inr (inl (on_key h q k accepted (ap named_by is ∙ ap (λ (x : ℕ). Some x) both.1)))
+      | inr apart ↦ let more = counted (Names n) is in inr (inr (apart_from h q (Names n) k is apart.0 (omega (arith, high, more))))
+    ]
+    by NoKey is = let more = counted NoKey is in inr (inr (apart_from h q NoKey k is refl (omega (arith, high, more))))

@@ -9,7 +9,8 @@ use Rattle.lifecycle_core.specs.Transition.{Leads}
 use Rattle.lifecycle_core.proofs.Transitions.{time_leads}
 use Rattle.period_core.specs.Fitting.{filled}
 use Rattle.register_core.specs.declared.request.Request.{Request}
-use Rattle.register_core.specs.History.{latest, count, type, given_dates, dates}
+use Rattle.register_core.specs.History.{latest, count, type, dates}
+use Rattle.register_core.specs.Effect.{given_dates}
 use Rattle.register_core.specs.Laws.{IsAccepted, HasKey, MovesOnly, state_of_key}
 use Rattle.register_core.proofs.Histories.{dates_other, dates_named, dates_made}
 use Rattle.register_core.proofs.OnKey.{not_behind, IsOn, IsMade, IsOther, which}
@@ -26,12 +27,13 @@ from_none h k to next path = subst (λ (b : Bool). Leads (cond b (Some (state_at
 
 made_path : (h : List Request) (q : Request) (k : ℕ) → IsMade h q k → Leads (state_of_key h k) (Some (state_at (dates (h ++ q ∷ []) k) q.moment))
 made_path h q k made =
-    let given : Dates = given_dates q.moment made.activation made.protect_stop made.deactivation in
-    let its : dates (h ++ q ∷ []) k ≡ filled made.kind given =
-    ap (dates (h ++ q ∷ [])) made.next ∙ dates_made h q made.kind made.owner made.activation made.protect_stop made.deactivation made.purpose made.command in
-    let keeps = filled_keeps made.kind given in
+    let r = made.registration in
+    let given : Dates = given_dates q.moment r.activation r.protect_stop r.deactivation in
+    let its : dates (h ++ q ∷ []) k ≡ filled r.kind given =
+    ap (dates (h ++ q ∷ [])) made.next ∙ dates_made h q r made.makes in
+    let keeps = filled_keeps r.kind given in
     from_none h k _ made.next
-    (subst (λ (d : Dates). Leads None (Some (state_at d q.moment))) (sym its) (path_made (filled made.kind given) q.moment (ap is_some keeps.destroy) (ap is_some keeps.compromise)))
+    (subst (λ (d : Dates). Leads None (Some (state_at d q.moment))) (sym its) (path_made (filled r.kind given) q.moment (ap is_some keeps.destroy) (ap is_some keeps.compromise)))
 
 on_path : (h : List Request) (q : Request) (k : ℕ) → IsAccepted h q → IsOn h q k → Leads (state_of_key h k) (Some (state_at (dates (h ++ q ∷ []) k) q.moment))
 on_path h q k is on =

@@ -1,5 +1,5 @@
 -- The paths along which an accepted command takes its key.
-use Rattle.std.proofs.Common.{◌≡◌, ℕ, ◌≤◌, Bool, true, false, not, ◌&&◌, ◌||◌, cond, List, [], ◌∷◌, ◌++◌, Option, None, Some, refl, sym, ap, subst, ◌∙◌, ◌⊎◌, inl, inr, le-leb}
+use Rattle.std.proofs.Common.{◌≡◌, ℕ, Bool, true, false, not, cond, List, [], ◌∷◌, ◌++◌, Option, None, Some, refl, sym, ap, subst, ◌∙◌, ◌⊎◌, inl, inr, le-leb}
 use Rattle.std.specs.Prelude.{is_some}
 use Rattle.lifecycle_core.specs.declared.state.State.{State}
 use Rattle.lifecycle_core.specs.declared.state.State.TheVariants.{PreActive, Active, Deactivated, Compromised, Destroyed, DestroyedCompromised}
@@ -11,10 +11,11 @@ use Rattle.lifecycle_core.proofs.Transitions.{is_transition, listed}
 use Rattle.period_core.specs.declared.key_type.KeyType.{KeyType}
 use Rattle.period_core.specs.Fitting.{filled, trimmed}
 use Rattle.register_core.specs.declared.request.Command.{Command}
-use Rattle.register_core.specs.declared.request.Command.TheVariants.{Register as Registers, Activate, SetDates, Revoke, Assign, AddCustodian, RemoveCustodian, Approve, Withdraw, Destroy, Advance}
+use Rattle.register_core.specs.declared.request.Command.TheVariants.{Register as Registers, Activate, SetDates, Revoke, Destroy}
 use Rattle.register_core.specs.declared.request.Edit.{Edit}
-use Rattle.register_core.specs.History.{edited_dates, compromised, deactivated, dates_after}
-use Rattle.register_core.specs.Verdict.{is_one_of, is_for, named}
+use Rattle.register_core.specs.Effect.{edited_dates, compromised, deactivated, dates_after}
+use Rattle.register_core.specs.Verdict.{is_one_of, is_for}
+use Rattle.register_core.specs.Subject.{named}
 use Rattle.register_core.specs.Laws.{MovesOnly}
 use Rattle.register_core.proofs.Dating.{filled_keeps, trimmed_keeps}
 use Rattle.register_core.proofs.Showing.{Shows, shows, state_is, is_pre_active, is_active, is_early}
@@ -138,10 +139,5 @@ path_named kind d t k (Registers of_kind owner activation protect_stop deactivat
 path_named kind d t k (Activate n) names fits_state moves = activated_path kind d t (is_pre_active (state_at d t) fits_state)
 path_named kind d t k (SetDates n activation protect_stop deactivation) names fits_state moves = edited_path kind d t activation protect_stop deactivation (is_early (state_at d t) fits_state) moves
 path_named kind d t k (Revoke n reason occurrence) names fits_state moves = revoked_path d t (is_compromise reason) occurrence fits_state
-path_named kind d t k (Assign n owner) names fits_state moves = stays _
-path_named kind d t k (AddCustodian n name) names fits_state moves = stays _
-path_named kind d t k (RemoveCustodian n name) names fits_state moves = stays _
-path_named kind d t k (Approve n) names fits_state moves = stays _
-path_named kind d t k (Withdraw n) names fits_state moves = stays _
 path_named kind d t k (Destroy n) names fits_state moves = destroyed_by (state_at d t) d t (shows d t) fits_state
-path_named kind d t k Advance names fits_state moves = absurd cc
+path_named kind d t k c names fits_state moves = stays _

@@ -12,9 +12,9 @@ use Rattle.std.proofs.lemmas.Slice.Eq.{bytes_eq-Decides}
 use Rattle.std.proofs.lemmas.Str.{IsUtf8-from_is_utf8, is_utf8-from_IsUtf8}
 use Rattle.moment_core.specs.declared.moment.TheConstants.{LAST_SECOND}
 use Rattle.moment_core.specs.Moment.{IsMoment}
-use Rattle.register_core.specs.declared.name.TheConstants.{NAME_LIMIT}
-use Rattle.register_core.specs.declared.number.TheConstants.{LAST_NUMBER}
-use Rattle.register_core.specs.declared.purpose.TheConstants.{PURPOSE_LIMIT}
+use Rattle.register_core.specs.declared.name.TheConstants.{MAX_NAME_LENGTH}
+use Rattle.register_core.specs.declared.number.TheConstants.{MAX_REQUEST_NUMBER}
+use Rattle.register_core.specs.declared.purpose.TheConstants.{MAX_PURPOSE_LENGTH}
 use Rattle.lifecycle_core.specs.declared.reason.Reason.{Reason}
 use Rattle.lifecycle_core.specs.declared.reason.Reason.TheVariants.{Unspecified, KeyCompromise, CaCompromise, AffiliationChanged, Superseded, CessationOfOperation, PrivilegeWithdrawn}
 use Rattle.lifecycle_core.specs.Reason.{reason_code, is_compromise}
@@ -63,25 +63,20 @@ either : (b : Bool) → (b ≡ true) ⊎ (b ≡ false)
 either true = inl refl
 either false = inr refl
 
--- no number is written as a dash
-dash_no_number : (m : ℕ) → m < 2 ^ 64 → bytes_eq (decimal m) (codes "-") ≡ false
-dash_no_number m lt = elim (either (bytes_eq (decimal m) (codes "-"))) [
+-- no number is written as a sign that is no digit
+sign_no_number : (sign : List ℕ) → (AllDigits 10 sign → ⊥) → (m : ℕ) → m < 2 ^ 64 → bytes_eq (decimal m) sign ≡ false
+sign_no_number sign no_digits m lt = elim (either (bytes_eq (decimal m) sign)) [
   | inl same ↦
-      let text : decimal m ≡ codes "-" = (bytes_eq-Decides (decimal m) (codes "-")).0 same in
-      let digits : AllDigits 10 (codes "-") = subst (AllDigits 10) text (decimal_is_IsNumeral m lt).0.1 in
-      absurd (omega (arith, digits.0))
+      let text : decimal m ≡ sign = (bytes_eq-Decides (decimal m) sign).0 same in
+      absurd (no_digits (subst (AllDigits 10) text (decimal_is_IsNumeral m lt).0.1))
   | inr other ↦ other
 ]
 
--- nor as an equals sign
+dash_no_number : (m : ℕ) → m < 2 ^ 64 → bytes_eq (decimal m) (codes "-") ≡ false
+dash_no_number m lt = sign_no_number (codes "-") (λ digits. omega (arith, digits.0)) m lt
+
 equals_no_number : (m : ℕ) → m < 2 ^ 64 → bytes_eq (decimal m) (codes "=") ≡ false
-equals_no_number m lt = elim (either (bytes_eq (decimal m) (codes "="))) [
-  | inl same ↦
-      let text : decimal m ≡ codes "=" = (bytes_eq-Decides (decimal m) (codes "=")).0 same in
-      let digits : AllDigits 10 (codes "=") = subst (AllDigits 10) text (decimal_is_IsNumeral m lt).0.1 in
-      absurd (omega (arith, digits.0))
-  | inr other ↦ other
-]
+equals_no_number m lt = sign_no_number (codes "=") (λ digits. omega (arith, digits.0)) m lt
 
 chosen : {A : Type 0} (b : Bool) (y z : Option A) (x : A) → cond b y z ≡ Some x → ((b ≡ true) × (y ≡ Some x)) ⊎ ((b ≡ false) × (z ≡ Some x))
 chosen true y z x e = inl (refl, e)
@@ -161,8 +156,8 @@ key_number_small n in_range = omega arith
 pub request_number_reader : IsReader request_number_at decimal IsNumber
 unfolding request_number_at
 request_number_reader = record {
-  takes = λ field n e. number_takes 1 LAST_NUMBER field n e;
-  again = λ n in_range. number_again 1 LAST_NUMBER (omega arith) n in_range;
+  takes = λ field n e. number_takes 1 MAX_REQUEST_NUMBER field n e;
+  again = λ n in_range. number_again 1 MAX_REQUEST_NUMBER (omega arith) n in_range;
 }
 
 -- a number that was made of the number in the field
@@ -199,13 +194,13 @@ pub name_reader : IsReader name_at itself IsName
 unfolding name_at
 name_reader = record {
   takes = λ field x e.
-      let got = cond_some (nat_le 1 (length field) && nat_le (length field) NAME_LIMIT && list_all is_name_byte field) field x e in
-      let outer = and_parts (nat_le 1 (length field) && nat_le (length field) NAME_LIMIT) (list_all is_name_byte field) got.0 in
-      let bounds = and_parts (nat_le 1 (length field)) (nat_le (length field) NAME_LIMIT) outer.0 in
-      (subst IsName got.1 (leb-true 1 (length field) bounds.0, leb-true (length field) NAME_LIMIT bounds.1, outer.1), got.1);
+      let got = cond_some (nat_le 1 (length field) && nat_le (length field) MAX_NAME_LENGTH && list_all is_name_byte field) field x e in
+      let outer = and_parts (nat_le 1 (length field) && nat_le (length field) MAX_NAME_LENGTH) (list_all is_name_byte field) got.0 in
+      let bounds = and_parts (nat_le 1 (length field)) (nat_le (length field) MAX_NAME_LENGTH) outer.0 in
+      (subst IsName got.1 (leb-true 1 (length field) bounds.0, leb-true (length field) MAX_NAME_LENGTH bounds.1, outer.1), got.1);
   again = λ x name.
       let low : nat_le 1 (length x) ≡ true = le-leb 1 (length x) name.0 in
-      let high : nat_le (length x) NAME_LIMIT ≡ true = le-leb (length x) NAME_LIMIT name.1 in
+      let high : nat_le (length x) MAX_NAME_LENGTH ≡ true = le-leb (length x) MAX_NAME_LENGTH name.1 in
       rw (low, high, name.2) refl;
 }
 
@@ -228,15 +223,15 @@ unfolding purpose_at
 purpose_reader = record {
   takes = λ bytes x e.
       let n = length bytes in
-      let got = cond_some (nat_le 1 n && nat_le n PURPOSE_LIMIT && is_utf8 bytes && list_all is_purpose_byte bytes && is_trimmed bytes) bytes x e in
-      let p4 = and_parts (nat_le 1 n && nat_le n PURPOSE_LIMIT && is_utf8 bytes && list_all is_purpose_byte bytes) (is_trimmed bytes) got.0 in
-      let p3 = and_parts (nat_le 1 n && nat_le n PURPOSE_LIMIT && is_utf8 bytes) (list_all is_purpose_byte bytes) p4.0 in
-      let p2 = and_parts (nat_le 1 n && nat_le n PURPOSE_LIMIT) (is_utf8 bytes) p3.0 in
-      let p1 = and_parts (nat_le 1 n) (nat_le n PURPOSE_LIMIT) p2.0 in
+      let got = cond_some (nat_le 1 n && nat_le n MAX_PURPOSE_LENGTH && is_utf8 bytes && list_all is_purpose_byte bytes && is_trimmed bytes) bytes x e in
+      let p4 = and_parts (nat_le 1 n && nat_le n MAX_PURPOSE_LENGTH && is_utf8 bytes && list_all is_purpose_byte bytes) (is_trimmed bytes) got.0 in
+      let p3 = and_parts (nat_le 1 n && nat_le n MAX_PURPOSE_LENGTH && is_utf8 bytes) (list_all is_purpose_byte bytes) p4.0 in
+      let p2 = and_parts (nat_le 1 n && nat_le n MAX_PURPOSE_LENGTH) (is_utf8 bytes) p3.0 in
+      let p1 = and_parts (nat_le 1 n) (nat_le n MAX_PURPOSE_LENGTH) p2.0 in
       let ends = trimmed_ends bytes p4.1 in
       let whole : IsPurpose bytes = record {
         some = leb-true 1 n p1.0;
-        within = leb-true n PURPOSE_LIMIT p1.1;
+        within = leb-true n MAX_PURPOSE_LENGTH p1.1;
         utf8 = IsUtf8-from_is_utf8 bytes p2.1;
         printable = p3.1;
         first = ends.0;
@@ -245,7 +240,7 @@ purpose_reader = record {
       (subst IsPurpose got.1 whole, got.1);
   again = λ x purpose.
       let low : nat_le 1 (length x) ≡ true = le-leb 1 (length x) purpose.some in
-      let high : nat_le (length x) PURPOSE_LIMIT ≡ true = le-leb (length x) PURPOSE_LIMIT purpose.within in
+      let high : nat_le (length x) MAX_PURPOSE_LENGTH ≡ true = le-leb (length x) MAX_PURPOSE_LENGTH purpose.within in
       let utf8 : is_utf8 x ≡ true = is_utf8-from_IsUtf8 x purpose.utf8 in
       let ends : is_trimmed x ≡ true = ends_trimmed x purpose.first purpose.last in
       rw (low, high, utf8, purpose.printable, ends) refl;

@@ -30,7 +30,7 @@ pub record MovesOnly (before : Dates) (t : ℕ) (after : Dates) : Type 0 where
   pub activation : (state_at before t ≡ PreActive) ⊎ (after.activation ≡ before.activation)
   -- the Deactivation Date moves in Pre-Active and Active only
   pub deactivation : (state_at before t ≡ PreActive) ⊎ (state_at before t ≡ Active) ⊎ (after.deactivation ≡ before.deactivation)
-  -- a Protect Stop that is reached moves no more
+  -- a Protect Stop that is reached stays
   pub protect_stop : IsTrue (is_reached_at before.protect_stop t) → after.protect_stop ≡ before.protect_stop
   -- and these never, once they are set
   pub initial : after.initial ≡ before.initial

@@ -4,10 +4,10 @@ use Rattle.std.specs.List.{list_all, position}
 use Rattle.std.specs.Str.{bytes_eq, is_utf8}
 use Rattle.std.specs.Str.Parse.{digits_value}
 use Rattle.moment_core.specs.declared.moment.TheConstants.{LAST_SECOND}
-use Rattle.register_core.specs.declared.name.TheConstants.{NAME_LIMIT}
-use Rattle.register_core.specs.declared.number.TheConstants.{LAST_NUMBER}
-use Rattle.register_core.specs.declared.purpose.TheConstants.{PURPOSE_LIMIT}
-use Rattle.register_core.specs.declared.line.TheConstants.{LINE_LIMIT}
+use Rattle.register_core.specs.declared.name.TheConstants.{MAX_NAME_LENGTH}
+use Rattle.register_core.specs.declared.number.TheConstants.{MAX_REQUEST_NUMBER}
+use Rattle.register_core.specs.declared.purpose.TheConstants.{MAX_PURPOSE_LENGTH}
+use Rattle.register_core.specs.declared.line.TheConstants.{MAX_LINE_LENGTH}
 use Rattle.lifecycle_core.specs.declared.reason.Reason.{Reason}
 use Rattle.lifecycle_core.specs.declared.reason.Reason.TheVariants.{Unspecified, KeyCompromise, CaCompromise, AffiliationChanged, Superseded, CessationOfOperation, PrivilegeWithdrawn}
 use Rattle.lifecycle_core.specs.Reason.{reason_code, is_compromise}
@@ -58,7 +58,7 @@ moment_at field = number_at 0 LAST_SECOND field
 unfoldable pub date_at : List ℕ → Option (Option ℕ)
 date_at field = if bytes_eq field (codes "-") then Some None else (moment_at field >>= λ moment. Some (Some moment))
 
--- what the field says of a date, = that it stays and - that it is set no more
+-- what the field says of a date, = that it stays and - that it is unset
 unfoldable pub edit_at : List ℕ → Option Edit
 edit_at field =
     if bytes_eq field (codes "=") then Some Keep
@@ -85,12 +85,12 @@ occurrence_at reason field = if is_compromise reason then date_at field else if 
 
 -- a request's number that the field writes
 unfoldable pub request_number_at : List ℕ → Option ℕ
-request_number_at field = number_at 1 LAST_NUMBER field
+request_number_at field = number_at 1 MAX_REQUEST_NUMBER field
 
 -- the name that the field is
 unfoldable pub name_at : List ℕ → Option (List ℕ)
 name_at field =
-    if nat_le 1 (length field) && nat_le (length field) NAME_LIMIT && list_all is_name_byte field then Some field else None
+    if nat_le 1 (length field) && nat_le (length field) MAX_NAME_LENGTH && list_all is_name_byte field then Some field else None
 
 -- neither the first nor the last byte is a space
 abbrev pub is_trimmed : List ℕ → Bool
@@ -99,7 +99,7 @@ is_trimmed bytes = not (is_space (slice_index bytes 0)) && not (is_space (slice_
 -- the purpose that the bytes are
 unfoldable pub purpose_at : List ℕ → Option (List ℕ)
 purpose_at bytes =
-    if nat_le 1 (length bytes) && nat_le (length bytes) PURPOSE_LIMIT && is_utf8 bytes && list_all is_purpose_byte bytes && is_trimmed bytes
+    if nat_le 1 (length bytes) && nat_le (length bytes) MAX_PURPOSE_LENGTH && is_utf8 bytes && list_all is_purpose_byte bytes && is_trimmed bytes
     then Some bytes else None
 
 -- each type once
@@ -130,11 +130,12 @@ register_at bytes = do
   purpose ← purpose_at deactivation.1
   Some (Register kind.0 owner.0 activation.0 protect_stop.0 deactivation.0 purpose)
 
--- what stands behind the word activate
-unfoldable pub activate_at : List ℕ → Option Command
-activate_at bytes = do
-  key ← key_number_at bytes
-  Some (Activate key)
+-- the number of a key, and the name behind it
+unfoldable pub key_and_name_at : List ℕ → Option (ℕ × List ℕ)
+key_and_name_at bytes = do
+  key ← field_as key_number_at bytes
+  name ← name_at key.1
+  Some (key.0, name)
 
 -- what stands behind the word set
 unfoldable pub set_at : List ℕ → Option Command
@@ -153,64 +154,38 @@ revoke_at bytes = do
   occurrence ← occurrence_at reason.0 reason.1
   Some (Revoke key.0 reason.0 occurrence)
 
--- what stands behind the word assign
-unfoldable pub assign_at : List ℕ → Option Command
-assign_at bytes = do
-  key ← field_as key_number_at bytes
-  owner ← name_at key.1
-  Some (Assign key.0 owner)
-
--- what stands behind the word add-custodian
-unfoldable pub add_custodian_at : List ℕ → Option Command
-add_custodian_at bytes = do
-  key ← field_as key_number_at bytes
-  name ← name_at key.1
-  Some (AddCustodian key.0 name)
-
--- what stands behind the word remove-custodian
-unfoldable pub remove_custodian_at : List ℕ → Option Command
-remove_custodian_at bytes = do
-  key ← field_as key_number_at bytes
-  name ← name_at key.1
-  Some (RemoveCustodian key.0 name)
-
--- what stands behind the word approve
-unfoldable pub approve_at : List ℕ → Option Command
-approve_at bytes = do
-  key ← key_number_at bytes
-  Some (Approve key)
-
--- what stands behind the word withdraw
-unfoldable pub withdraw_at : List ℕ → Option Command
-withdraw_at bytes = do
-  key ← key_number_at bytes
-  Some (Withdraw key)
-
--- what stands behind the word destroy
-unfoldable pub destroy_at : List ℕ → Option Command
-destroy_at bytes = do
-  key ← key_number_at bytes
-  Some (Destroy key)
-
--- what stands behind a word of custodians, approvals and destruction
-unfoldable pub people_at : List ℕ → List ℕ → Option Command
-people_at word bytes =
-    if bytes_eq word (codes "add-custodian") then add_custodian_at bytes
-    else if bytes_eq word (codes "remove-custodian") then remove_custodian_at bytes
-    else if bytes_eq word (codes "approve") then approve_at bytes
-    else if bytes_eq word (codes "withdraw") then withdraw_at bytes
-    else if bytes_eq word (codes "destroy") then destroy_at bytes
+-- the command on a key alone with this word
+unfoldable pub key_command : List ℕ → ℕ → Option Command
+key_command word key =
+    if bytes_eq word (codes "activate") then Some (Activate key)
+    else if bytes_eq word (codes "approve") then Some (Approve key)
+    else if bytes_eq word (codes "withdraw") then Some (Withdraw key)
+    else if bytes_eq word (codes "destroy") then Some (Destroy key)
     else None
+
+-- the command on a key and a name with this word
+unfoldable pub name_command : List ℕ → ℕ → List ℕ → Option Command
+name_command word key name =
+    if bytes_eq word (codes "assign") then Some (Assign key name)
+    else if bytes_eq word (codes "add-custodian") then Some (AddCustodian key name)
+    else if bytes_eq word (codes "remove-custodian") then Some (RemoveCustodian key name)
+    else None
+
+abbrev pub keyed_by : List ℕ → List ℕ → Option (ℕ × List ℕ) → Option Command
+keyed_by word bytes (Some named) = name_command word named.0 named.1
+keyed_by word bytes None = key_number_at bytes >>= λ key. key_command word key
+
+-- what stands behind a word of a key alone, or of a key and a name
+unfoldable pub keyed_at : List ℕ → List ℕ → Option Command
+keyed_at word bytes = keyed_by word bytes (key_and_name_at bytes)
 
 -- what stands behind its word
 abbrev pub behind_at : List ℕ → List ℕ → Option Command
 behind_at word bytes =
     if bytes_eq word (codes "register") then register_at bytes
-    else if bytes_eq word (codes "activate") then activate_at bytes
     else if bytes_eq word (codes "set") then set_at bytes
     else if bytes_eq word (codes "revoke") then revoke_at bytes
-    else if bytes_eq word (codes "assign") then assign_at bytes
-    else people_at word bytes
+    else keyed_at word bytes
 
 -- a command that begins with its word
 unfoldable pub worded_at : List ℕ → Option Command
@@ -233,4 +208,4 @@ fields_at line = do
 
 -- the request whose line it is
 unfoldable pub request_at : List ℕ → Option Request
-request_at line = if nat_lt LINE_LIMIT (length line) then None else fields_at line
+request_at line = if nat_lt MAX_LINE_LENGTH (length line) then None else fields_at line

@@ -50,25 +50,11 @@ refusal_name Full = codes "Full"
 
 -- what stands behind the name
 abbrev pub refusal_detail : Refusal → List ℕ
-refusal_detail BadLine = []
 refusal_detail (MomentBehind latest) = codes " latest=" ++ decimal latest
-refusal_detail UnknownKey = []
-refusal_detail NotOwner = []
-refusal_detail NotCustodian = []
 refusal_detail (WrongState state) = codes " state=" ++ state_text state
-refusal_detail DateFrozen = []
-refusal_detail DateOrder = []
 refusal_detail (PeriodTooLong limit) = codes " limit=" ++ decimal limit
-refusal_detail DateRange = []
-refusal_detail AlreadyCustodian = []
-refusal_detail NoSuchCustodian = []
-refusal_detail TooManyCustodians = []
-refusal_detail OwnerCustodian = []
-refusal_detail AlreadyApproved = []
-refusal_detail NoApproval = []
 refusal_detail (ApprovalsMissing have need) = codes " have=" ++ decimal have ++ codes " need=" ++ decimal need
-refusal_detail OccurrenceLater = []
-refusal_detail Full = []
+refusal_detail _ = []
 
 -- a state, or - where there is none
 abbrev pub reply_state : Option State → List ℕ

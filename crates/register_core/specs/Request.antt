@@ -13,8 +13,8 @@ use Rattle.register_core.specs.declared.request.Edit.TheVariants.{Keep, Clear, S
 use Rattle.lifecycle_core.specs.Reason.{reason_code, is_compromise}
 
 -- how many bytes a request line has at most
-abbrev pub line_limit : ℕ
-line_limit = 1024
+abbrev pub max_line_length : ℕ
+max_line_length = 1024
 
 -- ---- ranges
 
@@ -60,7 +60,7 @@ abbrev pub date_text : Option ℕ → List ℕ
 date_text None = codes "-"
 date_text (Some date) = decimal date
 
--- = for a date that stays, - for one that is set no more
+-- = for a date that stays, - for one that is unset
 abbrev pub edit_text : Edit → List ℕ
 edit_text Keep = codes "="
 edit_text Clear = codes "-"
@@ -88,10 +88,14 @@ request_text q = decimal q.moment ++ codes " " ++ q.caller ++ codes " " ++ decim
 -- the bytes, which have no LF behind them, are the line of the request
 pub record IsLineOf (bytes : List ℕ) (q : Request) : Type 0 where
   pub request : IsRequest q
-  pub within : length bytes ≤ line_limit
+  pub within : length bytes ≤ max_line_length
   pub text : bytes ≡ request_text q
+
+-- what the bytes stand for: the value whose text they are, or none where they are the text of no value
+abbrev pub StandsFor : {A : Type 0} → (List ℕ → A → Type 0) → List ℕ → Option A → Type 0
+StandsFor {A} IsText bytes None = (x : A) → IsText bytes x → ⊥
+StandsFor IsText bytes (Some x) = IsText bytes x
 
 -- what the line stands for: the request whose line it is, or none where it is the line of no request
 abbrev pub IsItem : List ℕ → Option Request → Type 0
-IsItem bytes None = (q : Request) → IsLineOf bytes q → ⊥
-IsItem bytes (Some q) = IsLineOf bytes q
+IsItem bytes item = StandsFor IsLineOf bytes item

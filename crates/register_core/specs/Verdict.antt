@@ -1,5 +1,5 @@
 -- What a request is answered behind a history: the first refusal that holds, else the reply.
-use Rattle.std.specs.Prelude.{ℕ, ◌==◌, nat_lt, nat_le, Bool, true, false, not, ◌&&◌, ◌||◌, List, [], ◌∷◌, ◌++◌, Option, None, Some, Result, Ok, Err, unwrap_or, length, if◌then◌else◌}
+use Rattle.std.specs.Prelude.{ℕ, ◌==◌, nat_lt, nat_le, Bool, true, false, not, ◌&&◌, ◌||◌, List, [], ◌∷◌, ◌++◌, Option, None, Some, is_some, Result, Ok, Err, unwrap_or, if◌then◌else◌}
 use Rattle.std.specs.Option.{option_map, option_and_then}
 use Rattle.std.specs.List.{list_any}
 use Rattle.std.specs.Str.{bytes_eq}
@@ -12,17 +12,21 @@ use Rattle.register_core.specs.declared.request.Command.{Command}
 use Rattle.register_core.specs.declared.request.Command.TheVariants.{Register, Activate, SetDates, Revoke, Assign, AddCustodian, RemoveCustodian, Approve, Withdraw, Destroy}
 use Rattle.register_core.specs.declared.request.Edit.{Edit}
 use Rattle.register_core.specs.declared.request.Edit.TheVariants.{Keep}
-use Rattle.register_core.specs.declared.decision.Held.{Held}
+use Rattle.register_core.specs.declared.view.Held.{Held}
+use Rattle.register_core.specs.declared.view.View.{View}
 use Rattle.register_core.specs.declared.reply.Reply.{Reply}
 use Rattle.register_core.specs.declared.reply.Refusal.{Refusal}
-use Rattle.register_core.specs.declared.reply.Refusal.TheVariants.{MomentBehind, UnknownKey, NotOwner, NotCustodian, WrongState, DateFrozen, DateOrder, PeriodTooLong, DateRange, AlreadyCustodian, NoSuchCustodian, TooManyCustodians, OwnerCustodian, AlreadyApproved, NoApproval, ApprovalsMissing, OccurrenceLater, Full}
+use Rattle.register_core.specs.declared.reply.Refusal.TheVariants.{MomentBehind, UnknownKey, NotOwner, NotCustodian, WrongState, DateFrozen, DateOrder, PeriodTooLong, DateRange, OccurrenceLater, Full}
 use Rattle.lifecycle_core.specs.declared.dates.Dates.{Dates}
 use Rattle.period_core.specs.declared.filling.DateRefusal.{DateRefusal}
 use Rattle.period_core.specs.declared.filling.DateRefusal.TheVariants as dates
 use Rattle.period_core.specs.Fitting.{first_that_holds, fill_of, trim_of}
 use Rattle.register_core.specs.Name.{is_among}
-use Rattle.register_core.specs.History.{latest, count, key_of, given_dates, edited_dates, dates as dates_of_key}
-use Rattle.register_core.specs.People.{held}
+use Rattle.register_core.specs.History.{latest, count, dates as dates_of_key}
+use Rattle.register_core.specs.Effect.{given_dates, edited_dates}
+use Rattle.register_core.specs.Custody.{held}
+use Rattle.register_core.specs.CustodyRefusal.{refused_custody}
+use Rattle.register_core.specs.Subject.{key_of, named}
 
 -- ---- the refusals, each where its condition holds
 
@@ -48,16 +52,8 @@ unfit _ t _ = None
 
 -- the command names a key that is not there
 abbrev pub unknown : Option Held → Command → Option Refusal
-unknown None (Activate key) = Some UnknownKey
-unknown None (SetDates key activation protect_stop deactivation) = Some UnknownKey
-unknown None (Revoke key reason occurrence) = Some UnknownKey
-unknown None (Assign key owner) = Some UnknownKey
-unknown None (AddCustodian key name) = Some UnknownKey
-unknown None (RemoveCustodian key name) = Some UnknownKey
-unknown None (Approve key) = Some UnknownKey
-unknown None (Withdraw key) = Some UnknownKey
-unknown None (Destroy key) = Some UnknownKey
-unknown _ _ = None
+unknown None c = if is_some (named c) then Some UnknownKey else None
+unknown (Some held) c = None
 
 -- the command is one for the key's owner alone
 abbrev pub is_owners : Command → Bool
@@ -70,7 +66,7 @@ is_owners (RemoveCustodian key name) = true
 is_owners (Destroy key) = true
 is_owners _ = false
 
--- it is the owner's, and the caller is another
+-- the command is the owner's, and the caller is another
 abbrev pub not_owner : Option Held → List ℕ → Command → Option Refusal
 not_owner None caller c = None
 not_owner (Some held) caller c = if is_owners c && not (bytes_eq caller held.owner) then Some NotOwner else None
@@ -81,7 +77,7 @@ is_custodians (Approve key) = true
 is_custodians (Withdraw key) = true
 is_custodians _ = false
 
--- it is a custodian's, and the caller is none
+-- the command is a custodian's, and the caller is no custodian of the key
 abbrev pub not_custodian : Option Held → List ℕ → Command → Option Refusal
 not_custodian None caller c = None
 not_custodian (Some held) caller c = if is_custodians c && not (is_among caller held.custodians) then Some NotCustodian else None
@@ -101,7 +97,7 @@ is_for (Withdraw key) state = is_one_of (PreActive ∷ Active ∷ Deactivated �
 is_for (Destroy key) state = is_one_of (PreActive ∷ Deactivated ∷ Compromised ∷ []) state
 is_for _ state = true
 
--- the key's state at t is none of them
+-- the command is not for the state that the key has at t
 abbrev pub wrong_state : Option Held → ℕ → Command → Option Refusal
 wrong_state None t c = None
 wrong_state (Some held) t c = let state = state_at held.row.dates t in if is_for c state then None else Some (WrongState state)
@@ -119,63 +115,18 @@ frozen (Some held) t (SetDates key activation protect_stop deactivation) =
     then Some DateFrozen else None
 frozen _ t _ = None
 
--- the name to add is a custodian of the key already
-abbrev pub already_custodian : Option Held → Command → Option Refusal
-already_custodian (Some held) (AddCustodian key name) = if is_among name held.custodians then Some AlreadyCustodian else None
-already_custodian _ _ = None
-
--- the name to remove is none
-abbrev pub no_such_custodian : Option Held → Command → Option Refusal
-no_such_custodian (Some held) (RemoveCustodian key name) = if is_among name held.custodians then None else Some NoSuchCustodian
-no_such_custodian _ _ = None
-
--- how many custodians a key may have
-abbrev pub custodian_limit : ℕ
-custodian_limit = 8
-
--- the key has so many
-abbrev pub too_many_custodians : Option Held → Command → Option Refusal
-too_many_custodians (Some held) (AddCustodian key name) = if nat_le custodian_limit (length held.custodians) then Some TooManyCustodians else None
-too_many_custodians _ _ = None
-
--- a custodian would be the owner, or the owner a custodian
-abbrev pub owner_custodian : Option Held → Command → Option Refusal
-owner_custodian (Some held) (AddCustodian key name) = if bytes_eq name held.owner then Some OwnerCustodian else None
-owner_custodian (Some held) (Assign key owner) = if is_among owner held.custodians then Some OwnerCustodian else None
-owner_custodian _ _ = None
-
--- the caller's approval stands already
-abbrev pub already_approved : Option Held → List ℕ → Command → Option Refusal
-already_approved (Some held) caller (Approve key) = if is_among caller held.approvals then Some AlreadyApproved else None
-already_approved _ caller _ = None
-
--- it does not stand
-abbrev pub no_approval : Option Held → List ℕ → Command → Option Refusal
-no_approval (Some held) caller (Withdraw key) = if is_among caller held.approvals then None else Some NoApproval
-no_approval _ caller _ = None
-
--- how many approvals the destruction of a key needs
-abbrev pub approvals_needed : ℕ
-approvals_needed = 2
-
--- fewer stand
-abbrev pub approvals_missing : Option Held → Command → Option Refusal
-approvals_missing (Some held) (Destroy key) =
-    let have = length held.approvals in if nat_lt have approvals_needed then Some (ApprovalsMissing have approvals_needed) else None
-approvals_missing _ _ = None
-
 -- the occurrence of a compromise is after t
 abbrev pub occurs_later : ℕ → Command → Option Refusal
 occurs_later t (Revoke key reason (Some occurrence)) = if nat_lt t occurrence then Some OccurrenceLater else None
 occurs_later t _ = None
 
 -- how many keys the register takes
-abbrev pub key_limit : ℕ
-key_limit = 1_000_000
+abbrev pub max_keys : ℕ
+max_keys = 1_000_000
 
 -- the command makes a key, and there are as many as the register takes
 abbrev pub too_many : ℕ → Command → Option Refusal
-too_many keys (Register kind owner activation protect_stop deactivation purpose) = if nat_le key_limit keys then Some Full else None
+too_many keys (Register kind owner activation protect_stop deactivation purpose) = if nat_le max_keys keys then Some Full else None
 too_many keys _ = None
 
 -- Each refusal of a request, in order, where its condition holds; the key is the one that it names, as it stands. First
@@ -192,27 +143,12 @@ entry_refusals last key q =
 abbrev pub refused_entry : ℕ → Option Held → Request → Option Refusal
 refused_entry last key q = first_that_holds (entry_refusals last key q)
 
--- those of custodians and approvals, which come behind those of dates.
-abbrev pub people_refusals : Option Held → List ℕ → Command → List (Option Refusal)
-people_refusals key caller c =
-    already_custodian key c
-    ∷ no_such_custodian key c
-    ∷ too_many_custodians key c
-    ∷ owner_custodian key c
-    ∷ already_approved key caller c
-    ∷ no_approval key caller c
-    ∷ approvals_missing key c
-    ∷ []
-
-abbrev pub refused_people : Option Held → List ℕ → Command → Option Refusal
-refused_people key caller c = first_that_holds (people_refusals key caller c)
-
 abbrev pub refusals : ℕ → ℕ → Option Held → Request → List (Option Refusal)
 refusals last keys key q =
     refused_entry last key q
     ∷ frozen key q.moment q.command
     ∷ unfit key q.moment q.command
-    ∷ refused_people key q.caller q.command
+    ∷ refused_custody key q.caller q.command
     ∷ occurs_later q.moment q.command
     ∷ too_many keys q.command
     ∷ []
@@ -221,25 +157,16 @@ refusals last keys key q =
 abbrev pub judge : ℕ → ℕ → Option Held → Request → Option Refusal
 judge last keys key q = first_that_holds (refusals last keys key q)
 
--- the key that a command names
-abbrev pub named : Command → Option ℕ
-named (Activate key) = Some key
-named (SetDates key activation protect_stop deactivation) = Some key
-named (Revoke key reason occurrence) = Some key
-named (Assign key owner) = Some key
-named (AddCustodian key name) = Some key
-named (RemoveCustodian key name) = Some key
-named (Approve key) = Some key
-named (Withdraw key) = Some key
-named (Destroy key) = Some key
-named _ = None
-
 -- the key that the command names, as it stands
 abbrev pub named_key : List Request → Command → Option Held
 named_key h c = option_and_then (held h) (named c)
 
 abbrev pub verdict : List Request → Request → Option Refusal
 verdict h q = judge (latest h) (count h) (named_key h q.command) q
+
+-- the refusal of a request where this is what the decision rests on
+abbrev pub judge_view : View → Request → Option Refusal
+judge_view view q = judge view.latest view.keys view.key q
 
 -- ---- answers
 

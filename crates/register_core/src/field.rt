@@ -1,9 +1,13 @@
 //! The fields of a line: what stands between its spaces.
-ghost use Rattle.std.specs.Prelude.{◌≡◌, ◌≢◌, ℕ, ◌+◌, ◌<◌, ◌≤◌, ◌^◌, ◌↔◌, ◌⊎◌, ◌++◌, decimal, length, position, IsSome, IfSome, IfNone};
+ghost use Rattle.std.specs.Prelude.{◌≡◌, ◌≢◌, ℕ, ◌+◌, ◌<◌, ◌≤◌, ◌^◌, ◌↔◌, ◌⊎◌, ◌++◌, decimal};
+ghost use Rattle.std.specs.Prelude.{length, position, IsSome, IfSome, IfNone};
 ghost use Rattle.arrayvec.specs.ArrayString.{array_string_len};
 ghost use Rattle.lifecycle_core.specs.Reason.{reason_code};
 ghost use Rattle.register_core.specs.Request.{IsKeyNumber, date_text, edit_text};
-ghost use Rattle.register_core.specs.Reading.{Gives, is_space, field_at, moment_at, date_at, edit_at, key_number_at, reason_at, occurrence_at, request_number_at, name_at, key_type_at, purpose_at};
+ghost use Rattle.register_core.specs.Reading.{Gives, is_space, field_at, field_as, moment_at};
+ghost use Rattle.register_core.specs.Reading.{date_at, edit_at, key_number_at, reason_at};
+ghost use Rattle.register_core.specs.Reading.{occurrence_at, request_number_at, name_at};
+ghost use Rattle.register_core.specs.Reading.{key_type_at, purpose_at};
 
 use crate::name::Name;
 use crate::number::RequestNumber;
@@ -72,7 +76,8 @@ pub(crate) fn date_of(field: &[u8]) -> Option<Option<Moment>>
     Some(Some(moment))
 }
 
-/// What the field says of a date: `=` that it stays, `-` that it is set no more, or the moment to set it to.
+/// What the field says of a date: `=` that it stays, `-` that it is unset, or the moment to set it
+/// to.
 #[tactic(auto, unfolding(crate::specs::Reading::edit_at))]
 pub(crate) fn edit_of(field: &[u8]) -> Option<Edit>
     ensures { result ≡ edit_at field.now }
@@ -103,6 +108,14 @@ pub(crate) fn key_number_of(field: &[u8]) -> Option<u32>
     ensures { result ≡ key_number_at field.now }
 {
     key_number(number_of(field)?)
+}
+
+/// The key's number before the first space, and what stands behind that space.
+pub(crate) fn split_key_number(bytes: &[u8]) -> Option<(u32, &[u8])>
+    ensures { Gives (λ x. (x.0, x.1.now)) result (field_as key_number_at bytes.now) }
+{
+    let (field, rest) = split_field(bytes)?;
+    Some((key_number_of(field)?, rest))
 }
 
 /// The reason with this code, or `None` where no reason has it.

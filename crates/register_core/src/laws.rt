@@ -1,5 +1,6 @@
 //! Laws about this crate's definitions. Each function does nothing: its contract is the law.
-ghost use Rattle.std.specs.Prelude.{◌≡◌, ◌<◌, ◌≤◌, ◌++◌, ℕ, List, [], ◌∷◌, length, true, Some, IsSome};
+ghost use Rattle.std.specs.Prelude.{◌≡◌, ◌<◌, ◌≤◌, ◌++◌, ℕ, List, [], ◌∷◌, length, true, Some};
+ghost use Rattle.std.specs.Prelude.{IsSome};
 ghost use Rattle.lifecycle_core.specs.State.{state_at};
 ghost use Rattle.lifecycle_core.specs.Transition.{Leads};
 ghost use Rattle.period_core.specs.Fitting.{Fits};
@@ -7,11 +8,12 @@ ghost use Rattle.register_core.specs.declared.request.Request.{Request};
 ghost use Rattle.register_core.specs.declared.request.Command.{Command};
 ghost use Rattle.register_core.specs.Fold.{IsLawful};
 ghost use Rattle.register_core.specs.History.{count, type, dates};
-ghost use Rattle.register_core.specs.Laws.{IsAccepted, HasKey, MovesOnly, AreDifferent, state_of_key};
+ghost use Rattle.register_core.specs.Laws.{IsAccepted, HasKey, MovesOnly, AreDifferent};
+ghost use Rattle.register_core.specs.Laws.{state_of_key};
 ghost use Rattle.register_core.specs.Name.{is_among};
-ghost use Rattle.register_core.specs.People.{custodians, approvals};
+ghost use Rattle.register_core.specs.Custody.{custodians, approvals};
 ghost use Rattle.register_core.specs.Request.{IsLineOf};
-ghost use Rattle.register_core.specs.Verdict.{approvals_needed};
+ghost use Rattle.register_core.specs.CustodyRefusal.{min_approvals};
 ghost use Rattle.register_core.specs.CommandText.{IsCommandText};
 
 /// No bytes are the line of two requests.
@@ -21,7 +23,8 @@ pub fn one_request()
 
 /// No bytes are the text of two commands.
 pub fn one_command()
-    ensures { (bytes : List ℕ) (c d : Command) → IsCommandText bytes c → IsCommandText bytes d → c ≡ d }
+    ensures { (bytes : List ℕ) (c d : Command) →
+        IsCommandText bytes c → IsCommandText bytes d → c ≡ d }
 {}
 
 /// The dates of each key fit its type, after each request that is accepted.
@@ -30,8 +33,8 @@ pub fn dates_fit()
         Fits (type (h ++ q ∷ []) k) (dates (h ++ q ∷ []) k) }
 {}
 
-/// Each request that is accepted takes each key along the standard's transitions, from the state that it had at the
-/// latest moment, or from none.
+/// Each request that is accepted takes each key along the standard's transitions, from the state
+/// that it had at the latest moment, or from none.
 pub fn states_follow_transitions()
     ensures { (h : List Request) (q : Request) → IsAccepted h q → (k : ℕ) → HasKey (h ++ q ∷ []) k →
         Leads (state_of_key h k) (Some (state_at (dates (h ++ q ∷ []) k) q.moment)) }
@@ -45,20 +48,23 @@ pub fn dates_freeze()
 
 /// A key that is destroyed has the approvals of two at least, and these stay.
 pub fn destruction_is_approved()
-    ensures enough { (h : List Request) (q : Request) → IsAccepted h q → (k : ℕ) → HasKey (h ++ q ∷ []) k →
-        IsSome (dates (h ++ q ∷ []) k).destroy → approvals_needed ≤ length (approvals (h ++ q ∷ []) k) }
+    ensures enough { (h : List Request) (q : Request) → IsAccepted h q →
+        (k : ℕ) → HasKey (h ++ q ∷ []) k → IsSome (dates (h ++ q ∷ []) k).destroy →
+        min_approvals ≤ length (approvals (h ++ q ∷ []) k) }
     ensures stay { (h : List Request) (q : Request) → IsAccepted h q → (k : ℕ) → HasKey h k →
         IsSome (dates h k).destroy → approvals (h ++ q ∷ []) k ≡ approvals h k }
 {}
 
 /// A key that is not made yet has no custodian, and nobody approves of its destruction.
 pub fn new_keys_have_nobody()
-    ensures { (h : List Request) → IsLawful h → (k : ℕ) → count h < k → (custodians h k ≡ []) × (approvals h k ≡ []) }
+    ensures { (h : List Request) → IsLawful h → (k : ℕ) → count h < k →
+        (custodians h k ≡ []) × (approvals h k ≡ []) }
 {}
 
 /// No name is the custodian of a key twice, or approves twice of its destruction.
-pub fn people_are_different()
-    ensures { (h : List Request) (k : ℕ) → AreDifferent (custodians h k) × AreDifferent (approvals h k) }
+pub fn names_are_different()
+    ensures { (h : List Request) (k : ℕ) →
+        AreDifferent (custodians h k) × AreDifferent (approvals h k) }
 {}
 
 /// Who approves of a key's destruction is one of its custodians.

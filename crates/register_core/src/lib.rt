@@ -1,35 +1,48 @@
-//! What is asked of the register and what it answers: names, requests, replies, their texts, and the model of
-//! the register as the list of the requests that it accepted.
+//! What is asked of the register and what it answers: names, requests, replies, their texts, and
+//! the model of the register as the list of the requests that it accepted.
+//!
+//! ```
+//! let request = read_request(b"100 ann 1 advance")?;
+//! let outcome = decide(&view, &request).map(|accept| accept.reply);
+//! writer.write_all(reply_line(&outcome).as_bytes())?;
+//! ```
 #![tactic(auto)]
 
-mod command_line;
+mod change;
+mod command_format;
+mod custody_refusal;
 mod decision;
+mod effect;
 mod field;
+mod key;
 pub mod laws;
 mod limits;
 mod line;
 mod name;
 mod names;
 mod number;
-mod people;
 pub mod plain;
-mod plain_people;
+mod plain_custody;
 mod purpose;
 mod reply;
 mod request;
-#[cfg(test)]
-mod tests;
+mod short_text;
 mod text;
 mod verdict;
+mod view;
 
-pub use command_line::{COMMAND_LIMIT, CommandText, command_text, read_command};
-pub use decision::{Accept, Change, Held, People, View, decide};
-pub use limits::{APPROVALS_NEEDED, CUSTODIAN_LIMIT, KEY_LIMIT};
-pub use line::{LINE_LIMIT, REPLY_LIMIT, ReplyLine, read_request, reply_line};
-pub use name::{NAME_LIMIT, Name};
+pub use change::{Accept, Change, CustodyChange};
+pub use command_format::{CommandText, MAX_COMMAND_LENGTH, command_text, read_command};
+pub use decision::decide;
+pub use effect::given_dates;
+pub use key::Key;
+pub use limits::{MAX_CUSTODIANS, MAX_KEYS, MIN_APPROVALS};
+pub use line::{MAX_LINE_LENGTH, MAX_REPLY_LENGTH, ReplyLine, read_request, reply_line};
+pub use name::{MAX_NAME_LENGTH, Name};
 pub use names::Names;
-pub use number::{LAST_NUMBER, RequestNumber};
-pub use purpose::{PURPOSE_LIMIT, Purpose};
+pub use number::{MAX_REQUEST_NUMBER, RequestNumber};
+pub use purpose::{MAX_PURPOSE_LENGTH, Purpose};
 pub use reply::{Refusal, Reply};
 pub use request::{Command, Edit, Request};
-pub use verdict::given_dates;
+pub use short_text::ShortText;
+pub use view::{Held, View};

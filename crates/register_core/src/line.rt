@@ -5,19 +5,19 @@ ghost use Rattle.register_core.specs.Request.{IsItem};
 ghost use Rattle.register_core.specs.Reply.{reply_text, reply_state};
 ghost use Rattle.register_core.specs.Reading.{fields_at, request_at};
 
-use crate::command_line::command_of;
+use crate::command_format::command_of;
 use crate::field::{moment_of, name_of, put_number, request_number_of, split_field};
 use crate::reply::{Refusal, Reply};
 use crate::request::Request;
+use crate::short_text::ShortText;
 use arrayvec::ArrayString;
 use lifecycle_core::State;
-use std::marker::Model;
 
 /// How many bytes a request line has at most, without its LF.
-pub const LINE_LIMIT: usize = 1024;
+pub const MAX_LINE_LENGTH: usize = 1024;
 
 /// How many bytes the line of an answer has at most, with its LF.
-pub const REPLY_LIMIT: usize = 96;
+pub const MAX_REPLY_LENGTH: usize = 96;
 
 /// The request of a line's fields, whatever the line's length.
 #[tactic(auto, unfolding(crate::specs::Reading::fields_at))]
@@ -44,53 +44,22 @@ fn fields_of(line: &[u8]) -> Option<Request>
 fn request_of(line: &[u8]) -> Option<Request>
     ensures { result ≡ request_at line.now }
 {
-    if line.len() > LINE_LIMIT {
+    if line.len() > MAX_LINE_LENGTH {
         return None;
     }
     fields_of(line)
 }
 
-/// The request whose line this is, without its LF, or `None` where it is the line of no request. A line has at
-/// most [`LINE_LIMIT`] bytes.
+/// The request whose line this is, without its LF, or `None` where it is the line of no request. A
+/// line has at most [`MAX_LINE_LENGTH`] bytes.
 pub fn read_request(line: &[u8]) -> Option<Request>
     ensures { IsItem line.now result }
 {
     request_of(line)
 }
 
-/// The line of an answer with its LF, at most [`REPLY_LIMIT`] bytes, which lie in the value itself. In a contract
-/// it is the list of its bytes.
-#[derive(Drop, Debug)]
-pub struct ReplyLine {
-    text: ArrayString<REPLY_LIMIT>,
-}
-
-impl Model for ReplyLine {
-    ghost use Rattle.std.specs.Prelude.{◌≤◌, ℕ, List, length};
-    ghost use Rattle.register_core.specs.declared.line.TheConstants.{REPLY_LIMIT};
-
-    ghost Value = { List ℕ };
-
-    ghost view = { λ l. l.text.bytes };
-
-    ghost invariant = { λ l. length l.text.bytes ≤ REPLY_LIMIT };
-}
-
-impl ReplyLine {
-    /// The line with its LF.
-    pub fn as_str(&self) -> &str
-        ensures { result.now ≡ self.now }
-    {
-        self.text.as_str()
-    }
-
-    /// The bytes of the line with its LF.
-    pub fn as_bytes(&self) -> &[u8]
-        ensures { result.now ≡ self.now }
-    {
-        self.as_str().as_bytes()
-    }
-}
+/// The line of an answer, with its LF.
+pub type ReplyLine = ShortText<MAX_REPLY_LENGTH>;
 
 /// The state's name, or `-` where there is none.
 fn state_or_dash(state: Option<State>) -> &'static str
@@ -104,9 +73,9 @@ fn state_or_dash(state: Option<State>) -> &'static str
 }
 
 /// The line of the answer to an accepted request, without its LF.
-fn accepted_line(reply: &Reply) -> ArrayString<REPLY_LIMIT>
+fn accepted_line(reply: &Reply) -> ArrayString<MAX_REPLY_LENGTH>
     ensures text { result.bytes ≡ reply_text (Ok reply.now) }
-    ensures room { array_string_len result < REPLY_LIMIT }
+    ensures room { array_string_len result < MAX_REPLY_LENGTH }
 {
     let mut line = ArrayString::new();
     line.push_str("ok ");
@@ -119,9 +88,9 @@ fn accepted_line(reply: &Reply) -> ArrayString<REPLY_LIMIT>
 }
 
 /// The line of the answer to a refused request, without its LF.
-fn refused_line(refusal: &Refusal) -> ArrayString<REPLY_LIMIT>
+fn refused_line(refusal: &Refusal) -> ArrayString<MAX_REPLY_LENGTH>
     ensures text { result.bytes ≡ reply_text (Err refusal.now) }
-    ensures room { array_string_len result < REPLY_LIMIT }
+    ensures room { array_string_len result < MAX_REPLY_LENGTH }
 {
     let mut line = ArrayString::new();
     line.push_str("refused ");
@@ -155,12 +124,12 @@ fn refused_line(refusal: &Refusal) -> ArrayString<REPLY_LIMIT>
 /// The line of the answer, with its LF.
 pub fn reply_line(outcome: &Result<Reply, Refusal>) -> ReplyLine
     ensures text { result ≡ reply_text outcome.now ++ 10 ∷ [] }
-    ensures short { length result ≤ REPLY_LIMIT }
+    ensures short { length result ≤ MAX_REPLY_LENGTH }
 {
     let mut text = match outcome {
         Ok(reply) => accepted_line(reply),
         Err(refusal) => refused_line(refusal),
     };
     text.push_str("\n");
-    ReplyLine { text }
+    ShortText::new(text)
 }

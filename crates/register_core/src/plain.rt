@@ -1,18 +1,23 @@
-//! The model computed as it is defined: each answer anew from the whole list of the accepted requests. It is slow,
-//! and stands beside the definitions so that tests can compare other bodies with it on small inputs.
-ghost use Rattle.std.specs.Prelude.{◌≡◌, ◌+◌, ◌^◌, ◌<◌, ◌≤◌, ℕ, List, [], ◌∷◌, ◌++◌, length, unwrap_or, IsSome, IfOk, OnOk, if◌then◌else◌};
-ghost use Rattle.register_core.specs.History.{latest, count, key_of, made_by, is_key, kind_after, type, owner_after, owner, no_dates, dates_after, dates};
-ghost use Rattle.register_core.specs.People.{held};
+//! The model computed as it is defined: each answer anew from the whole list of the accepted
+//! requests. It is slow, and stands beside the definitions so that tests can compare other bodies
+//! with it on small inputs.
+ghost use Rattle.std.specs.Prelude.{◌≡◌, ◌+◌, ◌^◌, ◌<◌, ◌≤◌, List, [], ◌∷◌, ◌++◌, length};
+ghost use Rattle.std.specs.Prelude.{unwrap_or, IsSome, IfOk, OnOk, if◌then◌else◌};
+ghost use Rattle.register_core.specs.History.{latest, count, type, owner, dates};
+ghost use Rattle.register_core.specs.Subject.{key_of, made_by, is_key};
+ghost use Rattle.register_core.specs.Effect.{kind_after, owner_after, no_dates, dates_after};
+ghost use Rattle.register_core.specs.Custody.{held};
 ghost use Rattle.register_core.specs.Verdict.{verdict, reply};
 ghost use Rattle.register_core.specs.Decision.{IsViewOf};
 ghost use Rattle.register_core.specs.Fold.{history_after, answer_to, answers};
 
-use crate::decision::{Held, View, dates_after};
+use crate::effect::dates_after;
 use crate::name::Name;
-use crate::plain_people::{approvals, custodians};
+use crate::plain_custody::{approvals, custodians};
 use crate::reply::{Refusal, Reply};
 use crate::request::{Command, Request};
 use crate::verdict::judge;
+use crate::view::{Held, View};
 use lifecycle_core::{Dates, Row, state_of};
 use moment_core::Moment;
 use period_core::KeyType;
@@ -28,7 +33,7 @@ pub fn latest(history: &[Request]) -> Moment
     }
 }
 
-/// The key that a command makes, where so many keys were made before it, or names.
+/// The key that a command makes, where this many keys were made before it, or names.
 fn key_of(made: u32, command: &Command) -> Option<u32>
     requires { made + 1 < 2 ^ 32 }
     ensures { result ≡ key_of made command.now }
@@ -63,7 +68,7 @@ pub fn count(history: &[Request]) -> u32
     made
 }
 
-/// Whether a command makes or names the key, where so many keys were made before it.
+/// Whether a command makes or names the key, where this many keys were made before it.
 fn concerns(key: u32, made: u32, command: &Command) -> bool
     requires { made + 1 < 2 ^ 32 }
     ensures { result ≡ is_key key (key_of made command.now) }
@@ -77,7 +82,8 @@ fn concerns(key: u32, made: u32, command: &Command) -> bool
 /// The type of the key after the command.
 fn kind_with(before: KeyType, key: u32, made: u32, command: &Command) -> KeyType
     requires { made + 1 < 2 ^ 32 }
-    ensures { result ≡ (if is_key key (key_of made command.now) then kind_after before command.now else before) }
+    ensures { result ≡ (if is_key key (key_of made command.now)
+        then kind_after before command.now else before) }
 {
     match *command {
         Command::Register { kind, .. } if concerns(key, made, command) => kind,
@@ -221,12 +227,13 @@ pub fn verdict(
     Ok(judge(&view(alloc, history, &request.command)?, request))
 }
 
-/// The reply to an accepted request, where so many keys were made before it, by the history with it at its end.
+/// The reply to an accepted request, where this many keys were made before it, by the history with
+/// it at its end.
 fn reply_by(keys: u32, history: &[Request], request: &Request) -> Reply
     requires small { length history.now + 1 < 2 ^ 32 }
     requires keys { keys + 1 < 2 ^ 32 }
-    ensures { (before : List Request) → history.now ≡ before ++ request.now ∷ [] → keys ≡ count before →
-        result ≡ reply before request.now }
+    ensures { (before : List Request) → history.now ≡ before ++ request.now ∷ [] →
+        keys ≡ count before → result ≡ reply before request.now }
 {
     let named = key_of(keys, &request.command);
     let state = match named {
@@ -240,7 +247,8 @@ fn reply_by(keys: u32, history: &[Request], request: &Request) -> Reply
     }
 }
 
-/// The answer to an item behind a history, which then has the item's request at its end where that is accepted.
+/// The answer to an item behind a history, which then has the item's request at its end where that
+/// is accepted.
 fn answer_to(
     alloc: Global,
     history: &mut Vec<Request>,

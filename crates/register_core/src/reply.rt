@@ -1,3 +1,4 @@
+//! Replies and refusals.
 ghost use Rattle.std.specs.Prelude.{◌≡◌};
 
 use lifecycle_core::State;
@@ -26,11 +27,11 @@ pub enum Refusal {
     UnknownKey,
     /// 5: the command is the owner's, and the caller is another.
     NotOwner,
-    /// 6: the command is a custodian's, and the caller is none of the key's.
+    /// 6: the command is a custodian's, and the caller is no custodian of the key.
     NotCustodian,
     /// 7: the command is not for a key in this state, which is that at the request's moment.
     WrongState { state: State },
-    /// 8: a date that may not change any more.
+    /// 8: the date may no longer change.
     DateFrozen,
     /// 9: the dates are out of order.
     DateOrder,

@@ -1,3 +1,4 @@
+//! A request, and the commands that a request can carry.
 use crate::name::Name;
 use crate::number::RequestNumber;
 use crate::purpose::Purpose;
@@ -10,7 +11,7 @@ use period_core::KeyType;
 pub enum Edit {
     /// It stays as it is.
     Keep,
-    /// It is set no more.
+    /// It is unset.
     Clear,
     /// It is set to this moment.
     Set(Moment),
@@ -39,8 +40,8 @@ pub enum Command {
         protect_stop: Edit,
         deactivation: Edit,
     },
-    /// The key is revoked. An occurrence, the moment from which a compromise is held to date, is given only with a
-    /// reason that is a compromise.
+    /// The key is revoked. An occurrence, the moment from which a compromise is held to date, is
+    /// given only with a reason that is a compromise.
     Revoke {
         key: u32,
         reason: Reason,
@@ -56,7 +57,7 @@ pub enum Command {
         key: u32,
         name: Name,
     },
-    /// One of the key's custodians is none any more, and its approval ends.
+    /// The name ceases to be a custodian of the key, and its approval ends.
     RemoveCustodian {
         key: u32,
         name: Name,
@@ -79,7 +80,7 @@ pub enum Command {
 
 impl Command {
     ghost use Rattle.std.specs.Prelude.{◌≡◌};
-    ghost use Rattle.register_core.specs.Verdict.{named};
+    ghost use Rattle.register_core.specs.Subject.{named};
 
     /// The number of the key that the command names, if it names one.
     pub fn key(&self) -> Option<u32>

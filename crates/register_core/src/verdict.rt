@@ -1,84 +1,23 @@
 //! The verdict on a request, where the key that it names is known.
 ghost use Rattle.std.specs.Prelude.{◌≡◌, IsSome};
-ghost use Rattle.register_core.specs.History.{given_dates, edited, edited_dates};
-ghost use Rattle.register_core.specs.Verdict.{
-  refused_dates,
-  behind,
-  unknown,
-  is_owners,
-  not_owner,
-  is_custodians,
-  not_custodian,
-  is_for,
-  wrong_state,
-  is_kept,
-  frozen,
-  unfit,
-  refused_entry,
-  occurs_later,
-  too_many,
-  judge,
-};
+ghost use Rattle.register_core.specs.Verdict.{refused_dates, behind, unknown, is_owners, not_owner};
+ghost use Rattle.register_core.specs.Verdict.{is_custodians, not_custodian, is_for, wrong_state};
+ghost use Rattle.register_core.specs.Verdict.{is_kept, frozen, unfit, refused_entry, occurs_later};
+ghost use Rattle.register_core.specs.Verdict.{too_many, judge_view};
 ghost use Rattle.period_core.specs.Fitting.{fill_of, trim_of};
 
-use crate::decision::{Held, View};
-use crate::limits::KEY_LIMIT;
+use crate::custody_refusal::refused_custody;
+use crate::effect::{edited_dates, given_dates};
+use crate::limits::MAX_KEYS;
 use crate::name::Name;
-use crate::people::refused_people;
 use crate::reply::Refusal;
 use crate::request::{Command, Edit, Request};
+use crate::view::{Held, View};
 use lifecycle_core::{Dates, State, state_of};
 use moment_core::Moment;
 use period_core::{KeyType, fill, trim};
 
-/// The dates that a registration at the moment gives a key, before Fill.
-pub fn given_dates(
-    at: Moment,
-    activation: Option<Moment>,
-    protect_stop: Option<Moment>,
-    deactivation: Option<Moment>,
-) -> Dates
-    ensures { result ≡ given_dates at activation protect_stop deactivation }
-{
-    Dates {
-        initial: at,
-        activation,
-        protect_stop,
-        deactivation,
-        destroy: None,
-        compromise: None,
-        compromise_occurrence: None,
-    }
-}
-
-/// The date after an edit.
-fn edited(edit: Edit, before: Option<Moment>) -> Option<Moment>
-    ensures { result ≡ edited edit before }
-{
-    match edit {
-        Edit::Keep => before,
-        Edit::Clear => None,
-        Edit::Set(date) => Some(date),
-    }
-}
-
-/// The dates after these edits, before Fill.
-pub(crate) fn edited_dates(
-    activation: Edit,
-    protect_stop: Edit,
-    deactivation: Edit,
-    dates: &Dates,
-) -> Dates
-    ensures { result ≡ edited_dates activation protect_stop deactivation dates.now }
-{
-    Dates {
-        activation: edited(activation, dates.activation),
-        protect_stop: edited(protect_stop, dates.protect_stop),
-        deactivation: edited(deactivation, dates.deactivation),
-        ..*dates
-    }
-}
-
+/// The moment is below the latest.
 fn behind(latest: Moment, at: Moment) -> Option<Refusal>
     ensures { result ≡ behind latest at }
 {
@@ -93,9 +32,9 @@ fn behind(latest: Moment, at: Moment) -> Option<Refusal>
 fn unknown(key: &Option<Held>, command: &Command) -> Option<Refusal>
     ensures { result ≡ unknown key.now command.now }
 {
-    match (key, command) {
-        (Some(_), _) | (None, Command::Register { .. } | Command::Advance) => None,
-        (None, _) => Some(Refusal::UnknownKey),
+    match (key, command.key()) {
+        (None, Some(_)) => Some(Refusal::UnknownKey),
+        _ => None,
     }
 }
 
@@ -111,10 +50,7 @@ fn is_owners(command: &Command) -> bool
         | Command::RemoveCustodian { .. }
         | Command::Destroy { .. } => true,
         Command::Revoke { reason, .. } => !reason.is_compromise(),
-        Command::Register { .. }
-        | Command::Approve { .. }
-        | Command::Withdraw { .. }
-        | Command::Advance => false,
+        _ => false,
     }
 }
 
@@ -138,7 +74,7 @@ fn is_custodians(command: &Command) -> bool
     matches!(command, Command::Approve { .. } | Command::Withdraw { .. })
 }
 
-/// The command is a custodian's, and the caller is none of the key's.
+/// The command is a custodian's, and the caller is no custodian of the key.
 fn not_custodian(key: &Option<Held>, caller: &Name, command: &Command) -> Option<Refusal>
     ensures { result ≡ not_custodian key.now caller.now command.now }
 {
@@ -168,14 +104,11 @@ fn is_for(command: &Command, state: State) -> bool
             state,
             State::PreActive | State::Deactivated | State::Compromised
         ),
-        Command::Register { .. }
-        | Command::Assign { .. }
-        | Command::AddCustodian { .. }
-        | Command::Advance => true,
+        _ => true,
     }
 }
 
-/// The key's state at the moment is none that the command is for.
+/// The command is not for the state that the key has at the moment.
 fn wrong_state(key: &Option<Held>, at: Moment, command: &Command) -> Option<Refusal>
     ensures { result ≡ wrong_state key.now at command.now }
 {
@@ -192,13 +125,15 @@ fn wrong_state(key: &Option<Held>, at: Moment, command: &Command) -> Option<Refu
     }
 }
 
+/// Whether the edit keeps its date.
 fn is_kept(edit: Edit) -> bool
     ensures { result ≡ is_kept edit }
 {
     matches!(edit, Edit::Keep)
 }
 
-/// An Activation Date that is not kept outside Pre-Active, or a Protect Stop that is reached and not kept.
+/// An Activation Date that is not kept outside Pre-Active, or a Protect Stop that is reached and
+/// not kept.
 fn frozen(key: &Option<Held>, at: Moment, command: &Command) -> Option<Refusal>
     ensures { result ≡ frozen key.now at command.now }
 {
@@ -307,7 +242,7 @@ fn too_many(keys: u32, command: &Command) -> Option<Refusal>
     ensures { result ≡ too_many keys command.now }
 {
     match command {
-        Command::Register { .. } if keys >= KEY_LIMIT => Some(Refusal::Full),
+        Command::Register { .. } if keys >= MAX_KEYS => Some(Refusal::Full),
         _ => None,
     }
 }
@@ -335,7 +270,7 @@ fn refused_entry(view: &View, request: &Request) -> Option<Refusal>
 
 /// The first refusal of the request that holds, or `None`: it is accepted.
 pub(crate) fn judge(view: &View, request: &Request) -> Option<Refusal>
-    ensures { result ≡ judge view.now.latest view.now.keys view.now.key request.now }
+    ensures { result ≡ judge_view view.now request.now }
 {
     let at = request.moment;
     let command = &request.command;
@@ -348,7 +283,7 @@ pub(crate) fn judge(view: &View, request: &Request) -> Option<Refusal>
     if let Some(refusal) = unfit(&view.key, at, command) {
         return Some(refusal);
     }
-    if let Some(refusal) = refused_people(&view.key, &request.caller, command) {
+    if let Some(refusal) = refused_custody(&view.key, &request.caller, command) {
         return Some(refusal);
     }
     if let Some(refusal) = occurs_later(at, command) {

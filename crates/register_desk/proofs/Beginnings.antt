@@ -1,18 +1,17 @@
--- A desk over tables that were just made, and one that was only read from.
-use Rattle.std.proofs.Common.{◌≡◌, false, List, [], Ok, IsTrue, refl, sym, ap, subst, ◌∙◌, arith, inl, inr}
+-- A desk over tables that were just made.
+use Rattle.std.proofs.Common.{◌≡◌, [], Ok, IsTrue, refl, ap, ◌∙◌, arith}
 use Rattle.sqlite_trees.specs.declared.store.Store as store
 use Rattle.sqlite.specs.Tree.{Trees}
 use Rattle.sqlite.specs.Effect.{Database}
-use Rattle.sqlite.specs.State.{State, HasCleanDisk, IsUnchanged, Survives}
+use Rattle.sqlite.specs.State.{State, HasCleanDisk}
 use Rattle.sqlite.specs.Held.{Held, state}
 use Rattle.sql_steps.specs.Steps.{TransactsBy}
 use Rattle.sql_steps.proofs.Stepping.{leaves_alone}
-use Rattle.register_core.specs.declared.request.Request.{Request}
 use Rattle.register_store.specs.Schema.{no_schema}
-use Rattle.register_store.specs.Tables.{Tables, Holds, no_rows}
-use Rattle.register_store.specs.Found.{MakesEmpty}
+use Rattle.register_store.specs.Tables.{Holds, no_rows}
+use Rattle.register_store.specs.Creation.{MakesEmpty}
 use Rattle.register_desk.specs.declared.desk.Desk.{Desk}
-use Rattle.register_desk.specs.Register.{tables, StandsFor, Keeps, Leaves}
+use Rattle.register_desk.specs.Register.{StandsFor}
 
 module _ {S : Type 0} (g : store.Ghosts S) where
   pub empty_stands : {A E : Type 0} (before : State) (mid : Held S) (desk : Desk S g) (x : A)
@@ -36,26 +35,3 @@ module _ {S : Type 0} (g : store.Ghosts S) where
           leaves = λ trees may. ((state g desk.connection).now, holds, leaves_alone g settled MakesEmpty (state g mid) desk.connection (Ok x) made clean trees may);
         };
   }
-
-  module _ (old : Desk S g) (after : Held S) (h : List Request) (stands : StandsFor g old h) (whole : old.is_broken ≡ false)
-      (survives : (t : Tables) → Holds t (state g old.connection).now → Survives (state g old.connection) (state g after) (λ _. ⊥)) (early : HasCleanDisk (state g after) → HasCleanDisk (state g old.connection)) where
-    -- a call that commits nothing leaves what the one before left
-    pub leaves_still : HasCleanDisk (state g after) → Leaves (tables h) (state g after)
-    leaves_still clean trees may =
-        let kept = stands.keeps whole (early clean) in
-        elim ((survives (tables h) kept.holds).crash clean trees may) [
-          | inl before ↦ kept.leaves trees before
-          | inr none ↦ absurd none
-        ]
-
-    -- nor does it change what the connection sees
-    pub keeps_still : (HasCleanDisk (state g after) → IsUnchanged (state g old.connection) (state g after)) → HasCleanDisk (state g after) → Keeps (tables h) (state g after)
-    keeps_still same clean =
-        let kept = stands.keeps whole (early clean) in
-        let shows = (same clean).0 in
-        record {
-          is_open = shows.is_open;
-          holds = subst (Holds (tables h)) (sym shows.now_is) kept.holds;
-          committed = shows.committed_is ∙ kept.committed ∙ sym shows.now_is;
-          leaves = leaves_still clean;
-        }

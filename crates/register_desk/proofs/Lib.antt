@@ -3,4 +3,5 @@ pub mod Requests
 pub mod Grows
 pub mod Standing
 pub mod Beginnings
+pub mod Readings
 pub mod ServingLemmas

@@ -1,5 +1,6 @@
 -- A desk that stands for a history stands after an accepted request for the history with it.
-use Rattle.std.proofs.Common.{◌≡◌, inl, inr, ℕ, ◌+◌, false, cond, List, [], ◌∷◌, ◌++◌, length, Option, None, Some, Result, Ok, Err, IsTrue, sym, ap, subst, ◌∙◌, arith}
+use Rattle.std.proofs.Common.{◌≡◌, ◌≤◌, inl, inr, ℕ, ◌+◌, nat_le, Bool, true, false, cond, List, [], ◌∷◌, ◌++◌, length, Option, None, Some, Result, Ok, Err, IsTrue, sym, ap, subst, ◌∙◌, arith}
+use Rattle.std.proofs.lemmas.Bool.{leb-false}
 use Rattle.std.specs.Prelude.{OnOk, is_none}
 use Rattle.sqlite_trees.specs.declared.store.Store as store
 use Rattle.sqlite.specs.Tree.{Trees}
@@ -8,40 +9,56 @@ use Rattle.sqlite.specs.State.{HasCleanDisk}
 use Rattle.sqlite.specs.Held.{state}
 use Rattle.sql_steps.specs.Steps.{TransactsBy}
 use Rattle.sql_steps.proofs.Stepping.{leaves_alone}
-use Rattle.register_core.specs.declared.request.Request.{Request}
+use Rattle.register_core.specs.declared.change.Change.{Change}
+use Rattle.register_core.specs.declared.limits.TheConstants.{MAX_KEYS}
 use Rattle.register_core.specs.declared.reply.Refusal.{Refusal}
-use Rattle.register_core.specs.History.{latest, count}
-use Rattle.register_core.specs.Verdict.{verdict}
+use Rattle.register_core.specs.declared.reply.Refusal.TheVariants.{Full}
+use Rattle.register_core.specs.declared.request.Request.{Request}
+use Rattle.register_core.specs.declared.view.Held.{Held}
+use Rattle.register_core.specs.Decision.{change_by, IsViewOf, LeadsTo}
 use Rattle.register_core.specs.Fold.{history_after}
-use Rattle.register_core.proofs.Histories.{latest_grows}
-use Rattle.register_store.specs.Tables.{Tables, Holds, Makes, HasKeys}
+use Rattle.register_core.specs.History.{latest, count}
+use Rattle.register_core.specs.Laws.{IsAccepted}
+use Rattle.register_core.specs.Subject.{Subject, Makes, Names, NoKey, subject, count_by, made_by}
+use Rattle.register_core.specs.Verdict.{judge, max_keys, named_key, too_many, verdict}
+use Rattle.register_core.proofs.Histories.{count_grows, latest_grows}
+use Rattle.register_core.proofs.Lawful.{lawful_after}
+use Rattle.register_core.proofs.Refusals.{passes}
+use Rattle.register_core.proofs.Subjects.{is_registration, registers}
+use Rattle.register_store.specs.Change.{made_count}
+use Rattle.register_store.specs.Tables.{Tables, Holds, HasKeys}
+use Rattle.register_store.specs.Tables as tabled
 use Rattle.register_desk.specs.declared.desk.Desk.{Desk}
 use Rattle.register_desk.specs.Register.{tables, StandsFor, LeavesOneOf}
-use Rattle.register_core.specs.declared.decision.Change.{Change}
-use Rattle.register_core.specs.Decision.{change_by, IsRightKey, IsViewOf, LeadsTo}
-use Rattle.register_core.specs.declared.request.Command.{Command}
-use Rattle.register_core.specs.History.{made_by}
-use Rattle.register_core.proofs.Histories.{count_grows}
-use Rattle.register_store.specs.declared.key.Key.{Key}
-use Rattle.register_desk.specs.declared.found.Found.{Found}
-use Rattle.register_desk.specs.Step.{held_in, key_in, IsRightFound, made_count, with_request}
-use Rattle.register_desk.specs.Finding.{found_named}
-use Rattle.register_core.proofs.Lawful.{lawful_after}
-use Rattle.register_desk.proofs.Grows.{tables_grow, change_counts, keys_counted, named_held}
+use Rattle.register_desk.specs.Step.{with_request}
+use Rattle.register_desk.proofs.Grows.{tables_grow, change_counts, keys_counted}
 
 -- what a decision rests on is the view of the history
-pub view_stands : {S : Type 0} (g : store.Ghosts S) (desk : Desk S g) (h : List Request) (c : Command) (found : Option Found) → StandsFor g desk h → found ≡ found_named h c
-    → IsViewOf (record { latest = desk.latest; keys = desk.keys; key = held_in found }) h c
-view_stands g desk h c found stands is = record { latest_is = stands.latest_is; keys_are = stands.keys_are; key_is = ap held_in is ∙ named_held h c }
+pub view_stands : {S : Type 0} (g : store.Ghosts S) (desk : Desk S g) (h : List Request) (q : Request) (key : Option Held) → StandsFor g desk h → key ≡ named_key h q.command
+    → IsViewOf (record { latest = desk.latest; keys = desk.keys; key = key }) h q.command
+view_stands g desk h q key stands is = record { latest_is = stands.latest_is; keys_are = stands.keys_are; key_is = is }
 
--- what was found stands right for the decision
-pub right_held : (found : Option Found) (t : ℕ) → IsRightFound found t → IsRightKey (held_in found) t
-right_held None t right = tt
-right_held (Some found) t right = right
+-- where a request is accepted, there is room for what it makes
+pub room_left : (last keys : ℕ) (key : Option Held) (q : Request) (change : Change) → keys ≤ MAX_KEYS → judge last keys key q ≡ None → change ≡ change_by key q → keys + made_count change ≤ MAX_KEYS
+room_left last keys key q change within accepted is =
+    let counted : made_count change ≡ count_by (subject q.command) = ap made_count is ∙ change_counts key q in
+    let room = by (subject q.command) (λ i. subject q.command) in
+    omega (arith, counted, room)
+  where
+    below : (b : Bool) → cond b (Some Full) None ≡ None → b ≡ false
+    below true e = absurd (cc)
+    below false e = λ i. false
+
+    by : (s : Subject) → subject q.command ≡ s → keys + count_by s ≤ MAX_KEYS
+    by (Makes made) makes =
+        let none : too_many keys (registers made) ≡ None = ap (too_many keys) (sym (is_registration q.command made makes)) ∙ (passes last keys key q accepted).numbered in
+        let less = leb-false max_keys keys (below (nat_le max_keys keys) none) in
+        omega (arith, less)
+    by (Names k) names = omega arith
+    by NoKey none = omega arith
 
 module _ {S : Type 0} (g : store.Ghosts S) (old : Desk S g) (h : List Request) (q : Request) (stands : StandsFor g old h) (accepted : verdict h q ≡ None)
-    (change : Change) (found : Option Found) (found_is : found ≡ found_named h q.command) (change_is : change ≡ change_by (held_in found) q)
-    (leads : LeadsTo h q change) (key : Option Key) (key_is : key ≡ key_in found) where
+    (change : Change) (key : Option Held) (key_is : key ≡ named_key h q.command) (change_is : change ≡ change_by key q) (leads : LeadsTo h q change) where
   abbrev grown : List Request
   grown = h ++ q ∷ []
 
@@ -49,24 +66,24 @@ module _ {S : Type 0} (g : store.Ghosts S) (old : Desk S g) (h : List Request) (
   after_is = ap (λ (v : Option Refusal). cond (is_none v) grown h) accepted
 
   abbrev Made : Database → Database → Type 0
-  Made = Makes (HasKeys old.keys) (with_request old.keys q.moment change key)
+  Made = tabled.Makes (HasKeys old.keys) (with_request old.keys q.moment change)
+
+  is_change : change ≡ change_by (named_key h q.command) q
+  is_change = change_is ∙ ap (λ (k : Option Held). change_by k q) key_is
 
   -- what the request makes of the tables of the history are those of the history with it
   made_holds : (before after : Database) → Holds (tables h) before → Made before after → Holds (tables grown) after
   made_holds before after holds made =
       let keys : length (tables h).keys ≡ old.keys = keys_counted h ∙ sym stands.keys_are in
-      let leads_so : LeadsTo h q (change_by (held_in (found_named h q.command)) q) =
-      subst (LeadsTo h q) (change_is ∙ ap (λ (f : Option Found). change_by (held_in f) q) found_is) leads in
-      let same : with_request old.keys q.moment change key (tables h) ≡ tables grown =
-      ap (λ (n : ℕ). with_request n q.moment change key (tables h)) stands.keys_are
-      ∙ ap (λ (k : Option Key). with_request (count h) q.moment change k (tables h)) key_is
-      ∙ ap (λ (c : Change). with_request (count h) q.moment c (key_in found) (tables h)) change_is
-      ∙ ap (λ (f : Option Found). with_request (count h) q.moment (change_by (held_in f) q) (key_in f) (tables h)) found_is
-      ∙ sym (tables_grow h q leads_so) in
+      let is_accepted : IsAccepted h q = record { lawful = stands.lawful; accepted = accepted } in
+      let same : with_request old.keys q.moment change (tables h) ≡ tables grown =
+      ap (λ (n : ℕ). with_request n q.moment change (tables h)) stands.keys_are
+      ∙ ap (λ (c : Change). with_request (count h) q.moment c (tables h)) is_change
+      ∙ sym (tables_grow h q is_accepted (subst (LeadsTo h q) is_change leads)) in
       subst (λ (t : Tables). Holds t after) same (made (tables h) holds keys)
 
   counted_after : made_count change ≡ made_by q.command
-  counted_after = ap made_count change_is ∙ change_counts (held_in found) q
+  counted_after = ap made_count change_is ∙ change_counts key q
 
   module _ {A E : Type 0} (new : Desk S g) (r : Result A E) (whole : old.is_broken ≡ false) (written : TransactsBy Made (state g old.connection) (state g new.connection) r) where
     early : HasCleanDisk (state g new.connection) → HasCleanDisk (state g old.connection)

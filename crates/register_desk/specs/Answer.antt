@@ -2,8 +2,8 @@
 use Rattle.std.specs.Prelude.{Result, Ok, Err}
 use Rattle.register_core.specs.declared.reply.Reply.{Reply}
 use Rattle.register_core.specs.declared.reply.Refusal.{Refusal}
-use Rattle.register_desk.specs.declared.desk.Answer.{Answer}
-use Rattle.register_desk.specs.declared.desk.Answer.TheVariants.{Accepted, Refused}
+use Rattle.register_desk.specs.declared.answer.Answer.{Answer}
+use Rattle.register_desk.specs.declared.answer.Answer.TheVariants.{Accepted, Refused}
 
 abbrev pub answered : Answer → Result Reply Refusal
 answered (Accepted reply) = Ok reply

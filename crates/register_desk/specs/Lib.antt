@@ -1,8 +1,9 @@
 pub mod End
 pub mod Register
+pub mod Leaving
 pub mod Step
-pub mod Finding
 pub mod Shown
+pub mod Loading
 pub mod Opening
 pub mod Answer
 pub mod Input

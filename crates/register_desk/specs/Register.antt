@@ -8,10 +8,11 @@ use Rattle.sqlite.specs.State.{State, HasCleanDisk}
 use Rattle.sqlite.specs.Held.{state}
 use Rattle.lifecycle_core.specs.State.{state_at}
 use Rattle.register_core.specs.declared.request.Request.{Request}
-use Rattle.register_core.specs.History.{latest, Registration, registrations, count, type, dates, owner}
-use Rattle.register_core.specs.People.{all_custodians, all_approvals}
+use Rattle.register_core.specs.History.{latest, registrations, count, type, dates, owner}
+use Rattle.register_core.specs.Custody.{all_custodians, all_approvals}
+use Rattle.register_core.specs.Subject.{Registration}
 use Rattle.register_core.specs.Fold.{IsLawful}
-use Rattle.register_store.specs.declared.key.Key.{Key}
+use Rattle.register_core.specs.declared.key.Key.{Key}
 use Rattle.register_store.specs.Tables.{Tables, Holds}
 use Rattle.register_desk.specs.declared.desk.Desk.{Desk}
 
@@ -26,8 +27,7 @@ key_of h k made = record {
 
 abbrev pub tables : List Request → Tables
 tables h = record {
-  latest = latest h;
-  key_count = count h;
+  counts = record { latest = latest h; key_count = count h };
   keys = map (λ key. key_of h key.0 key.1) (enumerate_from 1 (registrations h));
   custodians = all_custodians h;
   approvals = all_approvals h;

@@ -27,7 +27,7 @@ answer_lines given = flat_map answer_line given
 abbrev pub IsFrontOf : List ℕ → List ℕ → Type 0
 IsFrontOf part bytes = (more : List ℕ) × (part ++ more ≡ bytes)
 
--- the first so many items were answered, each by its whole line, and no more was written
+-- the first items, as many as there are replies, were answered, each by its whole line, and no more was written
 pub record Answered {S : Type 0} (g : Ghosts S) (h : List Request) (items : List (Option Request)) (replies : ℕ) (old new : Option (List ℕ)) (desk : Desk S g) : Type 0 where
   pub some : replies ≤ length items
   pub written : Appends old new (answer_lines (take replies (answers h items)))

@@ -33,11 +33,11 @@ pub record IsNextLine (before after : Option (List ℕ)) (line : List ℕ) (item
   pub consumed : Consumes before after (line ++ LINE_FEED ∷ [])
   pub stands_for : IsItem line item
 
--- so many bytes were written
+-- this number of bytes was written
 abbrev pub Wrote : Option (List ℕ) → Option (List ℕ) → ℕ → Type 0
 Wrote old new written = (bytes : List ℕ) × Appends old new bytes × (written ≡ length bytes)
 
--- so many bytes were taken
+-- this number of bytes was taken
 abbrev pub TookBytes : Option (List ℕ) → Option (List ℕ) → ℕ → Type 0
 TookBytes before after taken = (bytes : List ℕ) × Consumes before after bytes × (taken ≡ length bytes)
 
@@ -53,7 +53,7 @@ module _ {S : Type 0} (g : Ghosts S) where
   abbrev pub WasClean : Desk S g → Desk S g → Type 0
   WasClean kept now = HasCleanDisk (state g now.connection) → HasCleanDisk (state g kept.connection)
 
-  -- the item was answered by a whole line of so many bytes, and applied
+  -- the item was answered by a whole line, of this number of bytes, and applied
   pub record ServesItem (kept now : Desk S g) (old new : Option (List ℕ)) (item : Option Request) (count : ℕ) : Type 0 where
     pub line : List ℕ
     pub written : Appends old new line
@@ -108,7 +108,7 @@ module _ {S : Type 0} (g : Ghosts S) where
 
   -- ---- the items so far
 
-  -- so many items were taken, answered and applied
+  -- as many items as there are replies were taken, answered and applied
   pub record Served (before after old new : Option (List ℕ)) (kept now : Desk S g) (replies : ℕ) : Type 0 where
     pub lines : List (List ℕ)
     pub items : List (Option Request)

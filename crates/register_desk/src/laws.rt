@@ -8,7 +8,8 @@ use register_core::laws::one_request;
 /// An input has no two lists of items, and no two rests.
 pub fn one_input()
     ensures { (bytes : List ℕ) (items others : List (Option Request)) (rest other : List ℕ) →
-        HasItems bytes items rest → HasItems bytes others other → (items ≡ others) × (rest ≡ other) }
+        HasItems bytes items rest → HasItems bytes others other →
+        (items ≡ others) × (rest ≡ other) }
 {
     one_request();
 }

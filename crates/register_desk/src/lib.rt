@@ -1,16 +1,24 @@
 //! The register's desk: it applies requests one after another, and answers each.
+//!
+//! ```
+//! let mut desk = Desk::create(alloc, Connection::open_in_memory(alloc)?)?;
+//! let answer = desk.apply(&request)?;
+//! let record = desk.show(1)?;
+//! let outcome = run(&mut Watched::new(input), &mut Watched::new(output), &mut desk);
+//! ```
 #![tactic(auto)]
 
+mod answer;
+mod commit;
 mod desk;
 mod end;
-mod found;
 pub mod laws;
 mod opening;
 mod record;
 mod runs;
-mod serve;
 
-pub use desk::{Answer, Desk};
+pub use answer::Answer;
+pub use desk::Desk;
 pub use end::End;
 pub use opening::{OpenRefusal, Unopened};
 pub use record::Record;

@@ -1,21 +1,22 @@
 //! A run over request lines: each line is read, applied and answered before the next one is looked at.
-ghost use Rattle.std.specs.Prelude.{◌≡◌, ◌≢◌, ◌⊎◌, ◌+◌, ◌*◌, ◌≤◌, ◌<◌, ℕ, List, [], ◌∷◌, length, Some, None, Option, true, false, IfOk, IfErr, OnOk, OnErr};
+ghost use Rattle.std.specs.Prelude.{◌≡◌, ◌≢◌, ◌⊎◌, ◌+◌, ◌*◌, ◌≤◌, ◌<◌, ℕ, List, [], ◌∷◌, length};
+ghost use Rattle.std.specs.Prelude.{Some, None, Option, true, false, IfOk, IfErr, OnOk, OnErr};
 ghost use Rattle.std.specs.Io.KnownBytes.{Appends, IsAtEnd, prepend_known};
-ghost use Rattle.sqlite.specs.State.{HasCleanDisk};
-ghost use Rattle.sqlite.specs.Held.{state};
 ghost use Rattle.register_core.specs.declared.request.Request.{Request};
-ghost use Rattle.register_core.specs.declared.line.TheConstants.{LINE_LIMIT, REPLY_LIMIT};
+ghost use Rattle.register_core.specs.declared.line.TheConstants.{MAX_LINE_LENGTH, MAX_REPLY_LENGTH};
 ghost use Rattle.register_core.specs.Request.{IsItem};
 ghost use Rattle.streams.specs.Watched.{IsFaulted};
 ghost use Rattle.register_desk.specs.Input.{HasItems};
+ghost use Rattle.register_desk.specs.Leaving.{IsWhole, IsClean};
 ghost use Rattle.register_desk.specs.Register.{StandsFor};
 ghost use Rattle.register_desk.specs.Run.{RunsOver};
-ghost use Rattle.register_desk.specs.Serving.{AnswersItem, WasClean, ServesItem, StopsItem, LeavesItem, ServesTo, Wrote, TookBytes};
+ghost use Rattle.register_desk.specs.Serving.{AnswersItem, WasClean, ServesItem, StopsItem};
+ghost use Rattle.register_desk.specs.Serving.{LeavesItem, ServesTo, Wrote, TookBytes};
 
 use crate::desk::Desk;
 use crate::end::End;
 use register_core::laws::one_request;
-use register_core::{LINE_LIMIT, Refusal, ReplyLine, Request, read_request, reply_line};
+use register_core::{MAX_LINE_LENGTH, Refusal, ReplyLine, Request, read_request, reply_line};
 use sqlite::Alter;
 use std::io::{Read, Write};
 use streams::{Lines, MAX_IDLE_TURNS, MAX_READS, Next, ReadFault, Watched};
@@ -23,7 +24,7 @@ use streams::{Lines, MAX_IDLE_TURNS, MAX_READS, Next, ReadFault, Watched};
 /// How a run ended.
 #[derive(Clone, Copy, Debug, PartialEq, Eq)]
 pub enum Finish {
-    /// The input is at its end; so many bytes stood behind its last line feed, and are no line.
+    /// The input is at its end. `rest` bytes stood behind its last line feed, and are no line.
     AtEnd { rest: u64 },
     /// The run ended before that.
     Ended(End),
@@ -50,9 +51,9 @@ struct Stop {
 }
 
 /// What the line that was cut off last stands for. No line longer than the limit is one of a request.
-fn item_of(lines: &Lines<LINE_LIMIT>) -> Option<Request>
+fn item_of(lines: &Lines<MAX_LINE_LENGTH>) -> Option<Request>
     ensures { (line : List ℕ) → lines.now.line_length ≡ length line
-        → (length line ≤ LINE_LIMIT → lines.now.line ≡ line) → IsItem line result }
+        → (length line ≤ MAX_LINE_LENGTH → lines.now.line ≡ line) → IsItem line result }
 {
     read_request(lines.line()?)
 }
@@ -61,10 +62,10 @@ fn item_of(lines: &Lines<LINE_LIMIT>) -> Option<Request>
 fn answer_item<S: Alter>(desk: &mut Desk<S>, item: &Option<Request>) -> Result<ReplyLine, End>
     ensures answers { IfOk result (λ line. AnswersItem S.Store desk.old desk.new item.now line) }
     ensures clean { OnOk result (WasClean S.Store desk.old desk.new) }
-    ensures short { IfOk result (λ line. length line ≤ REPLY_LIMIT) }
+    ensures short { IfOk result (λ line. length line ≤ MAX_REPLY_LENGTH) }
     ensures stop { IfErr result (λ end. StopsItem S.Store desk.old desk.new item.now end) }
-    ensures whole { desk.old.is_broken ≡ false → OnOk result (desk.new.is_broken ≡ false) }
-    ensures stays { desk.old.is_broken ≡ false → IfErr result (λ end. end ≢ End.Store → desk.new.is_broken ≡ false) }
+    ensures whole { IsWhole desk.old → OnOk result (IsWhole desk.new) }
+    ensures stays { IsWhole desk.old → IfErr result (λ end. end ≢ End.Store → IsWhole desk.new) }
 {
     let outcome = match item {
         Some(request) => desk.apply(request)?.outcome(),
@@ -74,23 +75,24 @@ fn answer_item<S: Alter>(desk: &mut Desk<S>, item: &Option<Request>) -> Result<R
 }
 
 /// Applies the item and writes its answer, whole and flushed. Gives how many bytes that were.
-fn serve_item<W: Write, S: Alter>(
+fn answer_line<W: Write, S: Alter>(
     item: &Option<Request>,
     writer: &mut Watched<W>,
     desk: &mut Desk<S>,
 ) -> Result<usize, Stop>
-    ensures serves { IfOk result (λ count. ServesItem S.Store desk.old desk.new (W.contents writer.old.inner)
-        (W.contents writer.new.inner) item.now count) }
-    ensures short { IfOk result (λ count. count ≤ REPLY_LIMIT) }
-    ensures stop { IfErr result (λ stop. LeavesItem S.Store desk.old desk.new (W.contents writer.old.inner)
-        (W.contents writer.new.inner) item.now stop.end stop.written) }
+    ensures serves { IfOk result (λ count. ServesItem S.Store desk.old desk.new
+        (W.contents writer.old.inner) (W.contents writer.new.inner) item.now count) }
+    ensures short { IfOk result (λ count. count ≤ MAX_REPLY_LENGTH) }
+    ensures stop { IfErr result (λ stop. LeavesItem S.Store desk.old desk.new
+        (W.contents writer.old.inner) (W.contents writer.new.inner) item.now stop.end stop.written) }
     ensures cause { IfErr result (λ stop. stop.end ≡ End.WriteFault →
         IsFaulted writer.new.failed MAX_IDLE_TURNS writer.new.idle) }
-    ensures within { IfErr result (λ stop. stop.written ≤ REPLY_LIMIT) }
+    ensures within { IfErr result (λ stop. stop.written ≤ MAX_REPLY_LENGTH) }
     ensures flushed { OnOk result (writer.new.unflushed ≡ false) }
     ensures untouched { IfErr result (λ stop. stop.end ≢ End.WriteFault → writer.new ≡ writer.old) }
-    ensures whole { desk.old.is_broken ≡ false → OnOk result (desk.new.is_broken ≡ false) }
-    ensures stays { desk.old.is_broken ≡ false → IfErr result (λ stop. stop.end ≢ End.Store → desk.new.is_broken ≡ false) }
+    ensures whole { IsWhole desk.old → OnOk result (IsWhole desk.new) }
+    ensures stays { IsWhole desk.old →
+        IfErr result (λ stop. stop.end ≢ End.Store → IsWhole desk.new) }
 {
     let line = match answer_item(desk, item) {
         Ok(line) => line,
@@ -106,7 +108,7 @@ fn serve_item<W: Write, S: Alter>(
 }
 
 /// Serves the lines that come, up to the end of the input or to what ends the run before.
-fn serve_lines<R: Read, W: Write, S: Alter>(
+fn run_lines<R: Read, W: Write, S: Alter>(
     reader: &mut Watched<R>,
     writer: &mut Watched<W>,
     desk: &mut Desk<S>,
@@ -123,17 +125,19 @@ fn serve_lines<R: Read, W: Write, S: Alter>(
     ensures write_fault { result.end ≡ Finish.Ended End.WriteFault →
         IsFaulted writer.new.failed MAX_IDLE_TURNS writer.new.idle }
     // At the end of the input the reader has no more, and whatever was written is flushed unless the writer failed.
-    ensures at_end { (rest : ℕ) → result.end ≡ Finish.AtEnd rest → IsAtEnd (R.remaining reader.new.inner) }
-    ensures flushed { result.end ≢ Finish.Ended End.WriteFault → writer.old.unflushed ≡ false → writer.new.unflushed ≡ false }
+    ensures at_end { (rest : ℕ) → result.end ≡ Finish.AtEnd rest →
+        IsAtEnd (R.remaining reader.new.inner) }
+    ensures flushed { result.end ≢ Finish.Ended End.WriteFault →
+        writer.old.unflushed ≡ false → writer.new.unflushed ≡ false }
     // A desk that is whole stays so unless the run ends by 31.
-    ensures whole { desk.old.is_broken ≡ false → result.end ≢ Finish.Ended End.Store → desk.new.is_broken ≡ false }
+    ensures whole { IsWhole desk.old → result.end ≢ Finish.Ended End.Store → IsWhole desk.new }
 {
     let mut lines = Lines::new();
     let mut written: u64 = 0;
     let mut replies: u64 = 0;
     let end = loop {
         match lines.next(reader) {
-            Ok(Next::Line) => match serve_item(&item_of(&lines), writer, desk) {
+            Ok(Next::Line) => match answer_line(&item_of(&lines), writer, desk) {
                 Ok(count) => {
                     written += count as u64;
                     replies += 1;
@@ -171,8 +175,10 @@ pub fn run<R: Read, W: Write, S: Alter>(
     // Where the reader's bytes are known, what is written is the lines of the answers, and the desk then stands
     // for the history of the items that were answered. The disk is to have given back what was written.
     ensures agrees { (h : List Request) (bytes : List ℕ) (items : List (Option Request)) (rest : List ℕ) →
-        StandsFor S.Store desk.old h → HasCleanDisk (state S.Store desk.new.connection) → R.remaining reader.old.inner ≡ Some bytes → HasItems bytes items rest →
-        RunsOver S.Store h items rest result.end result.replies (W.contents writer.old.inner) (W.contents writer.new.inner) desk.new }
+        StandsFor S.Store desk.old h → IsClean S.Store desk.new →
+        R.remaining reader.old.inner ≡ Some bytes → HasItems bytes items rest →
+        RunsOver S.Store h items rest result.end result.replies
+        (W.contents writer.old.inner) (W.contents writer.new.inner) desk.new }
     ensures read { TookBytes (R.remaining reader.old.inner) (R.remaining reader.new.inner) result.read }
     ensures written { Wrote (W.contents writer.old.inner) (W.contents writer.new.inner) result.written }
     ensures read_fault { result.end ≡ Finish.Ended End.ReadFault →
@@ -180,13 +186,15 @@ pub fn run<R: Read, W: Write, S: Alter>(
     ensures write_fault { result.end ≡ Finish.Ended End.WriteFault →
         IsFaulted writer.new.failed MAX_IDLE_TURNS writer.new.idle }
     // At the end of the input the reader has no more, and whatever was written is flushed unless the writer failed.
-    ensures at_end { (rest : ℕ) → result.end ≡ Finish.AtEnd rest → IsAtEnd (R.remaining reader.new.inner) }
-    ensures flushed { result.end ≢ Finish.Ended End.WriteFault → writer.old.unflushed ≡ false → writer.new.unflushed ≡ false }
+    ensures at_end { (rest : ℕ) → result.end ≡ Finish.AtEnd rest →
+        IsAtEnd (R.remaining reader.new.inner) }
+    ensures flushed { result.end ≢ Finish.Ended End.WriteFault →
+        writer.old.unflushed ≡ false → writer.new.unflushed ≡ false }
     // A desk that is whole stays so unless the run ends by 31.
-    ensures whole { desk.old.is_broken ≡ false → result.end ≢ Finish.Ended End.Store → desk.new.is_broken ≡ false }
+    ensures whole { IsWhole desk.old → result.end ≢ Finish.Ended End.Store → IsWhole desk.new }
 {
     reader.begin();
     writer.begin();
     one_request();
-    serve_lines(reader, writer, desk)
+    run_lines(reader, writer, desk)
 }

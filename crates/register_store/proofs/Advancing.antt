@@ -6,58 +6,55 @@ use Rattle.sqlite.specs.Effect.{Database}
 use Rattle.lifecycle_core.specs.declared.state.State.{State}
 use Rattle.lifecycle_core.specs.State.{state_at}
 use Rattle.sql_steps.specs.Steps.{Then}
-use Rattle.register_store.specs.declared.key.Key.{Key}
-use Rattle.register_store.specs.Tables.{Holds, Makes, Always, HasKeys, advanced, in_state, key_at, numbered, with_state, with_keys_advanced}
-use Rattle.register_store.specs.Found.{FindsKey}
+use Rattle.register_core.specs.declared.key.Key.{Key}
+use Rattle.register_store.specs.Tables.{Holds, Makes, Always, HasKeys, advanced, in_state, key_at, numbered, where_number, with_key_at, with_keys_advanced}
+use Rattle.register_store.specs.Reading.{FindsKey}
 use Rattle.register_store.specs.Due.{AdvancesKey, first_advanced, with_first_advanced}
 
 -- ---- the key with a number gets a state
 
-abbrev given : State → Key → Key
-given s k = record k { row = record { dates = k.row.dates; state = s } }
-
 -- a key with another number stays
-others_stay : (number : ℕ) (s : State) (n : ℕ) (k : Key) → n ≢ number → in_state number s (n, k) ≡ k
-others_stay number s n k other = ap (λ b. cond b (given s k) k) (ne_eqb n number other)
+others_stay : (number : ℕ) (s : State) (n : ℕ) (k : Key) → n ≢ number → where_number number (in_state s) (n, k) ≡ k
+others_stay number s n k other = ap (λ b. cond b (in_state s k) k) (ne_eqb n number other)
 
-its_own : (number : ℕ) (s : State) (n : ℕ) (k : Key) → n ≡ number → in_state number s (n, k) ≡ given s k
-its_own number s n k same = ap (λ b. cond b (given s k) k) (eq-eqb n number same)
+its_own : (number : ℕ) (s : State) (n : ℕ) (k : Key) → n ≡ number → where_number number (in_state s) (n, k) ≡ in_state s k
+its_own number s n k same = ap (λ b. cond b (in_state s k) k) (eq-eqb n number same)
 
 -- the keys behind a number stay
-rest_stays : (number : ℕ) (s : State) (n : ℕ) (keys : List Key) → number < n → map (in_state number s) (enumerate_from n keys) ≡ keys
+rest_stays : (number : ℕ) (s : State) (n : ℕ) (keys : List Key) → number < n → map (where_number number (in_state s)) (enumerate_from n keys) ≡ keys
 rest_stays number s n [] behind = refl
 rest_stays number s n (k ∷ keys) behind =
-    let head : in_state number s (n, k) ≡ k = others_stay number s n k (λ same. absurd (omega arith)) in
+    let head : where_number number (in_state s) (n, k) ≡ k = others_stay number s n k (λ same. absurd (omega arith)) in
     let tail = rest_stays number s (n + 1) keys (omega arith) in
     λ i. head i ∷ tail i
 
 -- a key that gets the state that it has
-keeps : (number n i : ℕ) (keys : List Key) (key : Key) → number ≡ n + i → slice_get keys i ≡ Some key → map (in_state number key.row.state) (enumerate_from n keys) ≡ keys
+keeps : (number n i : ℕ) (keys : List Key) (key : Key) → number ≡ n + i → slice_get keys i ≡ Some key → map (where_number number (in_state key.row.state)) (enumerate_from n keys) ≡ keys
 keeps number n i [] key place is = refl
 keeps number n zero (k ∷ keys) key place is =
     let same : k ≡ key = cc in
-    let head : in_state number key.row.state (n, k) ≡ k = its_own number key.row.state n k (omega arith) ∙ ap (λ (x : Key). given x.row.state k) (sym same) in
+    let head : where_number number (in_state key.row.state) (n, k) ≡ k = its_own number key.row.state n k (omega arith) ∙ ap (λ (x : Key). in_state x.row.state k) (sym same) in
     let tail = rest_stays number key.row.state (n + 1) keys (omega arith) in
     λ j. head j ∷ tail j
 keeps number n (suc i) (k ∷ keys) key place is =
-    let head : in_state number key.row.state (n, k) ≡ k = others_stay number key.row.state n k (λ same. absurd (omega arith)) in
+    let head : where_number number (in_state key.row.state) (n, k) ≡ k = others_stay number key.row.state n k (λ same. absurd (omega arith)) in
     let tail = keeps number (n + 1) i keys key (omega arith) is in
     λ j. head j ∷ tail j
 
 -- one more key
 one_more : (at number n i : ℕ) (keys : List Key) (key : Key) → number ≡ n + i → slice_get (first_advanced at i keys) i ≡ Some key
-    → map (in_state number (state_at key.row.dates at)) (enumerate_from n (first_advanced at i keys)) ≡ first_advanced at (suc i) keys
+    → map (where_number number (in_state (state_at key.row.dates at))) (enumerate_from n (first_advanced at i keys)) ≡ first_advanced at (suc i) keys
 one_more at number n zero [] key place is = refl
 one_more at number n zero (k ∷ keys) key place is =
     let same : key ≡ k = cc in
     let s = state_at key.row.dates at in
-    let head : in_state number s (n, k) ≡ advanced at k = its_own number s n k (omega arith) ∙ ap (λ (x : Key). given (state_at x.row.dates at) k) same in
+    let head : where_number number (in_state s) (n, k) ≡ advanced at k = its_own number s n k (omega arith) ∙ ap (λ (x : Key). in_state (state_at x.row.dates at) k) same in
     let tail = rest_stays number s (n + 1) keys (omega arith) in
     λ j. head j ∷ tail j
 one_more at number n (suc i) [] key place is = refl
 one_more at number n (suc i) (k ∷ keys) key place is =
     let s = state_at key.row.dates at in
-    let head : in_state number s (n, advanced at k) ≡ advanced at k = others_stay number s n (advanced at k) (λ same. absurd (omega arith)) in
+    let head : where_number number (in_state s) (n, advanced at k) ≡ advanced at k = others_stay number s n (advanced at k) (λ same. absurd (omega arith)) in
     let tail = one_more at number (n + 1) i keys key (omega arith) is in
     λ j. head j ∷ tail j
 
@@ -69,12 +66,12 @@ all_advanced at (k ∷ keys) = ap (λ ks. advanced at k ∷ ks) (all_advanced at
 
 -- a key is found, and its state is set
 pub sets_state : (at number : ℕ) (key : Key) (s : State) (old new : Database) → s ≡ state_at key.row.dates at
-    → Then (FindsKey number (Some key)) (Makes Always (with_state number s)) old new → AdvancesKey at number old new
+    → Then (FindsKey number (Some key)) (Makes Always (with_key_at number (in_state s))) old new → AdvancesKey at number old new
 sets_state at number key s old new is both t holds =
     let found = both.1 t holds in
-    (key, sym found.1, subst (λ s. Holds (with_state number s t) new) is (both.2 t (subst (Holds t) (sym found.0) holds) tt))
+    (key, sym found.1, subst (λ s. Holds (with_key_at number (in_state s) t) new) is (both.2 t (subst (Holds t) (sym found.0) holds) tt))
 
-same_keys : (number : ℕ) (keys : List Key) (key : Key) → key_at keys number ≡ Some key → map (in_state number key.row.state) (numbered keys) ≡ keys
+same_keys : (number : ℕ) (keys : List Key) (key : Key) → key_at keys number ≡ Some key → map (where_number number (in_state key.row.state)) (numbered keys) ≡ keys
 same_keys zero keys key is = absurd (cc)
 same_keys (suc i) keys key is = keeps (suc i) 1 i keys key (omega arith) is
 
@@ -82,8 +79,8 @@ same_keys (suc i) keys key is = keeps (suc i) 1 i keys key (omega arith) is
 pub has_state : (at number : ℕ) (key : Key) (old new : Database) → key.row.state ≡ state_at key.row.dates at → FindsKey number (Some key) old new → AdvancesKey at number old new
 has_state at number key old new is finds t holds =
     let found = finds t holds in
-    let kept : with_state number key.row.state t ≡ t = ap (λ ks. record t { keys = ks }) (same_keys number t.keys key (sym found.1)) in
-    (key, sym found.1, subst (λ s. Holds (with_state number s t) new) is (subst (λ t. Holds t new) (sym kept) (subst (Holds t) (sym found.0) holds)))
+    let kept : with_key_at number (in_state key.row.state) t ≡ t = ap (λ ks. record t { keys = ks }) (same_keys number t.keys key (sym found.1)) in
+    (key, sym found.1, subst (λ s. Holds (with_key_at number (in_state s) t) new) is (subst (λ t. Holds t new) (sym kept) (subst (Holds t) (sym found.0) holds)))
 
 -- none yet
 pub none_advanced : (at : ℕ) (old : Database) → Makes Always (with_first_advanced at 0) old old

@@ -11,9 +11,9 @@ use Rattle.period_core.specs.declared.key_type.KeyType.{KeyType}
 use Rattle.period_core.specs.declared.key_type.KeyType.TheVariants.{DataEncryption, Authentication, KeyWrapping, PrivateSignature, PrivateAuthentication, PrivateTransport, Master}
 use Rattle.period_core.specs.KeyType.{key_type_code}
 use Rattle.register_core.specs.Request.{IsDate}
-use Rattle.register_store.specs.declared.key.Key.{Key}
+use Rattle.register_core.specs.declared.key.Key.{Key}
 use Rattle.register_store.specs.Tables.{IsKey, date_cell, key_cells}
-use Rattle.register_store.specs.Found.{ShowsDates}
+use Rattle.register_store.specs.Reading.{ShowsDates, ShowsKey}
 
 -- ---- a code has one meaning
 
@@ -95,14 +95,14 @@ module _ (row : Cells) (k : Key) (is : IsKey k) (shows : row ≡ key_cells k) wh
     compromise_occurrence = cell_date _ _ _ h.compromise_occurrence (at 10) is.dates.compromise_occurrence i;
   }
 
-  pub same_key : (kind : KeyType) (owner purpose : List ℕ) (state : State) (d : Dates) → column row 0 ≡ Int (pos (key_type_code kind)) → column row 1 ≡ Words owner → column row 2 ≡ Words purpose
-      → column row 3 ≡ Int (pos (state_code state)) → ShowsDates row d → ◌≡◌ {A = Key} (record { kind = kind; owner = owner; purpose = purpose; row = record { dates = d; state = state } }) k
-  same_key kind owner purpose state d kind_is owner_is purpose_is state_is dates_are i = record {
-    kind = same_kind kind k.kind (same_number _ _ _ kind_is (at 0)) i;
-    owner = same_words _ _ _ owner_is (at 1) i;
-    purpose = same_words _ _ _ purpose_is (at 2) i;
+  -- a row of a key's cells shows that key alone
+  pub same_key : (key : Key) → ShowsKey row key → key ≡ k
+  same_key key h i = record {
+    kind = same_kind _ _ (same_number _ _ _ h.kind (at 0)) i;
+    owner = same_words _ _ _ h.owner (at 1) i;
+    purpose = same_words _ _ _ h.purpose (at 2) i;
     row = record {
-      dates = same_dates d dates_are i;
-      state = same_state state k.row.state (same_number _ _ _ state_is (at 3)) i;
+      dates = same_dates key.row.dates h.dates i;
+      state = same_state _ _ (same_number _ _ _ h.state (at 3)) i;
     };
   }

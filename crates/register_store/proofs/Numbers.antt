@@ -8,7 +8,7 @@ use Rattle.std.specs.declared.cmp.Ordering.TheVariants.{Less}
 use Rattle.sqlite.specs.Tree.{IsTable, put_row}
 use Rattle.sqlite_value.proofs.OrderLemmas.{value_cmp-Int}
 use Rattle.sql_steps.proofs.Appending.{Below, put_last}
-use Rattle.register_store.specs.declared.key.Key.{Key}
+use Rattle.register_core.specs.declared.key.Key.{Key}
 use Rattle.register_store.specs.Tables.{key_row, numbered}
 
 below : (m n : ℕ) (k j : Key) → m < n → Below (key_row (m, k)) (key_row (n, j))

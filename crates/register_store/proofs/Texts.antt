@@ -1,4 +1,4 @@
--- What the texts of the queries mean, computed.
+-- What the text of the search for a key means, computed.
 use Rattle.std.proofs.Common.{◌≡◌, ℕ, List, [], ◌∷◌, codes, false, refl}
 use Rattle.sqlite.specs.Term.{Term, col, op2}
 use Rattle.sqlite.specs.Collation.TheVariants.{Binary}
@@ -9,7 +9,9 @@ use Rattle.sqlite_tied.specs.Compute.{everything}
 use Rattle.sqlite.specs.Listing.{understood, reads_listing}
 use Rattle.sqlite.proofs.Callers.{IsPlain, command_of}
 use Rattle.sql_steps.proofs.Statements.{plain_query}
-use Rattle.register_store.specs.Schema.{register_schema}
+use Rattle.sqlite_schema.specs.declared.schema.Index.{Index}
+use Rattle.register_store.specs.declared.table.TableName.TheVariants.{Keys}
+use Rattle.register_store.specs.Schema.{schema_with, tree_of}
 
 abbrev pub find_text : List ℕ
 find_text = codes "SELECT kind, owner, purpose, state, initial, activation, protect_stop, deactivation, destroyed, compromised, occurrence FROM keys WHERE number = ?1"
@@ -25,14 +27,14 @@ cells_shown = col 1 2 ∷ col 1 3 ∷ col 1 4 ∷ col 1 5 ∷ col 1 6 ∷ col 1 
 abbrev pub find_names : List (List ℕ)
 find_names = codes "kind" ∷ codes "owner" ∷ codes "purpose" ∷ codes "state" ∷ codes "initial" ∷ codes "activation" ∷ codes "protect_stop" ∷ codes "deactivation" ∷ codes "destroyed" ∷ codes "compromised" ∷ codes "occurrence" ∷ []
 
-pub find_is : command_of (understood register_schema find_text) ≡ Select (record { lets = []; body = plain_query 1 has_number cells_shown }) find_names
+pub find_is : (more : List Index) → command_of (understood (schema_with more) find_text) ≡ Select (record { lets = []; body = plain_query (tree_of Keys) has_number cells_shown }) find_names
 unfolding understood everything
-find_is = refl
+find_is more = refl
 
-pub find_plain : IsPlain (understood register_schema find_text)
+pub find_plain : (more : List Index) → IsPlain (understood (schema_with more) find_text)
 unfolding understood everything
-find_plain = (refl, refl)
+find_plain more = (refl, refl)
 
-pub find_unlisted : reads_listing register_schema find_text ≡ false
+pub find_unlisted : (more : List Index) → reads_listing (schema_with more) find_text ≡ false
 unfolding understood everything
-find_unlisted = refl
+find_unlisted more = refl

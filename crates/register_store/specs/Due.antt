@@ -2,14 +2,14 @@
 use Rattle.std.specs.Prelude.{◌≡◌, ℕ, suc, zero, List, [], ◌∷◌, Some}
 use Rattle.sqlite.specs.Effect.{Database}
 use Rattle.lifecycle_core.specs.State.{state_at}
-use Rattle.register_store.specs.declared.key.Key.{Key}
-use Rattle.register_store.specs.Tables.{Tables, Holds, advanced, key_at, with_state}
+use Rattle.register_core.specs.declared.key.Key.{Key}
+use Rattle.register_store.specs.Tables.{Tables, Holds, advanced, in_state, key_at, with_key_at}
 
 -- the key with this number is there, and comes to be in its state at a moment
 abbrev pub AdvancesKey : ℕ → ℕ → Database → Database → Type 0
-AdvancesKey at number old new = (t : Tables) → Holds t old → (k : Key) × (key_at t.keys number ≡ Some k) × Holds (with_state number (state_at k.row.dates at) t) new
+AdvancesKey at number old new = (t : Tables) → Holds t old → (k : Key) × (key_at t.keys number ≡ Some k) × Holds (with_key_at number (in_state (state_at k.row.dates at)) t) new
 
--- so many of the keys, the first ones, in their states at a moment
+-- the first keys, up to a number, in their states at a moment
 abbrev pub first_advanced : ℕ → ℕ → List Key → List Key
 first_advanced at zero keys = keys
 first_advanced at (suc more) [] = []

@@ -1,5 +1,7 @@
 pub mod Schema
 pub mod Tables
-pub mod Found
+pub mod Creation
+pub mod Roles
+pub mod Reading
+pub mod Change
 pub mod Due
-pub mod Cells

@@ -1,23 +1,29 @@
 //! The tables of a register, in a database of `sqlite`: making them, reading and writing their rows. It is the only
 //! crate that speaks SQL. Its contracts say what each call makes of the rows, and what a stop within it leaves.
+//!
+//! ```
+//! let key = load_key(alloc, &mut connection, number)?;
+//! let mut tx = connection.transaction();
+//! advance_due(&mut tx, keys, latest, now)?;
+//! write_change(&mut tx, keys, &change)?;
+//! record_request(&mut tx, now, keys)?;
+//! tx.commit()?;
+//! ```
 #![tactic(auto)]
 
-mod cells;
+mod cell;
 mod change;
+mod creation;
+mod custody;
 mod due;
 mod error;
-mod find;
-mod key;
-mod making;
-mod people;
+mod key_row;
+mod load;
+mod table;
 
-pub use change::{add_key, record_request, set_key};
+pub use change::{record_request, write_change};
+pub use creation::{create, has_tables};
 pub use due::advance_due;
 pub use error::StoreError;
-pub use find::{find_key, load_key};
-pub use key::Key;
-pub use making::{create, has_tables};
-pub use people::{
-    add_approval, add_custodian, end_approvals, find_approvals, find_custodians, remove_approval,
-    remove_custodian,
-};
+pub use key_row::find_row;
+pub use load::load_key;

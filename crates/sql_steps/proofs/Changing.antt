@@ -1,12 +1,9 @@
 -- What an UPDATE does that sets off no action, where the rows of its table stand for values of a type.
 use Rattle.std.proofs.Common.{◌≡◌, ℕ, ℤ, List, [], ◌∷◌, map, slice_get, false, Some, Ok, subst, ◌∙◌}
-use Rattle.std.specs.List.{AllByRecursion}
-use Rattle.std.specs.Prelude.{◌≢◌}
 use Rattle.std.specs.List.Sorted.{IsPermutation}
 use Rattle.sqlite.specs.declared.types.Value.TheVariants.{Int}
 use Rattle.sqlite.specs.Command.TheVariants.{Update}
 use Rattle.sqlite.specs.Edit.{taken_by}
-use Rattle.sqlite.specs.Effect.{IsDatabase}
 use Rattle.sqlite.specs.Listing.{understood}
 use Rattle.sqlite.specs.Order.{Row}
 use Rattle.sqlite.specs.Program.{overlay}
@@ -20,6 +17,7 @@ use Rattle.sqlite_rules.specs.Action.{works}
 use Rattle.sqlite_schema.specs.declared.schema.Keys.TheVariants.{Enforced}
 use Rattle.sql_steps.proofs.Statements.{plain_query, picked, answers, updates, updated}
 use Rattle.sql_steps.proofs.Updates as typed
+use Rattle.sql_steps.proofs.Written.{Wrote}
 
 module _ {A : Type 0} (enc : A → Row) (number : A → ℤ) (rowid_is : (a : A) → rowid (enc a) ≡ Int (number a)) (base : Table) (params : Row) (passes more : List Term) (f : A → A) where
   -- a table with no AUTOINCREMENT
@@ -35,7 +33,7 @@ module _ {A : Type 0} (enc : A → Row) (number : A → ℤ) (rowid_is : (a : A)
       → ((olds news : List Row) → works schema Enforced 0 table.tree olds news ≡ []) → ((db : Trees) → overlay db [] table.tree ≡ db table.tree)
       → ((a : A) → typed.g enc number rowid_is table params passes more f (enc a) ≡ enc (f a)) → ((a : A) → number (f a) ≡ number a)
       → (old new : State) (count : ℕ) → Executes sql params old new (Ok count) → old.now.schema ≡ schema → (items : List A) → old.now.trees table.tree ≡ map enc items → IsTable (old.now.trees table.tree)
-      → (new.now.schema ≡ schema) × (new.now.trees table.tree ≡ map enc (map changed items)) × AllByRecursion (λ (t : Table). t.tree ≢ table.tree → new.now.trees t.tree ≡ old.now.trees t.tree) schema.tables × IsDatabase new.now
+      → Wrote schema table.tree (map enc (map changed items)) old.now new.now
   changes sql schema at there is plain idle low image same old new count h has items rows ordered =
       let q = plain_query table.tree passes (col 1 0 ∷ more) in
       let w = runs_as sql params old new schema has (Update at (record { lets = []; body = q })) is plain count h in
@@ -45,4 +43,5 @@ module _ {A : Type 0} (enc : A → Row) (number : A → ℤ) (rowid_is : (a : A)
       subst (λ rs. IsPermutation (picked params table.tree passes (col 1 0 ∷ more) rs) did.1) (low old.now.trees) (answers params table.tree passes (col 1 0 ∷ more) (overlay old.now.trees []) did.1 did.2) in
       let edit = updated old.step_limit (mode_of old) params old.now schema has at base did.1 in
       let applies = one_step schema Enforced old.now.trees new.now.trees edit (idle (taken_by old.now.trees edit) edit.news) did.3 in
-      (did.0, applies.rows ∙ typed.changes_each enc number rowid_is table params passes more f image same old.now.trees items rows ordered did.1 all applies.fresh, applies.tables, w.sound)
+      let each = typed.changes_each enc number rowid_is table params passes more f image same old.now.trees items rows ordered did.1 all applies.fresh in
+      record { rows_are = applies.rows ∙ each; kept = record { schema_is = did.0; others = applies.tables; sound = w.sound } }

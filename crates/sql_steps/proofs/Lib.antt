@@ -13,3 +13,5 @@ pub mod Deletes
 pub mod Removing
 pub mod Cascading
 pub mod Orphans
+pub mod Written
+pub mod Inserting

@@ -1,10 +1,9 @@
 -- What a DELETE with its cascade leaves of the two tables.
-use Rattle.std.proofs.Common.{◌≡◌, ◌≢◌, inl, inr, ◌&&◌, ℕ, ℤ, List, [], ◌∷◌, filter, not, slice_get, Bool, cond, false, true, Some, Ok, IsTrue, sym, ap, subst, ◌∙◌}
-use Rattle.std.specs.List.{AllByRecursion}
+use Rattle.std.proofs.Common.{◌≡◌, ◌≢◌, ◌⊎◌, inl, inr, ◌&&◌, ℕ, ℤ, List, [], ◌∷◌, filter, not, slice_get, Bool, cond, false, true, Some, Ok, IsTrue, sym, ap, subst, ◌∙◌}
 use Rattle.std.specs.List.Sorted.{IsPermutation}
 use Rattle.sqlite.specs.Command.TheVariants.{Delete}
 use Rattle.sqlite.specs.Edit.{id_in, taken_by, without_all}
-use Rattle.sqlite.specs.Effect.{IsDatabase}
+use Rattle.sqlite.specs.Effect.{Database}
 use Rattle.sqlite.specs.Listing.{understood}
 use Rattle.sqlite.specs.Order.{Row}
 use Rattle.sqlite.specs.Program.{overlay}
@@ -29,6 +28,7 @@ use Rattle.sql_steps.proofs.Cascading.{orphans, some_lose, is_orphan, drops_afte
 use Rattle.sql_steps.proofs.Deletes.{ids_shown, left, taken_all, taken_from}
 use Rattle.sql_steps.proofs.SameRows.{deletes_each}
 use Rattle.sql_steps.proofs.Statements.{plain_query, picked, is_picked, answers, deletes, deleted}
+use Rattle.sql_steps.proofs.Written.{Kept}
 
 pairs_from : (olds : List Row) (move : Row × Row) → Has (pairs olds []) move → Has olds move.0
 pairs_from [] move h = absurd h
@@ -80,7 +80,12 @@ module _ (schema : Schema) (base child : Table) (ref : Reference) (places : List
         let own = int_is (rowid r) (all_has (λ row. IsTrue (is_int (rowid row))) children r counted h) in
         (id_in (rowid r), are.complete r (id_in (rowid r)) (subst (λ rows. Has rows r) (sym same) h) (passing_orphan r h is) own, own))
 
-  -- the rows that pass go, and the rows of the other table for which c holds, and no other; the new database is sound
+  -- the rows that pass went, and the rows of the other table for which c holds, and no other
+  pub record RemovedBoth (c : Row → Bool) (old new : Database) : Type 0 where
+    pub parents_are : new.trees parent.tree ≡ filter (λ r. not (p r)) (old.trees parent.tree)
+    pub children_are : new.trees child.tree ≡ filter (λ r. not (c r)) (old.trees child.tree)
+    pub kept : Kept schema (λ t. (t ≡ parent.tree) ⊎ (t ≡ child.tree)) old new
+
   pub removes_both : (sql : List ℕ) (at : ℕ) → slice_get schema.tables at ≡ Some parent
       → command_of (understood schema sql) ≡ Delete at (record { lets = []; body = plain_query parent.tree passes ids_shown }) → IsPlain (understood schema sql)
       → ((olds : List Row) → works schema Enforced 0 parent.tree olds [] ≡ cond (some_lose schema parent child ref places order olds) (orphans schema parent child ref places order olds ∷ []) [])
@@ -90,8 +95,7 @@ module _ (schema : Schema) (base child : Table) (ref : Reference) (places : List
       → IsTable (old.now.trees parent.tree) → AreCounted (old.now.trees parent.tree) → IsTable (old.now.trees child.tree) → AreCounted (old.now.trees child.tree) → (c : Row → Bool)
       → ((r : Row) → Has (old.now.trees child.tree) r → c r ≡ true → (x : Row) × Has (old.now.trees parent.tree) x × (p x ≡ true) × (loses order places (x, []) ≡ true) × (agree order ref.columns r places x ≡ true))
       → ((r x : Row) → Has (old.now.trees child.tree) r → Has (old.now.trees parent.tree) x → p x ≡ true → agree order ref.columns r places x ≡ true → c r ≡ true)
-      → (new.now.schema ≡ schema) × (new.now.trees parent.tree ≡ filter (λ r. not (p r)) (old.now.trees parent.tree)) × (new.now.trees child.tree ≡ filter (λ r. not (c r)) (old.now.trees child.tree))
-      × AllByRecursion (λ (t : Table). t.tree ≢ parent.tree → t.tree ≢ child.tree → new.now.trees t.tree ≡ old.now.trees t.tree) schema.tables × IsDatabase new.now
+      → RemovedBoth c old.now new.now
   removes_both sql at there is plain cascade idle low listed child_listed apart old new count h has ordered counted child_ordered child_counted c c_from c_all =
       let q = plain_query parent.tree passes ids_shown in
       let w = runs_as sql params old new schema has (Delete at (record { lets = []; body = q })) is plain count h in
@@ -104,14 +108,17 @@ module _ (schema : Schema) (base child : Table) (ref : Reference) (places : List
       let fell = drops_after schema parent child ref places order cascade idle old.now.trees new.now.trees (ids_of did.1) did.3 in
       let olds = taken_by old.now.trees (deleted old.step_limit (mode_of old) params old.now schema has at base did.1) in
       let same : fell.0 child.tree ≡ children = all_has (λ (t : Table). t.tree ≢ parent.tree → fell.0 t.tree ≡ old.now.trees t.tree) schema.tables child fell.1.tables child_listed apart in
-      let stays = all_has (λ (t : Table). t.tree ≢ child.tree → new.now.trees t.tree ≡ fell.0 t.tree) schema.tables parent fell.2.others listed (λ e. apart (sym e)) in (
-        did.0,
-        stays ∙ fell.1.rows ∙ left params parent.tree passes parents ordered counted did.1 all,
-        fell.2.rows ∙ ap (λ rows. without_all rows fell.2.ids) same
+      let stays = all_has (λ (t : Table). t.tree ≢ child.tree → new.now.trees t.tree ≡ fell.0 t.tree) schema.tables parent fell.2.others listed (λ e. apart (sym e)) in
+      record {
+        parents_are = stays ∙ fell.1.rows ∙ left params parent.tree passes parents ordered counted did.1 all;
+        children_are = fell.2.rows ∙ ap (λ rows. without_all rows fell.2.ids) same
             ∙ children_left parents children c c_from c_all child_ordered child_counted olds (taken_all params parent.tree passes parents ordered counted did.1 all) (taken_from params parent.tree passes parents ordered counted did.1 all)
-            fell.0 same fell.2.ids fell.2.are,
-        all_from _ schema.tables (λ t h not_parent not_child.
-            all_has (λ (t : Table). t.tree ≢ child.tree → new.now.trees t.tree ≡ fell.0 t.tree) schema.tables t fell.2.others h not_child
-            ∙ all_has (λ (t : Table). t.tree ≢ parent.tree → fell.0 t.tree ≡ old.now.trees t.tree) schema.tables t fell.1.tables h not_parent),
-        w.sound,
-      )
+            fell.0 same fell.2.ids fell.2.are;
+        kept = record {
+          schema_is = did.0;
+          others = all_from _ schema.tables (λ t h not_written.
+              all_has (λ (t : Table). t.tree ≢ child.tree → new.now.trees t.tree ≡ fell.0 t.tree) schema.tables t fell.2.others h (λ e. not_written (inr e))
+              ∙ all_has (λ (t : Table). t.tree ≢ parent.tree → fell.0 t.tree ≡ old.now.trees t.tree) schema.tables t fell.1.tables h (λ e. not_written (inl e)));
+          sound = w.sound;
+        };
+      }

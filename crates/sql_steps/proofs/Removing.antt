@@ -1,11 +1,8 @@
 -- What a DELETE does that sets off no action.
 use Rattle.std.proofs.Common.{◌≡◌, ℕ, List, [], filter, not, slice_get, false, Some, Ok, subst, ◌∙◌}
-use Rattle.std.specs.List.{AllByRecursion}
-use Rattle.std.specs.Prelude.{◌≢◌}
 use Rattle.std.specs.List.Sorted.{IsPermutation}
 use Rattle.sqlite.specs.Command.TheVariants.{Delete}
 use Rattle.sqlite.specs.Edit.{taken_by}
-use Rattle.sqlite.specs.Effect.{IsDatabase}
 use Rattle.sqlite.specs.Listing.{understood}
 use Rattle.sqlite.specs.Order.{Row}
 use Rattle.sqlite.specs.Program.{overlay}
@@ -20,6 +17,7 @@ use Rattle.sqlite_schema.specs.declared.schema.Keys.TheVariants.{Enforced}
 use Rattle.sql_steps.proofs.Appending.{AreCounted}
 use Rattle.sql_steps.proofs.Deletes.{ids_shown, left}
 use Rattle.sql_steps.proofs.Statements.{plain_query, picked, is_picked, answers, deletes, deleted}
+use Rattle.sql_steps.proofs.Written.{Wrote}
 
 module _ (base : Table) (params : Row) (passes : List Term) where
   -- a table with no AUTOINCREMENT
@@ -31,8 +29,7 @@ module _ (base : Table) (params : Row) (passes : List Term) where
       → command_of (understood schema sql) ≡ Delete at (record { lets = []; body = plain_query table.tree passes ids_shown }) → IsPlain (understood schema sql)
       → ((olds : List Row) → works schema Enforced 0 table.tree olds [] ≡ []) → ((db : Trees) → overlay db [] table.tree ≡ db table.tree)
       → (old new : State) (count : ℕ) → Executes sql params old new (Ok count) → old.now.schema ≡ schema → IsTable (old.now.trees table.tree) → AreCounted (old.now.trees table.tree)
-      → (new.now.schema ≡ schema) × (new.now.trees table.tree ≡ filter (λ r. not (is_picked params table.tree passes ids_shown r)) (old.now.trees table.tree))
-      × AllByRecursion (λ (t : Table). t.tree ≢ table.tree → new.now.trees t.tree ≡ old.now.trees t.tree) schema.tables × IsDatabase new.now
+      → Wrote schema table.tree (filter (λ r. not (is_picked params table.tree passes ids_shown r)) (old.now.trees table.tree)) old.now new.now
   removes sql schema at there is plain idle low old new count h has ordered counted =
       let q = plain_query table.tree passes ids_shown in
       let w = runs_as sql params old new schema has (Delete at (record { lets = []; body = q })) is plain count h in
@@ -42,4 +39,5 @@ module _ (base : Table) (params : Row) (passes : List Term) where
       subst (λ rs. IsPermutation (picked params table.tree passes ids_shown rs) did.1) (low old.now.trees) (answers params table.tree passes ids_shown (overlay old.now.trees []) did.1 did.2) in
       let edit = deleted old.step_limit (mode_of old) params old.now schema has at base did.1 in
       let applies = one_step schema Enforced old.now.trees new.now.trees edit (idle (taken_by old.now.trees edit)) did.3 in
-      (did.0, applies.rows ∙ left params table.tree passes (old.now.trees table.tree) ordered counted did.1 all, applies.tables, w.sound)
+      let rest = left params table.tree passes (old.now.trees table.tree) ordered counted did.1 all in
+      record { rows_are = applies.rows ∙ rest; kept = record { schema_is = did.0; others = applies.tables; sound = w.sound } }

@@ -68,6 +68,12 @@ join First Next a b c (Ok y) one two = (
 )
 join First Next a b c (Err e) one two = tt
 
+-- a write whose count nobody asks for
+pub runs : {E : Type 0} (Made : Change) (sql : List ℕ) (params : Row) (old new : State) (count : ℕ)
+    → ((count : ℕ) → Executes sql params old new (Ok count) → Made old.now new.now)
+    → (HasCleanDisk new → IsTrue old.in_transaction → ExecutesInside 0 sql params old new (Ok count)) → Survives old new (λ _. ⊥) → StepsBy {E = E} (λ (_ : Unit {0}). Made) old new (Ok tt)
+runs Made sql params old new count does ran survives = steps_as (λ _. Made) (λ _. Made) old new count tt (λ _ _ made. made) (writes Made sql params old new (Ok count) does ran survives)
+
 -- a step that went on, and then another
 pub steps_then : {A B E F : Type 0} (First : A → Change) (Next : B → Change) (a b c : State) (x : A) (r : Result B F) → StepsBy {E = E} First a b (Ok x) → StepsBy Next b c r → StepsBy (λ y. Then (First x) (Next y)) a c r
 steps_then First Next a b c x r one two =

@@ -2,6 +2,8 @@
 use Rattle.std.specs.Prelude.{◌≡◌, true, IsTrue, IfOk, OnOk, OnErr, Result}
 use Rattle.sqlite.specs.Effect.{Database}
 use Rattle.sqlite.specs.State.{State, HasCleanDisk, KeepsCommit, Survives}
+use Rattle.sqlite.specs.Held.{Held, state}
+use Rattle.sqlite_trees.specs.declared.store.Store.{Ghosts}
 
 -- what a change makes of a database
 abbrev pub Change : Type 1
@@ -30,3 +32,14 @@ pub record TransactsBy {T E : Type 0} (Made : Change) (old new : State) (result 
   pub accepted : HasCleanDisk new → OnOk result (Made old.now new.now × (new.committed ≡ new.now) × IsTrue old.is_open × IsTrue new.is_open)
   pub failed : HasCleanDisk new → IsTrue new.is_open → OnErr result ((new.now ≡ old.committed) × (new.committed ≡ old.committed))
   pub stop : Survives old new (λ trees. (db : Database) × Made old.now db × (trees ≡ db.trees))
+
+-- the same of what a connection shows before and after
+abbrev pub Steps : {S T E : Type 0} → (g : Ghosts S) → (T → Change) → Held S → Held S → Result T E → Type 0
+Steps g Changes old new result = StepsBy Changes (state g old) (state g new) result
+
+abbrev pub Transacts : {S T E : Type 0} → (g : Ghosts S) → Change → Held S → Held S → Result T E → Type 0
+Transacts g Made old new result = TransactsBy Made (state g old) (state g new) result
+
+-- what was committed stands, and nothing else
+abbrev pub KeepsCommitted : State → State → Type 0
+KeepsCommitted old new = HasCleanDisk new → IsTrue new.is_open → (new.now ≡ old.committed) × (new.committed ≡ old.committed)

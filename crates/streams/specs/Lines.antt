@@ -5,8 +5,8 @@ use Rattle.std.specs.Io.KnownBytes.{Consumes}
 use Rattle.streams.specs.declared.lines.TheConstants.{LINE_FEED, MAX_PIECE_LENGTH}
 use Rattle.streams.specs.declared.watched.TheConstants.{MAX_READS}
 
--- the bytes that were taken from the reader and not looked at, the first bytes of the line so far, how many bytes
--- the line has so far, and how many were taken from the reader
+-- the bytes that were taken from the reader and not looked at, the first bytes of the line so far,
+-- how many bytes the line has so far, and how many were taken from the reader
 pub record Cut : Type 0 where
   pub unread : List ℕ
   pub line : List ℕ
@@ -24,7 +24,8 @@ pub record Extends (max_length : ℕ) (old new : Cut) (part : List ℕ) : Type 0
   pub taken : new.taken ≡ old.taken
 
 -- the bytes that were to come begin with this line and a line feed, and lose both
-pub record CutsLine (max_length : ℕ) (before after : Option (List ℕ)) (new : Cut) (line : List ℕ) : Type 0 where
+pub record CutsLine (max_length : ℕ) (before after : Option (List ℕ)) (new : Cut)
+    (line : List ℕ) : Type 0 where
   pub unbroken : HasNoLineFeed line
   pub consumed : Consumes before after (line ++ LINE_FEED ∷ [])
   pub counted : new.line_length ≡ length line

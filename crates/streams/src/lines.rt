@@ -1,10 +1,13 @@
 //! Cuts what a reader gives into lines, in memory for one piece and one line.
-ghost use Rattle.std.specs.Prelude.{◌≡◌, ◌==◌, ℕ, ◌+◌, ◌-◌, ◌*◌, ◌^◌, ◌<◌, ◌≤◌, ◌↔◌, List, [], ◌∷◌, ◌++◌, length, position, take, drop, slice_range, true, IfOk, IfSome, IsSome, OnErr, OnOk};
+ghost use Rattle.std.specs.Prelude.{◌≡◌, ◌==◌, ℕ, ◌+◌, ◌-◌, ◌*◌, ◌^◌, ◌<◌, ◌≤◌, ◌↔◌, List, [], ◌∷◌};
+ghost use Rattle.std.specs.Prelude.{◌++◌, length, position, take, drop, slice_range, true, IfOk};
+ghost use Rattle.std.specs.Prelude.{IfSome, IsSome, OnErr, OnOk};
 ghost use Rattle.std.specs.Bool.{OnFalse, OnTrue};
 ghost use Rattle.std.specs.Io.KnownBytes.{IsAtEnd, prepend_known};
 ghost use Rattle.streams.specs.declared.lines.TheConstants.{MAX_PIECE_LENGTH};
 ghost use Rattle.streams.specs.declared.watched.TheConstants.{MAX_READS};
-ghost use Rattle.streams.specs.Lines.{Cut, CutsLine, CutsRest, Extends, HasNoLineFeed, Takes, work_left};
+ghost use Rattle.streams.specs.Lines.{Cut, CutsLine, CutsRest, Extends, HasNoLineFeed, Takes};
+ghost use Rattle.streams.specs.Lines.{work_left};
 ghost use Rattle.streams.specs.Watched.{IsFaulted};
 
 use crate::watched::{MAX_READS, ReadFault, Watched};

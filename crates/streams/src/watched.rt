@@ -1,9 +1,11 @@
 //! Readers and writers whose turns are counted and whose failure is kept.
-ghost use Rattle.std.specs.Prelude.{◌≡◌, ◌<◌, ◌≤◌, ◌↔◌, length, take, true, false, IfOk, OnOk, IfErr, OnErr};
+ghost use Rattle.std.specs.Prelude.{◌≡◌, ◌<◌, ◌≤◌, ◌↔◌, length, take, true, false, IfOk, OnOk};
+ghost use Rattle.std.specs.Prelude.{IfErr, OnErr};
 ghost use Rattle.std.specs.Bool.{OnFalse, OnTrue};
 ghost use Rattle.std.specs.IoError.{error_kind};
 ghost use Rattle.std.specs.Io.KnownBytes.{Appends, Consumes, IsAtEnd, Keeps};
-ghost use Rattle.streams.specs.Watched.{one_more, OnDone, OnUndone, IsFaulted, idle_after, failed_after};
+ghost use Rattle.streams.specs.Watched.{one_more, OnDone, OnUndone, IsFaulted, idle_after};
+ghost use Rattle.streams.specs.Watched.{failed_after};
 
 use std::io::{Error, ErrorKind, Read, Write};
 

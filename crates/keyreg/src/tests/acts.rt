@@ -1,51 +1,61 @@
-use super::memory_streams::{BrokenAfter, Trouble, Troubled};
-use super::worked_rows::{FIRST_DAY, WORKED_ROWS, first_lines};
-use crate::act::{act, told, told_unopened};
+//! The program's exit statuses, and what it names on standard error.
+use super::worked_rows::{FIRST_DAY, WORKED_ROWS, WorkedRow, input_of, output_of};
+use crate::act::{act, report_end, report_refusal};
 use register_desk::{End, OpenRefusal};
+use register_faults::{BrokenAfter, Trouble, Troubled};
+use std::alloc::{AllocError, Global};
 use std::test::Fail;
 
-#[test]
-fn each_end_is_told(rt: HostRuntime) {
-    let ends = [
-        (End::Memory, 3, "keyreg: Memory\n"),
-        (End::Store, 3, "keyreg: Store\n"),
-        (End::Broken, 3, "keyreg: Broken\n"),
-        (End::ReadFault, 4, "keyreg: ReadFault\n"),
-        (End::WriteFault, 4, "keyreg: WriteFault\n"),
-    ];
-    for (end, status, line) in ends {
-        let mut faults = Vec::new(rt.alloc());
-        assert_eq!(rt; told(end, &mut faults), status, "{line}");
-        assert_eq!(rt; faults.as_slice(), line.as_bytes(), "{line}");
-    }
+const ENDS: [(End, u8, &str); 5] = [
+    (End::Memory, 3, "keyreg: Memory\n"),
+    (End::Store, 3, "keyreg: Store\n"),
+    (End::Broken, 3, "keyreg: Broken\n"),
+    (End::ReadFault, 4, "keyreg: ReadFault\n"),
+    (End::WriteFault, 4, "keyreg: WriteFault\n"),
+];
+
+const REFUSALS: [(OpenRefusal, &str); 3] = [
+    (OpenRefusal::Memory, "keyreg: Memory\n"),
+    (OpenRefusal::Store, "keyreg: Store\n"),
+    (OpenRefusal::NotARegister, "keyreg: NotARegister\n"),
+];
+
+fn is_end_named(alloc: Global, end: End, status: u8, line: &str) -> bool {
+    let mut faults = Vec::new(alloc);
+    report_end(end, &mut faults) == status && faults.as_slice() == line.as_bytes()
+}
+
+fn is_refusal_named(alloc: Global, refusal: OpenRefusal, line: &str) -> bool {
+    let mut faults = Vec::new(alloc);
+    report_refusal(refusal, &mut faults) == 2 && faults.as_slice() == line.as_bytes()
 }
 
 #[test]
-fn each_refusal_is_told(rt: HostRuntime) {
-    let refusals = [
-        (OpenRefusal::Memory, "keyreg: Memory\n"),
-        (OpenRefusal::Store, "keyreg: Store\n"),
-        (OpenRefusal::NotARegister, "keyreg: NotARegister\n"),
-    ];
-    for (refusal, line) in refusals {
-        let mut faults = Vec::new(rt.alloc());
-        assert_eq!(rt; told_unopened(refusal, &mut faults), 2, "{line}");
-        assert_eq!(rt; faults.as_slice(), line.as_bytes(), "{line}");
+fn ends_and_refusals_are_named(rt: HostRuntime) {
+    for (end, status, line) in &ENDS {
+        assert!(rt; is_end_named(rt.alloc(), *end, *status, line), "{line}");
+    }
+    for (refusal, line) in &REFUSALS {
+        assert!(rt; is_refusal_named(rt.alloc(), *refusal, line), "{line}");
     }
 }
 
+/// Whether the program serves the row and ends with status 0, with nothing on standard error.
+fn is_served(alloc: Global, row: &WorkedRow) -> Result<bool, AllocError> {
+    let input = input_of(alloc, row)?;
+    let expected = output_of(alloc, row.lines)?;
+    let mut output = Vec::new(alloc);
+    let mut faults = Vec::new(alloc);
+    let status = act(alloc, 0, input.as_slice(), &mut output, &mut faults);
+    Ok(status == 0 && output.as_slice() == expected.as_slice() && faults.is_empty())
+}
+
 #[test]
-fn status_0_at_the_end_of_the_input(rt: HostRuntime) {
-    for row in WORKED_ROWS {
-        let name = row.name;
-        let mut output = Vec::new(rt.alloc());
-        let mut faults = Vec::new(rt.alloc());
-        let input = row.input.as_bytes();
-        let status = act(rt.alloc(), 0, input, &mut output, &mut faults);
-        assert_eq!(rt; status, 0, "{name}");
-        assert_eq!(rt; output.as_slice(), row.output.as_bytes(), "{name}");
-        assert!(rt; faults.is_empty(), "{name}");
+fn status_0_at_the_end_of_the_input(rt: HostRuntime) -> Result<(), Fail> {
+    for row in &WORKED_ROWS {
+        assert!(rt; is_served(rt.alloc(), row)?, "{}", row.name);
     }
+    Ok(())
 }
 
 #[test]
@@ -53,7 +63,7 @@ fn status_1_with_any_word(rt: HostRuntime) {
     for words in [1, 2] {
         let mut output = Vec::new(rt.alloc());
         let mut faults = Vec::new(rt.alloc());
-        let input = FIRST_DAY.input.as_bytes();
+        let input = b"100 ann 1 advance\n".as_slice();
         let status = act(rt.alloc(), words, input, &mut output, &mut faults);
         assert_eq!(rt; status, 1, "{words}");
         assert!(rt; output.is_empty() && faults.is_empty(), "{words}");
@@ -61,11 +71,12 @@ fn status_1_with_any_word(rt: HostRuntime) {
 }
 
 #[test]
-fn status_4_after_a_failed_read(rt: HostRuntime) -> Result<(), Fail> {
+fn status_4_after_a_failed_read(rt: HostRuntime) {
     let mut output = Vec::new(rt.alloc());
     let mut faults = Vec::new(rt.alloc());
-    let two_lines = first_lines(rt.alloc(), FIRST_DAY.input, 2)?;
-    let input = BrokenAfter(&two_lines);
+    let input = BrokenAfter(
+        b"100 ann 1 register data-encryption bob 0 500 1000 payroll disks\n999 ann 2 advance\n",
+    );
     let status = act(rt.alloc(), 0, input, &mut output, &mut faults);
     assert_eq!(rt; status, 4);
     assert_eq!(rt;
@@ -73,33 +84,36 @@ fn status_4_after_a_failed_read(rt: HostRuntime) -> Result<(), Fail> {
         b"ok 1 Active 100\nok 0 - 999\n".as_slice()
     );
     assert_eq!(rt; faults.as_slice(), b"keyreg: ReadFault\n".as_slice());
+}
+
+/// Whether the program ends with status 4 and names the fault, where the first reply goes well.
+fn is_faulted(alloc: Global, trouble: Trouble) -> Result<bool, AllocError> {
+    let input = input_of(alloc, &FIRST_DAY)?;
+    let mut output = Vec::new(alloc);
+    let mut faults = Vec::new(alloc);
+    let writer = Troubled {
+        inner: &mut output,
+        trouble,
+        good_turns: 2,
+    };
+    let status = act(alloc, 0, input.as_slice(), writer, &mut faults);
+    Ok(
+        status == 4
+            && output.as_slice() == b"ok 1 Active 100\n".as_slice()
+            && faults.as_slice() == b"keyreg: WriteFault\n".as_slice(),
+    )
+}
+
+#[test]
+fn status_4_after_a_failed_write(rt: HostRuntime) -> Result<(), Fail> {
+    assert!(rt; is_faulted(rt.alloc(), Trouble::Fails)?);
+    assert!(rt; is_faulted(rt.alloc(), Trouble::TakesNothing)?);
+    assert!(rt; is_faulted(rt.alloc(), Trouble::IsInterrupted)?);
     Ok(())
 }
 
 #[test]
-fn status_4_after_a_failed_write(rt: HostRuntime) {
-    for trouble in [
-        Trouble::Fails,
-        Trouble::TakesNothing,
-        Trouble::IsInterrupted,
-    ] {
-        let mut output = Vec::new(rt.alloc());
-        let mut faults = Vec::new(rt.alloc());
-        let writer = Troubled {
-            inner: &mut output,
-            trouble,
-            good_turns: 2,
-        };
-        let input = FIRST_DAY.input.as_bytes();
-        let status = act(rt.alloc(), 0, input, writer, &mut faults);
-        assert_eq!(rt; status, 4);
-        assert_eq!(rt; output.as_slice(), b"ok 1 Active 100\n".as_slice());
-        assert_eq!(rt; faults.as_slice(), b"keyreg: WriteFault\n".as_slice());
-    }
-}
-
-#[test]
-fn status_4_where_the_fault_cannot_be_told(rt: HostRuntime) {
+fn status_4_where_no_fault_can_be_named(rt: HostRuntime) {
     let mut output = Vec::new(rt.alloc());
     let mut faults = Troubled {
         inner: Vec::new(rt.alloc()),

@@ -1,118 +1,137 @@
-use super::memory_streams::{BrokenAfter, Short, Trouble, Troubled};
-use super::served::serve;
-use super::worked_rows::{FIRST_DAY, first_lines, line_count};
-use register_desk::{Desk, End, Finish, MAX_IDLE_TURNS};
-use sqlite::MemStore;
+//! Streams that fail in the middle of a run.
+use super::fresh_run::fresh_run;
+use super::worked_rows::{FIRST_DAY, input_of, output_of};
+use register_desk::{End, Finish, MAX_IDLE_TURNS, Outcome};
+use register_faults::{BrokenAfter, Short, Trouble, Troubled};
+use std::alloc::Global;
 use std::test::Fail;
 
 /// The latest moment and the number of keys once so many lines of *first day* are applied.
 const AFTER_LINES: [(u64, u32); 5] = [(0, 0), (100, 1), (999, 1), (1000, 2), (1000, 2)];
 
-/// Whether the desk stands where so many lines of *first day* leave it.
-fn stands_after(desk: &Desk<MemStore>, lines: usize) -> bool {
-    AFTER_LINES.get(lines) == Some(&(desk.latest().seconds(), desk.count()))
+/// How many lines of the bytes are whole.
+fn line_count(bytes: &[u8]) -> usize {
+    bytes.iter().filter(|byte| **byte == b'\n').count()
+}
+
+/// Whether the run ends so over these bytes of *first day*, behind which each read fails.
+fn ends_behind(alloc: Global, given: &[u8]) -> Result<bool, Fail> {
+    let lines = line_count(given);
+    let (Some(served), Some(stands)) = (FIRST_DAY.lines.get(..lines), AFTER_LINES.get(lines)) else {
+        return Ok(false);
+    };
+    let expected = output_of(alloc, served)?;
+    let ran = fresh_run(alloc, BrokenAfter(given), Vec::new(alloc))?;
+    let outcome = Outcome {
+        read: given.len() as u64,
+        written: expected.len() as u64,
+        replies: lines as u64,
+        end: Finish::Ended(End::ReadFault),
+    };
+    Ok(
+        ran.outcome == outcome
+            && ran.read_failed
+            && !ran.write_failed
+            && ran.stands == *stands
+            && ran.writer.as_slice() == expected.as_slice(),
+    )
 }
 
 #[test]
 fn a_failed_read_ends_the_run(rt: HostRuntime) -> Result<(), Fail> {
-    let input = FIRST_DAY.input.as_bytes();
+    let input = input_of(rt.alloc(), &FIRST_DAY)?;
     for taken in 0..=input.len() {
-        let given = &input[..taken];
-        let lines = line_count(given);
-        let served = serve(rt.alloc(), BrokenAfter(given), Vec::new(rt.alloc()))?;
-        assert_eq!(rt;
-            served.outcome.end,
-            Finish::Ended(End::ReadFault),
-            "{taken}"
-        );
-        assert_eq!(rt; served.outcome.read, taken as u64, "{taken}");
-        assert_eq!(rt; served.outcome.replies, lines as u64, "{taken}");
-        assert!(rt; served.reader.failed(), "{taken}");
-        assert!(rt; !served.writer.failed(), "{taken}");
-        assert!(rt; stands_after(&served.desk, lines), "{taken}");
-        let expected = first_lines(rt.alloc(), FIRST_DAY.output, lines)?;
-        let written = served.writer.into_inner();
-        assert_eq!(rt; served.outcome.written, written.len() as u64, "{taken}");
-        assert_eq!(rt; written.as_slice(), expected.as_slice(), "{taken}");
+        assert!(rt; ends_behind(rt.alloc(), &input[..taken])?, "{taken}");
     }
     Ok(())
 }
 
+/// A name, a trouble, the writes of the line in hand that went well, and whether the writer has
+/// failed then. A line takes a write and a flush.
+#[rattlefmt::skip]
+const TROUBLES: [(&str, Trouble, usize, bool); 5] = [
+    ("a write fails", Trouble::Fails, 0, true),
+    ("a flush fails", Trouble::Fails, 1, true),
+    ("a write takes nothing", Trouble::TakesNothing, 0, true),
+    ("writes are interrupted", Trouble::IsInterrupted, 0, false),
+    ("flushes are interrupted", Trouble::IsInterrupted, 1, false),
+];
+
+/// Whether the run ends so where the writer has the trouble once so many lines and `writes` went
+/// well.
+fn ends_at(
+    alloc: Global,
+    lines: usize,
+    trouble: Trouble,
+    writes: usize,
+    fails: bool,
+) -> Result<bool, Fail> {
+    let written = lines.saturating_add(writes);
+    let (Some(served), Some(stands)) = (
+        FIRST_DAY.lines.get(..written),
+        AFTER_LINES.get(lines.saturating_add(1)),
+    ) else {
+        return Ok(false);
+    };
+    let input = input_of(alloc, &FIRST_DAY)?;
+    let expected = output_of(alloc, served)?;
+    let output = Troubled {
+        inner: Vec::new(alloc),
+        trouble,
+        good_turns: lines.saturating_mul(2).saturating_add(writes),
+    };
+    let ran = fresh_run(alloc, input.as_slice(), output)?;
+    let idle = if fails { 0 } else { MAX_IDLE_TURNS };
+    Ok(
+        ran.outcome.end == Finish::Ended(End::WriteFault)
+            && ran.outcome.replies == lines as u64
+            && ran.outcome.written == expected.len() as u64
+            && ran.write_failed == fails
+            && ran.idle == idle
+            && ran.stands == *stands
+            && ran.writer.inner.as_slice() == expected.as_slice(),
+    )
+}
+
 #[test]
 fn a_troubled_writer_ends_the_run(rt: HostRuntime) -> Result<(), Fail> {
-    // A line takes a write and a flush. The last two columns: the writes of the line in hand that went well, and
-    // whether the writer has failed.
-    let troubles = [
-        ("a write fails", Trouble::Fails, 0, true),
-        ("a flush fails", Trouble::Fails, 1, true),
-        ("a write takes nothing", Trouble::TakesNothing, 0, true),
-        ("writes are interrupted", Trouble::IsInterrupted, 0, false),
-        ("flushes are interrupted", Trouble::IsInterrupted, 1, false),
-    ];
-    for (name, trouble, writes, fails) in troubles {
+    for (name, trouble, writes, fails) in &TROUBLES {
         for lines in 0..4 {
-            let output = Troubled {
-                inner: Vec::new(rt.alloc()),
-                trouble,
-                good_turns: 2 * lines + writes,
-            };
-            let served = serve(rt.alloc(), FIRST_DAY.input.as_bytes(), output)?;
-            let end = Finish::Ended(End::WriteFault);
-            assert_eq!(rt; served.outcome.end, end, "{name} after {lines}");
-            assert_eq!(rt;
-                served.outcome.replies,
-                lines as u64,
-                "{name} after {lines}"
-            );
-            assert_eq!(rt; served.writer.failed(), fails, "{name} after {lines}");
-            let idle = if fails { 0 } else { MAX_IDLE_TURNS };
-            assert_eq!(rt; served.writer.idle(), idle, "{name} after {lines}");
-            assert!(rt;
-                stands_after(&served.desk, lines.saturating_add(1)),
-                "{name} after {lines}"
-            );
-            let expected = first_lines(rt.alloc(), FIRST_DAY.output, lines.saturating_add(writes))?;
-            let written = served.writer.into_inner().inner;
-            assert_eq!(rt;
-                served.outcome.written,
-                written.len() as u64,
-                "{name} after {lines}"
-            );
-            assert_eq!(rt;
-                written.as_slice(),
-                expected.as_slice(),
-                "{name} after {lines}"
-            );
+            let ends = ends_at(rt.alloc(), lines, *trouble, *writes, *fails)?;
+            assert!(rt; ends, "{name} after {lines}");
         }
     }
     Ok(())
 }
 
+/// Whether the run ends so where the writer takes so many bytes, one at a write, and no more.
+fn ends_within(alloc: Global, input: &[u8], part: &[u8]) -> Result<bool, Fail> {
+    let writer = Short {
+        inner: Troubled {
+            inner: Vec::new(alloc),
+            trouble: Trouble::Fails,
+            good_turns: part.len(),
+        },
+        max_bytes: 1,
+    };
+    let ran = fresh_run(alloc, input, writer)?;
+    Ok(
+        ran.outcome.end == Finish::Ended(End::WriteFault)
+            && ran.outcome.replies == 0
+            && ran.outcome.written == part.len() as u64
+            && ran.write_failed
+            // The request of the line in hand is applied.
+            && ran.stands == AFTER_LINES[1]
+            && ran.writer.inner.inner.as_slice() == part,
+    )
+}
+
 #[test]
 fn a_write_fails_in_the_middle_of_a_line(rt: HostRuntime) -> Result<(), Fail> {
-    let output = FIRST_DAY.output.as_bytes();
-    for taken in 0.."ok 1 Active 100\n".len() {
-        let writer = Short {
-            inner: Troubled {
-                inner: Vec::new(rt.alloc()),
-                trouble: Trouble::Fails,
-                good_turns: taken,
-            },
-            most: 1,
-        };
-        let served = serve(rt.alloc(), FIRST_DAY.input.as_bytes(), writer)?;
-        assert_eq!(rt;
-            served.outcome.end,
-            Finish::Ended(End::WriteFault),
-            "{taken}"
-        );
-        assert_eq!(rt; served.outcome.replies, 0, "{taken}");
-        assert_eq!(rt; served.outcome.written, taken as u64, "{taken}");
-        assert!(rt; served.writer.failed(), "{taken}");
-        // The request of the line in hand is applied.
-        assert!(rt; stands_after(&served.desk, 1), "{taken}");
-        let written = served.writer.into_inner().inner.inner;
-        assert_eq!(rt; Some(written.as_slice()), output.get(..taken), "{taken}");
+    let input = input_of(rt.alloc(), &FIRST_DAY)?;
+    let line = b"ok 1 Active 100\n".as_slice();
+    for taken in 0..line.len() {
+        assert!(rt; ends_within(rt.alloc(), &input, &line[..taken])?, "{taken}");
     }
     Ok(())
 }

@@ -1,65 +1,24 @@
-use super::memory_streams::{Interrupted, OneByte, Short};
-use super::served::{Served, serve};
-use super::worked_rows::{FIRST_DAY, WORKED_ROWS, WorkedRow};
-use register_core::{Refusal, Reply, Request, plain, read_request, reply_line};
+//! The worked rows: what a run writes, against the rows, the plain program and what is shown of a
+//! key.
+use super::fresh_run::{desk_after, fresh_run};
+use super::worked_rows::{FIRST_DAY, Shown, WORKED_ROWS, WorkedRow, input_of, output_of};
+use lifecycle_core::Dates;
+use register_core::{Name, Refusal, Reply, Request, plain, read_request, reply_line};
 use register_desk::{Finish, Outcome};
+use register_faults::{Interrupted, OneByte, Short};
 use std::alloc::{AllocError, Global};
 use std::test::Fail;
 
-/// What a run over the row's input does.
-fn outcome_of(row: &WorkedRow) -> Outcome {
+/// What a run over the row does.
+fn outcome_of(row: &WorkedRow, input: &[u8], output: &[u8]) -> Outcome {
     Outcome {
-        read: row.input.len() as u64,
-        written: row.output.len() as u64,
-        replies: row.replies,
-        end: Finish::AtEnd { rest: row.rest },
+        read: input.len() as u64,
+        written: output.len() as u64,
+        replies: row.lines.len() as u64,
+        end: Finish::AtEnd {
+            rest: row.rest.len() as u64,
+        },
     }
-}
-
-#[test]
-fn worked_rows(rt: HostRuntime) -> Result<(), Fail> {
-    for row in WORKED_ROWS {
-        let name = row.name;
-        let served = serve(rt.alloc(), row.input.as_bytes(), Vec::new(rt.alloc()))?;
-        assert_eq!(rt; served.outcome, outcome_of(&row), "{name}");
-        let written = served.writer.into_inner();
-        assert_eq!(rt; written.as_slice(), row.output.as_bytes(), "{name}");
-    }
-    Ok(())
-}
-
-#[test]
-fn first_day_byte_by_byte(rt: HostRuntime) -> Result<(), Fail> {
-    let input = OneByte(FIRST_DAY.input.as_bytes());
-    let served = serve(rt.alloc(), input, Vec::new(rt.alloc()))?;
-    assert_eq!(rt; served.outcome, outcome_of(&FIRST_DAY));
-    let written = served.writer.into_inner();
-    assert_eq!(rt; written.as_slice(), FIRST_DAY.output.as_bytes());
-    Ok(())
-}
-
-#[test]
-fn first_day_interrupted(rt: HostRuntime) -> Result<(), Fail> {
-    let input = Interrupted::new(OneByte(FIRST_DAY.input.as_bytes()));
-    let output = Interrupted::new(Short {
-        inner: Vec::new(rt.alloc()),
-        most: 3,
-    });
-    let served = serve(rt.alloc(), input, output)?;
-    assert_eq!(rt; served.outcome, outcome_of(&FIRST_DAY));
-    assert!(rt; !served.reader.failed() && !served.writer.failed());
-    let written = served.writer.into_inner().inner.inner;
-    assert_eq!(rt; written.as_slice(), FIRST_DAY.output.as_bytes());
-    Ok(())
-}
-
-/// The item of each line that ends in LF.
-fn items_of(alloc: Global, input: &str) -> Result<Vec<Option<Request>>, AllocError> {
-    input
-        .split_inclusive('\n')
-        .filter_map(|line| line.strip_suffix('\n'))
-        .map(|line| read_request(line.as_bytes()))
-        .collect(alloc)
 }
 
 /// The lines of the answers.
@@ -86,25 +45,114 @@ fn history_of(
     Ok(history)
 }
 
-#[test]
-fn worked_rows_by_the_plain_program(rt: HostRuntime) -> Result<(), Fail> {
-    for row in WORKED_ROWS {
-        let name = row.name;
-        let Served { writer, desk, .. } = serve(
-            rt.alloc(),
-            row.input.as_bytes(),
-            Vec::new(rt.alloc()),
-        )?;
-        let items = items_of(rt.alloc(), row.input)?;
-        assert!(rt; items.len() < 20, "{name}");
-        let answers = plain::answers(rt.alloc(), &items)?;
-        let lines = lines_of(rt.alloc(), &answers)?;
-        assert_eq!(rt; writer.into_inner().as_slice(), lines.as_slice(), "{name}");
-
-        let history = history_of(rt.alloc(), &items, &answers)?;
-        assert!(rt; history.len() < 20, "{name}");
-        assert_eq!(rt; desk.latest(), plain::latest(&history), "{name}");
-        assert_eq!(rt; desk.count(), plain::count(&history), "{name}");
+/// Whether the plain program answers so, and comes to this moment, in seconds, and number of keys.
+/// It shares with the product the proved functions that read a line and write a reply, find the
+/// first refusal that holds, and give the dates that a command leaves and their state.
+fn is_plain(
+    alloc: Global,
+    row: &WorkedRow,
+    output: &[u8],
+    stands: (u64, u32),
+) -> Result<bool, AllocError> {
+    let items: Vec<Option<Request>> = row
+        .lines
+        .iter()
+        .map(|(request, _)| read_request(request.as_bytes()))
+        .collect(alloc)?;
+    if items.len() > 20 {
+        return Ok(false);
     }
+    let answers = plain::answers(alloc, &items)?;
+    let history = history_of(alloc, &items, &answers)?;
+    if history.len() > 20 {
+        return Ok(false);
+    }
+    let came_to = (plain::latest(&history).seconds(), plain::count(&history));
+    Ok(stands == came_to && lines_of(alloc, &answers)?.as_slice() == output)
+}
+
+/// Whether a run over the row does and writes what it should, as does the plain program.
+fn is_run(alloc: Global, row: &WorkedRow) -> Result<bool, Fail> {
+    let input = input_of(alloc, row)?;
+    let output = output_of(alloc, row.lines)?;
+    let ran = fresh_run(alloc, input.as_slice(), Vec::new(alloc))?;
+    Ok(
+        ran.outcome == outcome_of(row, &input, &output)
+            && ran.writer.as_slice() == output.as_slice()
+            && is_plain(alloc, row, &output, ran.stands)?,
+    )
+}
+
+#[test]
+fn worked_rows(rt: HostRuntime) -> Result<(), Fail> {
+    for row in &WORKED_ROWS {
+        assert!(rt; is_run(rt.alloc(), row)?, "{}", row.name);
+    }
+    Ok(())
+}
+
+/// The dates behind the Initial Date, in seconds.
+fn seconds(dates: &Dates) -> [Option<u64>; 6] {
+    let dates = [
+        dates.activation,
+        dates.protect_stop,
+        dates.deactivation,
+        dates.destroy,
+        dates.compromise,
+        dates.compromise_occurrence,
+    ];
+    dates.map(|date| date.map(|moment| moment.seconds()))
+}
+
+/// The names, each with a space behind it.
+fn joined(alloc: Global, names: &[Name]) -> Result<String, AllocError> {
+    let mut text = String::new(alloc);
+    for name in names {
+        text.push_str(name.text())?;
+        text.push_str(" ")?;
+    }
+    Ok(text)
+}
+
+/// Whether key 1 is shown so after a run over the row.
+fn is_shown(alloc: Global, row: &WorkedRow, shown: &Shown) -> Result<bool, Fail> {
+    let mut desk = desk_after(alloc, row)?;
+    let Some(record) = desk.show(1)? else {
+        return Ok(false);
+    };
+    Ok(
+        record.row.state == shown.state
+            && seconds(&record.row.dates) == shown.dates
+            && joined(alloc, record.custodians.as_slice())?.as_str() == shown.custodians
+            && joined(alloc, record.approvals.as_slice())?.as_str() == shown.approvals,
+    )
+}
+
+#[test]
+fn worked_rows_are_shown(rt: HostRuntime) -> Result<(), Fail> {
+    for row in &WORKED_ROWS {
+        if let Some(shown) = &row.shown {
+            assert!(rt; is_shown(rt.alloc(), row, shown)?, "{}", row.name);
+        }
+    }
+    Ok(())
+}
+
+#[test]
+fn first_day_in_pieces(rt: HostRuntime) -> Result<(), Fail> {
+    let input = input_of(rt.alloc(), &FIRST_DAY)?;
+    let output = output_of(rt.alloc(), FIRST_DAY.lines)?;
+    let expected = outcome_of(&FIRST_DAY, &input, &output);
+    let byte_by_byte = fresh_run(rt.alloc(), OneByte(&input), Vec::new(rt.alloc()))?;
+    assert!(rt; byte_by_byte.outcome == expected);
+    assert!(rt; byte_by_byte.writer.as_slice() == output.as_slice());
+    let writer = Interrupted::new(Short {
+        inner: Vec::new(rt.alloc()),
+        max_bytes: 3,
+    });
+    let interrupted = fresh_run(rt.alloc(), Interrupted::new(OneByte(&input)), writer)?;
+    assert!(rt; interrupted.outcome == expected);
+    assert!(rt; !interrupted.read_failed && !interrupted.write_failed);
+    assert!(rt; interrupted.writer.inner.inner.as_slice() == output.as_slice());
     Ok(())
 }

@@ -14,4 +14,7 @@ pub returns-in-Destroyed-matches : goal.returns-in-Destroyed-matches
 returns-in-Destroyed-matches c = (λ h. listed (Some c.args.from) c.args.to (grind (arith, common_steps)), λ h. refl)
 
 pub returns-in-DestroyedCompromised-matches : goal.returns-in-DestroyedCompromised-matches
-returns-in-DestroyedCompromised-matches c = (λ h. listed (Some c.args.from) c.args.to (grind (arith, common_steps)), λ h. refl)
+returns-in-DestroyedCompromised-matches c = (
+  λ h. listed (Some c.args.from) c.args.to (grind (arith, common_steps)),
+  λ h. refl,
+)

@@ -6,5 +6,6 @@ use Rattle.moment_core.proofs.calendar.date_of.Goals as goal
 
 pub returns : goal.returns
 returns c =
-    let day : epoch_day c.from_days_since_min.result ≡ pos c.args.day = omega (arith, signed_arith, c.from_days_since_min.ensures) in
+    let day : epoch_day c.from_days_since_min.result ≡ pos c.args.day =
+    omega (arith, signed_arith, c.from_days_since_min.ensures) in
     date_is c.from_days_since_min.result c.args.day c.requires day

@@ -6,14 +6,18 @@ use Rattle.moment_core.proofs.Dates.{later_parts, total_is, number_is}
 use Rattle.moment_core.proofs.calendar.day_after_months.Goals as goal
 
 -- the later date has the parts of the civil date so many months on
-parts : (c : goal.After-days_since_min) (of : Civil) → HasParts c.args.date of → HasParts c.clamped-later.result (months_on of c.args.months)
+parts : (c : goal.After-days_since_min) (of : Civil) → HasParts c.args.date of
+    → HasParts c.clamped-later.result (months_on of c.args.months)
 parts c of has =
-    let total = total_is c.args.date of c.args.months c.year_of.result c.from.result _ has c.year_of.ensures c.from.ensures (ap (λ (n : ℕ). c.year_of.result * 12 + c.from.result + n) c.from-2.ensures) in
-    later_parts c.args.date c.clamped-later.result of c.args.months _ has total c.clamped-later.ensures.year c.clamped-later.ensures.month c.clamped-later.ensures.day
+    let total = total_is c.args.date of c.args.months c.year_of.result c.from.result _ has c.year_of.ensures
+    c.from.ensures (ap (λ (n : ℕ). c.year_of.result * 12 + c.from.result + n) c.from-2.ensures) in
+    later_parts c.args.date c.clamped-later.result of c.args.months _ has total c.clamped-later.ensures.year
+    c.clamped-later.ensures.month c.clamped-later.ensures.day
 
 pub overflow_sub-days_since_min : goal.overflow_sub-days_since_min
 overflow_sub-days_since_min c =
-    let day = number_is c.clamped-later.result (months_on c.requires.0 c.args.months) (parts c c.requires.0 c.requires.1) in
+    let day = number_is c.clamped-later.result (months_on c.requires.0 c.args.months)
+    (parts c c.requires.0 c.requires.1) in
     omega (arith, signed_arith, day, c.days_since_min.ensures.value)
 
 pub returns-clause-day : goal.returns-clause-day

@@ -6,4 +6,5 @@ use Rattle.period_core.proofs.filling.fill.Goals as goal
 
 pub returns-clause-keeps : goal.returns-clause-keeps
 returns-clause-keeps c =
-    subst (λ (new : Dates). KeepsGiven c.args.dates.now new) (sym c.filled-full.ensures) (filled_keeps c.args.kind c.args.dates.now)
+    subst (λ (new : Dates). KeepsGiven c.args.dates.now new) (sym c.filled-full.ensures)
+    (filled_keeps c.args.kind c.args.dates.now)

@@ -1,5 +1,5 @@
 use Rattle.std.proofs.Common.{sym, ap, subst, ◌∙◌}
-use Rattle.register_core.specs.declared.decision.Change.{Change}
+use Rattle.register_core.specs.declared.change.Change.{Change}
 use Rattle.register_core.specs.Decision.{LeadsTo, reply_to}
 use Rattle.register_core.proofs.Decisions.{accepted_agrees}
 use Rattle.register_core.proofs.decision.decide.Goals as goal

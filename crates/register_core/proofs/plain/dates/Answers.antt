@@ -1,6 +1,8 @@
 use Rattle.std.proofs.Common.{ℕ, cond, take, sym, ap, ◌∙◌, arith}
 use Rattle.lifecycle_core.specs.declared.dates.Dates.{Dates}
-use Rattle.register_core.specs.History.{count, is_key, key_of, no_dates, dates_after}
+use Rattle.register_core.specs.History.{count}
+use Rattle.register_core.specs.Subject.{is_key, key_of}
+use Rattle.register_core.specs.Effect.{no_dates, dates_after}
 use Rattle.register_core.proofs.Histories.{count_next, dates_step, fold_next}
 use Rattle.register_core.proofs.plain.dates.Goals as goal
 

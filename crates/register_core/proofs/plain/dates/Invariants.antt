@@ -1,6 +1,7 @@
 use Rattle.std.proofs.Common.{◌≡◌, ◌≤◌, take}
 use Rattle.std.specs.Prelude.{fold}
-use Rattle.register_core.specs.History.{count, own, no_dates}
+use Rattle.register_core.specs.History.{count, own}
+use Rattle.register_core.specs.Effect.{no_dates}
 use Rattle.register_core.proofs.Histories.{dates_step}
 use Rattle.register_core.proofs.plain.dates.Given as goal
 

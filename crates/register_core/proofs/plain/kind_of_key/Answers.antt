@@ -1,7 +1,9 @@
 use Rattle.std.proofs.Common.{ℕ, cond, take, sym, ap, ◌∙◌, arith}
 use Rattle.period_core.specs.declared.key_type.KeyType.{KeyType}
 use Rattle.period_core.specs.declared.key_type.KeyType.TheVariants.{DataEncryption}
-use Rattle.register_core.specs.History.{count, is_key, key_of, kind_after}
+use Rattle.register_core.specs.History.{count}
+use Rattle.register_core.specs.Subject.{is_key, key_of}
+use Rattle.register_core.specs.Effect.{kind_after}
 use Rattle.register_core.proofs.Histories.{count_next, kind_step, fold_next}
 use Rattle.register_core.proofs.plain.kind_of_key.Goals as goal
 

@@ -1,7 +1,9 @@
 use Rattle.std.proofs.Common.{ℕ, List, [], cond, take, sym, ap, ◌∙◌, arith, inl, inr}
 use Rattle.std.specs.Prelude.{unwrap_or}
 use Rattle.std.proofs.lemmas.Bool.Decides.{leb_tells}
-use Rattle.register_core.specs.History.{count, is_key, key_of, owner_after}
+use Rattle.register_core.specs.History.{count}
+use Rattle.register_core.specs.Subject.{is_key, key_of}
+use Rattle.register_core.specs.Effect.{owner_after}
 use Rattle.register_core.proofs.Histories.{count_next, owner_step, fold_next}
 use Rattle.register_core.proofs.plain.owner.Goals as goal
 

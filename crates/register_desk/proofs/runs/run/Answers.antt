@@ -7,8 +7,8 @@ pub returns-clause-agrees : goal.returns-clause-agrees
 returns-clause-agrees g c h bytes items rest stands clean known has =
     let before = g.R.Read.remaining c.begin.new.self.inner in
     let old = g.W.Write.contents c.begin-2.new.self.inner in
-    let new = g.W.Write.contents c.serve_lines.new.writer.inner in
-    let runs = runs_so g.S.Store c.one_request.ensures h bytes items rest before old new c.args.desk.now c.serve_lines.new.desk c.serve_lines.result.replies c.serve_lines.result.end
-    (ap (λ r. g.R.Read.remaining r.inner) c.begin.ensures ∙ known) has stands clean c.serve_lines.ensures.serves in
-    subst (λ (o : Option (List ℕ)). RunsOver g.S.Store h items rest c.serve_lines.result.end c.serve_lines.result.replies o new c.serve_lines.new.desk)
+    let new = g.W.Write.contents c.run_lines.new.writer.inner in
+    let runs = runs_so g.S.Store c.one_request.ensures h bytes items rest before old new c.args.desk.now c.run_lines.new.desk c.run_lines.result.replies c.run_lines.result.end
+    (ap (λ r. g.R.Read.remaining r.inner) c.begin.ensures ∙ known) has stands clean c.run_lines.ensures.serves in
+    subst (λ (o : Option (List ℕ)). RunsOver g.S.Store h items rest c.run_lines.result.end c.run_lines.result.replies o new c.run_lines.new.desk)
     (ap (λ w. g.W.Write.contents w.inner) c.begin-2.ensures) runs

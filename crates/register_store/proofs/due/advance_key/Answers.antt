@@ -3,9 +3,9 @@ use Rattle.sqlite.specs.Held.{state}
 use Rattle.sql_steps.specs.Steps.{Change, Then}
 use Rattle.sql_steps.proofs.Stepping.{fails, steps_as, steps_weaker, steps_then}
 use Rattle.lifecycle_core.specs.State.{state_at}
-use Rattle.register_store.specs.declared.key.Key.{Key}
-use Rattle.register_store.specs.Tables.{Makes, Always, with_state}
-use Rattle.register_store.specs.Found.{FindsKey}
+use Rattle.register_core.specs.declared.key.Key.{Key}
+use Rattle.register_store.specs.Tables.{Makes, Always, in_state, with_key_at}
+use Rattle.register_store.specs.Reading.{FindsKey}
 use Rattle.register_store.specs.Due.{AdvancesKey}
 use Rattle.register_store.proofs.Advancing.{sets_state, has_state}
 use Rattle.register_store.proofs.due.advance_key.Goals as goal
@@ -23,7 +23,7 @@ returns-then-eq-clause-advanced g c =
     let key = c.in_ok-key.key in
     let same : c.advance.new.row.state ≡ key.row.state = search rules in
     let right : key.row.state ≡ state_at key.row.dates c.args.at = sym same ∙ c.advance.ensures.right ∙ ap (λ d. state_at d c.args.at) c.advance.ensures.dates in
-    steps_as (λ key. FindsKey number (Some key)) (λ (_ : Unit {0}). AdvancesKey c.args.at number) (state g.S.Store c.args.tx.now.conn.now) (state g.S.Store c.load_at.new.tx.conn.now) key tt
+    steps_as (λ key. FindsKey number (Some key)) (λ (_ : Unit {0}). AdvancesKey c.args.at number) (state g.S.Store c.args.tx.now.conn.now) (state g.S.Store c.find_right.new.tx.conn.now) key tt
     (λ old new finds. has_state c.args.at number key old new right finds) c.in_ok-key.ensures.found
 
 pub returns-clause-advanced : goal.returns-clause-advanced
@@ -33,8 +33,8 @@ returns-clause-advanced g c =
     let s = c.advance.new.row.state in
     let right : s ≡ state_at key.row.dates c.args.at = c.advance.ensures.right ∙ ap (λ d. state_at d c.args.at) c.advance.ensures.dates in
     let First : Key → Change = λ key. FindsKey number (Some key) in
-    let Next : Unit {0} → Change = λ _. Makes Always (with_state number s) in
+    let Next : Unit {0} → Change = λ _. Makes Always (with_key_at number (in_state s)) in
     let a = state g.S.Store c.args.tx.now.conn.now in
     let d = state g.S.Store c.set_state.new.tx.conn.now in
     steps_weaker (λ y. Then (First key) (Next y)) (λ _. AdvancesKey c.args.at number) a d c.set_state.result (λ y old new both. sets_state c.args.at number key s old new right both)
-    (steps_then First Next a (state g.S.Store c.load_at.new.tx.conn.now) d key c.set_state.result c.in_ok-key.ensures.found c.set_state.ensures.set)
+    (steps_then First Next a (state g.S.Store c.find_right.new.tx.conn.now) d key c.set_state.result c.in_ok-key.ensures.found c.set_state.ensures.set)

@@ -6,16 +6,22 @@ pub returns-then-take_to_line_feed-clause-line : goal.returns-then-take_to_line_
 returns-then-take_to_line_feed-clause-line g c =
     λ _.
     let (so_far, begun) = c.loop-self.invariant.begun in
-    let (part, unbroken, split, more) = c.if-take_to_line_feed.ensures.found in
-    (so_far ++ part, CutsLine-at_line_feed _ _ c.loop-self.self c.take_to_line_feed.new.self so_far part begun unbroken split more)
+    let (part, unbroken, split, more) = c.if-take_to_line_feed.ensures.found in (
+      so_far ++ part,
+      CutsLine-at_line_feed _ _ c.loop-self.self c.take_to_line_feed.new.self so_far part begun
+          unbroken split more,
+    )
 
 pub returns-then-take_to_line_feed-clause-end : goal.returns-then-take_to_line_feed-clause-end
 returns-then-take_to_line_feed-clause-end g c = search rules
 
 pub returns-in_err-refill-clause-taken : goal.returns-in_err-refill-clause-taken
 returns-in_err-refill-clause-taken g c =
-    let (bytes, before) = c.loop-self.invariant.taken in
-    (bytes ++ c.refill.new.self.unread, Takes-more _ _ _ _ c.loop-self.self c.take_to_line_feed.new.self _ bytes _ before c.if-take_to_line_feed.ensures.none.2.taken c.refill.ensures.taken)
+    let (bytes, before) = c.loop-self.invariant.taken in (
+      bytes ++ c.refill.new.self.unread,
+      Takes-more _ _ _ _ c.loop-self.self c.take_to_line_feed.new.self _ bytes _
+          before c.if-take_to_line_feed.ensures.none.2.taken c.refill.ensures.taken,
+    )
 
 pub returns-then-branch-eq0-clause-end : goal.returns-then-branch-eq0-clause-end
 returns-then-branch-eq0-clause-end g c =
@@ -26,13 +32,17 @@ returns-then-branch-eq0-clause-end g c =
     let none_left : length c.refill.new.self.unread ≡ 0 = search rules in (
       so_far ++ c.loop-self.self.unread,
       CutsRest-at_end _ _ _ _
-          (Begun-refilled _ _ _ c.loop-self.self c.take_to_line_feed.new.self c.refill.new.self so_far begun unbroken more read.line.0 read.line.1 read.taken.consumed) none_left,
+          (Begun-refilled _ _ _ c.loop-self.self c.take_to_line_feed.new.self c.refill.new.self so_far begun unbroken
+          more read.line.0 read.line.1 read.taken.consumed) none_left,
     )
 
 pub returns-then-branch-eq0-clause-taken : goal.returns-then-branch-eq0-clause-taken
 returns-then-branch-eq0-clause-taken g c =
-    let (bytes, before) = c.loop-self.invariant.taken in
-    (bytes ++ c.refill.new.self.unread, Takes-more _ _ _ _ c.loop-self.self c.take_to_line_feed.new.self _ bytes _ before c.if-take_to_line_feed.ensures.none.2.taken c.refill.ensures.taken)
+    let (bytes, before) = c.loop-self.invariant.taken in (
+      bytes ++ c.refill.new.self.unread,
+      Takes-more _ _ _ _ c.loop-self.self c.take_to_line_feed.new.self _ bytes _
+          before c.if-take_to_line_feed.ensures.none.2.taken c.refill.ensures.taken,
+    )
 
 pub loop-self-preserved : goal.loop-self-preserved
 loop-self-preserved g c =
@@ -41,10 +51,19 @@ loop-self-preserved g c =
     let (unbroken, empty, more) = c.if-take_to_line_feed.ensures.none in
     let read = c.refill.ensures in
     let (later, most) = c.in_ok-refill.ensures.later in
-    let less = work_left-after_turn c.loop-self.reader.turns c.refill.new.reader.turns c.loop-self.self.unread c.refill.new.self.unread later most read.short in
+    let less = work_left-after_turn c.loop-self.reader.turns c.refill.new.reader.turns c.loop-self.self.unread
+    c.refill.new.self.unread later most read.short in
     record {
-      begun = (so_far ++ c.loop-self.self.unread, Begun-refilled _ _ _ c.loop-self.self c.take_to_line_feed.new.self c.refill.new.self so_far begun unbroken more read.line.0 read.line.1 read.taken.consumed);
-      taken = (bytes ++ c.refill.new.self.unread, Takes-more _ _ _ _ c.loop-self.self c.take_to_line_feed.new.self _ bytes _ before more.taken read.taken);
+      begun = (
+        so_far ++ c.loop-self.self.unread,
+        Begun-refilled _ _ _ c.loop-self.self c.take_to_line_feed.new.self
+            c.refill.new.self so_far begun unbroken more read.line.0 read.line.1 read.taken.consumed,
+      );
+      taken = (
+        bytes ++ c.refill.new.self.unread,
+        Takes-more _ _ _ _ c.loop-self.self c.take_to_line_feed.new.self _
+            bytes _ before more.taken read.taken,
+      );
       within = read.within;
       sound = search rules;
       turns = search rules;

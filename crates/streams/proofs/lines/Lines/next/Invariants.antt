@@ -9,9 +9,11 @@ use Rattle.streams.proofs.lines.Lines.next.Given as goal
 
 abbrev pub invariant-loop-self : goal.invariant-loop-self
 invariant-loop-self g l = record {
-  begun : (so_far : List ℕ) × Begun g.row.MAX_LENGTH (prepend_known l.fn.self.unread (g.R.Read.remaining l.fn.reader.inner))
+  begun : (so_far : List ℕ) × Begun g.row.MAX_LENGTH
+      (prepend_known l.fn.self.unread (g.R.Read.remaining l.fn.reader.inner))
       (prepend_known l.self.unread (g.R.Read.remaining l.reader.inner)) l.self so_far;
-  taken : (bytes : List ℕ) × Takes (g.R.Read.remaining l.fn.reader.inner) (g.R.Read.remaining l.reader.inner) l.fn.self l.self bytes;
+  taken : (bytes : List ℕ) × Takes (g.R.Read.remaining l.fn.reader.inner) (g.R.Read.remaining l.reader.inner)
+      l.fn.self l.self bytes;
   within : l.self.taken ≤ MAX_PIECE_LENGTH * l.reader.turns;
   sound : l.reader.failed ≡ l.fn.reader.failed;
   turns : l.fn.reader.turns ≤ l.reader.turns;

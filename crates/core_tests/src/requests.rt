@@ -1,0 +1,280 @@
+//! Requests, replies and what is decided on them: printed text, and each function once on its happy
+//! path.
+mod custody;
+mod histories;
+mod keys;
+mod table;
+
+use keys::answer_by;
+use lifecycle_core::{Row, State, state_of};
+use moment_core::Moment;
+use period_core::KeyType;
+use register_core::{
+    Command, Held, Name, Names, Purpose, Refusal, Reply, Request, View, command_text, given_dates,
+    plain, read_command, read_request, reply_line,
+};
+use std::alloc::Global;
+use std::test::Fail;
+
+#[test]
+fn names_and_purposes_are_printed(rt: HostRuntime) -> Result<(), Fail> {
+    let name = Name::new(b"ops-1@hsm.example").ok_or("a name")?;
+    let name = format!(in rt.alloc(); "{name:?}")?;
+    assert_eq!(rt; name.as_str(), "\"ops-1@hsm.example\"");
+    let purpose = Purpose::new("backups of Zürich".as_bytes()).ok_or("a purpose")?;
+    let purpose = format!(in rt.alloc(); "{purpose:?}")?;
+    assert_eq!(rt; purpose.as_str(), "\"backups of Zürich\"");
+    Ok(())
+}
+
+/// The request of the line.
+fn request(line: &str) -> Result<Request, Fail> {
+    Ok(read_request(line.as_bytes()).ok_or("a request")?)
+}
+
+/// Whether the line is read as alice's request 7 at 100 to register a key of bob's.
+fn is_registration(line: &[u8]) -> bool {
+    let Some(
+        Request {
+            moment,
+            caller,
+            number,
+            command,
+        },
+    ) = read_request(line)
+    else {
+        return false;
+    };
+    let Command::Register {
+        kind,
+        owner,
+        activation,
+        protect_stop,
+        deactivation,
+        purpose,
+    } = command
+    else {
+        return false;
+    };
+    moment.seconds() == 100
+        && caller.text() == "alice"
+        && number.get() == 7
+        && kind == KeyType::KeyWrapping
+        && owner.text() == "bob"
+        && activation == Moment::new(100)
+        && protect_stop == Moment::new(200)
+        && deactivation == Moment::new(300)
+        && purpose.text() == "wraps the backup keys"
+}
+
+#[test]
+fn registrations_are_read(rt: HostRuntime) {
+    let full = b"100 alice 7 register key-wrapping bob 100 200 300 wraps the backup keys";
+    assert!(rt; is_registration(full));
+    assert!(rt; read_request(b"100 alice 8 advance").is_some());
+    assert!(rt; read_request(b"0100 alice 8 advance").is_none());
+    assert!(rt; read_request(b"100 alice 8 register master bob - 20 - x").is_some());
+}
+
+/// The key and the state of a reply, and its moment in seconds.
+const REPLIES: [(u32, Option<State>, u64, &str); 2] = [
+    (1, Some(State::Active), 100, "ok 1 Active 100\n"),
+    (0, None, 999, "ok 0 - 999\n"),
+];
+
+fn is_line_of_reply(key: u32, state: Option<State>, seconds: u64, line: &str) -> bool {
+    let Some(moment) = Moment::new(seconds) else {
+        return false;
+    };
+    let reply = Reply { key, state, moment };
+    reply_line(&Ok(reply)).as_str() == line
+}
+
+/// Refusals that tell of no moment.
+#[rattlefmt::skip]
+const REFUSALS: [(Refusal, &str); 5] = [
+    (Refusal::BadLine, "refused 1 BadLine\n"),
+    (Refusal::DateOrder, "refused 9 DateOrder\n"),
+    (Refusal::DateRange, "refused 11 DateRange\n"),
+    (Refusal::ApprovalsMissing { have: 1, need: 2 }, "refused 18 ApprovalsMissing have=1 need=2\n"),
+    (Refusal::Full, "refused 20 Full\n"),
+];
+
+fn is_line_of(refusal: Refusal, line: &str) -> bool {
+    reply_line(&Err(refusal)).as_bytes() == line.as_bytes()
+}
+
+#[test]
+fn lines_of_answers(rt: HostRuntime) -> Result<(), Fail> {
+    for (key, state, seconds, line) in &REPLIES {
+        assert!(rt; is_line_of_reply(*key, *state, *seconds, line), "{line}");
+    }
+    for (refusal, line) in &REFUSALS {
+        assert!(rt; is_line_of(*refusal, line), "{line}");
+    }
+    let latest = Moment::new(1000).ok_or("a moment")?;
+    let behind = Refusal::MomentBehind { latest };
+    assert!(rt; is_line_of(behind, "refused 3 MomentBehind latest=1000\n"));
+    let limit = Moment::new(63072000).ok_or("a moment")?;
+    let long = Refusal::PeriodTooLong { limit };
+    assert!(rt; is_line_of(long, "refused 10 PeriodTooLong limit=63072000\n"));
+    Ok(())
+}
+
+/// The texts of commands on custodians, approvals and destruction.
+const COMMANDS: [&str; 5] = [
+    "add-custodian 1 cat",
+    "remove-custodian 1 cat",
+    "approve 1",
+    "withdraw 1",
+    "destroy 1",
+];
+
+/// Whether the text is read as a command that has this text.
+fn is_command(text: &str) -> bool {
+    match read_command(text.as_bytes()) {
+        Some(command) => command_text(&command).as_bytes() == text.as_bytes(),
+        None => false,
+    }
+}
+
+#[test]
+fn texts_of_commands(rt: HostRuntime) {
+    for text in &COMMANDS {
+        assert!(rt; is_command(text), "{text}");
+    }
+    assert!(rt; read_command(b"approve 01").is_none());
+    assert!(rt; read_command(b"destroy 1 ").is_none());
+    assert!(rt; read_command(b"add-custodian 1").is_none());
+}
+
+/// Registration lines, and the Protect Stop and the Deactivation that the specification gives their
+/// keys.
+#[rattlefmt::skip]
+const REGISTRATIONS: [(&str, Option<u64>, Option<u64>); 5] = [
+    ("100 ann 1 register data-encryption bob 0 - - x", Some(63072000), Some(157766400)),
+    ("1709164800 ann 1 register private-signature eve 1709164800 - - x", Some(1803772800), Some(1803772800)),
+    ("100 ann 1 register master bob 50 - 50 x", Some(50), Some(50)),
+    ("300 ann 1 register data-encryption bob 500 - - x", Some(63072500), Some(157766900)),
+    ("100 ann 1 register master bob - 10 - x", Some(10), None),
+];
+
+#[test]
+fn dates_of_registrations(rt: HostRuntime) -> Result<(), Fail> {
+    for (line, protect_stop, deactivation) in &REGISTRATIONS {
+        let request = request(line)?;
+        assert_eq!(rt; plain::verdict(rt.alloc(), &[], &request)?, None);
+        let dates = plain::dates(&[request], 1);
+        assert_eq!(rt;
+            dates.protect_stop.map(Moment::seconds),
+            *protect_stop,
+            "{line}"
+        );
+        assert_eq!(rt;
+            dates.deactivation.map(Moment::seconds),
+            *deactivation,
+            "{line}"
+        );
+    }
+    Ok(())
+}
+
+/// A line on a key that was registered at 100 for ann, Active from 200 until 400 with its
+/// originator use until 300, and the key's state then or the refusal.
+#[rattlefmt::skip]
+const ON_A_KEY: [(&str, Result<State, Refusal>); 8] = [
+    ("150 ann 1 activate 1", Ok(State::Active)),
+    ("150 bob 1 activate 1", Err(Refusal::NotOwner)),
+    ("250 ann 1 activate 1", Err(Refusal::WrongState { state: State::Active })),
+    ("250 ann 1 set 1 - = =", Err(Refusal::DateFrozen)),
+    ("250 ann 1 set 1 = - =", Ok(State::Active)),
+    ("300 ann 1 set 1 = - =", Err(Refusal::DateFrozen)),
+    ("250 bob 1 revoke 1 2 251", Err(Refusal::OccurrenceLater)),
+    ("250 bob 1 revoke 1 2 250", Ok(State::Compromised)),
+];
+
+/// Whether the answer to the line is this one, at its moment.
+fn is_answer(alloc: Global, line: &str, expected: &Result<State, Refusal>) -> bool {
+    let (Some(request), Some(initial), Some(owner)) = (
+        read_request(line.as_bytes()),
+        Moment::new(100),
+        Name::new(b"ann"),
+    ) else {
+        return false;
+    };
+    let at = request.moment;
+    let (activation, protect_stop) = (Moment::new(200), Moment::new(300));
+    let dates = given_dates(initial, activation, protect_stop, Moment::new(400));
+    let state = state_of(&dates, at);
+    let key = Held {
+        kind: KeyType::DataEncryption,
+        owner,
+        row: Row { dates, state },
+        custodians: Names::from_vec(Vec::new(alloc)),
+        approvals: Names::from_vec(Vec::new(alloc)),
+    };
+    let view = View {
+        latest: at,
+        keys: 1,
+        key: Some(key),
+    };
+    let expected = match *expected {
+        Ok(state) => Ok(Reply {
+            key: 1,
+            state: Some(state),
+            moment: at,
+        }),
+        Err(refusal) => Err(refusal),
+    };
+    answer_by(&view, &request) == expected
+}
+
+#[test]
+fn commands_on_a_key(rt: HostRuntime) {
+    for (line, expected) in &ON_A_KEY {
+        assert!(rt; is_answer(rt.alloc(), line, expected), "{line}");
+    }
+}
+
+const REGISTRATION: &str = "100 ann 1 register data-encryption ann 200 300 400 x";
+
+/// A key that is revoked for another reason than a compromise is Deactivated, and its originator
+/// use ends with that.
+#[test]
+fn revoked_key(rt: HostRuntime) -> Result<(), Fail> {
+    let history = [request(REGISTRATION)?, request("250 ann 1 revoke 1 5 -")?];
+    let held = plain::held(rt.alloc(), &history, 1)?.ok_or("a key")?;
+    assert_eq!(rt; held.row.state, State::Deactivated);
+    assert_eq!(rt; held.row.dates.protect_stop, Moment::new(250));
+    assert_eq!(rt; held.row.dates.deactivation, Moment::new(250));
+    Ok(())
+}
+
+/// The plain program over three requests: a key is made, gets another owner, and is compromised.
+#[test]
+fn plain_history(rt: HostRuntime) -> Result<(), Fail> {
+    let history = [
+        request(REGISTRATION)?,
+        request("150 ann 1 assign 1 bob")?,
+        request("250 eve 1 revoke 1 3 -")?,
+    ];
+    assert_eq!(rt; plain::count(&history), 1);
+    assert_eq!(rt; plain::latest(&history).seconds(), 250);
+    assert!(rt; plain::held(rt.alloc(), &history, 2)?.is_none());
+    let held = plain::held(rt.alloc(), &history, 1)?.ok_or("a key")?;
+    assert_eq!(rt; held.owner.text(), "bob");
+    assert_eq!(rt; held.row.state, State::Compromised);
+    assert_eq!(rt; held.row.dates.compromise, Moment::new(250));
+    assert_eq!(rt; held.row.dates.compromise_occurrence, Moment::new(100));
+    let again = request("250 eve 1 revoke 1 3 -")?;
+    let compromised = Refusal::WrongState {
+        state: State::Compromised,
+    };
+    assert_eq!(rt;
+        plain::verdict(rt.alloc(), &history, &again)?,
+        Some(compromised)
+    );
+    let answers = plain::answers(rt.alloc(), &history.map(Some))?;
+    assert!(rt; answers.iter().all(|answer| answer.is_ok()));
+    Ok(())
+}

@@ -1,0 +1,253 @@
+//! The refusals that rest on custodians and approvals, the others behind them, and what an accepted
+//! command changes.
+use super::keys::{answer_by, change_by, dates_in, outcome_by, view_in, view_with};
+use lifecycle_core::{Dates, State};
+use moment_core::Moment;
+use register_core::{Change, CustodyChange, Name, Refusal, View, read_request};
+use std::alloc::Global;
+use std::test::Fail;
+
+/// The state of bob's key at 1000, a line, and the key's state after it or the refusal.
+type Asked = (State, &'static str, Result<State, Refusal>);
+
+const PRE: State = State::PreActive;
+
+const ACTIVE: State = State::Active;
+
+const COMPROMISED: State = State::Compromised;
+
+const DESTROYED: State = State::Destroyed;
+
+/// As many custodians as a key may have.
+const EIGHT: [&str; 8] = ["c1", "c2", "c3", "c4", "c5", "c6", "c7", "c8"];
+
+/// One fewer.
+const SEVEN: [&str; 7] = ["c1", "c2", "c3", "c4", "c5", "c6", "c7"];
+
+const TOO_MANY: Refusal = Refusal::TooManyCustodians;
+
+const BOTH: Refusal = Refusal::OwnerCustodian;
+
+/// cat, dan and eve are custodians, and the approvals of cat and dan stand. A refusal of a lower
+/// number comes first.
+#[rattlefmt::skip]
+const OF_THREE: [Asked; 17] = [
+    (PRE, "1000 bob 1 add-custodian 1 dan", Err(Refusal::AlreadyCustodian)),
+    (PRE, "1000 zed 1 add-custodian 1 dan", Err(Refusal::NotOwner)),
+    (PRE, "1000 bob 1 remove-custodian 1 fay", Err(Refusal::NoSuchCustodian)),
+    (PRE, "1000 bob 1 remove-custodian 1 bob", Err(Refusal::NoSuchCustodian)),
+    (DESTROYED, "1000 bob 1 remove-custodian 1 fay", Err(Refusal::WrongState { state: DESTROYED })),
+    (PRE, "1000 bob 1 add-custodian 1 bob", Err(BOTH)),
+    (PRE, "1000 bob 1 assign 1 cat", Err(BOTH)),
+    (PRE, "1000 bob 1 assign 1 bob", Ok(PRE)),
+    (PRE, "1000 cat 1 approve 1", Err(Refusal::AlreadyApproved)),
+    (ACTIVE, "1000 cat 1 approve 1", Err(Refusal::WrongState { state: ACTIVE })),
+    (PRE, "1000 eve 1 withdraw 1", Err(Refusal::NoApproval)),
+    (DESTROYED, "1000 eve 1 withdraw 1", Err(Refusal::WrongState { state: DESTROYED })),
+    (PRE, "1000 zed 1 revoke 1 2 1001", Err(Refusal::OccurrenceLater)),
+    (DESTROYED, "1000 zed 1 revoke 1 3 1001", Err(Refusal::OccurrenceLater)),
+    (COMPROMISED, "1000 zed 1 revoke 1 2 1001", Err(Refusal::WrongState { state: COMPROMISED })),
+    (PRE, "1000 zed 1 revoke 1 2 1000", Ok(COMPROMISED)),
+    (DESTROYED, "1000 zed 1 revoke 1 3 1000", Ok(State::DestroyedCompromised)),
+];
+
+/// The same where there are eight custodians, and no approvals.
+#[rattlefmt::skip]
+const OF_EIGHT: [Asked; 5] = [
+    (PRE, "1000 bob 1 add-custodian 1 fay", Err(TOO_MANY)),
+    (PRE, "1000 bob 1 add-custodian 1 bob", Err(TOO_MANY)),
+    (PRE, "1000 bob 1 add-custodian 1 c8", Err(Refusal::AlreadyCustodian)),
+    (PRE, "1000 bob 1 remove-custodian 1 c8", Ok(PRE)),
+    (PRE, "1000 bob 1 destroy 1", Err(Refusal::ApprovalsMissing { have: 0, need: 2 })),
+];
+
+/// The same where there are seven, and the first has approved.
+#[rattlefmt::skip]
+const OF_SEVEN: [Asked; 6] = [
+    (PRE, "1000 bob 1 add-custodian 1 fay", Ok(PRE)),
+    (PRE, "1000 bob 1 add-custodian 1 bob", Err(BOTH)),
+    (PRE, "1000 bob 1 destroy 1", Err(Refusal::ApprovalsMissing { have: 1, need: 2 })),
+    (COMPROMISED, "1000 bob 1 destroy 1", Err(Refusal::ApprovalsMissing { have: 1, need: 2 })),
+    (ACTIVE, "1000 bob 1 destroy 1", Err(Refusal::WrongState { state: ACTIVE })),
+    (PRE, "1000 c1 1 destroy 1", Err(Refusal::NotOwner)),
+];
+
+/// Whether the line has this outcome, where the key is in this state at 1000 and has these
+/// custodians and approvals.
+fn is_outcome(
+    alloc: Global,
+    custodians: &[&str],
+    approvals: &[&str],
+    asked: &Asked,
+) -> Result<bool, Fail> {
+    let (state, line, expected) = asked;
+    let view = view_with(alloc, dates_in(*state)?, custodians, approvals)?;
+    let request = read_request(line.as_bytes()).ok_or("a request")?;
+    Ok(outcome_by(&view, &request) == Some(*expected))
+}
+
+#[test]
+fn refusals_of_custody(rt: HostRuntime) -> Result<(), Fail> {
+    for asked in &OF_THREE {
+        let is = is_outcome(rt.alloc(), &["cat", "dan", "eve"], &["cat", "dan"], asked)?;
+        assert!(rt; is, "{asked:?}");
+    }
+    for asked in &OF_EIGHT {
+        assert!(rt; is_outcome(rt.alloc(), &EIGHT, &[], asked)?, "{asked:?}");
+    }
+    for asked in &OF_SEVEN {
+        assert!(rt;
+            is_outcome(rt.alloc(), &SEVEN, &["c1"], asked)?,
+            "{asked:?}"
+        );
+    }
+    Ok(())
+}
+
+/// A moment below the latest comes before all else, and a key that is not there next.
+#[test]
+fn behind_and_unknown(rt: HostRuntime) -> Result<(), Fail> {
+    let latest = Moment::new(600).ok_or("a moment")?;
+    let behind = Err(Refusal::MomentBehind { latest });
+    let view = view_in(rt.alloc(), PRE)?;
+    let early = read_request(b"599 zed 1 activate 1").ok_or("a request")?;
+    let late = read_request(b"600 zed 1 activate 1").ok_or("a request")?;
+    assert_eq!(rt; answer_by(&view, &early), behind);
+    assert_eq!(rt; answer_by(&view, &late), Err(Refusal::NotOwner));
+    let view = View {
+        latest,
+        keys: 0,
+        key: None,
+    };
+    assert_eq!(rt; answer_by(&view, &early), behind);
+    assert_eq!(rt; answer_by(&view, &late), Err(Refusal::UnknownKey));
+    Ok(())
+}
+
+fn name(text: &str) -> Result<Name, Fail> {
+    Ok(Name::new(text.as_bytes()).ok_or("a name")?)
+}
+
+/// Whether the change is one of these people.
+fn is_of(change: &Option<Change>, expected: &CustodyChange) -> bool {
+    match change {
+        Some(Change::Held { custody, .. }) => custody == expected,
+        _ => false,
+    }
+}
+
+/// Whether this becomes of the people of bob's key in this state at 1000, by the line.
+fn custody_becomes(
+    alloc: Global,
+    state: State,
+    line: &str,
+    expected: &CustodyChange,
+) -> Result<bool, Fail> {
+    let view = view_in(alloc, state)?;
+    let request = read_request(line.as_bytes()).ok_or("a request")?;
+    Ok(is_of(&change_by(&view, &request), expected))
+}
+
+/// A compromise ends the approvals of a key that is not destroyed yet.
+#[test]
+fn custody_after_commands(rt: HostRuntime) -> Result<(), Fail> {
+    let rows = [
+        (DESTROYED, "1000 zed 1 revoke 1 2 -", CustodyChange::Kept),
+        (DESTROYED, "1000 zed 1 revoke 1 3 50", CustodyChange::Kept),
+        (
+            PRE,
+            "1000 zed 1 revoke 1 2 -",
+            CustodyChange::ApprovalsEnded,
+        ),
+        (
+            ACTIVE,
+            "1000 bob 1 revoke 1 3 50",
+            CustodyChange::ApprovalsEnded,
+        ),
+        (
+            State::Deactivated,
+            "1000 cat 1 revoke 1 2 -",
+            CustodyChange::ApprovalsEnded,
+        ),
+        (
+            PRE,
+            "1000 bob 1 add-custodian 1 fay",
+            CustodyChange::CustodianAdded(name("fay")?),
+        ),
+        (
+            PRE,
+            "1000 bob 1 remove-custodian 1 dan",
+            CustodyChange::CustodianRemoved(name("dan")?),
+        ),
+        (
+            PRE,
+            "1000 eve 1 approve 1",
+            CustodyChange::Approved(name("eve")?),
+        ),
+        (
+            PRE,
+            "1000 cat 1 withdraw 1",
+            CustodyChange::Withdrawn(name("cat")?),
+        ),
+        (PRE, "1000 bob 1 destroy 1", CustodyChange::Kept),
+    ];
+    for (state, line, expected) in rows {
+        assert!(rt;
+            custody_becomes(rt.alloc(), state, line, &expected)?,
+            "{state:?}, {line}"
+        );
+    }
+    Ok(())
+}
+
+/// The dates that the change gives its key.
+fn dates_of(change: Option<Change>) -> Option<Dates> {
+    match change {
+        Some(Change::Held { row, .. }) => Some(row.dates),
+        _ => None,
+    }
+}
+
+/// The dates of bob's key in this state at 1000, after the line.
+fn dates_after(alloc: Global, state: State, line: &str) -> Result<Dates, Fail> {
+    let view = view_in(alloc, state)?;
+    let request = read_request(line.as_bytes()).ok_or("a request")?;
+    Ok(dates_of(change_by(&view, &request)).ok_or("dates")?)
+}
+
+/// A command takes effect at the moment of its request.
+#[test]
+fn dates_after_commands(rt: HostRuntime) -> Result<(), Fail> {
+    let at = Moment::new(1000);
+    let activated = dates_after(rt.alloc(), PRE, "1000 bob 1 activate 1")?;
+    assert_eq!(rt; activated.activation, at);
+    let revoked = dates_after(rt.alloc(), ACTIVE, "1000 bob 1 revoke 1 5 -")?;
+    assert_eq!(rt; revoked.deactivation, at);
+    let compromised = dates_after(rt.alloc(), DESTROYED, "1000 zed 1 revoke 1 2 50")?;
+    assert_eq!(rt; compromised.destroy, Moment::new(500));
+    assert_eq!(rt; compromised.compromise, at);
+    assert_eq!(rt; compromised.compromise_occurrence, Moment::new(50));
+    let destroyed = dates_after(rt.alloc(), COMPROMISED, "1000 bob 1 destroy 1")?;
+    assert_eq!(rt; destroyed.destroy, at);
+    assert_eq!(rt; destroyed.compromise, Moment::new(500));
+    Ok(())
+}
+
+/// Whether the change gives its key this owner.
+fn is_owned(change: &Option<Change>, owner: &str) -> bool {
+    match change {
+        Some(Change::Held { owner: name, .. }) => name.text().as_bytes() == owner.as_bytes(),
+        _ => false,
+    }
+}
+
+/// A key is another's once it is assigned, and by no other command.
+#[test]
+fn owners_after_commands(rt: HostRuntime) -> Result<(), Fail> {
+    let view = view_in(rt.alloc(), PRE)?;
+    let assign = read_request(b"1000 bob 1 assign 1 gil").ok_or("a request")?;
+    assert!(rt; is_owned(&change_by(&view, &assign), "gil"));
+    let revoke = read_request(b"1000 zed 1 revoke 1 2 -").ok_or("a request")?;
+    assert!(rt; is_owned(&change_by(&view, &revoke), "bob"));
+    Ok(())
+}

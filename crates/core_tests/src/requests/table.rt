@@ -1,0 +1,166 @@
+//! Every command in every state of its key, by each caller.
+
+use super::keys::{STATES, answer_by, change_by, outcome_by, view_in};
+use lifecycle_core::State;
+use moment_core::Moment;
+use register_core::{Change, MAX_KEYS, Refusal, View, read_request};
+use std::alloc::Global;
+use std::test::Fail;
+
+/// What a cell of the table expects.
+#[derive(Clone, Copy)]
+enum Cell {
+    /// The command is accepted, and the key then is in this state.
+    To(State),
+    NotOwner,
+    NotCustodian,
+    /// The refusal that tells the state that the key is in.
+    WrongState,
+}
+
+/// The answer that the cell expects where the key is in this state.
+fn expected(cell: Cell, before: State) -> Result<State, Refusal> {
+    match cell {
+        Cell::To(after) => Ok(after),
+        Cell::NotOwner => Err(Refusal::NotOwner),
+        Cell::NotCustodian => Err(Refusal::NotCustodian),
+        Cell::WrongState => Err(Refusal::WrongState { state: before }),
+    }
+}
+
+// Accepted: the state after the command.
+const PRE_ACTIVE: Cell = Cell::To(State::PreActive);
+
+const ACTIVE: Cell = Cell::To(State::Active);
+
+const DEACTIVATED: Cell = Cell::To(State::Deactivated);
+
+const COMPROMISED: Cell = Cell::To(State::Compromised);
+
+const DESTROYED: Cell = Cell::To(State::Destroyed);
+
+const DESTROYED_COMPROMISED: Cell = Cell::To(State::DestroyedCompromised);
+
+const WRONG_STATE: Cell = Cell::WrongState;
+
+// Refused in every state.
+const NOT_OWNER: [Cell; 6] = [Cell::NotOwner; 6];
+
+const NOT_CUSTODIAN: [Cell; 6] = [Cell::NotCustodian; 6];
+
+/// A row for each command and caller: the owner bob, a custodian, and the stranger zed. The columns
+/// are the states of the key: Pre-Active, Active, Deactivated, Compromised, Destroyed,
+/// Destroyed-Compromised. Of the custodians cat has approved, and eve, who approves, has not.
+#[rattlefmt::skip]
+const TABLE: [(&str, [Cell; 6]); 33] = [
+    ("1000 bob 1 activate 1", [ACTIVE, WRONG_STATE, WRONG_STATE, WRONG_STATE, WRONG_STATE, WRONG_STATE]),
+    ("1000 cat 1 activate 1", NOT_OWNER),
+    ("1000 zed 1 activate 1", NOT_OWNER),
+    ("1000 bob 1 set 1 = = =", [PRE_ACTIVE, ACTIVE, WRONG_STATE, WRONG_STATE, WRONG_STATE, WRONG_STATE]),
+    ("1000 cat 1 set 1 = = =", NOT_OWNER),
+    ("1000 zed 1 set 1 = = =", NOT_OWNER),
+    ("1000 bob 1 revoke 1 5 -", [WRONG_STATE, DEACTIVATED, WRONG_STATE, WRONG_STATE, WRONG_STATE, WRONG_STATE]),
+    ("1000 cat 1 revoke 1 5 -", NOT_OWNER),
+    ("1000 zed 1 revoke 1 5 -", NOT_OWNER),
+    ("1000 bob 1 revoke 1 2 -", [COMPROMISED, COMPROMISED, COMPROMISED, WRONG_STATE, DESTROYED_COMPROMISED, WRONG_STATE]),
+    ("1000 cat 1 revoke 1 2 -", [COMPROMISED, COMPROMISED, COMPROMISED, WRONG_STATE, DESTROYED_COMPROMISED, WRONG_STATE]),
+    ("1000 zed 1 revoke 1 2 -", [COMPROMISED, COMPROMISED, COMPROMISED, WRONG_STATE, DESTROYED_COMPROMISED, WRONG_STATE]),
+    ("1000 bob 1 revoke 1 3 50", [COMPROMISED, COMPROMISED, COMPROMISED, WRONG_STATE, DESTROYED_COMPROMISED, WRONG_STATE]),
+    ("1000 cat 1 revoke 1 3 50", [COMPROMISED, COMPROMISED, COMPROMISED, WRONG_STATE, DESTROYED_COMPROMISED, WRONG_STATE]),
+    ("1000 zed 1 revoke 1 3 50", [COMPROMISED, COMPROMISED, COMPROMISED, WRONG_STATE, DESTROYED_COMPROMISED, WRONG_STATE]),
+    ("1000 bob 1 assign 1 gil", [PRE_ACTIVE, ACTIVE, DEACTIVATED, COMPROMISED, DESTROYED, DESTROYED_COMPROMISED]),
+    ("1000 cat 1 assign 1 gil", NOT_OWNER),
+    ("1000 zed 1 assign 1 gil", NOT_OWNER),
+    ("1000 bob 1 add-custodian 1 fay", [PRE_ACTIVE, ACTIVE, DEACTIVATED, COMPROMISED, DESTROYED, DESTROYED_COMPROMISED]),
+    ("1000 cat 1 add-custodian 1 fay", NOT_OWNER),
+    ("1000 zed 1 add-custodian 1 fay", NOT_OWNER),
+    ("1000 bob 1 remove-custodian 1 dan", [PRE_ACTIVE, ACTIVE, DEACTIVATED, COMPROMISED, WRONG_STATE, WRONG_STATE]),
+    ("1000 cat 1 remove-custodian 1 dan", NOT_OWNER),
+    ("1000 zed 1 remove-custodian 1 dan", NOT_OWNER),
+    ("1000 bob 1 approve 1", NOT_CUSTODIAN),
+    ("1000 eve 1 approve 1", [PRE_ACTIVE, WRONG_STATE, DEACTIVATED, COMPROMISED, WRONG_STATE, WRONG_STATE]),
+    ("1000 zed 1 approve 1", NOT_CUSTODIAN),
+    ("1000 bob 1 withdraw 1", NOT_CUSTODIAN),
+    ("1000 cat 1 withdraw 1", [PRE_ACTIVE, ACTIVE, DEACTIVATED, COMPROMISED, WRONG_STATE, WRONG_STATE]),
+    ("1000 zed 1 withdraw 1", NOT_CUSTODIAN),
+    ("1000 bob 1 destroy 1", [DESTROYED, WRONG_STATE, DESTROYED, DESTROYED_COMPROMISED, WRONG_STATE, WRONG_STATE]),
+    ("1000 cat 1 destroy 1", NOT_OWNER),
+    ("1000 zed 1 destroy 1", NOT_OWNER),
+];
+
+/// Whether the line has the outcome of the cell, where the key is in this state at 1000.
+fn is_outcome(alloc: Global, line: &str, before: State, cell: Cell) -> Result<bool, Fail> {
+    let view = view_in(alloc, before)?;
+    let request = read_request(line.as_bytes()).ok_or("a request")?;
+    Ok(outcome_by(&view, &request) == Some(expected(cell, before)))
+}
+
+#[test]
+fn commands_by_state_and_caller(rt: HostRuntime) -> Result<(), Fail> {
+    for (line, cells) in &TABLE {
+        for (before, cell) in STATES.iter().zip(cells) {
+            let is = is_outcome(rt.alloc(), line, *before, *cell)?;
+            assert!(rt; is, "{line}, {before:?}");
+        }
+    }
+    Ok(())
+}
+
+/// The key and the state of a reply, or the refusal.
+type Replied = Result<(u32, Option<State>), Refusal>;
+
+/// How many keys were made, a line that finds none, and what is replied. Anybody may register and
+/// advance: the owner of other keys, a custodian, and the stranger.
+#[rattlefmt::skip]
+const WITHOUT_A_KEY: [(u32, &str, Replied); 11] = [
+    (1, "1000 bob 1 advance", Ok((0, None))),
+    (1, "1000 cat 1 advance", Ok((0, None))),
+    (1, "1000 zed 1 advance", Ok((0, None))),
+    (1_000_000, "1000 zed 1 advance", Ok((0, None))),
+    (1, "1000 bob 1 register master gil - - - x", Ok((2, Some(State::PreActive)))),
+    (1, "1000 cat 1 register master gil 1000 - - x", Ok((2, Some(State::Active)))),
+    (1, "1000 zed 1 register master gil 100 - 1000 x", Ok((2, Some(State::Deactivated)))),
+    (999_999, "1000 zed 1 register master gil - - - x", Ok((1_000_000, Some(State::PreActive)))),
+    (1_000_000, "1000 zed 1 register master gil - - - x", Err(Refusal::Full)),
+    (1_000_000, "1000 zed 1 register master gil 500 400 600 x", Err(Refusal::DateOrder)),
+    (1_000_000, "1000 zed 1 set 1 = = =", Err(Refusal::UnknownKey)),
+];
+
+/// Whether this is replied to the line, where so many keys were made.
+fn is_replied(keys: u32, line: &str, expected: &Replied) -> bool {
+    let (Some(latest), Some(request)) = (Moment::new(600), read_request(line.as_bytes())) else {
+        return false;
+    };
+    if keys > MAX_KEYS {
+        return false;
+    }
+    let view = View {
+        latest,
+        keys,
+        key: None,
+    };
+    let replied = match answer_by(&view, &request) {
+        Ok(reply) => Ok((reply.key, reply.state)),
+        Err(refusal) => Err(refusal),
+    };
+    replied == *expected
+}
+
+#[test]
+fn commands_without_a_key(rt: HostRuntime) {
+    for (keys, line, expected) in &WITHOUT_A_KEY {
+        assert!(rt; is_replied(*keys, line, expected), "{keys}, {line}");
+    }
+}
+
+#[test]
+fn advance_changes_nothing(rt: HostRuntime) -> Result<(), Fail> {
+    let view = View {
+        latest: Moment::new(600).ok_or("a moment")?,
+        keys: 1,
+        key: None,
+    };
+    let request = read_request(b"1000 zed 1 advance").ok_or("a request")?;
+    assert_eq!(rt; change_by(&view, &request), Some(Change::Nothing));
+    Ok(())
+}

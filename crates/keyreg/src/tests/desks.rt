@@ -1,0 +1,146 @@
+//! What a desk shows, and the making of a register.
+use super::fresh_run::desk_after;
+use super::worked_rows::{DEFAULTS, FIRST_DAY, WorkedRow};
+use crate::act::create_in_memory;
+use lifecycle_core::{Process, State, Usage};
+use period_core::KeyType;
+use register_core::{Name, Purpose};
+use register_desk::{Desk, OpenRefusal, Record};
+use sqlite::Connection;
+use std::alloc::Global;
+use std::test::Fail;
+
+/// The state of a key after *first day*, or `None` where there is no such key.
+const STATES: [(u32, Option<State>); 5] = [
+    (0, None),
+    (1, Some(State::Deactivated)),
+    (2, Some(State::Deactivated)),
+    (3, None),
+    (u32::MAX, None),
+];
+
+const IN_USE: Usage = Usage {
+    protect: true,
+    process: Process::Yes,
+};
+
+const OUT_OF_USE: Usage = Usage {
+    protect: false,
+    process: Process::Special,
+};
+
+/// The usage of key 1 after a row, which makes no key 3.
+const USAGES: [(WorkedRow, Usage); 2] = [(DEFAULTS, IN_USE), (FIRST_DAY, OUT_OF_USE)];
+
+#[test]
+fn keys_are_shown(rt: HostRuntime) -> Result<(), Fail> {
+    let mut desk = desk_after(rt.alloc(), &FIRST_DAY)?;
+    for (number, state) in &STATES {
+        let shown = desk.show(*number)?.map(|record| record.row.state);
+        assert!(rt; shown == *state, "{number}");
+    }
+    for (row, usage) in &USAGES {
+        let mut desk = desk_after(rt.alloc(), row)?;
+        assert!(rt; desk.usage(1)? == Some(*usage), "{}", row.name);
+        assert!(rt; desk.usage(3)?.is_none(), "{}", row.name);
+    }
+    Ok(())
+}
+
+/// Whether the key is that of *defaults*, in what the worked rows do not compare.
+fn is_key_of_defaults(record: &Record) -> bool {
+    let (owner, purpose) = (Some(record.owner), Some(record.purpose));
+    record.number == 1
+        && record.kind == KeyType::DataEncryption
+        && owner == Name::new(b"bob")
+        && purpose == Purpose::new(b"payroll disks")
+        && record.row.dates.initial.seconds() == 100
+}
+
+#[test]
+fn a_key_is_shown_whole(rt: HostRuntime) -> Result<(), Fail> {
+    let mut desk = desk_after(rt.alloc(), &DEFAULTS)?;
+    match desk.show(1)? {
+        Some(record) => assert!(rt; is_key_of_defaults(&record)),
+        None => assert!(rt; false, "no key 1"),
+    }
+    Ok(())
+}
+
+#[test]
+fn a_register_is_made_once(rt: HostRuntime) -> Result<(), Fail> {
+    let connection = create_in_memory(rt.alloc())?.into_connection();
+    match Desk::create(rt.alloc(), connection) {
+        Ok(_) => assert!(rt; false, "made twice"),
+        Err(unopened) => assert_eq!(rt; unopened.refusal, OpenRefusal::NotARegister),
+    }
+    Ok(())
+}
+
+/// For each table of a register: one of its name that is none of ours, its row, what reads that
+/// row, and what counts another table.
+#[rattlefmt::skip]
+const TABLES: [(&str, &str, &str, &str); 4] = [
+    (
+        "CREATE TABLE meta (note TEXT) STRICT",
+        "INSERT INTO meta (note) VALUES ('a')",
+        "SELECT note FROM meta",
+        "SELECT count(*) FROM keys",
+    ),
+    (
+        "CREATE TABLE keys (note TEXT) STRICT",
+        "INSERT INTO keys (note) VALUES ('a')",
+        "SELECT note FROM keys",
+        "SELECT count(*) FROM meta",
+    ),
+    (
+        "CREATE TABLE custodian (note TEXT) STRICT",
+        "INSERT INTO custodian (note) VALUES ('a')",
+        "SELECT note FROM custodian",
+        "SELECT count(*) FROM keys",
+    ),
+    (
+        "CREATE TABLE approval (note TEXT) STRICT",
+        "INSERT INTO approval (note) VALUES ('a')",
+        "SELECT note FROM approval",
+        "SELECT count(*) FROM keys",
+    ),
+];
+
+/// Whether no register is made where the table is, which keeps its row, and no table comes.
+fn is_refused(
+    alloc: Global,
+    create: &str,
+    insert: &str,
+    kept: &str,
+    other: &str,
+) -> Result<bool, Fail> {
+    let mut connection = Connection::open_in_memory(alloc)?;
+    connection.execute(create, &[])?;
+    connection.execute(insert, &[])?;
+    if !connection.is_autocommit() {
+        return Ok(false);
+    }
+    match Desk::create(alloc, connection) {
+        Ok(_) => Ok(false),
+        Err(mut unopened) => {
+            let note: String = unopened.connection.query_row(kept, &[])?.get(0)?;
+            Ok(
+                unopened.refusal == OpenRefusal::NotARegister
+                    && note.as_str() == "a"
+                    && unopened.connection.query_row(other, &[]).is_err(),
+            )
+        }
+    }
+}
+
+#[test]
+fn one_table_is_enough_to_refuse(rt: HostRuntime) -> Result<(), Fail> {
+    for (create, insert, kept, other) in &TABLES {
+        assert!(rt;
+            is_refused(rt.alloc(), create, insert, kept, other)?,
+            "{create}"
+        );
+    }
+    Ok(())
+}

@@ -1,0 +1,119 @@
+//! Which dates fit a type of key, and what a date becomes that is not given, rule by rule.
+ghost use Rattle.std.specs.Prelude.{◌≡◌, ◌||◌, ◌&&◌, is_some, is_none};
+ghost use Rattle.period_core.specs.Fitting.{is_not_after, are_in_order, originator_limit};
+ghost use Rattle.period_core.specs.Fitting.{recipient_limit, earlier, cut, with_protect_stop};
+ghost use Rattle.period_core.specs.Fitting.{with_deactivation, filled, trimmed};
+
+use crate::key_type::KeyType;
+use crate::period::period_of;
+use lifecycle_core::Dates;
+use moment_core::Moment;
+
+/// Whether the first date is not after the second, where both are set.
+pub(crate) fn is_not_after(first: Option<Moment>, second: Option<Moment>) -> bool
+    ensures { result ≡ is_not_after first second }
+{
+    match (first, second) {
+        (Some(first), Some(second)) => first <= second,
+        _ => true,
+    }
+}
+
+/// Whether Activation, Protect Stop and Deactivation are in this order.
+pub(crate) fn are_in_order(dates: &Dates) -> bool
+    ensures { result ≡ are_in_order dates.now }
+{
+    is_not_after(dates.activation, dates.protect_stop)
+        && is_not_after(dates.protect_stop, dates.deactivation)
+        && is_not_after(dates.activation, dates.deactivation)
+}
+
+/// The last moment of originator use, where there is one.
+pub(crate) fn originator_limit(kind: KeyType, dates: &Dates) -> Option<Moment>
+    ensures { result ≡ originator_limit kind dates.now }
+{
+    match dates.activation {
+        Some(activation) => activation.plus_months(period_of(kind).originator),
+        None => None,
+    }
+}
+
+/// The last moment of recipient use, where there is one.
+pub(crate) fn recipient_limit(kind: KeyType, dates: &Dates) -> Option<Moment>
+    ensures { result ≡ recipient_limit kind dates.now }
+{
+    match dates.protect_stop {
+        Some(protect_stop) => protect_stop.plus_months(period_of(kind).recipient),
+        None => None,
+    }
+}
+
+/// The earlier of two dates; one that has no value counts as later than every moment.
+fn earlier(first: Option<Moment>, second: Option<Moment>) -> Option<Moment>
+    ensures { result ≡ earlier first second }
+{
+    match (first, second) {
+        (Some(first), Some(second)) => Some(if first <= second { first } else { second }),
+        (Some(first), None) => Some(first),
+        (None, second) => second,
+    }
+}
+
+/// The date, but no later than the limit.
+fn cut(date: Option<Moment>, limit: Option<Moment>) -> Option<Moment>
+    ensures { result ≡ cut date limit }
+{
+    match (date, limit) {
+        (Some(date), Some(limit)) => Some(if date <= limit { date } else { limit }),
+        (date, _) => date,
+    }
+}
+
+/// The dates with a Protect Stop, where Activation is set and it is not.
+fn with_protect_stop(kind: KeyType, dates: Dates) -> Dates
+    ensures { result ≡ with_protect_stop kind dates }
+{
+    if dates.activation.is_none() || dates.protect_stop.is_some() {
+        return dates;
+    }
+    Dates {
+        protect_stop: earlier(originator_limit(kind, &dates), dates.deactivation),
+        ..dates
+    }
+}
+
+/// The dates with a Deactivation, where Activation is set and it is not.
+fn with_deactivation(kind: KeyType, dates: Dates) -> Dates
+    ensures { result ≡ with_deactivation kind dates }
+{
+    if dates.activation.is_none() || dates.deactivation.is_some() {
+        return dates;
+    }
+    Dates {
+        deactivation: recipient_limit(kind, &dates),
+        ..dates
+    }
+}
+
+/// The dates with their defaults, whether they fit or not.
+pub fn filled(kind: KeyType, dates: Dates) -> Dates
+    ensures { result ≡ filled kind dates }
+{
+    with_deactivation(kind, with_protect_stop(kind, dates))
+}
+
+/// The dates with their defaults, each cut to its limit.
+pub fn trimmed(kind: KeyType, dates: Dates) -> Dates
+    ensures { result ≡ trimmed kind dates }
+{
+    let first = with_protect_stop(kind, dates);
+    let stopped = Dates {
+        protect_stop: cut(first.protect_stop, originator_limit(kind, &first)),
+        ..first
+    };
+    let second = with_deactivation(kind, stopped);
+    Dates {
+        deactivation: cut(second.deactivation, recipient_limit(kind, &second)),
+        ..second
+    }
+}

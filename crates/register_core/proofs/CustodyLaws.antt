@@ -1,0 +1,124 @@
+-- Laws of the custody of keys, over lawful histories.
+use Rattle.std.proofs.Common.{◌≡◌, ℕ, ◌<◌, ◌≤◌, Bool, true, false, cond, List, [], ◌∷◌, ◌++◌, Option, None, Some, refl, sym, ap, ◌∙◌, length, arith, IsSome, ◌⊎◌, inl, inr}
+use Rattle.std.specs.Prelude.{nat_eq, nat_lt, is_some}
+use Rattle.std.proofs.lemmas.Bool.{ltb-false}
+use Rattle.std.proofs.lemmas.Bool.Decides.{eqb_tells}
+use Rattle.lifecycle_core.specs.declared.dates.Dates.{Dates}
+use Rattle.lifecycle_core.specs.Reason.{is_compromise}
+use Rattle.period_core.specs.declared.key_type.KeyType.{KeyType}
+use Rattle.period_core.specs.Fitting.{filled}
+use Rattle.register_core.specs.declared.request.Request.{Request}
+use Rattle.register_core.specs.declared.request.Command.{Command}
+use Rattle.register_core.specs.declared.request.Command.TheVariants.{Register as Registers, Activate, SetDates, Revoke, Destroy}
+use Rattle.register_core.specs.KeyName.{names_at}
+use Rattle.register_core.specs.Names.{sorted_names}
+use Rattle.register_core.specs.History.{count, type, dates}
+use Rattle.register_core.specs.Subject.{is_key, named}
+use Rattle.register_core.specs.Effect.{given_dates, edited_dates, compromised, deactivated, dates_after, custody_change}
+use Rattle.register_core.specs.Custody.{all_custodians, all_approvals, approvals}
+use Rattle.register_core.specs.Verdict.{verdict}
+use Rattle.register_core.specs.CustodyRefusal.{approvals_missing, min_approvals}
+use Rattle.register_core.specs.Fold.{IsLawful}
+use Rattle.register_core.specs.Laws.{IsAccepted, HasKey}
+use Rattle.register_core.specs.Decision.{approvals_by}
+use Rattle.register_core.proofs.Histories.{count_grows, key_named, dates_named, dates_other, dates_made}
+use Rattle.register_core.proofs.Dating.{filled_keeps, trimmed_keeps}
+use Rattle.register_core.proofs.Decisions.{standing}
+use Rattle.register_core.proofs.CustodyLeads.{not_refused, custody_lead}
+use Rattle.register_core.proofs.Lawful.{lawful_holds}
+use Rattle.register_core.proofs.OnKey.{IsOn, IsOther, on_key, which}
+use Rattle.register_core.proofs.CustodyStay.{custody_same, approvals_stay}
+
+-- ---- keys that are not made yet
+
+abbrev NobodyAt : List Request → ℕ → Type 0
+NobodyAt h k = (names_at k (all_custodians h) ≡ []) × (names_at k (all_approvals h) ≡ [])
+
+abbrev NobodyBeyond : List Request → Type 0
+NobodyBeyond h = (k : ℕ) → count h < k → NobodyAt h k
+
+nobody_next : (h : List Request) (q : Request) → IsLawful h → verdict h q ≡ None → NobodyBeyond h → NobodyBeyond (h ++ q ∷ [])
+nobody_next h q lawful accepted before k beyond =
+    let grown = count_grows h q in
+    let later : count h < k = omega (arith, beyond, grown) in
+    let same = custody_same h q k accepted (λ n names. below n (omega (arith, (on_key h q n accepted names).high, later))) in
+    let none = before k later in
+    (same.custodians ∙ none.0, same.approvals ∙ none.1)
+  where
+    below : (n : ℕ) → n < k → nat_eq n k ≡ false
+    below n lt = elim (eqb_tells n k) [ inl both ↦ absurd (omega (arith, both.1, lt)) | inr apart ↦ apart.0 ]
+
+pub nobody_yet : (h : List Request) → IsLawful h → NobodyBeyond h
+nobody_yet h lawful = lawful_holds NobodyBeyond nobody_next (λ k beyond. (refl, refl)) h lawful
+
+-- ---- destroyed keys
+
+-- a request that names no key, or another, leaves the approvals of key k as they were
+other_approvals : (h : List Request) (q : Request) (k : ℕ) → verdict h q ≡ None → IsOther h q k → approvals (h ++ q ∷ []) k ≡ approvals h k
+other_approvals h q k accepted other =
+    ap sorted_names (custody_same h q k accepted (λ n names. sym (ap (is_key k) (key_named q.command (count h) n names)) ∙ other.other)).approvals
+
+pub stay : (h : List Request) (q : Request) → IsAccepted h q → (k : ℕ) → HasKey h k → IsSome (dates h k).destroy → approvals (h ++ q ∷ []) k ≡ approvals h k
+stay h q is k has set = elim (which h q k is.accepted (omega (arith, has.1, count_grows h q))) [
+  | inl made ↦ absurd (let next = made.next in omega (arith, next, has.1))
+  | inr (inl on) ↦ let date = some_date (dates h k).destroy set in approvals_stay h q k date.0 on date.1
+  | inr (inr other) ↦ other_approvals h q k is.accepted other
+]
+  where
+    some_date : (o : Option ℕ) → IsSome o → (x : ℕ) × (o ≡ Some x)
+    some_date (Some x) some = (x, refl)
+    some_date None some = absurd cc
+
+-- only Destroy sets the Destroy Date
+abbrev IsDestruction : Command → Type 0
+IsDestruction c = (n : ℕ) × (c ≡ Destroy n)
+
+revoked_same : (b : Bool) (d : Dates) (t : ℕ) (occurrence : Option ℕ) → (cond b (compromised t occurrence d) (deactivated t d)).destroy ≡ d.destroy
+revoked_same true d t occurrence = refl
+revoked_same false d t occurrence = refl
+
+destroy_same : (kind : KeyType) (d : Dates) (t k : ℕ) (c : Command) → named c ≡ Some k → IsDestruction c ⊎ ((dates_after kind d t c).destroy ≡ d.destroy)
+destroy_same kind d t k (Registers of_kind owner activation protect_stop deactivation purpose) names = absurd cc
+destroy_same kind d t k (Activate n) names = inr (trimmed_keeps kind (record d { activation = Some t })).destroy
+destroy_same kind d t k (SetDates n activation protect_stop deactivation) names = inr (filled_keeps kind (edited_dates activation protect_stop deactivation d)).destroy
+destroy_same kind d t k (Revoke n reason occurrence) names = inr (revoked_same (is_compromise reason) d t occurrence)
+destroy_same kind d t k (Destroy n) names = inl (n, refl)
+destroy_same kind d t k c names = inr refl
+
+destroyed_enough : (h : List Request) (q : Request) (k n : ℕ) → IsOn h q k → q.command ≡ Destroy n → min_approvals ≤ length (approvals (h ++ q ∷ []) k)
+destroyed_enough h q k n on is =
+    let lead = custody_lead h q k on.names on.new in
+    let same : approvals (h ++ q ∷ []) k ≡ approvals h k =
+    ap (λ entries. sorted_names (names_at k entries)) (lead.approvals_are ∙ ap (λ (c : Command). approvals_by k (custody_change (dates h k) q.caller c) (all_approvals h)) is) in
+    let enough = ltb-false _ _ (not_refused (nat_lt (length (approvals h k)) min_approvals) _ (ap (approvals_missing (Some (standing h k))) (sym is) ∙ on.enough)) in
+    omega (arith, enough, ap length same)
+
+abbrev AllApproved : List Request → Type 0
+AllApproved h = (k : ℕ) → HasKey h k → IsSome (dates h k).destroy → min_approvals ≤ length (approvals h k)
+
+approved_next : (h : List Request) (q : Request) → IsLawful h → verdict h q ≡ None → AllApproved h → AllApproved (h ++ q ∷ [])
+approved_next h q lawful accepted before k has set = elim (which h q k accepted has.1) [
+  | inl made ↦
+      let r = made.registration in
+      let given : Dates = given_dates q.moment r.activation r.protect_stop r.deactivation in
+      let its : dates (h ++ q ∷ []) k ≡ filled r.kind given =
+      ap (dates (h ++ q ∷ [])) made.next ∙ dates_made h q r made.makes in
+      let none : is_some (dates (h ++ q ∷ []) k).destroy ≡ false = ap (λ (d : Dates). is_some d.destroy) its ∙ ap is_some (filled_keeps r.kind given).destroy in
+      absurd (let e = sym none ∙ set in cc)
+  | inr (inl on) ↦ elim (destroy_same (type h k) (dates h k) q.moment k q.command on.names) [
+    | inl destruction ↦ destroyed_enough h q k destruction.0 on destruction.1
+    | inr same ↦
+        let was : IsSome (dates h k).destroy = sym (ap is_some (ap (λ (d : Dates). d.destroy) (dates_named h q k on.names) ∙ same)) ∙ set in
+        let enough = before k (on.low, on.high) was in
+        let stays = stay h q (record { lawful = lawful; accepted = accepted }) k (on.low, on.high) was in
+        omega (arith, enough, ap length stays)
+  ]
+  | inr (inr other) ↦
+      let was : IsSome (dates h k).destroy = sym (ap (λ (d : Dates). is_some d.destroy) (dates_other h q k other.other)) ∙ set in
+      let enough = before k (has.0, other.high) was in
+      omega (arith, enough, ap length (other_approvals h q k accepted other))
+]
+
+pub enough : (h : List Request) (q : Request) → IsAccepted h q → AllApproved (h ++ q ∷ [])
+enough h q is =
+    approved_next h q is.lawful is.accepted (lawful_holds AllApproved approved_next (λ k has set. absurd (omega (arith, has.0, has.1))) h is.lawful)

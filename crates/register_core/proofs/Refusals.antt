@@ -1,0 +1,64 @@
+-- What an accepted request has passed: none of the refusals holds, each by its name.
+use Rattle.std.proofs.Common.{◌≡◌, ℕ, Option, None}
+use Rattle.register_core.specs.declared.request.Request.{Request}
+use Rattle.register_core.specs.declared.view.Held.{Held}
+use Rattle.register_core.specs.CustodyRefusal.{already_custodian, no_such_custodian, too_many_custodians, owner_custodian, already_approved, no_approval, approvals_missing}
+use Rattle.register_core.specs.Verdict.{behind, unknown, not_owner, not_custodian, wrong_state, frozen, unfit, occurs_later, too_many, judge}
+use Rattle.register_core.proofs.Filling.{past}
+
+pub record IsPassed (last keys : ℕ) (key : Option Held) (q : Request) : Type 0 where
+  pub in_time : behind last q.moment ≡ None
+  pub known : unknown key q.command ≡ None
+  pub owners : not_owner key q.caller q.command ≡ None
+  pub custodians : not_custodian key q.caller q.command ≡ None
+  pub state : wrong_state key q.moment q.command ≡ None
+  pub free : frozen key q.moment q.command ≡ None
+  pub fit : unfit key q.moment q.command ≡ None
+  pub new_custodian : already_custodian key q.command ≡ None
+  pub old_custodian : no_such_custodian key q.command ≡ None
+  pub room : too_many_custodians key q.command ≡ None
+  pub apart : owner_custodian key q.command ≡ None
+  pub new_approval : already_approved key q.caller q.command ≡ None
+  pub old_approval : no_approval key q.caller q.command ≡ None
+  pub approved : approvals_missing key q.command ≡ None
+  pub occurred : occurs_later q.moment q.command ≡ None
+  pub numbered : too_many keys q.command ≡ None
+
+pub passes : (last keys : ℕ) (key : Option Held) (q : Request) → judge last keys key q ≡ None → IsPassed last keys key q
+passes last keys key q accepted =
+    let entry = past _ _ accepted in
+    let in_time = past _ _ entry.here in
+    let known = past _ _ in_time.later in
+    let owners = past _ _ known.later in
+    let custodians = past _ _ owners.later in
+    let state = past _ _ custodians.later in
+    let free = past _ _ entry.later in
+    let fit = past _ _ free.later in
+    let custody = past _ _ fit.later in
+    let new_custodian = past _ _ custody.here in
+    let old_custodian = past _ _ new_custodian.later in
+    let room = past _ _ old_custodian.later in
+    let apart = past _ _ room.later in
+    let new_approval = past _ _ apart.later in
+    let old_approval = past _ _ new_approval.later in
+    let approved = past _ _ old_approval.later in
+    let occurred = past _ _ custody.later in
+    let numbered = past _ _ occurred.later in
+    record {
+      in_time = in_time.here;
+      known = known.here;
+      owners = owners.here;
+      custodians = custodians.here;
+      state = state.here;
+      free = free.here;
+      fit = fit.here;
+      new_custodian = new_custodian.here;
+      old_custodian = old_custodian.here;
+      room = room.here;
+      apart = apart.here;
+      new_approval = new_approval.here;
+      old_approval = old_approval.here;
+      approved = approved.here;
+      occurred = occurred.here;
+      numbered = numbered.here;
+    }

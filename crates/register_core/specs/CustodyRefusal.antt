@@ -1,0 +1,70 @@
+-- The refusals of custodians and of approvals, each where its condition holds.
+use Rattle.std.specs.Prelude.{ℕ, nat_lt, nat_le, List, [], ◌∷◌, Option, None, Some, length, if◌then◌else◌}
+use Rattle.std.specs.Str.{bytes_eq}
+use Rattle.period_core.specs.Fitting.{first_that_holds}
+use Rattle.register_core.specs.declared.request.Command.{Command}
+use Rattle.register_core.specs.declared.request.Command.TheVariants.{Assign, AddCustodian, RemoveCustodian, Approve, Withdraw, Destroy}
+use Rattle.register_core.specs.declared.view.Held.{Held}
+use Rattle.register_core.specs.declared.reply.Refusal.{Refusal}
+use Rattle.register_core.specs.declared.reply.Refusal.TheVariants.{AlreadyCustodian, NoSuchCustodian, TooManyCustodians, OwnerCustodian, AlreadyApproved, NoApproval, ApprovalsMissing}
+use Rattle.register_core.specs.Name.{is_among}
+
+-- the name to add is a custodian of the key already
+abbrev pub already_custodian : Option Held → Command → Option Refusal
+already_custodian (Some held) (AddCustodian key name) = if is_among name held.custodians then Some AlreadyCustodian else None
+already_custodian _ _ = None
+
+-- the name to remove is no custodian of the key
+abbrev pub no_such_custodian : Option Held → Command → Option Refusal
+no_such_custodian (Some held) (RemoveCustodian key name) = if is_among name held.custodians then None else Some NoSuchCustodian
+no_such_custodian _ _ = None
+
+-- how many custodians a key may have
+abbrev pub max_custodians : ℕ
+max_custodians = 8
+
+-- the key has that many
+abbrev pub too_many_custodians : Option Held → Command → Option Refusal
+too_many_custodians (Some held) (AddCustodian key name) = if nat_le max_custodians (length held.custodians) then Some TooManyCustodians else None
+too_many_custodians _ _ = None
+
+-- a custodian would be the owner, or the owner a custodian
+abbrev pub owner_custodian : Option Held → Command → Option Refusal
+owner_custodian (Some held) (AddCustodian key name) = if bytes_eq name held.owner then Some OwnerCustodian else None
+owner_custodian (Some held) (Assign key owner) = if is_among owner held.custodians then Some OwnerCustodian else None
+owner_custodian _ _ = None
+
+-- the caller approves, and its approval stands already
+abbrev pub already_approved : Option Held → List ℕ → Command → Option Refusal
+already_approved (Some held) caller (Approve key) = if is_among caller held.approvals then Some AlreadyApproved else None
+already_approved _ caller _ = None
+
+-- the caller withdraws, and no approval of its stands
+abbrev pub no_approval : Option Held → List ℕ → Command → Option Refusal
+no_approval (Some held) caller (Withdraw key) = if is_among caller held.approvals then None else Some NoApproval
+no_approval _ caller _ = None
+
+-- how many approvals the destruction of a key needs
+abbrev pub min_approvals : ℕ
+min_approvals = 2
+
+-- fewer approvals stand
+abbrev pub approvals_missing : Option Held → Command → Option Refusal
+approvals_missing (Some held) (Destroy key) =
+    let have = length held.approvals in if nat_lt have min_approvals then Some (ApprovalsMissing have min_approvals) else None
+approvals_missing _ _ = None
+
+-- each of these refusals, in order, where its condition holds
+abbrev pub custody_refusals : Option Held → List ℕ → Command → List (Option Refusal)
+custody_refusals key caller c =
+    already_custodian key c
+    ∷ no_such_custodian key c
+    ∷ too_many_custodians key c
+    ∷ owner_custodian key c
+    ∷ already_approved key caller c
+    ∷ no_approval key caller c
+    ∷ approvals_missing key c
+    ∷ []
+
+abbrev pub refused_custody : Option Held → List ℕ → Command → Option Refusal
+refused_custody key caller c = first_that_holds (custody_refusals key caller c)

@@ -1,0 +1,88 @@
+-- What a command does to a key: to its type, its owner, its dates and its custody.
+use Rattle.std.specs.Prelude.{ℕ, min, unwrap_or, ◌&&◌, List, Option, None, Some, is_none, if◌then◌else◌}
+use Rattle.lifecycle_core.specs.declared.dates.Dates.{Dates}
+use Rattle.lifecycle_core.specs.declared.row.Row.{Row}
+use Rattle.lifecycle_core.specs.State.{state_at}
+use Rattle.lifecycle_core.specs.Reason.{is_compromise}
+use Rattle.period_core.specs.declared.key_type.KeyType.{KeyType}
+use Rattle.period_core.specs.Fitting.{filled, trimmed}
+use Rattle.register_core.specs.declared.request.Command.{Command}
+use Rattle.register_core.specs.declared.request.Command.TheVariants.{Register, Activate, SetDates, Revoke, Assign, AddCustodian, RemoveCustodian, Approve, Withdraw, Destroy}
+use Rattle.register_core.specs.declared.request.Edit.{Edit}
+use Rattle.register_core.specs.declared.request.Edit.TheVariants.{Keep, Clear, Set}
+use Rattle.register_core.specs.declared.change.CustodyChange.{CustodyChange}
+use Rattle.register_core.specs.declared.change.CustodyChange.TheVariants.{Kept, CustodianAdded, CustodianRemoved, Approved, Withdrawn, ApprovalsEnded}
+use Rattle.register_core.specs.Subject.{Subject, Makes, Names, NoKey, subject}
+
+abbrev pub kind_by : KeyType → Subject → KeyType
+kind_by before (Makes registration) = registration.kind
+kind_by before (Names key) = before
+kind_by before NoKey = before
+
+-- the type after a command: a registration gives it, and nothing changes it
+abbrev pub kind_after : KeyType → Command → KeyType
+kind_after before c = kind_by before (subject c)
+
+-- the owner after a command
+abbrev pub owner_after : List ℕ → Command → List ℕ
+owner_after before (Register kind owner activation protect_stop deactivation purpose) = owner
+owner_after before (Assign key owner) = owner
+owner_after before _ = before
+
+-- ---- dates
+
+-- no date is set before a key is registered
+abbrev pub no_dates : Dates
+no_dates = record { initial = 0; activation = None; protect_stop = None; deactivation = None; destroy = None; compromise = None; compromise_occurrence = None }
+
+-- the dates that a registration at the moment t gives, before Fill
+abbrev pub given_dates : ℕ → Option ℕ → Option ℕ → Option ℕ → Dates
+given_dates t activation protect_stop deactivation =
+    record no_dates { initial = t; activation = activation; protect_stop = protect_stop; deactivation = deactivation }
+
+abbrev pub edited : Edit → Option ℕ → Option ℕ
+edited Keep before = before
+edited Clear before = None
+edited (Set date) before = Some date
+
+-- the dates with these edits, before Fill
+abbrev pub edited_dates : Edit → Edit → Edit → Dates → Dates
+edited_dates activation protect_stop deactivation d =
+    record d { activation = edited activation d.activation; protect_stop = edited protect_stop d.protect_stop; deactivation = edited deactivation d.deactivation }
+
+-- a date that is later than t becomes t
+abbrev pub no_later_than : ℕ → Option ℕ → Option ℕ
+no_later_than t None = None
+no_later_than t (Some date) = Some (min date t)
+
+-- a key that is compromised at t, with the occurrence that is given, or the Initial Date
+abbrev pub compromised : ℕ → Option ℕ → Dates → Dates
+compromised t occurrence d = record d { compromise = Some t; compromise_occurrence = Some (unwrap_or occurrence d.initial) }
+
+-- a key that is deactivated at t: its originator use ends no later
+abbrev pub deactivated : ℕ → Dates → Dates
+deactivated t d = record d { deactivation = Some t; protect_stop = no_later_than t d.protect_stop }
+
+-- the dates of a key of this type after a command at the moment t
+abbrev pub dates_after : KeyType → Dates → ℕ → Command → Dates
+dates_after of_type d t (Register kind owner activation protect_stop deactivation purpose) = filled kind (given_dates t activation protect_stop deactivation)
+dates_after of_type d t (Activate key) = trimmed of_type (record d { activation = Some t })
+dates_after of_type d t (SetDates key activation protect_stop deactivation) = filled of_type (edited_dates activation protect_stop deactivation d)
+dates_after of_type d t (Revoke key reason occurrence) = if is_compromise reason then compromised t occurrence d else deactivated t d
+dates_after of_type d t (Destroy key) = record d { destroy = Some t }
+dates_after of_type d t _ = d
+
+-- dates, with the state that they give at t
+abbrev pub row_at : Dates → ℕ → Row
+row_at d t = record { dates = d; state = state_at d t }
+
+-- ---- custody
+
+-- what becomes of the custody of a key with these dates, by a caller's command
+abbrev pub custody_change : Dates → List ℕ → Command → CustodyChange
+custody_change d caller (Revoke key reason occurrence) = if is_compromise reason && is_none d.destroy then ApprovalsEnded else Kept
+custody_change d caller (AddCustodian key name) = CustodianAdded name
+custody_change d caller (RemoveCustodian key name) = CustodianRemoved name
+custody_change d caller (Approve key) = Approved caller
+custody_change d caller (Withdraw key) = Withdrawn caller
+custody_change d caller _ = Kept

@@ -1,0 +1,158 @@
+//! What a command does to a key: to its dates, its owner and its custody.
+ghost use Rattle.std.specs.Prelude.{◌≡◌};
+ghost use Rattle.register_core.specs.Effect.{owner_after, given_dates, edited, edited_dates};
+ghost use Rattle.register_core.specs.Effect.{no_later_than, dates_after, row_at, custody_change};
+
+use crate::change::CustodyChange;
+use crate::name::Name;
+use crate::request::{Command, Edit};
+use lifecycle_core::{Dates, Row, state_of};
+use moment_core::Moment;
+use period_core::{KeyType, filled, trimmed};
+
+/// The dates that a registration at the moment gives a key, before Fill.
+pub fn given_dates(
+    at: Moment,
+    activation: Option<Moment>,
+    protect_stop: Option<Moment>,
+    deactivation: Option<Moment>,
+) -> Dates
+    ensures { result ≡ given_dates at activation protect_stop deactivation }
+{
+    Dates {
+        initial: at,
+        activation,
+        protect_stop,
+        deactivation,
+        destroy: None,
+        compromise: None,
+        compromise_occurrence: None,
+    }
+}
+
+/// The date after an edit.
+fn edited(edit: Edit, before: Option<Moment>) -> Option<Moment>
+    ensures { result ≡ edited edit before }
+{
+    match edit {
+        Edit::Keep => before,
+        Edit::Clear => None,
+        Edit::Set(date) => Some(date),
+    }
+}
+
+/// The dates after these edits, before Fill.
+pub(crate) fn edited_dates(
+    activation: Edit,
+    protect_stop: Edit,
+    deactivation: Edit,
+    dates: &Dates,
+) -> Dates
+    ensures { result ≡ edited_dates activation protect_stop deactivation dates.now }
+{
+    Dates {
+        activation: edited(activation, dates.activation),
+        protect_stop: edited(protect_stop, dates.protect_stop),
+        deactivation: edited(deactivation, dates.deactivation),
+        ..*dates
+    }
+}
+
+/// The dates with the state that they give at the moment.
+pub(crate) fn row_at(dates: Dates, at: Moment) -> Row
+    ensures { result ≡ row_at dates at }
+{
+    Row {
+        dates,
+        state: state_of(&dates, at),
+    }
+}
+
+/// The earlier of the date and the moment, where the date is set.
+fn no_later_than(at: Moment, date: Option<Moment>) -> Option<Moment>
+    ensures { result ≡ no_later_than at date }
+{
+    match date {
+        Some(date) if at < date => Some(at),
+        _ => date,
+    }
+}
+
+/// The dates of a key of this type after the command at the moment.
+pub(crate) fn dates_after(kind: KeyType, dates: &Dates, at: Moment, command: &Command) -> Dates
+    ensures { result ≡ dates_after kind dates.now at command.now }
+{
+    match *command {
+        Command::Register {
+            kind,
+            activation,
+            protect_stop,
+            deactivation,
+            ..
+        } => filled(
+            kind,
+            given_dates(at, activation, protect_stop, deactivation),
+        ),
+        Command::Activate { .. } => trimmed(
+            kind,
+            Dates {
+                activation: Some(at),
+                ..*dates
+            },
+        ),
+        Command::SetDates {
+            activation,
+            protect_stop,
+            deactivation,
+            ..
+        } => filled(
+            kind,
+            edited_dates(activation, protect_stop, deactivation, dates),
+        ),
+        Command::Revoke {
+            reason,
+            occurrence,
+            ..
+        } if reason.is_compromise() => Dates {
+            compromise: Some(at),
+            compromise_occurrence: Some(occurrence.unwrap_or(dates.initial)),
+            ..*dates
+        },
+        Command::Revoke { .. } => Dates {
+            deactivation: Some(at),
+            protect_stop: no_later_than(at, dates.protect_stop),
+            ..*dates
+        },
+        Command::Destroy { .. } => Dates {
+            destroy: Some(at),
+            ..*dates
+        },
+        _ => *dates,
+    }
+}
+
+/// What becomes of the custody of a key with these dates, by the caller's command.
+pub(crate) fn custody_change(dates: &Dates, caller: Name, command: &Command) -> CustodyChange
+    ensures { result ≡ custody_change dates.now caller command.now }
+{
+    match *command {
+        Command::Revoke { reason, .. } if reason.is_compromise() && dates.destroy.is_none() => {
+            CustodyChange::ApprovalsEnded
+        }
+        Command::AddCustodian { name, .. } => CustodyChange::CustodianAdded(name),
+        Command::RemoveCustodian { name, .. } => CustodyChange::CustodianRemoved(name),
+        Command::Approve { .. } => CustodyChange::Approved(caller),
+        Command::Withdraw { .. } => CustodyChange::Withdrawn(caller),
+        _ => CustodyChange::Kept,
+    }
+}
+
+/// The owner after the command.
+pub(crate) fn owner_after(before: Name, command: &Command) -> Name
+    ensures { result ≡ owner_after before command.now }
+{
+    match *command {
+        Command::Register { owner, .. } | Command::Assign { owner, .. } => owner,
+        _ => before,
+    }
+}

@@ -1,0 +1,31 @@
+//! What a decision rests on: the latest moment, the number of keys, and the key that the request
+//! names.
+use crate::name::Name;
+use crate::names::Names;
+use lifecycle_core::Row;
+use moment_core::Moment;
+use period_core::KeyType;
+
+/// A key as it stands at some moment.
+#[derive(Drop, Debug)]
+pub struct Held {
+    pub kind: KeyType,
+    pub owner: Name,
+    pub row: Row,
+    /// In order of their bytes.
+    pub custodians: Names,
+    /// Those whose approval of the key's destruction stands, in order of their bytes.
+    pub approvals: Names,
+}
+
+/// What a decision rests on.
+#[derive(Drop, Debug)]
+pub struct View {
+    /// The latest accepted moment.
+    pub latest: Moment,
+    /// How many keys were made.
+    pub keys: u32,
+    /// The key that the request names, as it stands at the latest moment; `None` where it names
+    /// none, or there is no such key.
+    pub key: Option<Held>,
+}

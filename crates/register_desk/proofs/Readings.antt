@@ -1,0 +1,112 @@
+-- Calls of a desk that only read, and calls that do nothing.
+use Rattle.std.proofs.Common.{◌≡◌, ◌≢◌, List, Result, Ok, Err, inl, inr, refl, sym, subst, ◌∙◌}
+use Rattle.sqlite_trees.specs.declared.store.Store as store
+use Rattle.sqlite.specs.State.{HasCleanDisk, IsUnchanged}
+use Rattle.sqlite.specs.Held.{Held, state}
+use Rattle.register_core.specs.declared.request.Request.{Request}
+use Rattle.register_store.specs.declared.error.StoreError.{StoreError}
+use Rattle.register_store.specs.declared.error.StoreError.TheVariants.{Database, Memory, NoRegister}
+use Rattle.register_store.specs.Reading.{ReadsBy}
+use Rattle.register_store.specs.Tables.{Tables, Holds}
+use Rattle.register_desk.specs.declared.desk.Desk.{Desk}
+use Rattle.register_desk.specs.declared.end.End.{End}
+use Rattle.register_desk.specs.declared.end.End.TheVariants as ends
+use Rattle.register_desk.specs.Leaving.{IsWhole, IsBroken, IsClean, EndsBy, ChangesNothing, LeavesHistory}
+use Rattle.register_desk.specs.Loading.{KeepsAll, KeepsCounts}
+use Rattle.register_desk.specs.Register.{tables, StandsFor, Keeps, Leaves}
+
+module _ {S : Type 0} (g : store.Ghosts S) where
+  -- what a desk stands for is a matter of its counts, and while it is whole of its connection
+  stands_as : (old new : Desk S g) (h : List Request) → StandsFor g old h → KeepsCounts old new → (IsWhole new → IsClean g new → Keeps (tables h) (state g new.connection)) → StandsFor g new h
+  stands_as old new h stands counts keeps = record { lawful = stands.lawful; latest_is = counts.latest ∙ stands.latest_is; keys_are = counts.keys ∙ stands.keys_are; keeps = keeps }
+
+  pub nothing_done : (desk : Desk S g) → ChangesNothing g desk desk
+  nothing_done desk = record { clean = λ clean. clean; stands = λ h stands. stands; stop = λ h stands whole clean. (stands.keeps whole clean).leaves }
+
+  -- a desk that breaks behind that
+  pub then_broken : (old mid new : Desk S g) → ChangesNothing g old mid → KeepsAll mid new → IsBroken new → ChangesNothing g old new
+  then_broken old mid new nothing same broken = record {
+    clean = λ clean. nothing.clean (subst (λ c. HasCleanDisk (state g c)) same.connection clean);
+    stands = λ h stands. stands_as mid new h (nothing.stands h stands) same.counts (λ whole clean. absurd (let both = sym broken ∙ whole in cc));
+    stop = λ h stands whole clean. subst (λ c. Leaves (tables h) (state g c)) (sym same.connection) (nothing.stop h stands whole (subst (λ c. HasCleanDisk (state g c)) same.connection clean));
+  }
+
+  -- ---- a reading of the store
+
+  module _ {T : Type 0} (Found : Tables → T → Type 0) (old new : Desk S g) (after : Held S) (r : Result T StoreError) (whole : IsWhole old) (reads : ReadsBy Found (state g old.connection) (state g after) r)
+      (same : new.connection ≡ after) (counts : KeepsCounts old new) where
+    early : IsClean g new → HasCleanDisk (state g after)
+    early clean = subst (λ c. HasCleanDisk (state g c)) same clean
+
+    kept_before : (h : List Request) → StandsFor g old h → IsClean g new → Keeps (tables h) (state g old.connection)
+    kept_before h stands clean = stands.keeps whole (reads.clean (early clean))
+
+    -- a stop leaves what it left before
+    leaves_still : (h : List Request) → StandsFor g old h → IsClean g new → LeavesHistory g h new
+    leaves_still h stands clean =
+        let kept = kept_before h stands clean in
+        let left : Leaves (tables h) (state g after) = λ trees may. elim ((reads.survives (early clean) (tables h) kept.holds).crash (early clean) trees may) [
+          | inl before ↦ kept.leaves trees before
+          | inr none ↦ absurd none
+        ] in
+        subst (λ c. Leaves (tables h) (state g c)) (sym same) left
+
+    -- where nothing was changed, the connection keeps what it kept
+    keeps_still : (h : List Request) → StandsFor g old h → IsClean g new → IsUnchanged (state g old.connection) (state g after) → Keeps (tables h) (state g new.connection)
+    keeps_still h stands clean unchanged =
+        let kept = kept_before h stands clean in
+        let shows = unchanged.0 in
+        let now : Keeps (tables h) (state g after) = record {
+          is_open = shows.is_open;
+          holds = subst (Holds (tables h)) (sym shows.now_is) kept.holds;
+          committed = shows.committed_is ∙ kept.committed ∙ sym shows.now_is;
+          leaves = subst (λ c. Leaves (tables h) (state g c)) same (leaves_still h stands clean);
+        } in
+        subst (λ c. Keeps (tables h) (state g c)) (sym same) now
+
+    only_read : (IsWhole new → (h : List Request) → StandsFor g old h → IsClean g new → IsUnchanged (state g old.connection) (state g after)) → ChangesNothing g old new
+    only_read unchanged = record {
+      clean = λ clean. reads.clean (early clean);
+      stands = λ h stands. stands_as old new h stands counts (λ still clean. keeps_still h stands clean (unchanged still h stands clean));
+      stop = λ h stands whole clean. leaves_still h stands clean;
+    }
+
+  -- what was found is of the tables of the history
+  module _ {T : Type 0} (Found : Tables → T → Type 0) (old : Desk S g) (after : Held S) (value : T) (whole : IsWhole old) (reads : ReadsBy Found (state g old.connection) (state g after) (Ok value))
+      (h : List Request) (stands : StandsFor g old h) (clean : HasCleanDisk (state g after)) where
+    found_so : Found (tables h) value × IsUnchanged (state g old.connection) (state g after)
+    found_so = reads.found clean (tables h) (stands.keeps whole (reads.clean clean)).holds
+
+    pub found_in : Found (tables h) value
+    found_in = found_so.0
+
+    unchanged_in : IsUnchanged (state g old.connection) (state g after)
+    unchanged_in = found_so.1
+
+  pub read_well : {T : Type 0} (Found : Tables → T → Type 0) (old new : Desk S g) (after : Held S) (value : T) → IsWhole old → ReadsBy Found (state g old.connection) (state g after) (Ok value)
+      → new.connection ≡ after → KeepsCounts old new → ChangesNothing g old new
+  read_well Found old new after value whole reads same counts = only_read Found old new after (Ok value) whole reads same counts
+      (λ still h stands clean. unchanged_in Found old after value whole reads h stands (subst (λ c. HasCleanDisk (state g c)) same clean))
+
+  -- the desk goes on only where memory gave out
+  pub read_failed : {T : Type 0} (Found : Tables → T → Type 0) (old new : Desk S g) (after : Held S) (error : StoreError) → IsWhole old → ReadsBy Found (state g old.connection) (state g after) (Err error)
+      → new.connection ≡ after → KeepsCounts old new → (IsWhole new → error ≡ Memory) → ChangesNothing g old new
+  read_failed Found old new after error whole reads same counts memory = only_read Found old new after (Err error) whole reads same counts
+      (λ still h stands clean.
+      let clean_after : HasCleanDisk (state g after) = subst (λ c. HasCleanDisk (state g c)) same clean in
+      reads.memory clean_after (tables h) (stands.keeps whole (reads.clean clean_after)).holds (memory still))
+
+-- ---- ends
+
+-- only want of memory leaves a desk whole
+pub whole_is_memory : {S : Type 0} {g : store.Ghosts S} (new : Desk S g) (error : StoreError) → (error ≢ Memory → IsBroken new) → IsWhole new → error ≡ Memory
+whole_is_memory new (Database e) broken whole = absurd (let is = broken (λ same. cc) in let both = sym is ∙ whole in cc)
+whole_is_memory new Memory broken whole = refl
+whole_is_memory new NoRegister broken whole = absurd (let is = broken (λ same. cc) in let both = sym is ∙ whole in cc)
+
+-- the end that an error of the store comes to
+pub ends_by_error : {S : Type 0} {g : store.Ghosts S} (old new : Desk S g) (error : StoreError) (end : End) → IsWhole old
+    → (error ≡ Memory → (end ≡ ends.Memory) × IsWhole new) → (error ≢ Memory → (end ≡ ends.Store) × IsBroken new) → EndsBy old new end
+ends_by_error old new (Database e) end whole memory refused = let it = refused (λ same. cc) in subst (EndsBy old new) (sym it.0) (whole, it.1)
+ends_by_error old new Memory end whole memory refused = let it = memory refl in subst (EndsBy old new) (sym it.0) (whole, it.1)
+ends_by_error old new NoRegister end whole memory refused = let it = refused (λ same. cc) in subst (EndsBy old new) (sym it.0) (whole, it.1)

@@ -1,0 +1,55 @@
+-- What the calls of a desk leave.
+use Rattle.std.specs.Prelude.{◌≡◌, true, false, List, Result, MatchResult}
+use Rattle.sqlite_trees.specs.declared.store.Store.{Ghosts}
+use Rattle.sqlite.specs.State.{HasCleanDisk}
+use Rattle.sqlite.specs.Held.{Held as Connection, state}
+use Rattle.register_core.specs.declared.request.Request.{Request}
+use Rattle.register_desk.specs.declared.desk.Desk.{Desk}
+use Rattle.register_desk.specs.declared.end.End.{End}
+use Rattle.register_desk.specs.declared.end.End.TheVariants.{Memory, Store, Broken, ReadFault, WriteFault}
+use Rattle.register_desk.specs.Register.{StandsFor, Leaves, LeavesOneOf, tables}
+
+module _ {S : Type 0} {g : Ghosts S} where
+  -- no call of the database was refused
+  abbrev pub IsWhole : Desk S g → Type 0
+  IsWhole desk = desk.is_broken ≡ false
+
+  -- one was, and no call uses the database any more
+  abbrev pub IsBroken : Desk S g → Type 0
+  IsBroken desk = desk.is_broken ≡ true
+
+  abbrev pub connection_of : Desk S g → Connection S
+  connection_of desk = desk.connection
+
+  -- ---- ends
+
+  -- each end comes of one kind of desk and leaves one
+  abbrev pub EndsBy : Desk S g → Desk S g → End → Type 0
+  EndsBy old new Memory = IsWhole old × IsWhole new
+  EndsBy old new Store = IsWhole old × IsBroken new
+  EndsBy old new Broken = IsBroken old × (new ≡ old)
+  EndsBy old new ReadFault = ⊥
+  EndsBy old new WriteFault = ⊥
+
+  -- a call that uses the database: an answer comes of a whole desk and leaves it whole, and an end as it says
+  abbrev pub Ends : {T : Type 0} → Desk S g → Desk S g → Result T End → Type 0
+  Ends old new result = MatchResult result (λ _. IsWhole old × IsWhole new) (EndsBy old new)
+
+-- the disk has given back what was written
+abbrev pub IsClean : {S : Type 0} → (g : Ghosts S) → Desk S g → Type 0
+IsClean g desk = HasCleanDisk (state g desk.connection)
+
+-- ---- what stands, and what a stop leaves
+
+-- a stop leaves the register of this history, or of one of these two
+abbrev pub LeavesHistory : {S : Type 0} → (g : Ghosts S) → List Request → Desk S g → Type 0
+LeavesHistory g h desk = Leaves (tables h) (state g desk.connection)
+
+abbrev pub LeavesEither : {S : Type 0} → (g : Ghosts S) → List Request → List Request → Desk S g → Type 0
+LeavesEither g h other desk = LeavesOneOf h other (state g desk.connection)
+
+-- the call changed nothing: the desk stands for what it stood for, and so does what a stop leaves
+pub record ChangesNothing {S : Type 0} (g : Ghosts S) (old new : Desk S g) : Type 0 where
+  pub clean : IsClean g new → IsClean g old
+  pub stands : (h : List Request) → StandsFor g old h → StandsFor g new h
+  pub stop : (h : List Request) → StandsFor g old h → IsWhole old → IsClean g new → LeavesHistory g h new

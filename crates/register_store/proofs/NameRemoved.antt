@@ -1,0 +1,180 @@
+-- What the DELETEs of custodians and of approvals do.
+use Rattle.std.proofs.Common.{◌≡◌, ◌⊎◌, inl, inr, ◌&&◌, ◌||◌, ℕ, pos, List, [], ◌∷◌, codes, drop, filter, not, Bool, true, false, Some, Ok, refl, sym, ap, subst, ◌∙◌, arith}
+use Rattle.std.specs.List.{AllByRecursion}
+use Rattle.sqlite.specs.declared.types.Value.TheVariants.{Null, Int}
+use Rattle.sqlite.specs.Command.TheVariants.{Delete}
+use Rattle.sqlite.specs.Effect.{Database}
+use Rattle.sqlite.specs.Listing.{understood}
+use Rattle.sqlite.specs.Order.{Row as Cells}
+use Rattle.sqlite.specs.Schema.{Schema}
+use Rattle.sqlite.specs.State.{State, Executes}
+use Rattle.sqlite.specs.Term.{Term}
+use Rattle.sqlite.proofs.Callers.{IsPlain, command_of}
+use Rattle.sqlite_rules.proofs.ListLemmas.{all_has, some_has}
+use Rattle.sqlite_rules.specs.Action.{loses}
+use Rattle.sqlite_rules.specs.Lists.{Has}
+use Rattle.sqlite_schema.specs.Names.{same_name}
+use Rattle.sqlite_schema.specs.Rules.{agree, has_null, is_held, parent_key, passes, Keeps}
+use Rattle.sqlite_schema.specs.declared.schema.Constraint.TheVariants.{ForeignKey}
+use Rattle.sqlite_schema.specs.declared.schema.Index.{Index}
+use Rattle.sqlite_tied.specs.Compute.{everything}
+use Rattle.sqlite_value.specs.Keys.{joined, plain}
+use Rattle.sqlite.specs.Table.{Table}
+use Rattle.sql_steps.proofs.Deletes.{ids_shown}
+use Rattle.sql_steps.proofs.Orphans.{removes_both}
+use Rattle.sql_steps.proofs.Removing.{removes}
+use Rattle.sql_steps.proofs.Statements.{plain_query, is_picked}
+use Rattle.register_core.specs.KeyName.{KeyName, key_name, is_key_name, is_at}
+use Rattle.register_store.specs.declared.custody.Role.{Role}
+use Rattle.register_store.specs.declared.custody.Role.TheVariants as role
+use Rattle.register_store.specs.declared.table.TableName.{TableName}
+use Rattle.register_store.specs.declared.table.TableName.TheVariants.{Meta, Keys, Custodian, Approval}
+use Rattle.register_store.specs.Roles.{delete_text, without_role}
+use Rattle.register_store.specs.Schema.{custodian, approval, to_custodian, schema_with, place_of, tree_of}
+use Rattle.register_store.specs.Tables.{Tables, Holds, Makes, Always, ShowsNames, Shows, IsInRange, content, name_cells, rows_of, without_custodian, without_approval, without_approvals, without_name}
+use Rattle.register_store.proofs.Actions.{approval_idle, custodian_drops}
+use Rattle.register_store.proofs.Frame.{holds_with, listed, rows_kept}
+use Rattle.register_store.proofs.NameRows.{entry_of, names_left, shows_filtered}
+use Rattle.register_store.proofs.NameTests.{at_key, at_name, places, key_past, key_is, name_past, name_is, same_cells, agree_same, loses_name}
+
+-- the text takes rows that pass out of the table at this place
+abbrev IsDelete : List ℕ → TableName → List Term → Type 0
+IsDelete sql name passes = (more : List Index)
+    → (command_of (understood (schema_with more) sql) ≡ Delete (place_of name) (record { lets = []; body = plain_query (tree_of name) passes ids_shown })) × IsPlain (understood (schema_with more) sql)
+
+-- ---- approvals alone
+
+-- the approvals of which the test holds go
+module _ (sql : List ℕ) (params : Cells) (at : List Term) (parts : IsDelete sql Approval at) (q : KeyName → Bool)
+    (past : (r : Cells) → is_picked params (tree_of Approval) at ids_shown r ≡ is_picked params (tree_of Approval) at ids_shown (Null ∷ drop 1 r))
+    (each : (entry : KeyName) → is_picked params (tree_of Approval) at ids_shown (Null ∷ name_cells entry) ≡ q entry) where
+  abbrev left : Tables → Tables
+  left t = record t { approvals = filter (λ entry. not (q entry)) t.approvals }
+
+  drops_approvals : (old new : State) (count : ℕ) → Executes sql params old new (Ok count) → Makes Always left old.now new.now
+  drops_approvals old new count h t holds always =
+      let more = holds.schema.more in
+      let shown = holds.shown Approval in
+      let wrote = removes approval params at sql (schema_with more) (place_of Approval) refl (parts more).0 (parts more).1 (approval_idle more 0) (λ db. refl) old new count h holds.schema.is shown.ordered shown.counted in
+      let rows = shows_filtered (λ r. not (is_picked params (tree_of Approval) at ids_shown r)) (λ entry. not (q entry)) (λ r. ap not (past r)) (λ entry. ap not (each entry)) t.approvals (rows_of Approval old.now) shown in
+      holds_with Approval (left t).approvals t old.now new.now _ holds wrote (names_left (λ entry. not (q entry)) t.approvals (holds.in_range Approval)) rows
+
+approval_parts : IsDelete (delete_text role.Approver) Approval at_name
+unfolding understood everything
+approval_parts more = (refl, (refl, refl))
+
+removes_approval : (key : ℕ) (name : List ℕ) (old new : State) (count : ℕ) → Executes (delete_text role.Approver) (name_cells (key_name key name)) old new (Ok count) → Makes Always (without_approval key name) old.now new.now
+removes_approval key name = drops_approvals (delete_text role.Approver) (name_cells (key_name key name)) at_name approval_parts (is_key_name key name)
+    (name_past (tree_of Approval) ids_shown key name) (name_is (tree_of Approval) ids_shown key name)
+
+abbrev pub approvals_text : List ℕ
+approvals_text = codes "DELETE FROM approval WHERE key_no = ?1"
+
+approvals_parts : IsDelete approvals_text Approval at_key
+unfolding understood everything
+approvals_parts more = (refl, (refl, refl))
+
+pub removes_approvals : (key : ℕ) (old new : State) (count : ℕ) → Executes approvals_text (Int (pos key) ∷ []) old new (Ok count) → Makes Always (without_approvals key) old.now new.now
+removes_approvals key = drops_approvals approvals_text (Int (pos key) ∷ []) at_key approvals_parts (is_at key) (key_past (tree_of Approval) ids_shown key) (key_is (tree_of Approval) ids_shown key)
+
+-- ---- custodians, and with each the approval
+
+custodian_parts : IsDelete (delete_text role.Custodian) Custodian at_name
+unfolding understood everything
+custodian_parts more = (refl, (refl, refl))
+
+parent_is : (more : List Index) → parent_key (schema_with more).tables to_custodian ≡ Some (tree_of Custodian, places, plain)
+unfolding same_name joined
+parent_is more = refl
+
+null_past : (r : Cells) → has_null places r ≡ has_null places (Null ∷ drop 1 r)
+null_past [] = refl
+null_past (v ∷ vs) = refl
+
+stands : (a b : Bool) → a ≡ false → ((a || b) && true) ≡ true → b ≡ true
+stands true b none e = absurd (cc)
+stands false true none e = refl
+stands false false none e = absurd (cc)
+
+-- whoever approves is a custodian
+approver : (db : Database) (t : Tables) → Holds t db → (r : Cells) → Has (rows_of Approval db) r → (x : Cells) × Has (rows_of Custodian db) x × (drop 1 r ≡ drop 1 x)
+approver db t holds r h =
+    let more = holds.schema.more in
+    let a = entry_of t.approvals (rows_of Approval db) (holds.shown Approval) r h in
+    let rules = subst (λ (s : Schema). Keeps ForeignKey s db.trees) holds.schema.is (holds.sound.obeys.rules ForeignKey) in
+    let each = all_has (λ (table : Table). AllByRecursion (λ row. passes ForeignKey (schema_with more) db.trees table row ≡ true) (db.trees table.tree)) (schema_with more).tables approval rules (listed more Approval) in
+    let passing = all_has (λ row. passes ForeignKey (schema_with more) db.trees approval row ≡ true) (rows_of Approval db) r each h in
+    let full : has_null places r ≡ false = null_past r ∙ ap (λ cells. has_null places (Null ∷ cells)) a.1 in
+    let held = stands _ _ full (subst (λ key. ((has_null places r || is_held db.trees places r key) && true) ≡ true) (parent_is more) passing) in
+    let x = some_has (λ parent. agree plain places parent places r) (rows_of Custodian db) held in
+    let b = entry_of t.custodians (rows_of Custodian db) (holds.shown Custodian) x.0 x.1 in
+    (x.0, x.1, sym (same_cells x.0 r b.0 a.0 b.1 a.1 x.2))
+
+module _ (key : ℕ) (name : List ℕ) where
+  abbrev params : Cells
+  params = name_cells (key_name key name)
+
+  abbrev passing : Cells → Bool
+  passing = is_picked params (tree_of Custodian) at_name ids_shown
+
+  past : (r : Cells) → passing r ≡ passing (Null ∷ drop 1 r)
+  past = name_past (tree_of Custodian) ids_shown key name
+
+  same_test : (r x : Cells) → drop 1 r ≡ drop 1 x → passing r ≡ passing x
+  same_test r x same = past r ∙ ap (λ cells. passing (Null ∷ cells)) same ∙ sym (past x)
+
+  module _ (db : Database) (t : Tables) (holds : Holds t db) where
+    from_custodian : (r : Cells) → Has (rows_of Approval db) r → passing r ≡ true
+        → (x : Cells) × Has (rows_of Custodian db) x × (passing x ≡ true) × (loses plain places (x, []) ≡ true) × (agree plain places r places x ≡ true)
+    from_custodian r h is =
+        let x = approver db t holds r h in
+        let a = entry_of t.approvals (rows_of Approval db) (holds.shown Approval) r h in
+        let of_x = sym x.2 ∙ a.1 in
+        (x.0, x.1, sym (same_test r x.0 x.2) ∙ is, loses_name x.0 a.0 of_x, agree_same r x.0 a.0 a.1 of_x)
+
+    of_custodian : (r x : Cells) → Has (rows_of Approval db) r → Has (rows_of Custodian db) x → passing x ≡ true → agree plain places r places x ≡ true → passing r ≡ true
+    of_custodian r x h k is agrees =
+        let a = entry_of t.approvals (rows_of Approval db) (holds.shown Approval) r h in
+        let b = entry_of t.custodians (rows_of Custodian db) (holds.shown Custodian) x k in
+        same_test r x (same_cells r x a.0 b.0 a.1 b.1 agrees) ∙ is
+
+  without : (entries : List KeyName) (rows : List Cells) → ShowsNames entries rows → ShowsNames (without_name key name entries) (filter (λ r. not (passing r)) rows)
+  without entries rows shows = shows_filtered (λ r. not (passing r)) (λ entry. not (is_key_name key name entry)) (λ r. ap not (past r)) (λ entry. ap not (name_is (tree_of Custodian) ids_shown key name entry)) entries rows shows
+
+  removes_custodian : (old new : State) (count : ℕ) → Executes (delete_text role.Custodian) params old new (Ok count) → Makes Always (without_custodian key name) old.now new.now
+  removes_custodian old new count h t holds always =
+      let more = holds.schema.more in
+      let custodians = holds.shown Custodian in
+      let approvals = holds.shown Approval in
+      let did = removes_both (schema_with more) custodian approval to_custodian places plain params at_name (delete_text role.Custodian) (place_of Custodian) refl (custodian_parts more).0 (custodian_parts more).1
+      (custodian_drops more) (approval_idle more 1) (λ db. refl) (listed more Custodian) (listed more Approval) (omega arith) old new count h holds.schema.is
+      custodians.ordered custodians.counted approvals.ordered approvals.counted passing (from_custodian old.now t holds) (of_custodian old.now t holds) in
+      let other = rows_kept more (λ (tree : ℕ). (tree ≡ tree_of Custodian) ⊎ (tree ≡ tree_of Approval)) old.now new.now did.kept in
+      record {
+        schema = record { more = more; is = did.kept.schema_is };
+        sound = did.kept.sound;
+        in_range = in_range;
+        shown = shown (subst (ShowsNames (without_name key name t.custodians)) (sym did.parents_are) (without t.custodians (rows_of Custodian old.now) custodians))
+            (subst (ShowsNames (without_name key name t.approvals)) (sym did.children_are) (without t.approvals (rows_of Approval old.now) approvals))
+            (other Meta (λ written. elim written [ inl e ↦ absurd (omega arith) | inr e ↦ absurd (omega arith) ]) ∙ holds.shown Meta)
+            (other Keys (λ written. elim written [ inl e ↦ absurd (omega arith) | inr e ↦ absurd (omega arith) ]) ∙ holds.shown Keys);
+      }
+    where
+      in_range : (n : TableName) → IsInRange n (content n (without_custodian key name t))
+      in_range Custodian = names_left (λ entry. not (is_key_name key name entry)) t.custodians (holds.in_range Custodian)
+      in_range Approval = names_left (λ entry. not (is_key_name key name entry)) t.approvals (holds.in_range Approval)
+      in_range Meta = holds.in_range Meta
+      in_range Keys = holds.in_range Keys
+
+      shown : Shows Custodian (without_custodian key name t).custodians (rows_of Custodian new.now) → Shows Approval (without_custodian key name t).approvals (rows_of Approval new.now)
+          → Shows Meta t.counts (rows_of Meta new.now) → Shows Keys t.keys (rows_of Keys new.now) → (n : TableName) → Shows n (content n (without_custodian key name t)) (rows_of n new.now)
+      shown custodians approvals counts keys Custodian = custodians
+      shown custodians approvals counts keys Approval = approvals
+      shown custodians approvals counts keys Meta = counts
+      shown custodians approvals counts keys Keys = keys
+
+-- ---- either
+
+pub removes_name : (role : Role) (key : ℕ) (name : List ℕ) (old new : State) (count : ℕ) → Executes (delete_text role) (name_cells (key_name key name)) old new (Ok count) → Makes Always (without_role role key name) old.now new.now
+removes_name role.Custodian key name = removes_custodian key name
+removes_name role.Approver key name = removes_approval key name

@@ -1,0 +1,140 @@
+-- What the searches for the names of a key's custodians and approvals find.
+use Rattle.std.proofs.Common.{◌≡◌, ℕ, pos, List, [], ◌∷◌, map, filter, drop, codes, Bool, false, Result, Ok, Err, IfOk, refl, sym, ap, subst, ◌∙◌}
+use Rattle.std.proofs.lemmas.List.Sorted.{IsPermutation-map, IsPermutation-sym, IsPermutation-trans}
+use Rattle.std.specs.List.Sorted.{IsPermutation}
+use Rattle.sqlite.specs.declared.error.Error.{Error}
+use Rattle.sqlite.specs.declared.types.Value.{Value}
+use Rattle.sqlite.specs.declared.types.Value.TheVariants.{Null, Int, Text as Words}
+use Rattle.sqlite.specs.Command.TheVariants.{Select}
+use Rattle.sqlite.specs.Listing.{understood, reads_listing}
+use Rattle.sqlite.specs.Order.{Row as Cells, column}
+use Rattle.sqlite.specs.Program.{overlay}
+use Rattle.sqlite.specs.State.{State, HasCleanDisk, Shown, IsUnchanged, Survives, CommitsShowing}
+use Rattle.sqlite.specs.Term.{Term, col}
+use Rattle.sqlite.specs.Tree.{Trees}
+use Rattle.sqlite.proofs.Callers.{IsPlain, command_of}
+use Rattle.sqlite_schema.specs.declared.schema.Index.{Index}
+use Rattle.sqlite_tied.specs.Compute.{everything}
+use Rattle.sqlite_trees.proofs.ListLemmas.{map-map}
+use Rattle.sql_steps.proofs.Queries.{gives_all, only_reads}
+use Rattle.sql_steps.proofs.Statements.{plain_query, picked, is_picked}
+use Rattle.register_core.specs.KeyName.{KeyName, is_at, names_at}
+use Rattle.register_core.specs.Names.{sorted_names}
+use Rattle.register_store.specs.declared.error.StoreError.{StoreError}
+use Rattle.register_store.specs.declared.error.StoreError.TheVariants.{Database}
+use Rattle.register_store.specs.declared.custody.Role.{Role}
+use Rattle.register_store.specs.declared.custody.Role.TheVariants as role
+use Rattle.register_store.specs.declared.table.TableName.TheVariants.{Custodian, Approval}
+use Rattle.register_store.specs.Roles.{names_of, select_text}
+use Rattle.register_store.specs.Reading.{AreNamesOf, ReadsBy}
+use Rattle.register_store.specs.Schema.{schema_with, tree_of}
+use Rattle.register_store.specs.Tables.{Tables, Holds, ShowsNames, name_cells}
+use Rattle.register_store.proofs.NameRows.{cells_filtered}
+use Rattle.register_store.proofs.NameTests.{at_key, key_past, key_is}
+use Rattle.register_store.proofs.Readings.{at_memory, no_memory, reads_by}
+
+-- ---- names in cells
+
+words_in : Value → List ℕ
+words_in (Words name) = name
+words_in _ = []
+
+back : (names : List (List ℕ)) → map words_in (map Words names) ≡ names
+unfolding words_in
+back [] = refl
+back (name ∷ names) = ap (λ others. name ∷ others) (back names)
+
+-- the cells of names determine them, but for their order
+pub same_names : (names others : List (List ℕ)) → IsPermutation (map Words names) (map Words others) → IsPermutation names others
+same_names names others same = subst (λ l. IsPermutation l others) (back names) (subst (IsPermutation (map words_in (map Words names))) (back others) (IsPermutation-map words_in _ _ same))
+
+-- names that are put in order are those that the rows show
+pub sorted_so : (rows : List Cells) (names sorted : List (List ℕ)) → map (λ row. column row 0) rows ≡ map Words names → ((others : List (List ℕ)) → IsPermutation names others → sorted ≡ sorted_names others)
+    → (others : List (List ℕ)) → IsPermutation (map (λ row. column row 0) rows) (map Words others) → sorted ≡ sorted_names others
+sorted_so rows names sorted are sorts others shown = sorts others (same_names names others (subst (λ cells. IsPermutation cells (map Words others)) are shown))
+
+-- ---- the rows of the answer
+
+abbrev pub name_shown : List Term
+name_shown = col 1 2 ∷ []
+
+abbrev pub name_column : List (List ℕ)
+name_column = codes "name" ∷ []
+
+-- the text asks for the names at a key in a table
+pub record IsSearch (sql : List ℕ) (tree : ℕ) : Type 0 where
+  pub is : (more : List Index) → command_of (understood (schema_with more) sql) ≡ Select (record { lets = []; body = plain_query tree at_key name_shown }) name_column
+  pub plain : (more : List Index) → IsPlain (understood (schema_with more) sql)
+  pub unlisted : (more : List Index) → reads_listing (schema_with more) sql ≡ false
+  pub low : (db : Trees) → overlay db [] tree ≡ db tree
+
+module _ (sql : List ℕ) (tree : ℕ) (search_is : IsSearch sql tree) (key : ℕ) where
+  abbrev pub params : Cells
+  params = Int (pos key) ∷ []
+
+  abbrev passing : Cells → Bool
+  passing = is_picked params tree at_key name_shown
+
+  -- the cell of the name, past the rowid
+  second : (rows : List Cells) → map (λ (r : Cells). column r 2) rows ≡ map (λ (cells : Cells). column cells 1) (map (drop 1) rows)
+  second [] = refl
+  second ([] ∷ rows) = ap (λ others. Null ∷ others) (second rows)
+  second ((v ∷ vs) ∷ rows) = ap (λ others. column vs 1 ∷ others) (second rows)
+
+  -- the names at the key
+  found_names : (entries : List KeyName) (rows : List Cells) → ShowsNames entries rows → IsPermutation (map (λ row. column row 0) (picked params tree at_key name_shown rows)) (map Words (names_at key entries))
+  found_names entries rows shows =
+      let left : map (λ row. column row 0) (picked params tree at_key name_shown rows) ≡ map (λ (cells : Cells). column cells 1) (map (drop 1) (filter passing rows)) =
+      map-map _ _ (filter passing rows) ∙ second (filter passing rows) in
+      let right : map (λ (cells : Cells). column cells 1) (map name_cells (filter (is_at key) entries)) ≡ map Words (names_at key entries) =
+      map-map _ name_cells (filter (is_at key) entries) ∙ sym (map-map Words (λ (entry : KeyName). entry.name) (filter (is_at key) entries)) in
+      subst (λ l. IsPermutation l (map Words (names_at key entries))) (sym left)
+      (subst (IsPermutation (map (λ (cells : Cells). column cells 1) (map (drop 1) (filter passing rows)))) right
+      (IsPermutation-map (λ (cells : Cells). column cells 1) _ _ (cells_filtered passing (is_at key) (key_past tree name_shown key) (key_is tree name_shown key) entries rows shows.cells)))
+
+  module _ (entries_of : Tables → List KeyName) (shown : (t : Tables) (old : State) → Holds t old.now → ShowsNames (entries_of t) (old.now.trees tree)) (old new : State)
+      (survives : Survives old new (CommitsShowing sql params old)) where
+    abbrev Found : Tables → List (List ℕ) → Type 0
+    Found t names = names ≡ sorted_names (names_at key (entries_of t))
+
+    -- an answer leaves all as it was
+    unchanged_so : (t : Tables) → Holds t old.now → (rows : List Cells) → Shown sql params old new rows → IsUnchanged old new
+    unchanged_so t holds rows asked =
+        let more = holds.schema.more in
+        only_reads sql params old new (schema_with more) holds.schema.is tree at_key name_shown name_column (search_is.is more) (search_is.plain more) (search_is.unlisted more) (search_is.low old.now.trees) rows asked
+
+    -- what is read of it is the names, in order
+    found_so : (t : Tables) → Holds t old.now → (rows : List Cells) (q : Result (List (List ℕ)) StoreError) → IfOk q (AreNamesOf rows) → Shown sql params old new rows
+        → IfOk q (λ names. Found t names × IsUnchanged old new)
+    found_so t holds rows (Err e) reads asked = tt
+    found_so t holds rows (Ok names) reads asked =
+        let more = holds.schema.more in
+        let all = gives_all sql params old new (schema_with more) holds.schema.is tree at_key name_shown name_column (search_is.is more) (search_is.plain more) (search_is.unlisted more)
+        (search_is.low old.now.trees) rows asked in
+        let same = IsPermutation-trans _ _ _ (IsPermutation-sym _ _ (IsPermutation-map (λ (row : Cells). column row 0) _ _ all)) (found_names (entries_of t) (old.now.trees tree) (shown t old holds)) in
+        (reads (names_at key (entries_of t)) same, unchanged_so t holds rows asked)
+
+    -- the rows were given
+    pub names_read : (rows : List Cells) (q : Result (List (List ℕ)) StoreError) → IfOk q (AreNamesOf rows) → (HasCleanDisk new → Shown sql params old new rows) → ReadsBy Found old new q
+    names_read rows q reads asked = reads_by sql params search_is.plain old new survives Found q
+        (λ clean t holds. found_so t holds rows q reads (asked clean)) (λ clean t holds. at_memory q (IsUnchanged old new) (unchanged_so t holds rows (asked clean)))
+
+    -- the database refused
+    pub names_refused : (error : Error) → ReadsBy Found old new (Err (Database error))
+    names_refused error = reads_by sql params search_is.plain old new survives Found (Err (Database error)) (λ clean t holds. tt)
+        (λ clean t holds. no_memory {A = List (List ℕ)} (Err (Database error)) (IsUnchanged old new) (λ e. cc))
+
+-- ---- the two tables
+
+abbrev pub tree_at : Role → ℕ
+tree_at role.Custodian = tree_of Custodian
+tree_at role.Approver = tree_of Approval
+
+pub select_is : (role : Role) → IsSearch (select_text role) (tree_at role)
+unfolding understood everything
+select_is role.Custodian = record { is = λ more. refl; plain = λ more. (refl, refl); unlisted = λ more. refl; low = λ db. refl }
+select_is role.Approver = record { is = λ more. refl; plain = λ more. (refl, refl); unlisted = λ more. refl; low = λ db. refl }
+
+pub names_shown : (role : Role) (t : Tables) (old : State) → Holds t old.now → ShowsNames (names_of role t) (old.now.trees (tree_at role))
+names_shown role.Custodian t old holds = holds.shown Custodian
+names_shown role.Approver t old holds = holds.shown Approval

@@ -1,0 +1,83 @@
+-- What calls that only read do, one by one and one after the other.
+use Rattle.std.proofs.Common.{◌≡◌, ◌≢◌, ℕ, List, Result, Ok, Err, IfOk, IfErr, sym, subst, ◌∙◌, arith}
+use Rattle.std.specs.Prelude.{IsErrAnd}
+use Rattle.sqlite.specs.Listing.{understood}
+use Rattle.sqlite.specs.Order.{Row as Cells}
+use Rattle.sqlite.specs.State.{State, HasCleanDisk, IsUnchanged, Survives, CommitsShowing}
+use Rattle.sqlite.proofs.Callers.{IsPlain, never_commits, unchanged_then}
+use Rattle.sqlite.proofs.StateLemmas.{survives_then, survives_weaker}
+use Rattle.sqlite_schema.specs.declared.schema.Index.{Index}
+use Rattle.register_store.specs.declared.error.StoreError.{StoreError}
+use Rattle.register_store.specs.declared.error.StoreError.TheVariants.{Memory}
+use Rattle.register_store.specs.Reading.{ReadsBy}
+use Rattle.register_store.specs.Schema.{schema_with}
+use Rattle.register_store.specs.Tables.{Tables, Holds}
+
+-- what holds anyhow holds where memory gave out
+pub at_memory : {A : Type 0} (r : Result A StoreError) (P : Type 0) → P → IfErr r (λ error. error ≡ Memory → P)
+at_memory (Ok x) P holds = tt
+at_memory (Err error) P holds = λ is. holds
+
+-- what never gives that answer claims nothing of it
+pub no_memory : {A : Type 0} (r : Result A StoreError) (P : Type 0) → IfErr r (λ error. error ≢ Memory) → IfErr r (λ error. error ≡ Memory → P)
+no_memory (Ok x) P other = tt
+no_memory (Err error) P other = λ is. absurd (other is)
+
+-- ---- one query
+
+-- a query whose text is plain under each of a register's schemas commits nothing
+module _ (sql : List ℕ) (params : Cells) (plain : (more : List Index) → IsPlain (understood (schema_with more) sql)) (old new : State) (survives : Survives old new (CommitsShowing sql params old)) where
+  commits_none : (t : Tables) → Holds t old.now → Survives old new (λ _. ⊥)
+  commits_none t holds =
+      let bare = subst (λ s. IsPlain (understood s sql)) (sym holds.schema.is) (plain holds.schema.more) in
+      survives_weaker old new (CommitsShowing sql params old) (λ _. ⊥) (λ _ db commits. never_commits sql params old db bare commits) survives
+
+  pub reads_by : {T : Type 0} (Found : Tables → T → Type 0) (q : Result T StoreError)
+      → (HasCleanDisk new → (t : Tables) → Holds t old.now → IfOk q (λ value. Found t value × IsUnchanged old new))
+      → (HasCleanDisk new → (t : Tables) → Holds t old.now → IfErr q (λ error. error ≡ Memory → IsUnchanged old new)) → ReadsBy Found old new q
+  reads_by Found q found memory = record { found = found; memory = memory; clean = λ clean. omega (arith, survives.clean); survives = λ clean. commits_none }
+
+-- ---- one reading after another
+
+-- another value
+pub reads_as : {A B : Type 0} (First : Tables → A → Type 0) (Next : Tables → B → Type 0) (old new : State) (x : A) (y : B) → ((t : Tables) → First t x → Next t y)
+    → ReadsBy First old new (Ok x) → ReadsBy Next old new (Ok y)
+reads_as First Next old new x y weaker one = record {
+  found = λ clean t holds. let it = one.found clean t holds in (weaker t it.0, it.1);
+  memory = λ clean t holds. tt;
+  clean = one.clean;
+  survives = one.survives;
+}
+
+-- a failure, whatever was to be found
+pub reads_fail : {A B : Type 0} (First : Tables → A → Type 0) (Next : Tables → B → Type 0) (old new : State) (e : StoreError) (q : Result B StoreError) → IsErrAnd q (λ x. x ≡ e)
+    → ReadsBy First old new (Err e) → ReadsBy Next old new q
+reads_fail First Next old new e (Ok y) failed one = absurd failed
+reads_fail First Next old new e (Err x) same one = record {
+  found = λ clean t holds. tt;
+  memory = λ clean t holds memory. one.memory clean t holds (sym same ∙ memory);
+  clean = one.clean;
+  survives = one.survives;
+}
+
+module _ {A B : Type 0} (First : Tables → A → Type 0) (Next : Tables → B → Type 0) (a b c : State) (x : A) (r : Result B StoreError) (one : ReadsBy First a b (Ok x)) (two : ReadsBy Next b c r) where
+  -- the tables are still held
+  held : HasCleanDisk c → (t : Tables) → Holds t a.now → Holds t b.now
+  held clean t holds = let same = (one.found (two.clean clean) t holds).1 in subst (Holds t) (sym same.0.now_is) holds
+
+  joined : (r : Result B StoreError) (t : Tables) → First t x × IsUnchanged a b → IfOk r (λ y. Next t y × IsUnchanged b c) → IfOk r (λ y. (First t x × Next t y) × IsUnchanged a c)
+  joined (Ok y) t first next = ((first.0, next.0), unchanged_then a b c first.1 next.1)
+  joined (Err e) t first next = tt
+
+  lost : (r : Result B StoreError) → IsUnchanged a b → IfErr r (λ error. error ≡ Memory → IsUnchanged b c) → IfErr r (λ error. error ≡ Memory → IsUnchanged a c)
+  lost (Ok y) first next = tt
+  lost (Err e) first next = λ is. unchanged_then a b c first (next is)
+
+  pub reads_then : ReadsBy (λ t y. First t x × Next t y) a c r
+  reads_then = record {
+    found = λ clean t holds. joined r t (one.found (two.clean clean) t holds) (two.found clean t (held clean t holds));
+    memory = λ clean t holds. lost r (one.found (two.clean clean) t holds).1 (two.memory clean t (held clean t holds));
+    clean = λ clean. one.clean (two.clean clean);
+    survives = λ clean t holds. survives_then a b c (λ _. ⊥) (λ _. ⊥) (λ _. ⊥) (λ _ _ none. none) (λ _ _ none. none)
+        (one.survives (two.clean clean) t holds) (two.survives clean t (held clean t holds));
+  }

@@ -1,5 +1,0 @@
-use Rattle.register_store.proofs.Naming.{sorted_so}
-use Rattle.register_store.proofs.people.sorted_in.Goals as goal
-
-pub returns : goal.returns
-returns c = sorted_so c.args.rows.now c.in_ok-names_in.field-0.items c.sort.new.self c.in_ok-names_in.ensures (rw c.from_vec-names.ensures at c.sort.ensures)

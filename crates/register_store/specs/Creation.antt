@@ -1,0 +1,52 @@
+-- Making the tables of a register, one after the other.
+use Rattle.std.specs.Prelude.{◌≡◌, ◌<◌, ℕ, Bool, true, false, List, [], length, Ok}
+use Rattle.sqlite.specs.Effect.{Database}
+use Rattle.sqlite.specs.Listing.{understood}
+use Rattle.sqlite.specs.Schema.{Schema}
+use Rattle.sqlite_resolve.specs.declared.compiled.Compiled.{Compiled}
+use Rattle.sql_steps.specs.Creating.{Creates}
+use Rattle.register_store.specs.declared.table.TableName.{TableName}
+use Rattle.register_store.specs.Schema.{all_tables, no_schema, schema_after, table_of, place_of, count_text}
+use Rattle.register_store.specs.Tables.{Holds, no_rows, rows_of}
+
+-- an empty database comes to hold an empty register
+abbrev pub MakesEmpty : Database → Database → Type 0
+MakesEmpty old new = old.schema ≡ no_schema → Holds no_rows new
+
+-- the table is made where those before it are
+abbrev pub MakesTable : TableName → Database → Database → Type 0
+MakesTable name = Creates (schema_after (place_of name)) (table_of name)
+
+-- in an empty database the first n tables are made, each empty
+pub record HasFirst (n : ℕ) (db : Database) : Type 0 where
+  pub schema : db.schema ≡ schema_after n
+  pub empty : (name : TableName) → place_of name < n → rows_of name db ≡ []
+
+abbrev pub MakesFirst : ℕ → Database → Database → Type 0
+MakesFirst n old new = old.schema ≡ no_schema → HasFirst n new
+
+-- the tables, each empty, come to be those of an empty register
+abbrev pub AddsMeta : Database → Database → Type 0
+AddsMeta old new = HasFirst (length all_tables) old → Holds no_rows new
+
+-- ---- whether tables are there
+
+-- the text has a meaning under the schema
+abbrev pub HasMeaning : Schema → List ℕ → Type 0
+HasMeaning schema sql = (statement : Compiled) × (understood schema sql ≡ Ok statement)
+
+-- one of the register's tables is there: the count of its rows has a meaning
+abbrev pub HasTable : Schema → Type 0
+HasTable schema = (name : TableName) × HasMeaning schema (count_text name)
+
+-- an answer to whether the schema has something; after a "no" the database is the same
+abbrev pub Answers : (Schema → Type 0) → Bool → Database → Database → Type 0
+Answers Has true old new = Has old.schema
+Answers Has false old new = new ≡ old
+
+abbrev pub AnswersMeaning : List ℕ → Bool → Database → Database → Type 0
+AnswersMeaning sql = Answers (λ schema. HasMeaning schema sql)
+
+-- nothing is changed
+abbrev pub IsSame : Database → Database → Type 0
+IsSame old new = new ≡ old

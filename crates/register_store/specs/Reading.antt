@@ -1,0 +1,95 @@
+-- What is read of a register in a database.
+use Rattle.std.specs.Prelude.{◌≡◌, ℕ, pos, List, map, Option, None, Some, Result, Ok, Err, IfOk, IfErr, IsPermutation}
+use Rattle.std.specs.Option.{option_map}
+use Rattle.sqlite.specs.declared.types.Value.TheVariants.{Int, Text as Words}
+use Rattle.sqlite.specs.Order.{Row, column}
+use Rattle.sqlite.specs.declared.error.Error.{Error}
+use Rattle.sqlite.specs.declared.error.Error.TheVariants.{QueryReturnedNoRows}
+use Rattle.sqlite.specs.Effect.{Database}
+use Rattle.sqlite.specs.Held.{Held as Connection, state}
+use Rattle.sqlite.specs.State.{State, HasCleanDisk, IsUnchanged, Survives}
+use Rattle.sqlite_trees.specs.declared.store.Store.{Ghosts}
+use Rattle.lifecycle_core.specs.declared.dates.Dates.{Dates}
+use Rattle.lifecycle_core.specs.State.{state_code}
+use Rattle.period_core.specs.KeyType.{key_type_code}
+use Rattle.register_core.specs.declared.key.Key.{Key}
+use Rattle.register_core.specs.declared.view.Held.{Held}
+use Rattle.register_core.specs.KeyName.{names_at}
+use Rattle.register_core.specs.Names.{sorted_names}
+use Rattle.register_core.specs.Request.{IsDate}
+use Rattle.register_store.specs.declared.custody.Role.{Role}
+use Rattle.register_store.specs.declared.error.StoreError.{StoreError}
+use Rattle.register_store.specs.declared.error.StoreError.TheVariants.{Memory}
+use Rattle.register_store.specs.Roles.{names_of}
+use Rattle.register_store.specs.Tables.{Tables, Holds, date_cell, key_at}
+
+-- ---- what is found in tables
+
+abbrev pub HasRow : ℕ → Tables → Option Key → Type 0
+HasRow number t found = found ≡ key_at t.keys number
+
+-- the names with a role at a key, in order
+abbrev pub HasNames : Role → ℕ → Tables → List (List ℕ) → Type 0
+HasNames role key t names = names ≡ sorted_names (names_at key (names_of role t))
+
+-- a key with its custody, as a decision sees it, and its purpose
+abbrev pub loaded : ℕ → Tables → Key → Held × List ℕ
+loaded number t k = (
+  record {
+    kind = k.kind;
+    owner = k.owner;
+    row = k.row;
+    custodians = sorted_names (names_at number t.custodians);
+    approvals = sorted_names (names_at number t.approvals);
+  },
+  k.purpose,
+)
+
+abbrev pub HasKey : ℕ → Tables → Option (Held × List ℕ) → Type 0
+HasKey number t found = found ≡ option_map (loaded number t) (key_at t.keys number)
+
+-- ---- what a call that reads does
+
+-- inside a transaction: a key is found as it stands in the tables, and the finding changes nothing
+abbrev pub FindsKey : ℕ → Option Key → Database → Database → Type 0
+FindsKey number found old new = (t : Tables) → Holds t old → (new ≡ old) × (found ≡ key_at t.keys number)
+
+-- Outside one, where the database holds tables and the disk is clean: what is given is found in them, and nothing is
+-- changed, also where memory gave out; a stop leaves what it left before.
+pub record ReadsBy {T : Type 0} (Found : Tables → T → Type 0) (old new : State) (result : Result T StoreError) : Type 0 where
+  pub found : HasCleanDisk new → (t : Tables) → Holds t old.now → IfOk result (λ value. Found t value × IsUnchanged old new)
+  pub memory : HasCleanDisk new → (t : Tables) → Holds t old.now → IfErr result (λ error. error ≡ Memory → IsUnchanged old new)
+  pub clean : HasCleanDisk new → HasCleanDisk old
+  pub survives : HasCleanDisk new → (t : Tables) → Holds t old.now → Survives old new (λ _. ⊥)
+
+abbrev pub Reads : {S T : Type 0} → (g : Ghosts S) → (Tables → T → Type 0) → Connection S → Connection S → Result T StoreError → Type 0
+Reads g Found old new result = ReadsBy Found (state g old) (state g new) result
+
+-- ---- what is read of an answer
+
+-- the row shows these dates, and each of them is one
+pub record ShowsDates (row : Row) (d : Dates) : Type 0 where
+  pub initial : column row 4 ≡ Int (pos d.initial)
+  pub activation : (column row 5 ≡ Int (pos (date_cell d.activation))) × IsDate d.activation
+  pub protect_stop : (column row 6 ≡ Int (pos (date_cell d.protect_stop))) × IsDate d.protect_stop
+  pub deactivation : (column row 7 ≡ Int (pos (date_cell d.deactivation))) × IsDate d.deactivation
+  pub destroy : (column row 8 ≡ Int (pos (date_cell d.destroy))) × IsDate d.destroy
+  pub compromise : (column row 9 ≡ Int (pos (date_cell d.compromise))) × IsDate d.compromise
+  pub compromise_occurrence : (column row 10 ≡ Int (pos (date_cell d.compromise_occurrence))) × IsDate d.compromise_occurrence
+
+-- the row shows this key
+pub record ShowsKey (row : Row) (k : Key) : Type 0 where
+  pub kind : column row 0 ≡ Int (pos (key_type_code k.kind))
+  pub owner : column row 1 ≡ Words k.owner
+  pub purpose : column row 2 ≡ Words k.purpose
+  pub state : column row 3 ≡ Int (pos (state_code k.row.state))
+  pub dates : ShowsDates row k.row.dates
+
+-- the key that the row shows, or none where there is no row
+abbrev pub IsRowOf : Result Row Error → Option Key → Type 0
+IsRowOf (Ok row) found = (key : Key) × (found ≡ Some key) × ShowsKey row key
+IsRowOf (Err error) found = (error ≡ QueryReturnedNoRows) × (found ≡ None)
+
+-- where the first column of the rows shows some names, these in order
+abbrev pub AreNamesOf : List Row → List (List ℕ) → Type 0
+AreNamesOf rows found = (names : List (List ℕ)) → IsPermutation (map (λ row. column row 0) rows) (map Words names) → found ≡ sorted_names names
