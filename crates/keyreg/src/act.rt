@@ -19,7 +19,7 @@ const FAULTED: u8 = 4;
 /// Names the end on `faults`, and gives its exit status.
 pub fn report_end(end: End, faults: &mut impl Write) -> u8 {
     // Nobody is left to hear of a fault in reporting one.
-    let _ = writeln!(faults, "keyreg: {}", end.name());
+    let _ = writeln!(faults, "keyreg: {end}");
     match end {
         End::Memory | End::Store | End::Broken => ENDED,
         End::ReadFault | End::WriteFault => FAULTED,
@@ -28,7 +28,7 @@ pub fn report_end(end: End, faults: &mut impl Write) -> u8 {
 
 /// Names the refusal on `faults`, and gives its exit status.
 pub fn report_refusal(refusal: OpenRefusal, faults: &mut impl Write) -> u8 {
-    let _ = writeln!(faults, "keyreg: {}", refusal.name());
+    let _ = writeln!(faults, "keyreg: {refusal}");
     UNOPENED
 }
 

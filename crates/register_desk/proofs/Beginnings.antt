@@ -7,8 +7,8 @@ use Rattle.sqlite.specs.State.{State, HasCleanDisk}
 use Rattle.sqlite.specs.Held.{Held, state}
 use Rattle.sql_steps.specs.Steps.{TransactsBy}
 use Rattle.sql_steps.proofs.Stepping.{leaves_alone}
-use Rattle.register_store.specs.Schema.{no_schema}
-use Rattle.register_store.specs.Tables.{Holds, no_rows}
+use Rattle.register_store.specs.Tables.{no_rows}
+use Rattle.register_store.specs.Schema.{no_schema, Holds}
 use Rattle.register_store.specs.Creation.{MakesEmpty}
 use Rattle.register_desk.specs.declared.desk.Desk.{Desk}
 use Rattle.register_desk.specs.Register.{StandsFor}
@@ -23,7 +23,7 @@ module _ {S : Type 0} (g : store.Ghosts S) where
     lawful = refl;
     latest_is = latest_is;
     keys_are = keys_are;
-    keeps = λ whole clean.
+    sees = λ whole clean.
         let early : HasCleanDisk (state g mid) = omega (arith, made.stop.clean) in
         let did = made.accepted clean in
         let schema : (state g mid).now.schema ≡ no_schema = ap (λ (d : Database). d.schema) (kept early did.2).0 ∙ empty in

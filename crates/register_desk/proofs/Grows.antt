@@ -30,7 +30,8 @@ use Rattle.register_core.proofs.OnKey.{on_key}
 use Rattle.register_core.proofs.Histories.{latest_grows, registrations_grow, count_grows, not_concerned, kind_other, owner_other, dates_other, kind_named, owner_named, dates_named, kind_made, owner_made, dates_made, key_named}
 use Rattle.register_store.specs.Change.{made_count, with_change}
 use Rattle.register_store.specs.Reading.{loaded as tables_loaded}
-use Rattle.register_store.specs.Tables.{Tables, advanced, held_by, key_at, numbered, where_number, with_keys_advanced}
+use Rattle.register_store.specs.Tables.{Tables, numbered}
+use Rattle.register_store.specs.Making.{advanced, held_by, key_at, where_number, with_keys_advanced}
 use Rattle.register_desk.specs.Register.{key_of, tables}
 use Rattle.register_desk.specs.Loading.{loaded}
 use Rattle.register_desk.specs.Shown.{purpose, purpose_in, usage}

@@ -7,28 +7,35 @@ use Rattle.register_core.specs.declared.request.Request.{Request}
 use Rattle.register_store.specs.declared.error.StoreError.{StoreError}
 use Rattle.register_store.specs.declared.error.StoreError.TheVariants.{Database, Memory, NoRegister}
 use Rattle.register_store.specs.Reading.{ReadsBy}
-use Rattle.register_store.specs.Tables.{Tables, Holds}
+use Rattle.register_store.specs.Tables.{Tables}
+use Rattle.register_store.specs.Schema.{Holds}
 use Rattle.register_desk.specs.declared.desk.Desk.{Desk}
 use Rattle.register_desk.specs.declared.end.End.{End}
 use Rattle.register_desk.specs.declared.end.End.TheVariants as ends
-use Rattle.register_desk.specs.Leaving.{IsWhole, IsBroken, IsClean, EndsBy, ChangesNothing, LeavesHistory}
-use Rattle.register_desk.specs.Loading.{KeepsAll, KeepsCounts}
-use Rattle.register_desk.specs.Register.{tables, StandsFor, Keeps, Leaves}
+use Rattle.register_desk.specs.Leaving.{IsWhole, IsBroken, IsClean, EndsBy, ChangesNothing, KeepsCounts}
+use Rattle.register_desk.specs.Loading.{KeepsAll}
+use Rattle.register_desk.specs.Register.{tables, StandsFor, Sees, Keeps, Leaves}
 
 module _ {S : Type 0} (g : store.Ghosts S) where
-  -- what a desk stands for is a matter of its counts, and while it is whole of its connection
-  stands_as : (old new : Desk S g) (h : List Request) → StandsFor g old h → KeepsCounts old new → (IsWhole new → IsClean g new → Keeps (tables h) (state g new.connection)) → StandsFor g new h
-  stands_as old new h stands counts keeps = record { lawful = stands.lawful; latest_is = counts.latest ∙ stands.latest_is; keys_are = counts.keys ∙ stands.keys_are; keeps = keeps }
+  -- what a desk stands for is a matter of its counts and of the tables that it sees
+  pub stands_still : (old new : Desk S g) → ChangesNothing g old new → (h : List Request) → StandsFor g old h → StandsFor g new h
+  stands_still old new nothing h stands = record {
+    lawful = stands.lawful;
+    latest_is = nothing.counts.latest ∙ stands.latest_is;
+    keys_are = nothing.counts.keys ∙ stands.keys_are;
+    sees = nothing.rows (tables h) stands.sees;
+  }
 
   pub nothing_done : (desk : Desk S g) → ChangesNothing g desk desk
-  nothing_done desk = record { clean = λ clean. clean; stands = λ h stands. stands; stop = λ h stands whole clean. (stands.keeps whole clean).leaves }
+  nothing_done desk = record { clean = λ clean. clean; counts = record { latest = refl; keys = refl }; rows = λ t sees. sees; stop = λ t sees whole clean. (sees whole clean).leaves }
 
   -- a desk that breaks behind that
   pub then_broken : (old mid new : Desk S g) → ChangesNothing g old mid → KeepsAll mid new → IsBroken new → ChangesNothing g old new
   then_broken old mid new nothing same broken = record {
     clean = λ clean. nothing.clean (subst (λ c. HasCleanDisk (state g c)) same.connection clean);
-    stands = λ h stands. stands_as mid new h (nothing.stands h stands) same.counts (λ whole clean. absurd (let both = sym broken ∙ whole in cc));
-    stop = λ h stands whole clean. subst (λ c. Leaves (tables h) (state g c)) (sym same.connection) (nothing.stop h stands whole (subst (λ c. HasCleanDisk (state g c)) same.connection clean));
+    counts = record { latest = same.counts.latest ∙ nothing.counts.latest; keys = same.counts.keys ∙ nothing.counts.keys };
+    rows = λ t sees whole. absurd (let both = sym broken ∙ whole in cc);
+    stop = λ t sees whole clean. subst (λ c. Leaves t (state g c)) (sym same.connection) (nothing.stop t sees whole (subst (λ c. HasCleanDisk (state g c)) same.connection clean));
   }
 
   -- ---- a reading of the store
@@ -38,46 +45,47 @@ module _ {S : Type 0} (g : store.Ghosts S) where
     early : IsClean g new → HasCleanDisk (state g after)
     early clean = subst (λ c. HasCleanDisk (state g c)) same clean
 
-    kept_before : (h : List Request) → StandsFor g old h → IsClean g new → Keeps (tables h) (state g old.connection)
-    kept_before h stands clean = stands.keeps whole (reads.clean (early clean))
+    kept_before : (t : Tables) → Sees g t old → IsClean g new → Keeps t (state g old.connection)
+    kept_before t sees clean = sees whole (reads.clean (early clean))
 
     -- a stop leaves what it left before
-    leaves_still : (h : List Request) → StandsFor g old h → IsClean g new → LeavesHistory g h new
-    leaves_still h stands clean =
-        let kept = kept_before h stands clean in
-        let left : Leaves (tables h) (state g after) = λ trees may. elim ((reads.survives (early clean) (tables h) kept.holds).crash (early clean) trees may) [
+    leaves_still : (t : Tables) → Sees g t old → IsClean g new → Leaves t (state g new.connection)
+    leaves_still t sees clean =
+        let kept = kept_before t sees clean in
+        let left : Leaves t (state g after) = λ trees may. elim ((reads.survives (early clean) t kept.holds).crash (early clean) trees may) [
           | inl before ↦ kept.leaves trees before
           | inr none ↦ absurd none
         ] in
-        subst (λ c. Leaves (tables h) (state g c)) (sym same) left
+        subst (λ c. Leaves t (state g c)) (sym same) left
 
     -- where nothing was changed, the connection keeps what it kept
-    keeps_still : (h : List Request) → StandsFor g old h → IsClean g new → IsUnchanged (state g old.connection) (state g after) → Keeps (tables h) (state g new.connection)
-    keeps_still h stands clean unchanged =
-        let kept = kept_before h stands clean in
+    keeps_still : (t : Tables) → Sees g t old → IsClean g new → IsUnchanged (state g old.connection) (state g after) → Keeps t (state g new.connection)
+    keeps_still t sees clean unchanged =
+        let kept = kept_before t sees clean in
         let shows = unchanged.0 in
-        let now : Keeps (tables h) (state g after) = record {
+        let now : Keeps t (state g after) = record {
           is_open = shows.is_open;
-          holds = subst (Holds (tables h)) (sym shows.now_is) kept.holds;
+          holds = subst (Holds t) (sym shows.now_is) kept.holds;
           committed = shows.committed_is ∙ kept.committed ∙ sym shows.now_is;
-          leaves = subst (λ c. Leaves (tables h) (state g c)) same (leaves_still h stands clean);
+          leaves = subst (λ c. Leaves t (state g c)) same (leaves_still t sees clean);
         } in
-        subst (λ c. Keeps (tables h) (state g c)) (sym same) now
+        subst (λ c. Keeps t (state g c)) (sym same) now
 
-    only_read : (IsWhole new → (h : List Request) → StandsFor g old h → IsClean g new → IsUnchanged (state g old.connection) (state g after)) → ChangesNothing g old new
+    only_read : (IsWhole new → (t : Tables) → Sees g t old → IsClean g new → IsUnchanged (state g old.connection) (state g after)) → ChangesNothing g old new
     only_read unchanged = record {
       clean = λ clean. reads.clean (early clean);
-      stands = λ h stands. stands_as old new h stands counts (λ still clean. keeps_still h stands clean (unchanged still h stands clean));
-      stop = λ h stands whole clean. leaves_still h stands clean;
+      counts = counts;
+      rows = λ t sees still clean. keeps_still t sees clean (unchanged still t sees clean);
+      stop = λ t sees whole clean. leaves_still t sees clean;
     }
 
-  -- what was found is of the tables of the history
+  -- what was found is of the tables that the desk saw
   module _ {T : Type 0} (Found : Tables → T → Type 0) (old : Desk S g) (after : Held S) (value : T) (whole : IsWhole old) (reads : ReadsBy Found (state g old.connection) (state g after) (Ok value))
-      (h : List Request) (stands : StandsFor g old h) (clean : HasCleanDisk (state g after)) where
-    found_so : Found (tables h) value × IsUnchanged (state g old.connection) (state g after)
-    found_so = reads.found clean (tables h) (stands.keeps whole (reads.clean clean)).holds
+      (t : Tables) (sees : Sees g t old) (clean : HasCleanDisk (state g after)) where
+    found_so : Found t value × IsUnchanged (state g old.connection) (state g after)
+    found_so = reads.found clean t (sees whole (reads.clean clean)).holds
 
-    pub found_in : Found (tables h) value
+    pub found_in : Found t value
     found_in = found_so.0
 
     unchanged_in : IsUnchanged (state g old.connection) (state g after)
@@ -86,15 +94,15 @@ module _ {S : Type 0} (g : store.Ghosts S) where
   pub read_well : {T : Type 0} (Found : Tables → T → Type 0) (old new : Desk S g) (after : Held S) (value : T) → IsWhole old → ReadsBy Found (state g old.connection) (state g after) (Ok value)
       → new.connection ≡ after → KeepsCounts old new → ChangesNothing g old new
   read_well Found old new after value whole reads same counts = only_read Found old new after (Ok value) whole reads same counts
-      (λ still h stands clean. unchanged_in Found old after value whole reads h stands (subst (λ c. HasCleanDisk (state g c)) same clean))
+      (λ still t sees clean. unchanged_in Found old after value whole reads t sees (subst (λ c. HasCleanDisk (state g c)) same clean))
 
   -- the desk goes on only where memory gave out
   pub read_failed : {T : Type 0} (Found : Tables → T → Type 0) (old new : Desk S g) (after : Held S) (error : StoreError) → IsWhole old → ReadsBy Found (state g old.connection) (state g after) (Err error)
       → new.connection ≡ after → KeepsCounts old new → (IsWhole new → error ≡ Memory) → ChangesNothing g old new
   read_failed Found old new after error whole reads same counts memory = only_read Found old new after (Err error) whole reads same counts
-      (λ still h stands clean.
+      (λ still t sees clean.
       let clean_after : HasCleanDisk (state g after) = subst (λ c. HasCleanDisk (state g c)) same clean in
-      reads.memory clean_after (tables h) (stands.keeps whole (reads.clean clean_after)).holds (memory still))
+      reads.memory clean_after t (sees whole (reads.clean clean_after)).holds (memory still))
 
 -- ---- ends
 
@@ -110,3 +118,12 @@ pub ends_by_error : {S : Type 0} {g : store.Ghosts S} (old new : Desk S g) (erro
 ends_by_error old new (Database e) end whole memory refused = let it = refused (λ same. cc) in subst (EndsBy old new) (sym it.0) (whole, it.1)
 ends_by_error old new Memory end whole memory refused = let it = memory refl in subst (EndsBy old new) (sym it.0) (whole, it.1)
 ends_by_error old new NoRegister end whole memory refused = let it = refused (λ same. cc) in subst (EndsBy old new) (sym it.0) (whole, it.1)
+
+-- after an end 31 of a call that reads, a stop leaves the tables that the desk saw
+pub leaves_seen : {S : Type 0} (g : store.Ghosts S) (old new : Desk S g) (t : Tables) (end : End) → ChangesNothing g old new → EndsBy old new end → Sees g t old → IsClean g new → end ≡ ends.Store
+    → Leaves t (state g new.connection)
+leaves_seen g old new t ends.Store nothing by sees clean is = nothing.stop t sees by.0 clean
+leaves_seen g old new t ends.Memory nothing by sees clean is = absurd cc
+leaves_seen g old new t ends.Broken nothing by sees clean is = absurd cc
+leaves_seen g old new t ends.ReadFault nothing by sees clean is = absurd cc
+leaves_seen g old new t ends.WriteFault nothing by sees clean is = absurd cc

@@ -5,7 +5,8 @@ use Rattle.sqlite.specs.Effect.{Database}
 use Rattle.sql_steps.specs.Steps.{Then}
 use Rattle.register_core.specs.declared.change.Change.{Change}
 use Rattle.register_store.specs.Change.{made_count, with_change}
-use Rattle.register_store.specs.Tables.{Holds, Makes, Always, HasKeys, advanced, with_counts, with_keys_advanced}
+use Rattle.register_store.specs.Schema.{Holds}
+use Rattle.register_store.specs.Making.{Makes, Always, HasKeys, advanced, with_counts, with_keys_advanced}
 use Rattle.register_desk.specs.Step.{with_request}
 
 pub makes_request : (keys at count : ℕ) (change : Change) → count ≡ keys + made_count change → (old new : Database)

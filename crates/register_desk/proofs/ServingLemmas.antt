@@ -23,8 +23,8 @@ use Rattle.register_desk.specs.declared.desk.Desk.{Desk}
 use Rattle.streams.specs.Lines.{Cut, HasNoLineFeed, Takes}
 use Rattle.register_desk.specs.Input.{with_line_feeds, AreItems, HasItems}
 use Rattle.register_desk.specs.Register.{StandsFor, LeavesOneOf}
-use Rattle.register_desk.specs.Run.{answer_line, answer_lines, Answered, AnsweredInPart, RunsOver}
-use Rattle.register_desk.specs.Serving.{AnswersItem, WasClean, ServesItem, LeavesItem, WritesInPart, Took, Served, IsNextLine, ServesTo, ServedAll, Wrote, TookBytes}
+use Rattle.register_desk.specs.Run.{TookBytes, Wrote, answer_line, answer_lines, Answered, AnsweredInPart, RunsOver}
+use Rattle.register_desk.specs.Serving.{AnswersItem, WasClean, ServesItem, LeavesItem, WritesInPart, Took, Served, IsNextLine, ServesTo, ServedAll}
 use Rattle.register_desk.proofs.InputLemmas.{lines_begin, none_left, OneRequest, items_begin, no_more_items, are_items_more, all_more, with_line_feeds_more}
 
 -- ---- known bytes
@@ -264,6 +264,14 @@ module _ {S : Type 0} (g : Ghosts S) where
   wrote_part v w x kept now item WriteFault written part wrote leaves =
       wrote_then v w x written part (take part leaves.line) wrote leaves.written (omega (arith, length-take part leaves.line, leaves.within))
   wrote_part v w x kept now item ReadFault written part wrote leaves = absurd leaves
+
+  -- no item stops the run by a fault of the reader
+  pub no_read_fault : (kept now : Desk S g) (old new : Option (List ℕ)) (item : Option Request) (end : End) (part : ℕ) → LeavesItem g kept now old new item end part → end ≡ ReadFault → ⊥
+  no_read_fault kept now old new item Memory part leaves e = cc
+  no_read_fault kept now old new item Store part leaves e = cc
+  no_read_fault kept now old new item Broken part leaves e = cc
+  no_read_fault kept now old new item WriteFault part leaves e = cc
+  no_read_fault kept now old new item ReadFault part leaves e = leaves
 
   pub wrote_item : (v w x : Option (List ℕ)) (kept now : Desk S g) (item : Option Request) (written count : ℕ) → Wrote v w written → ServesItem g kept now w x item count → Wrote v x (written + count)
   wrote_item v w x kept now item written count wrote serves = wrote_then v w x written count serves.line wrote serves.written serves.counted

@@ -26,17 +26,27 @@ use Rattle.register_core.proofs.Lawful.{lawful_after}
 use Rattle.register_core.proofs.Refusals.{passes}
 use Rattle.register_core.proofs.Subjects.{is_registration, registers}
 use Rattle.register_store.specs.Change.{made_count}
-use Rattle.register_store.specs.Tables.{Tables, Holds, HasKeys}
-use Rattle.register_store.specs.Tables as tabled
+use Rattle.register_store.specs.Tables.{Tables}
+use Rattle.register_store.specs.Schema.{Holds}
+use Rattle.register_store.specs.Making.{HasKeys}
+use Rattle.register_store.specs.Making as tabled
 use Rattle.register_desk.specs.declared.desk.Desk.{Desk}
-use Rattle.register_desk.specs.Register.{tables, StandsFor, LeavesOneOf}
+use Rattle.register_desk.specs.Leaving.{IsClean, LeavesWithChange}
+use Rattle.register_desk.specs.Register.{tables, StandsFor, Sees, LeavesOneOf}
 use Rattle.register_desk.specs.Step.{with_request}
 use Rattle.register_desk.proofs.Grows.{tables_grow, change_counts, keys_counted}
 
--- what a decision rests on is the view of the history
-pub view_stands : {S : Type 0} (g : store.Ghosts S) (desk : Desk S g) (h : List Request) (q : Request) (key : Option Held) → StandsFor g desk h → key ≡ named_key h q.command
-    → IsViewOf (record { latest = desk.latest; keys = desk.keys; key = key }) h q.command
-view_stands g desk h q key stands is = record { latest_is = stands.latest_is; keys_are = stands.keys_are; key_is = is }
+-- the desk after the key was read: it stands for the history, and what a decision rests on is the history's view
+pub record Viewed {S : Type 0} (g : store.Ghosts S) (desk : Desk S g) (h : List Request) (q : Request) (key : Option Held) : Type 0 where
+  pub stands : StandsFor g desk h
+  pub named : key ≡ named_key h q.command
+  pub view : IsViewOf (record { latest = desk.latest; keys = desk.keys; key = key }) h q.command
+
+pub viewed : {S : Type 0} (g : store.Ghosts S) (desk : Desk S g) (h : List Request) (q : Request) (key : Option Held) → StandsFor g desk h → (IsClean g desk → key ≡ named_key h q.command) → IsClean g desk
+    → Viewed g desk h q key
+viewed g desk h q key stands named clean =
+    let is = named clean in
+    record { stands = stands; named = is; view = record { latest_is = stands.latest_is; keys_are = stands.keys_are; key_is = is } }
 
 -- where a request is accepted, there is room for what it makes
 pub room_left : (last keys : ℕ) (key : Option Held) (q : Request) (change : Change) → keys ≤ MAX_KEYS → judge last keys key q ≡ None → change ≡ change_by key q → keys + made_count change ≤ MAX_KEYS
@@ -92,7 +102,7 @@ module _ {S : Type 0} (g : store.Ghosts S) (old : Desk S g) (h : List Request) (
     -- after a failure a stop leaves the one or the other
     pub leaves_one : HasCleanDisk (state g new.connection) → LeavesOneOf h (history_after h (Some q)) (state g new.connection)
     leaves_one clean trees may =
-        let kept = stands.keeps whole (early clean) in
+        let kept = stands.sees whole (early clean) in
         elim (written.stop.crash clean trees may) [
           | inl before ↦ let it = kept.leaves trees before in (it.0, inl it.1, it.2)
           | inr after ↦
@@ -108,9 +118,9 @@ module _ {S : Type 0} (g : store.Ghosts S) (old : Desk S g) (h : List Request) (
     lawful = lawful_after h q stands.lawful;
     latest_is = moment ∙ sym (latest_grows h q) ∙ ap latest (sym after_is);
     keys_are = counted ∙ ap (λ (n : ℕ). n + made_count change) stands.keys_are ∙ ap (λ (n : ℕ). count h + n) counted_after ∙ sym (count_grows h q) ∙ ap count (sym after_is);
-    keeps = λ still clean.
+    sees = λ still clean.
         let clean_before : HasCleanDisk (state g old.connection) = omega (arith, written.stop.clean) in
-        let kept = stands.keeps whole clean_before in
+        let kept = stands.sees whole clean_before in
         let did = written.accepted clean in
         let holds : Holds (tables grown) (state g new.connection).now = made_holds (state g old.connection).now (state g new.connection).now kept.holds did.0 in
         let holds_after = subst (λ (k : List Request). Holds (tables k) (state g new.connection).now) (sym after_is) holds in
@@ -121,3 +131,17 @@ module _ {S : Type 0} (g : store.Ghosts S) (old : Desk S g) (h : List Request) (
           leaves = λ trees may. ((state g new.connection).now, holds_after, leaves_alone g settled Made (state g old.connection) new.connection (Ok x) written clean trees may);
         };
   }
+
+-- whatever tables the desk is over, a stop leaves them or what the change makes of them
+pub leaves_change : {S A E : Type 0} (g : store.Ghosts S) (old new : Desk S g) (t : Tables) (at : ℕ) (change : Change) (r : Result A E) → old.is_broken ≡ false → Sees g t old → length t.keys ≡ old.keys
+    → TransactsBy (tabled.Makes (HasKeys old.keys) (with_request old.keys at change)) (state g old.connection) (state g new.connection) r → IsClean g new → LeavesWithChange g t at new
+leaves_change g old new t at change r whole sees counted written clean = (
+  change,
+  λ trees may.
+      let early : HasCleanDisk (state g old.connection) = omega (arith, written.stop.clean) in
+      let kept = sees whole early in
+      elim (written.stop.crash clean trees may) [
+        | inl before ↦ let it = kept.leaves trees before in (it.0, inl it.1, it.2)
+        | inr after ↦ (after.0, inr (subst (λ (n : ℕ). Holds (with_request n at change t) after.0) (sym counted) (after.1 t kept.holds counted)), after.2)
+      ],
+)

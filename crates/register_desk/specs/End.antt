@@ -3,16 +3,19 @@ use Rattle.std.specs.Prelude.{ℕ, List, codes}
 use Rattle.register_desk.specs.declared.end.End.{End}
 use Rattle.register_desk.specs.declared.end.End.TheVariants.{Memory, Store, Broken, ReadFault, WriteFault}
 
+pub record Label : Type 0 where
+  pub number : ℕ
+  pub name : List ℕ
+
+abbrev pub label : End → Label
+label Memory = record { number = 30; name = codes "Memory" }
+label Store = record { number = 31; name = codes "Store" }
+label Broken = record { number = 32; name = codes "Broken" }
+label ReadFault = record { number = 35; name = codes "ReadFault" }
+label WriteFault = record { number = 36; name = codes "WriteFault" }
+
 abbrev pub end_number : End → ℕ
-end_number Memory = 30
-end_number Store = 31
-end_number Broken = 32
-end_number ReadFault = 35
-end_number WriteFault = 36
+end_number end = (label end).number
 
 abbrev pub end_name : End → List ℕ
-end_name Memory = codes "Memory"
-end_name Store = codes "Store"
-end_name Broken = codes "Broken"
-end_name ReadFault = codes "ReadFault"
-end_name WriteFault = codes "WriteFault"
+end_name end = (label end).name

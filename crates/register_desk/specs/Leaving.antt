@@ -1,13 +1,16 @@
 -- What the calls of a desk leave.
-use Rattle.std.specs.Prelude.{◌≡◌, true, false, List, Result, MatchResult}
+use Rattle.std.specs.Prelude.{◌≡◌, ℕ, true, false, List, length, Result, MatchResult}
 use Rattle.sqlite_trees.specs.declared.store.Store.{Ghosts}
 use Rattle.sqlite.specs.State.{HasCleanDisk}
 use Rattle.sqlite.specs.Held.{Held as Connection, state}
+use Rattle.register_core.specs.declared.change.Change.{Change}
 use Rattle.register_core.specs.declared.request.Request.{Request}
+use Rattle.register_store.specs.Tables.{Tables}
 use Rattle.register_desk.specs.declared.desk.Desk.{Desk}
 use Rattle.register_desk.specs.declared.end.End.{End}
 use Rattle.register_desk.specs.declared.end.End.TheVariants.{Memory, Store, Broken, ReadFault, WriteFault}
-use Rattle.register_desk.specs.Register.{StandsFor, Leaves, LeavesOneOf, tables}
+use Rattle.register_desk.specs.Register.{Sees, Leaves, LeavesOneOf, LeavesEitherOf}
+use Rattle.register_desk.specs.Step.{with_request}
 
 module _ {S : Type 0} {g : Ghosts S} where
   -- no call of the database was refused
@@ -41,15 +44,22 @@ IsClean g desk = HasCleanDisk (state g desk.connection)
 
 -- ---- what stands, and what a stop leaves
 
--- a stop leaves the register of this history, or of one of these two
-abbrev pub LeavesHistory : {S : Type 0} → (g : Ghosts S) → List Request → Desk S g → Type 0
-LeavesHistory g h desk = Leaves (tables h) (state g desk.connection)
-
+-- a stop leaves the register of one of these two histories
 abbrev pub LeavesEither : {S : Type 0} → (g : Ghosts S) → List Request → List Request → Desk S g → Type 0
 LeavesEither g h other desk = LeavesOneOf h other (state g desk.connection)
 
--- the call changed nothing: the desk stands for what it stood for, and so does what a stop leaves
+-- a stop leaves these tables, or what some change that was accepted at this moment makes of them
+abbrev pub LeavesWithChange : {S : Type 0} → (g : Ghosts S) → Tables → ℕ → Desk S g → Type 0
+LeavesWithChange g t at desk = (change : Change) × LeavesEitherOf t (with_request (length t.keys) at change t) (state g desk.connection)
+
+-- the latest moment and the number of keys are as they were
+pub record KeepsCounts {S : Type 0} {g : Ghosts S} (old new : Desk S g) : Type 0 where
+  pub latest : new.latest ≡ old.latest
+  pub keys : new.keys ≡ old.keys
+
+-- the call changed nothing: whatever tables the desk saw it sees, and a stop leaves them as before
 pub record ChangesNothing {S : Type 0} (g : Ghosts S) (old new : Desk S g) : Type 0 where
   pub clean : IsClean g new → IsClean g old
-  pub stands : (h : List Request) → StandsFor g old h → StandsFor g new h
-  pub stop : (h : List Request) → StandsFor g old h → IsWhole old → IsClean g new → LeavesHistory g h new
+  pub counts : KeepsCounts old new
+  pub rows : (t : Tables) → Sees g t old → Sees g t new
+  pub stop : (t : Tables) → Sees g t old → IsWhole old → IsClean g new → Leaves t (state g new.connection)

@@ -6,15 +6,11 @@ use Rattle.register_core.specs.declared.request.Request.{Request}
 use Rattle.register_core.specs.declared.view.Held.{Held}
 use Rattle.register_core.specs.Custody.{held}
 use Rattle.register_desk.specs.declared.desk.Desk.{Desk}
+use Rattle.register_desk.specs.Leaving.{KeepsCounts}
 use Rattle.register_desk.specs.Shown.{purpose}
 
 module _ {S : Type 0} {g : Ghosts S} where
-  -- the latest moment and the number of keys are as they were
-  pub record KeepsCounts (old new : Desk S g) : Type 0 where
-    pub latest : new.latest ≡ old.latest
-    pub keys : new.keys ≡ old.keys
-
-  -- and so is the connection
+  -- the connection, the latest moment and the number of keys are as they were
   pub record KeepsAll (old new : Desk S g) : Type 0 where
     pub connection : new.connection ≡ old.connection
     pub counts : KeepsCounts old new

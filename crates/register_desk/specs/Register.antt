@@ -1,5 +1,5 @@
 -- The tables that a history makes, and when a desk stands for a history.
-use Rattle.std.specs.Prelude.{◌≡◌, ◌⊎◌, ℕ, false, List, map, IsTrue}
+use Rattle.std.specs.Prelude.{◌≡◌, ◌⊎◌, ℕ, false, List, length, map, IsTrue}
 use Rattle.std.specs.List.{enumerate_from}
 use Rattle.sqlite_trees.specs.declared.store.Store.{Ghosts}
 use Rattle.sqlite.specs.Tree.{Trees}
@@ -13,7 +13,8 @@ use Rattle.register_core.specs.Custody.{all_custodians, all_approvals}
 use Rattle.register_core.specs.Subject.{Registration}
 use Rattle.register_core.specs.Fold.{IsLawful}
 use Rattle.register_core.specs.declared.key.Key.{Key}
-use Rattle.register_store.specs.Tables.{Tables, Holds}
+use Rattle.register_store.specs.Tables.{Tables}
+use Rattle.register_store.specs.Schema.{Holds}
 use Rattle.register_desk.specs.declared.desk.Desk.{Desk}
 
 -- what is kept of key k, which this registration made: its state is the one that its dates give at the latest moment
@@ -37,9 +38,13 @@ tables h = record {
 abbrev pub Leaves : Tables → State → Type 0
 Leaves t s = (trees : Trees) → s.may_leave trees → (db : Database) × Holds t db × (trees ≡ db.trees)
 
+-- a stop leaves these tables, or these others
+abbrev pub LeavesEitherOf : Tables → Tables → State → Type 0
+LeavesEitherOf t u s = (trees : Trees) → s.may_leave trees → (db : Database) × (Holds t db ⊎ Holds u db) × (trees ≡ db.trees)
+
 -- a stop leaves the tables of one of these two histories
 abbrev pub LeavesOneOf : List Request → List Request → State → Type 0
-LeavesOneOf h g s = (trees : Trees) → s.may_leave trees → (db : Database) × (Holds (tables h) db ⊎ Holds (tables g) db) × (trees ≡ db.trees)
+LeavesOneOf h g s = LeavesEitherOf (tables h) (tables g) s
 
 -- the connection is open and sees these tables, which are committed
 pub record Keeps (t : Tables) (s : State) : Type 0 where
@@ -48,10 +53,20 @@ pub record Keeps (t : Tables) (s : State) : Type 0 where
   pub committed : s.committed ≡ s.now
   pub leaves : Leaves t s
 
--- The desk is that of this history. Its database holds the history's tables as long as the desk is whole, and the disk
--- has given back what was written.
+-- the desk sees these tables, as long as it is whole and the disk has given back what was written
+abbrev pub Sees : {S : Type 0} → (g : Ghosts S) → Tables → Desk S g → Type 0
+Sees g t desk = desk.is_broken ≡ false → HasCleanDisk (state g desk.connection) → Keeps t (state g desk.connection)
+
+-- the desk sees these tables, whatever history they are of if any, and knows what they count
+pub record IsOver {S : Type 0} (g : Ghosts S) (desk : Desk S g) (t : Tables) : Type 0 where
+  pub latest_is : desk.latest ≡ t.counts.latest
+  pub keys_are : desk.keys ≡ t.counts.key_count
+  pub counted : length t.keys ≡ desk.keys
+  pub sees : Sees g t desk
+
+-- The desk is that of this history: it sees the history's tables.
 pub record StandsFor {S : Type 0} (g : Ghosts S) (desk : Desk S g) (h : List Request) : Type 0 where
   pub lawful : IsLawful h
   pub latest_is : desk.latest ≡ latest h
   pub keys_are : desk.keys ≡ count h
-  pub keeps : desk.is_broken ≡ false → HasCleanDisk (state g desk.connection) → Keeps (tables h) (state g desk.connection)
+  pub sees : Sees g (tables h) desk

@@ -1,6 +1,6 @@
 -- What a run over an input writes and leaves.
-use Rattle.std.specs.Prelude.{◌≡◌, ℕ, ◌+◌, ◌≤◌, true, List, [], ◌∷◌, ◌++◌, length, take, flat_map, Option, Some, Result, slice_get}
-use Rattle.std.specs.Io.KnownBytes.{Appends}
+use Rattle.std.specs.Prelude.{◌≡◌, ◌≢◌, ℕ, ◌+◌, ◌≤◌, true, false, List, [], ◌∷◌, ◌++◌, length, take, flat_map, Option, Some, Result, slice_get}
+use Rattle.std.specs.Io.KnownBytes.{Appends, Consumes, IsAtEnd}
 use Rattle.sqlite_trees.specs.declared.store.Store.{Ghosts}
 use Rattle.sqlite.specs.Held.{state}
 use Rattle.register_core.specs.declared.request.Request.{Request}
@@ -9,11 +9,40 @@ use Rattle.register_core.specs.declared.reply.Refusal.{Refusal}
 use Rattle.register_core.specs.Reply.{reply_text}
 use Rattle.register_core.specs.Fold.{history, answers}
 use Rattle.streams.specs.declared.lines.TheConstants.{LINE_FEED}
+use Rattle.streams.specs.declared.watched.TheConstants.{MAX_READS, MAX_IDLE_TURNS}
+use Rattle.streams.specs.declared.watched.Watched.{Watched}
+use Rattle.streams.specs.Watched.{IsFaulted}
 use Rattle.register_desk.specs.declared.end.End.TheVariants.{Memory, Store, Broken, ReadFault, WriteFault}
+use Rattle.register_desk.specs.declared.runs.Outcome.{Outcome}
 use Rattle.register_desk.specs.declared.runs.Finish.{Finish}
 use Rattle.register_desk.specs.declared.runs.Finish.TheVariants.{AtEnd, Ended}
 use Rattle.register_desk.specs.declared.desk.Desk.{Desk}
 use Rattle.register_desk.specs.Register.{StandsFor, LeavesOneOf}
+
+-- ---- streams
+
+-- this number of bytes was taken
+abbrev pub TookBytes : Option (List ℕ) → Option (List ℕ) → ℕ → Type 0
+TookBytes before after taken = (bytes : List ℕ) × Consumes before after bytes × (taken ≡ length bytes)
+
+-- this number of bytes was written
+abbrev pub Wrote : Option (List ℕ) → Option (List ℕ) → ℕ → Type 0
+Wrote old new written = (bytes : List ℕ) × Appends old new bytes × (written ≡ length bytes)
+
+-- What a run leaves of its reader: each byte that was taken is counted, at the end of the input nothing is left, and a
+-- fault is the reader's own.
+pub record LeavesReader {R : Type 0} (remaining : R → Option (List ℕ)) (old new : Watched R) (outcome : Outcome) : Type 0 where
+  pub took : TookBytes (remaining old.inner) (remaining new.inner) outcome.read
+  pub at_end : (rest : ℕ) → outcome.end ≡ AtEnd rest → IsAtEnd (remaining new.inner)
+  pub fault : outcome.end ≡ Ended ReadFault → IsFaulted new.failed MAX_READS new.turns
+
+-- What it leaves of its writer: each byte that was written is counted and flushed, and a fault is the writer's own.
+pub record LeavesWriter {W : Type 0} (contents : W → Option (List ℕ)) (old new : Watched W) (outcome : Outcome) : Type 0 where
+  pub wrote : Wrote (contents old.inner) (contents new.inner) outcome.written
+  pub flushed : outcome.end ≢ Ended WriteFault → old.unflushed ≡ false → new.unflushed ≡ false
+  pub fault : outcome.end ≡ Ended WriteFault → IsFaulted new.failed MAX_IDLE_TURNS new.idle
+
+-- ---- items
 
 -- the line of an answer, with its line feed
 abbrev pub answer_line : Result Reply Refusal → List ℕ

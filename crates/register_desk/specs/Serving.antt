@@ -33,14 +33,6 @@ pub record IsNextLine (before after : Option (List ℕ)) (line : List ℕ) (item
   pub consumed : Consumes before after (line ++ LINE_FEED ∷ [])
   pub stands_for : IsItem line item
 
--- this number of bytes was written
-abbrev pub Wrote : Option (List ℕ) → Option (List ℕ) → ℕ → Type 0
-Wrote old new written = (bytes : List ℕ) × Appends old new bytes × (written ≡ length bytes)
-
--- this number of bytes was taken
-abbrev pub TookBytes : Option (List ℕ) → Option (List ℕ) → ℕ → Type 0
-TookBytes before after taken = (bytes : List ℕ) × Consumes before after bytes × (taken ≡ length bytes)
-
 module _ {S : Type 0} (g : Ghosts S) where
   -- ---- one item
 

@@ -3,7 +3,7 @@ ghost use Rattle.std.specs.Prelude.{◌≡◌, ◌≤◌, ◌+◌, false};
 ghost use Rattle.register_core.specs.declared.limits.TheConstants.{MAX_KEYS};
 ghost use Rattle.sql_steps.specs.Steps.{Steps, Transacts};
 ghost use Rattle.register_store.specs.Change.{made_count};
-ghost use Rattle.register_store.specs.Tables.{Makes, HasKeys};
+ghost use Rattle.register_store.specs.Making.{Makes, HasKeys};
 ghost use Rattle.register_desk.specs.Step.{with_request};
 
 use moment_core::Moment;

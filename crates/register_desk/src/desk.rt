@@ -43,14 +43,16 @@ impl<S: Alter> Desk<S> {
     ghost use Rattle.register_store.specs.Change.{made_count};
     ghost use Rattle.register_store.specs.Creation.{HasTable};
     ghost use Rattle.register_store.specs.Schema.{no_schema};
-    ghost use Rattle.register_store.specs.Tables.{Makes, HasKeys};
-    ghost use Rattle.register_desk.specs.Answer.{answered};
+    ghost use Rattle.register_store.specs.Tables.{Tables};
+    ghost use Rattle.register_store.specs.Making.{Makes, HasKeys};
+    ghost use Rattle.register_desk.specs.Answer.{answered, OnRefused};
     ghost use Rattle.register_desk.specs.Leaving.{IsWhole, IsBroken, IsClean, Ends, EndsBy};
-    ghost use Rattle.register_desk.specs.Leaving.{ChangesNothing, LeavesEither, connection_of};
-    ghost use Rattle.register_desk.specs.Register.{StandsFor};
+    ghost use Rattle.register_desk.specs.Leaving.{ChangesNothing, KeepsCounts, LeavesEither};
+    ghost use Rattle.register_desk.specs.Leaving.{LeavesWithChange, connection_of};
+    ghost use Rattle.register_desk.specs.Register.{IsOver, StandsFor};
     ghost use Rattle.register_desk.specs.Shown.{shown, usage};
     ghost use Rattle.register_desk.specs.Step.{with_request};
-    ghost use Rattle.register_desk.specs.Loading.{KeepsCounts, KeepsAll, loaded};
+    ghost use Rattle.register_desk.specs.Loading.{KeepsAll, loaded};
 
     /// Makes an empty register in the database, which has none yet.
     ///
@@ -138,10 +140,18 @@ impl<S: Alter> Desk<S> {
             → IsClean S.Store self.new → OnOk result (StandsFor S.Store self.new (history h (Some request.now ∷ []))) }
         ensures err { (h : List Request) → StandsFor S.Store self.old h
             → OnErr result (StandsFor S.Store self.new h) }
+        // A refusal changes nothing, nor does an end other than 31, whatever the tables hold.
+        ensures refused { IfOk result (λ given.
+            OnRefused given (ChangesNothing S.Store self.old self.new)) }
+        ensures unchanged { IfErr result (λ end. end ≢ End.Store
+            → ChangesNothing S.Store self.old self.new) }
         // After the end 31 a stop leaves the register without the request, or with it where it is to be accepted.
         ensures store { (h : List Request) → StandsFor S.Store self.old h → IsClean S.Store self.new
             → IfErr result (λ end. end ≡ End.Store
             → LeavesEither S.Store h (history h (Some request.now ∷ [])) self.new) }
+        ensures tables { (t : Tables) → IsOver S.Store self.old t → IsClean S.Store self.new
+            → IfErr result (λ end. end ≡ End.Store
+            → LeavesWithChange S.Store t request.now.moment self.new) }
     {
         let key = self.named(&request.command)?;
         let view = View {
@@ -162,7 +172,6 @@ impl<S: Alter> Desk<S> {
     fn named(&mut self, command: &Command) -> Result<Option<Held>, End>
         ensures ends { Ends self.old self.new result }
         ensures reads { ChangesNothing S.Store self.old self.new }
-        ensures counts { KeepsCounts self.old self.new }
         ensures right { IfOk result (λ key. IsRightKey key self.old.latest) }
         ensures named { (h : List Request) → StandsFor S.Store self.old h → IsClean S.Store self.new
             → IfOk result (λ key. key ≡ named_key h command.now) }
@@ -250,7 +259,6 @@ impl<S: Alter> Desk<S> {
     fn load(&mut self, number: u32) -> Result<Option<(Held, Purpose)>, End>
         ensures ends { Ends self.old self.new result }
         ensures reads { ChangesNothing S.Store self.old self.new }
-        ensures counts { KeepsCounts self.old self.new }
         ensures loaded { (h : List Request) → StandsFor S.Store self.old h
             → IsClean S.Store self.new → IfOk result (λ found. found ≡ loaded h number) }
     {

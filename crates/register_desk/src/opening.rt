@@ -1,6 +1,9 @@
+//! A database that is not taken as a register.
 ghost use Rattle.std.specs.Prelude.{◌≡◌};
 
+use crate::end::End;
 use sqlite::{Alter, Connection};
+use std::fmt;
 
 /// Why a database is not taken as a register.
 #[derive(Clone, Copy, Debug, PartialEq, Eq, Hash)]
@@ -20,28 +23,18 @@ pub struct Unopened<S: Alter> {
     pub connection: Connection<S>,
 }
 
-impl OpenRefusal {
-    ghost use Rattle.register_desk.specs.Opening.{open_refusal_number, open_refusal_name};
+/// The refusal's name. A refusal that is the end of a call too has the end's.
+impl fmt::Display for OpenRefusal {
+    ghost use Rattle.std.specs.Prelude.{Some};
+    ghost use Rattle.register_desk.specs.Opening.{open_refusal_name};
 
-    /// The refusal's number.
-    pub fn number(self) -> u8
-        ensures { result ≡ open_refusal_number self }
-    {
-        match self {
-            OpenRefusal::Memory => 30,
-            OpenRefusal::Store => 31,
-            OpenRefusal::NotARegister => 33,
-        }
-    }
+    ghost output = { λ refusal. Some (open_refusal_name refusal) };
 
-    /// The refusal's name.
-    pub fn name(self) -> &'static str
-        ensures { result.now ≡ open_refusal_name self }
-    {
+    fn fmt<W: fmt::Write>(&self, f: &mut fmt::Formatter<W>) -> fmt::Result {
         match self {
-            OpenRefusal::Memory => "Memory",
-            OpenRefusal::Store => "Store",
-            OpenRefusal::NotARegister => "NotARegister",
+            OpenRefusal::Memory => End::Memory.fmt(f),
+            OpenRefusal::Store => End::Store.fmt(f),
+            OpenRefusal::NotARegister => f.pad("NotARegister"),
         }
     }
 }

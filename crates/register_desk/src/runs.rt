@@ -1,7 +1,6 @@
 //! A run over request lines: each line is read, applied and answered before the next one is looked at.
 ghost use Rattle.std.specs.Prelude.{◌≡◌, ◌≢◌, ◌⊎◌, ◌+◌, ◌*◌, ◌≤◌, ◌<◌, ℕ, List, [], ◌∷◌, length};
 ghost use Rattle.std.specs.Prelude.{Some, None, Option, true, false, IfOk, IfErr, OnOk, OnErr};
-ghost use Rattle.std.specs.Io.KnownBytes.{Appends, IsAtEnd, prepend_known};
 ghost use Rattle.register_core.specs.declared.request.Request.{Request};
 ghost use Rattle.register_core.specs.declared.line.TheConstants.{MAX_LINE_LENGTH, MAX_REPLY_LENGTH};
 ghost use Rattle.register_core.specs.Request.{IsItem};
@@ -9,9 +8,9 @@ ghost use Rattle.streams.specs.Watched.{IsFaulted};
 ghost use Rattle.register_desk.specs.Input.{HasItems};
 ghost use Rattle.register_desk.specs.Leaving.{IsWhole, IsClean};
 ghost use Rattle.register_desk.specs.Register.{StandsFor};
-ghost use Rattle.register_desk.specs.Run.{RunsOver};
+ghost use Rattle.register_desk.specs.Run.{LeavesReader, LeavesWriter, RunsOver};
 ghost use Rattle.register_desk.specs.Serving.{AnswersItem, WasClean, ServesItem, StopsItem};
-ghost use Rattle.register_desk.specs.Serving.{LeavesItem, ServesTo, Wrote, TookBytes};
+ghost use Rattle.register_desk.specs.Serving.{LeavesItem, ServesTo};
 
 use crate::desk::Desk;
 use crate::end::End;
@@ -118,17 +117,8 @@ fn run_lines<R: Read, W: Write, S: Alter>(
     requires idles { writer.old.idle ≡ 0 }
     ensures serves { ServesTo S.Store (R.remaining reader.old.inner) (W.contents writer.old.inner)
         (W.contents writer.new.inner) desk.old desk.new result.replies result.end }
-    ensures read { TookBytes (R.remaining reader.old.inner) (R.remaining reader.new.inner) result.read }
-    ensures written { Wrote (W.contents writer.old.inner) (W.contents writer.new.inner) result.written }
-    ensures read_fault { result.end ≡ Finish.Ended End.ReadFault →
-        IsFaulted reader.new.failed MAX_READS reader.new.turns }
-    ensures write_fault { result.end ≡ Finish.Ended End.WriteFault →
-        IsFaulted writer.new.failed MAX_IDLE_TURNS writer.new.idle }
-    // At the end of the input the reader has no more, and whatever was written is flushed unless the writer failed.
-    ensures at_end { (rest : ℕ) → result.end ≡ Finish.AtEnd rest →
-        IsAtEnd (R.remaining reader.new.inner) }
-    ensures flushed { result.end ≢ Finish.Ended End.WriteFault →
-        writer.old.unflushed ≡ false → writer.new.unflushed ≡ false }
+    ensures reader { LeavesReader R.remaining reader.old reader.new result }
+    ensures writer { LeavesWriter W.contents writer.old writer.new result }
     // A desk that is whole stays so unless the run ends by 31.
     ensures whole { IsWhole desk.old → result.end ≢ Finish.Ended End.Store → IsWhole desk.new }
 {
@@ -179,17 +169,8 @@ pub fn run<R: Read, W: Write, S: Alter>(
         R.remaining reader.old.inner ≡ Some bytes → HasItems bytes items rest →
         RunsOver S.Store h items rest result.end result.replies
         (W.contents writer.old.inner) (W.contents writer.new.inner) desk.new }
-    ensures read { TookBytes (R.remaining reader.old.inner) (R.remaining reader.new.inner) result.read }
-    ensures written { Wrote (W.contents writer.old.inner) (W.contents writer.new.inner) result.written }
-    ensures read_fault { result.end ≡ Finish.Ended End.ReadFault →
-        IsFaulted reader.new.failed MAX_READS reader.new.turns }
-    ensures write_fault { result.end ≡ Finish.Ended End.WriteFault →
-        IsFaulted writer.new.failed MAX_IDLE_TURNS writer.new.idle }
-    // At the end of the input the reader has no more, and whatever was written is flushed unless the writer failed.
-    ensures at_end { (rest : ℕ) → result.end ≡ Finish.AtEnd rest →
-        IsAtEnd (R.remaining reader.new.inner) }
-    ensures flushed { result.end ≢ Finish.Ended End.WriteFault →
-        writer.old.unflushed ≡ false → writer.new.unflushed ≡ false }
+    ensures reader { LeavesReader R.remaining reader.old reader.new result }
+    ensures writer { LeavesWriter W.contents writer.old writer.new result }
     // A desk that is whole stays so unless the run ends by 31.
     ensures whole { IsWhole desk.old → result.end ≢ Finish.Ended End.Store → IsWhole desk.new }
 {

@@ -10,7 +10,8 @@ use Rattle.sqlite_schema.specs.declared.schema.Keys.TheVariants.{Enforced}
 use Rattle.sqlite_value.specs.Keys.{joined, plain}
 use Rattle.sql_steps.proofs.Cascading.{orphans, some_lose}
 use Rattle.register_store.specs.declared.table.TableName.TheVariants.{Meta, Keys, Custodian, Approval}
-use Rattle.register_store.specs.Schema.{custodian, approval, to_custodian, schema_with, tree_of}
+use Rattle.register_store.specs.Tables.{custodian, approval, to_custodian, tree_of}
+use Rattle.register_store.specs.Schema.{schema_with}
 
 module _ (more : List Index) where
   -- nothing refers to the row of meta

@@ -7,7 +7,9 @@ use Rattle.lifecycle_core.specs.declared.state.State.{State}
 use Rattle.lifecycle_core.specs.State.{state_at}
 use Rattle.sql_steps.specs.Steps.{Then}
 use Rattle.register_core.specs.declared.key.Key.{Key}
-use Rattle.register_store.specs.Tables.{Holds, Makes, Always, HasKeys, advanced, in_state, key_at, numbered, where_number, with_key_at, with_keys_advanced}
+use Rattle.register_store.specs.Tables.{numbered}
+use Rattle.register_store.specs.Schema.{Holds}
+use Rattle.register_store.specs.Making.{Makes, Always, HasKeys, advanced, in_state, key_at, where_number, with_key_at, with_keys_advanced}
 use Rattle.register_store.specs.Reading.{FindsKey}
 use Rattle.register_store.specs.Due.{AdvancesKey, first_advanced, with_first_advanced}
 

@@ -18,8 +18,9 @@ use Rattle.sql_steps.proofs.Queries.{compares}
 use Rattle.sql_steps.proofs.Statements.{plain_query, cast_int, cast_null}
 use Rattle.moment_core.specs.Moment.{IsMoment}
 use Rattle.register_store.specs.declared.table.TableName.TheVariants.{Meta}
-use Rattle.register_store.specs.Schema.{meta, schema_with, place_of, tree_of}
-use Rattle.register_store.specs.Tables.{Counts, Makes, Always, counts_row, rows_of, with_counts}
+use Rattle.register_store.specs.Tables.{meta, place_of, tree_of, Counts, counts_row}
+use Rattle.register_store.specs.Schema.{schema_with, rows_of}
+use Rattle.register_store.specs.Making.{Makes, Always, with_counts}
 use Rattle.register_store.proofs.Actions.{meta_idle}
 use Rattle.register_store.proofs.Frame.{holds_with}
 

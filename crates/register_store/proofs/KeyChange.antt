@@ -19,16 +19,17 @@ use Rattle.sql_steps.proofs.Changing as changing
 use Rattle.sql_steps.proofs.Updates as typed
 use Rattle.sql_steps.proofs.Comparing.{equal_numbers}
 use Rattle.sql_steps.proofs.Statements.{plain_query, cast_int, cast_null}
+use Rattle.moment_core.specs.Moment.{IsMoment}
 use Rattle.lifecycle_core.specs.declared.dates.Dates.{Dates}
 use Rattle.lifecycle_core.specs.declared.row.Row.{Row}
 use Rattle.lifecycle_core.specs.declared.state.State.{State}
 use Rattle.lifecycle_core.specs.State.{state_code}
 use Rattle.register_core.specs.declared.key.Key.{Key}
 use Rattle.register_core.specs.Name.{IsName}
-use Rattle.register_core.specs.Request.{IsDate}
 use Rattle.register_store.specs.declared.table.TableName.TheVariants.{Keys}
-use Rattle.register_store.specs.Schema.{keys, schema_with, place_of, tree_of}
-use Rattle.register_store.specs.Tables.{Makes, Always, IsKey, date_cell, held_by, in_state, key_row, numbered, rows_of, where_number, with_key_at}
+use Rattle.register_store.specs.Tables.{keys, place_of, tree_of, AreDates, IsKey, date_cell, key_row, numbered}
+use Rattle.register_store.specs.Schema.{schema_with, rows_of}
+use Rattle.register_store.specs.Making.{Makes, Always, held_by, in_state, where_number, with_key_at}
 use Rattle.register_store.proofs.Actions.{keys_idle}
 use Rattle.register_store.proofs.Frame.{holds_with}
 use Rattle.register_store.proofs.Numbers.{is_table}
@@ -122,29 +123,12 @@ key_params number owner row =
     Int (pos number) ∷ Words owner ∷ Int (pos (state_code row.state)) ∷ Int (pos (date_cell d.activation)) ∷ Int (pos (date_cell d.protect_stop)) ∷ Int (pos (date_cell d.deactivation))
     ∷ Int (pos (date_cell d.destroy)) ∷ Int (pos (date_cell d.compromise)) ∷ Int (pos (date_cell d.compromise_occurrence)) ∷ []
 
--- the dates that may change are in range
-pub record AreLaterDates (d : Dates) : Type 0 where
-  pub activation : IsDate d.activation
-  pub protect_stop : IsDate d.protect_stop
-  pub deactivation : IsDate d.deactivation
-  pub destroy : IsDate d.destroy
-  pub compromise : IsDate d.compromise
-  pub compromise_occurrence : IsDate d.compromise_occurrence
+-- the dates that may change are in range, whatever the Initial Date is
+abbrev pub AreLaterDates : Dates → Type 0
+AreLaterDates d = (initial : ℕ) → IsMoment initial → AreDates (record d { initial = initial })
 
 stays_key : (owner : List ℕ) (row : Row) → IsName owner → AreLaterDates row.dates → (k : Key) → IsKey k → IsKey (held_by owner row k)
-stays_key owner row name dates k is = record {
-  owner = name;
-  purpose = is.purpose;
-  dates = record {
-    initial = is.dates.initial;
-    activation = dates.activation;
-    protect_stop = dates.protect_stop;
-    deactivation = dates.deactivation;
-    destroy = dates.destroy;
-    compromise = dates.compromise;
-    compromise_occurrence = dates.compromise_occurrence;
-  };
-}
+stays_key owner row name dates k is = record { owner = name; purpose = is.purpose; dates = dates k.row.dates.initial is.dates.initial }
 
 pub updates_key : (number : ℕ) (owner : List ℕ) (row : Row) → IsName owner → AreLaterDates row.dates → (old new : View) (count : ℕ) → Executes key_text (key_params number owner row) old new (Ok count)
     → Makes Always (with_key_at number (held_by owner row)) old.now new.now

@@ -26,9 +26,10 @@ use Rattle.sql_steps.proofs.Statements.{picked, is_picked}
 use Rattle.register_core.specs.declared.key.Key.{Key}
 use Rattle.register_store.specs.declared.error.StoreError.TheVariants.{Memory}
 use Rattle.register_store.specs.declared.table.TableName.TheVariants.{Keys}
-use Rattle.register_store.specs.Schema.{schema_with, tree_of}
+use Rattle.register_store.specs.Tables.{tree_of, Tables, IsKey, key_cells, key_row, numbered}
+use Rattle.register_store.specs.Schema.{schema_with, Holds}
+use Rattle.register_store.specs.Making.{key_at}
 use Rattle.register_store.specs.Reading.{FindsKey, HasRow, IsRowOf, ReadsBy}
-use Rattle.register_store.specs.Tables.{Tables, Holds, IsKey, key_at, key_cells, key_row, numbered}
 use Rattle.register_store.proofs.Decoding.{same_key}
 use Rattle.register_store.proofs.Readings.{no_memory, reads_by}
 use Rattle.register_store.proofs.Texts.{find_text, find_is, find_plain, find_unlisted, has_number, cells_shown}

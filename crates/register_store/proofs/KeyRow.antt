@@ -17,8 +17,9 @@ use Rattle.sql_steps.proofs.Inserting.{edit, puts}
 use Rattle.sql_steps.proofs.Statements.{cast_int, cast_null}
 use Rattle.register_core.specs.declared.key.Key.{Key}
 use Rattle.register_store.specs.declared.table.TableName.TheVariants.{Keys}
-use Rattle.register_store.specs.Schema.{keys, schema_with, place_of}
-use Rattle.register_store.specs.Tables.{Makes, IsKey, key_cells, key_row, rows_of, with_key}
+use Rattle.register_store.specs.Tables.{keys, place_of, IsKey, key_cells, key_row}
+use Rattle.register_store.specs.Schema.{schema_with, rows_of}
+use Rattle.register_store.specs.Making.{Makes, with_key}
 use Rattle.register_store.proofs.Actions.{keys_idle}
 use Rattle.register_store.proofs.Frame.{holds_with}
 use Rattle.register_store.proofs.Numbers.{put_next}

@@ -3,6 +3,7 @@ pub mod Texts
 pub mod Readings
 pub mod KeyFound
 pub mod Actions
+pub mod EachTable
 pub mod Frame
 pub mod Creating
 pub mod Numbers

@@ -19,15 +19,18 @@ use Rattle.sql_steps.proofs.Appending.{chosen}
 use Rattle.sql_steps.proofs.Inserting.{edit, puts}
 use Rattle.sql_steps.proofs.Statements.{cast_int, cast_null}
 use Rattle.sql_steps.proofs.Written.{Wrote}
-use Rattle.register_core.specs.KeyName.{KeyName}
+use Rattle.register_core.specs.KeyName.{KeyName, key_name}
 use Rattle.register_core.specs.Name.{IsName}
 use Rattle.register_store.specs.declared.custody.Role.{Role}
 use Rattle.register_store.specs.declared.custody.Role.TheVariants as role
 use Rattle.register_store.specs.declared.table.TableName.{TableName}
 use Rattle.register_store.specs.declared.table.TableName.TheVariants.{Custodian, Approval}
-use Rattle.register_store.specs.Roles.{insert_text, with_role}
-use Rattle.register_store.specs.Schema.{paired, to_keys, to_custodian, schema_with, place_of, tree_of}
-use Rattle.register_store.specs.Tables.{Makes, Always, ShowsNames, name_cells}
+use Rattle.register_store.specs.declared.custody.RoleChange.TheVariants.{Given}
+use Rattle.register_store.specs.Roles.{change_text, with_role_changed}
+use Rattle.register_store.specs.TableForms.{paired}
+use Rattle.register_store.specs.Tables.{to_keys, to_custodian, place_of, tree_of, ShowsNames, name_cells}
+use Rattle.register_store.specs.Schema.{schema_with}
+use Rattle.register_store.specs.Making.{Makes, Always}
 use Rattle.register_store.proofs.Actions.{custodian_idle, approval_added_idle}
 use Rattle.register_store.proofs.Frame.{holds_with}
 use Rattle.register_store.proofs.NameRows.{names_more, shows_more}
@@ -65,17 +68,20 @@ abbrev table_name : Role → TableName
 table_name role.Custodian = Custodian
 table_name role.Approver = Approval
 
-insert_is : (role : Role) → IsInsert (insert_text role) (place_of (table_name role))
+insert_is : (role : Role) → IsInsert (change_text (Given role)) (place_of (table_name role))
 unfolding understood everything
 insert_is role.Custodian more = (refl, (refl, refl))
 insert_is role.Approver more = (refl, (refl, refl))
 
-pub adds_name : (role : Role) (entry : KeyName) → IsName entry.name → (old new : State) (count : ℕ) → Executes (insert_text role) (name_cells entry) old new (Ok count) → Makes Always (with_role role entry) old.now new.now
-adds_name role.Custodian entry is old new count h t holds always =
-    let did = adds (codes "custodian") (tree_of Custodian) to_keys (insert_text role.Custodian) (place_of Custodian) (insert_is role.Custodian) entry old new count h holds.schema.more holds.schema.is refl
+pub adds_name : (role : Role) (key : ℕ) (name : List ℕ) → IsName name → (old new : State) (count : ℕ) → Executes (change_text (Given role)) (name_cells (key_name key name)) old new (Ok count)
+    → Makes Always (with_role_changed (Given role) key name) old.now new.now
+adds_name role.Custodian key name is old new count h t holds always =
+    let entry = key_name key name in
+    let did = adds (codes "custodian") (tree_of Custodian) to_keys (change_text (Given role.Custodian)) (place_of Custodian) (insert_is role.Custodian) entry old new count h holds.schema.more holds.schema.is refl
     (custodian_idle holds.schema.more) t.custodians (holds.shown Custodian) in
     holds_with Custodian (t.custodians ++ entry ∷ []) t old.now new.now did.rows holds did.wrote (names_more t.custodians entry (holds.in_range Custodian) is) did.shows
-adds_name role.Approver entry is old new count h t holds always =
-    let did = adds (codes "approval") (tree_of Approval) to_custodian (insert_text role.Approver) (place_of Approval) (insert_is role.Approver) entry old new count h holds.schema.more holds.schema.is refl
+adds_name role.Approver key name is old new count h t holds always =
+    let entry = key_name key name in
+    let did = adds (codes "approval") (tree_of Approval) to_custodian (change_text (Given role.Approver)) (place_of Approval) (insert_is role.Approver) entry old new count h holds.schema.more holds.schema.is refl
     (approval_added_idle holds.schema.more) t.approvals (holds.shown Approval) in
     holds_with Approval (t.approvals ++ entry ∷ []) t old.now new.now did.rows holds did.wrote (names_more t.approvals entry (holds.in_range Approval) is) did.shows

@@ -24,16 +24,22 @@ use Rattle.sql_steps.proofs.Deletes.{ids_shown}
 use Rattle.sql_steps.proofs.Orphans.{removes_both}
 use Rattle.sql_steps.proofs.Removing.{removes}
 use Rattle.sql_steps.proofs.Statements.{plain_query, is_picked}
+use Rattle.register_core.specs.Name.{IsName}
 use Rattle.register_core.specs.KeyName.{KeyName, key_name, is_key_name, is_at}
 use Rattle.register_store.specs.declared.custody.Role.{Role}
 use Rattle.register_store.specs.declared.custody.Role.TheVariants as role
 use Rattle.register_store.specs.declared.table.TableName.{TableName}
-use Rattle.register_store.specs.declared.table.TableName.TheVariants.{Meta, Keys, Custodian, Approval}
-use Rattle.register_store.specs.Roles.{delete_text, without_role}
-use Rattle.register_store.specs.Schema.{custodian, approval, to_custodian, schema_with, place_of, tree_of}
-use Rattle.register_store.specs.Tables.{Tables, Holds, Makes, Always, ShowsNames, Shows, IsInRange, content, name_cells, rows_of, without_custodian, without_approval, without_approvals, without_name}
+use Rattle.register_store.specs.declared.table.TableName.TheVariants.{Custodian, Approval}
+use Rattle.register_store.specs.declared.custody.RoleChange.{RoleChange}
+use Rattle.register_store.specs.declared.custody.RoleChange.TheVariants.{Given, Taken}
+use Rattle.register_store.specs.Roles.{change_text, with_role_changed}
+use Rattle.register_store.specs.Tables.{custodian, approval, to_custodian, place_of, tree_of, Tables, ShowsNames, Shows, IsInRange, content, name_cells}
+use Rattle.register_store.specs.Schema.{schema_with, Holds, rows_of}
+use Rattle.register_store.specs.Making.{Makes, Always, without_custodian, without_approval, without_approvals, without_name}
 use Rattle.register_store.proofs.Actions.{approval_idle, custodian_drops}
-use Rattle.register_store.proofs.Frame.{holds_with, listed, rows_kept}
+use Rattle.register_store.proofs.EachTable.{each, content_with}
+use Rattle.register_store.proofs.Frame.{holds_with, rows_kept}
+use Rattle.register_store.proofs.NameAdded.{adds_name}
 use Rattle.register_store.proofs.NameRows.{entry_of, names_left, shows_filtered}
 use Rattle.register_store.proofs.NameTests.{at_key, at_name, places, key_past, key_is, name_past, name_is, same_cells, agree_same, loses_name}
 
@@ -59,12 +65,12 @@ module _ (sql : List ℕ) (params : Cells) (at : List Term) (parts : IsDelete sq
       let rows = shows_filtered (λ r. not (is_picked params (tree_of Approval) at ids_shown r)) (λ entry. not (q entry)) (λ r. ap not (past r)) (λ entry. ap not (each entry)) t.approvals (rows_of Approval old.now) shown in
       holds_with Approval (left t).approvals t old.now new.now _ holds wrote (names_left (λ entry. not (q entry)) t.approvals (holds.in_range Approval)) rows
 
-approval_parts : IsDelete (delete_text role.Approver) Approval at_name
+approval_parts : IsDelete (change_text (Taken role.Approver)) Approval at_name
 unfolding understood everything
 approval_parts more = (refl, (refl, refl))
 
-removes_approval : (key : ℕ) (name : List ℕ) (old new : State) (count : ℕ) → Executes (delete_text role.Approver) (name_cells (key_name key name)) old new (Ok count) → Makes Always (without_approval key name) old.now new.now
-removes_approval key name = drops_approvals (delete_text role.Approver) (name_cells (key_name key name)) at_name approval_parts (is_key_name key name)
+removes_approval : (key : ℕ) (name : List ℕ) (old new : State) (count : ℕ) → Executes (change_text (Taken role.Approver)) (name_cells (key_name key name)) old new (Ok count) → Makes Always (without_approval key name) old.now new.now
+removes_approval key name = drops_approvals (change_text (Taken role.Approver)) (name_cells (key_name key name)) at_name approval_parts (is_key_name key name)
     (name_past (tree_of Approval) ids_shown key name) (name_is (tree_of Approval) ids_shown key name)
 
 abbrev pub approvals_text : List ℕ
@@ -79,7 +85,7 @@ removes_approvals key = drops_approvals approvals_text (Int (pos key) ∷ []) at
 
 -- ---- custodians, and with each the approval
 
-custodian_parts : IsDelete (delete_text role.Custodian) Custodian at_name
+custodian_parts : IsDelete (change_text (Taken role.Custodian)) Custodian at_name
 unfolding understood everything
 custodian_parts more = (refl, (refl, refl))
 
@@ -102,8 +108,8 @@ approver db t holds r h =
     let more = holds.schema.more in
     let a = entry_of t.approvals (rows_of Approval db) (holds.shown Approval) r h in
     let rules = subst (λ (s : Schema). Keeps ForeignKey s db.trees) holds.schema.is (holds.sound.obeys.rules ForeignKey) in
-    let each = all_has (λ (table : Table). AllByRecursion (λ row. passes ForeignKey (schema_with more) db.trees table row ≡ true) (db.trees table.tree)) (schema_with more).tables approval rules (listed more Approval) in
-    let passing = all_has (λ row. passes ForeignKey (schema_with more) db.trees approval row ≡ true) (rows_of Approval db) r each h in
+    let followed = all_has (λ (table : Table). AllByRecursion (λ row. passes ForeignKey (schema_with more) db.trees table row ≡ true) (db.trees table.tree)) (schema_with more).tables approval rules ((each Approval).listed more) in
+    let passing = all_has (λ row. passes ForeignKey (schema_with more) db.trees approval row ≡ true) (rows_of Approval db) r followed h in
     let full : has_null places r ≡ false = null_past r ∙ ap (λ cells. has_null places (Null ∷ cells)) a.1 in
     let held = stands _ _ full (subst (λ key. ((has_null places r || is_held db.trees places r key) && true) ≡ true) (parent_is more) passing) in
     let x = some_has (λ parent. agree plain places parent places r) (rows_of Custodian db) held in
@@ -141,40 +147,38 @@ module _ (key : ℕ) (name : List ℕ) where
   without : (entries : List KeyName) (rows : List Cells) → ShowsNames entries rows → ShowsNames (without_name key name entries) (filter (λ r. not (passing r)) rows)
   without entries rows shows = shows_filtered (λ r. not (passing r)) (λ entry. not (is_key_name key name entry)) (λ r. ap not (past r)) (λ entry. ap not (name_is (tree_of Custodian) ids_shown key name entry)) entries rows shows
 
-  removes_custodian : (old new : State) (count : ℕ) → Executes (delete_text role.Custodian) params old new (Ok count) → Makes Always (without_custodian key name) old.now new.now
+  removes_custodian : (old new : State) (count : ℕ) → Executes (change_text (Taken role.Custodian)) params old new (Ok count) → Makes Always (without_custodian key name) old.now new.now
   removes_custodian old new count h t holds always =
       let more = holds.schema.more in
       let custodians = holds.shown Custodian in
       let approvals = holds.shown Approval in
-      let did = removes_both (schema_with more) custodian approval to_custodian places plain params at_name (delete_text role.Custodian) (place_of Custodian) refl (custodian_parts more).0 (custodian_parts more).1
-      (custodian_drops more) (approval_idle more 1) (λ db. refl) (listed more Custodian) (listed more Approval) (omega arith) old new count h holds.schema.is
+      let did = removes_both (schema_with more) custodian approval to_custodian places plain params at_name (change_text (Taken role.Custodian)) (place_of Custodian) refl (custodian_parts more).0 (custodian_parts more).1
+      (custodian_drops more) (approval_idle more 1) (λ db. refl) ((each Custodian).listed more) ((each Approval).listed more) (omega arith) old new count h holds.schema.is
       custodians.ordered custodians.counted approvals.ordered approvals.counted passing (from_custodian old.now t holds) (of_custodian old.now t holds) in
       let other = rows_kept more (λ (tree : ℕ). (tree ≡ tree_of Custodian) ⊎ (tree ≡ tree_of Approval)) old.now new.now did.kept in
+      let left = without_name key name t.custodians in
+      let approving = without_name key name t.approvals in
+      let fewer = record t { custodians = left } in
       record {
         schema = record { more = more; is = did.kept.schema_is };
         sound = did.kept.sound;
-        in_range = in_range;
-        shown = shown (subst (ShowsNames (without_name key name t.custodians)) (sym did.parents_are) (without t.custodians (rows_of Custodian old.now) custodians))
-            (subst (ShowsNames (without_name key name t.approvals)) (sym did.children_are) (without t.approvals (rows_of Approval old.now) approvals))
-            (other Meta (λ written. elim written [ inl e ↦ absurd (omega arith) | inr e ↦ absurd (omega arith) ]) ∙ holds.shown Meta)
-            (other Keys (λ written. elim written [ inl e ↦ absurd (omega arith) | inr e ↦ absurd (omega arith) ]) ∙ holds.shown Keys);
+        in_range = λ n. content_with IsInRange Approval n approving fewer (names_left (λ entry. not (is_key_name key name entry)) t.approvals (holds.in_range Approval))
+            (λ _. content_with IsInRange Custodian n left t (names_left (λ entry. not (is_key_name key name entry)) t.custodians (holds.in_range Custodian)) (λ _. holds.in_range n));
+        shown = λ n. content_with (λ m held. Shows m held (rows_of m new.now)) Approval n approving fewer
+            (subst (ShowsNames approving) (sym did.children_are) (without t.approvals (rows_of Approval old.now) approvals))
+            (λ no_approval. content_with (λ m held. Shows m held (rows_of m new.now)) Custodian n left t
+            (subst (ShowsNames left) (sym did.parents_are) (without t.custodians (rows_of Custodian old.now) custodians))
+            (λ no_custodian. subst (Shows n (content n t)) (sym (other n (λ written. elim written [ inl e ↦ no_custodian e | inr e ↦ no_approval e ]))) (holds.shown n)));
       }
-    where
-      in_range : (n : TableName) → IsInRange n (content n (without_custodian key name t))
-      in_range Custodian = names_left (λ entry. not (is_key_name key name entry)) t.custodians (holds.in_range Custodian)
-      in_range Approval = names_left (λ entry. not (is_key_name key name entry)) t.approvals (holds.in_range Approval)
-      in_range Meta = holds.in_range Meta
-      in_range Keys = holds.in_range Keys
-
-      shown : Shows Custodian (without_custodian key name t).custodians (rows_of Custodian new.now) → Shows Approval (without_custodian key name t).approvals (rows_of Approval new.now)
-          → Shows Meta t.counts (rows_of Meta new.now) → Shows Keys t.keys (rows_of Keys new.now) → (n : TableName) → Shows n (content n (without_custodian key name t)) (rows_of n new.now)
-      shown custodians approvals counts keys Custodian = custodians
-      shown custodians approvals counts keys Approval = approvals
-      shown custodians approvals counts keys Meta = counts
-      shown custodians approvals counts keys Keys = keys
 
 -- ---- either
 
-pub removes_name : (role : Role) (key : ℕ) (name : List ℕ) (old new : State) (count : ℕ) → Executes (delete_text role) (name_cells (key_name key name)) old new (Ok count) → Makes Always (without_role role key name) old.now new.now
+pub removes_name : (role : Role) (key : ℕ) (name : List ℕ) (old new : State) (count : ℕ) → Executes (change_text (Taken role)) (name_cells (key_name key name)) old new (Ok count)
+    → Makes Always (with_role_changed (Taken role) key name) old.now new.now
 removes_name role.Custodian key name = removes_custodian key name
 removes_name role.Approver key name = removes_approval key name
+
+pub changes_role : (change : RoleChange) (key : ℕ) (name : List ℕ) → IsName name → (old new : State) (count : ℕ) → Executes (change_text change) (name_cells (key_name key name)) old new (Ok count)
+    → Makes Always (with_role_changed change key name) old.now new.now
+changes_role (Given role) key name is = adds_name role key name is
+changes_role (Taken role) key name is = removes_name role key name

@@ -27,8 +27,8 @@ use Rattle.register_store.specs.declared.custody.Role.TheVariants as role
 use Rattle.register_store.specs.declared.table.TableName.TheVariants.{Custodian, Approval}
 use Rattle.register_store.specs.Roles.{names_of, select_text}
 use Rattle.register_store.specs.Reading.{AreNamesOf, ReadsBy}
-use Rattle.register_store.specs.Schema.{schema_with, tree_of}
-use Rattle.register_store.specs.Tables.{Tables, Holds, ShowsNames, name_cells}
+use Rattle.register_store.specs.Tables.{tree_of, Tables, ShowsNames, name_cells}
+use Rattle.register_store.specs.Schema.{schema_with, Holds}
 use Rattle.register_store.proofs.NameRows.{cells_filtered}
 use Rattle.register_store.proofs.NameTests.{at_key, key_past, key_is}
 use Rattle.register_store.proofs.Readings.{at_memory, no_memory, reads_by}

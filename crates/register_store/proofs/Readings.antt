@@ -10,8 +10,8 @@ use Rattle.sqlite_schema.specs.declared.schema.Index.{Index}
 use Rattle.register_store.specs.declared.error.StoreError.{StoreError}
 use Rattle.register_store.specs.declared.error.StoreError.TheVariants.{Memory}
 use Rattle.register_store.specs.Reading.{ReadsBy}
-use Rattle.register_store.specs.Schema.{schema_with}
-use Rattle.register_store.specs.Tables.{Tables, Holds}
+use Rattle.register_store.specs.Tables.{Tables}
+use Rattle.register_store.specs.Schema.{schema_with, Holds}
 
 -- what holds anyhow holds where memory gave out
 pub at_memory : {A : Type 0} (r : Result A StoreError) (P : Type 0) → P → IfErr r (λ error. error ≡ Memory → P)

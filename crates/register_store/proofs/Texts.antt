@@ -11,7 +11,8 @@ use Rattle.sqlite.proofs.Callers.{IsPlain, command_of}
 use Rattle.sql_steps.proofs.Statements.{plain_query}
 use Rattle.sqlite_schema.specs.declared.schema.Index.{Index}
 use Rattle.register_store.specs.declared.table.TableName.TheVariants.{Keys}
-use Rattle.register_store.specs.Schema.{schema_with, tree_of}
+use Rattle.register_store.specs.Tables.{tree_of}
+use Rattle.register_store.specs.Schema.{schema_with}
 
 abbrev pub find_text : List ℕ
 find_text = codes "SELECT kind, owner, purpose, state, initial, activation, protect_stop, deactivation, destroyed, compromised, occurrence FROM keys WHERE number = ?1"

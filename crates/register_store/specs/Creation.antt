@@ -6,8 +6,8 @@ use Rattle.sqlite.specs.Schema.{Schema}
 use Rattle.sqlite_resolve.specs.declared.compiled.Compiled.{Compiled}
 use Rattle.sql_steps.specs.Creating.{Creates}
 use Rattle.register_store.specs.declared.table.TableName.{TableName}
-use Rattle.register_store.specs.Schema.{all_tables, no_schema, schema_after, table_of, place_of, count_text}
-use Rattle.register_store.specs.Tables.{Holds, no_rows, rows_of}
+use Rattle.register_store.specs.Tables.{all_tables, table_of, place_of, count_text, no_rows}
+use Rattle.register_store.specs.Schema.{no_schema, schema_after, Holds, rows_of}
 
 -- an empty database comes to hold an empty register
 abbrev pub MakesEmpty : Database → Database → Type 0

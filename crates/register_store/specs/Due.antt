@@ -3,7 +3,9 @@ use Rattle.std.specs.Prelude.{◌≡◌, ℕ, suc, zero, List, [], ◌∷◌, So
 use Rattle.sqlite.specs.Effect.{Database}
 use Rattle.lifecycle_core.specs.State.{state_at}
 use Rattle.register_core.specs.declared.key.Key.{Key}
-use Rattle.register_store.specs.Tables.{Tables, Holds, advanced, in_state, key_at, with_key_at}
+use Rattle.register_store.specs.Tables.{Tables}
+use Rattle.register_store.specs.Schema.{Holds}
+use Rattle.register_store.specs.Making.{advanced, in_state, key_at, with_key_at}
 
 -- the key with this number is there, and comes to be in its state at a moment
 abbrev pub AdvancesKey : ℕ → ℕ → Database → Database → Type 0

@@ -1,5 +1,7 @@
-pub mod Schema
+pub mod TableForms
 pub mod Tables
+pub mod Schema
+pub mod Making
 pub mod Creation
 pub mod Roles
 pub mod Reading

@@ -21,7 +21,9 @@ use Rattle.register_store.specs.declared.custody.Role.{Role}
 use Rattle.register_store.specs.declared.error.StoreError.{StoreError}
 use Rattle.register_store.specs.declared.error.StoreError.TheVariants.{Memory}
 use Rattle.register_store.specs.Roles.{names_of}
-use Rattle.register_store.specs.Tables.{Tables, Holds, date_cell, key_at}
+use Rattle.register_store.specs.Tables.{Tables, date_cell}
+use Rattle.register_store.specs.Schema.{Holds}
+use Rattle.register_store.specs.Making.{key_at}
 
 -- ---- what is found in tables
 

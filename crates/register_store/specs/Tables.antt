@@ -1,25 +1,29 @@
--- What the tables of a register hold, and when a database holds them.
-use Rattle.std.specs.Prelude.{◌≡◌, ◌==◌, if◌then◌else◌, ℕ, suc, zero, pos, not, List, [], ◌∷◌, ◌++◌, length, map, filter, drop, slice_get, Option, None, Some, IsTrue, IsPermutation}
+-- The tables of a register, one by one: what each holds, how it is made, and how its content stands in its rows.
+use Rattle.std.specs.Prelude.{◌≡◌, ℕ, ◌+◌, pos, false, List, [], ◌∷◌, map, drop, Option, None, Some, IsTrue, IsPermutation, codes}
 use Rattle.std.specs.List.{AllByRecursion, enumerate_from}
 use Rattle.sqlite.specs.declared.types.Value.TheVariants.{Null, Int, Text as Words}
 use Rattle.sqlite.specs.Order.{Row as Cells}
+use Rattle.sqlite.specs.Table.{Table}
 use Rattle.sqlite.specs.Tree.{IsTable, rowid}
-use Rattle.sqlite.specs.Effect.{Database, IsDatabase}
+use Rattle.sqlite_catalog.specs.Listing.{automatic}
+use Rattle.sqlite_schema.specs.declared.schema.Action.TheVariants.{NoAction, Cascade}
+use Rattle.sqlite_schema.specs.declared.schema.Index.{Index}
+use Rattle.sqlite_schema.specs.declared.schema.Reference.{Reference}
 use Rattle.sqlite_trees.specs.View.{is_int}
 use Rattle.moment_core.specs.Moment.{IsMoment}
 use Rattle.lifecycle_core.specs.declared.dates.Dates.{Dates}
-use Rattle.lifecycle_core.specs.declared.row.Row.{Row}
-use Rattle.lifecycle_core.specs.declared.state.State.{State}
-use Rattle.lifecycle_core.specs.State.{state_at, state_code}
+use Rattle.lifecycle_core.specs.State.{state_code}
 use Rattle.period_core.specs.KeyType.{key_type_code}
 use Rattle.register_core.specs.declared.key.Key.{Key}
-use Rattle.register_core.specs.KeyName.{KeyName, is_key_name, is_at}
+use Rattle.register_core.specs.KeyName.{KeyName}
 use Rattle.register_core.specs.Name.{IsName}
 use Rattle.register_core.specs.Purpose.{IsPurpose}
 use Rattle.register_core.specs.Request.{IsDate}
 use Rattle.register_store.specs.declared.table.TableName.{TableName}
 use Rattle.register_store.specs.declared.table.TableName.TheVariants.{Meta, Keys, Custodian, Approval}
-use Rattle.register_store.specs.Schema.{IsRegister, tree_of}
+use Rattle.register_store.specs.TableForms.{number_column, text_column, key_column, keyed, paired}
+
+-- ---- what they hold
 
 -- what the one row of meta keeps beside the version
 pub record Counts : Type 0 where
@@ -57,6 +61,76 @@ with_content Meta counts t = record t { counts = counts }
 with_content Keys keys t = record t { keys = keys }
 with_content Custodian custodians t = record t { custodians = custodians }
 with_content Approval approvals t = record t { approvals = approvals }
+
+-- ---- where the tables stand
+
+-- the tables in the order in which they are made
+abbrev pub all_tables : List TableName
+all_tables = Meta ∷ Keys ∷ Custodian ∷ Approval ∷ []
+
+-- the place of a table among them
+abbrev pub place_of : TableName → ℕ
+place_of Meta = 0
+place_of Keys = 1
+place_of Custodian = 2
+place_of Approval = 3
+
+-- the tree with a table's rows; trees are numbered as tables and their indexes are made
+abbrev pub tree_of : TableName → ℕ
+tree_of Meta = 0
+tree_of Keys = 1
+tree_of Custodian = 2
+tree_of Approval = 4
+
+-- ---- how they are made
+
+abbrev pub meta : Table
+meta = keyed (codes "meta") (tree_of Meta)
+    (key_column (codes "id") ∷ number_column (codes "version") ∷ number_column (codes "latest") ∷ number_column (codes "key_count") ∷ [])
+
+abbrev pub keys : Table
+keys = keyed (codes "keys") (tree_of Keys)
+    (key_column (codes "number") ∷ number_column (codes "kind") ∷ text_column (codes "owner") ∷ text_column (codes "purpose") ∷ number_column (codes "state")
+    ∷ number_column (codes "initial") ∷ number_column (codes "activation") ∷ number_column (codes "protect_stop") ∷ number_column (codes "deactivation")
+    ∷ number_column (codes "destroyed") ∷ number_column (codes "compromised") ∷ number_column (codes "occurrence") ∷ [])
+
+abbrev pub to_keys : Reference
+to_keys = record { columns = 1 ∷ []; parent = codes "keys"; parent_columns = codes "number" ∷ []; on_delete = NoAction; on_update = NoAction; is_deferred = false }
+
+-- where a custodian goes, the approval goes too
+abbrev pub to_custodian : Reference
+to_custodian = record { columns = 1 ∷ 2 ∷ []; parent = codes "custodian"; parent_columns = codes "key_no" ∷ codes "name" ∷ []; on_delete = Cascade; on_update = NoAction; is_deferred = false }
+
+abbrev pub custodian : Table
+custodian = paired (codes "custodian") (tree_of Custodian) to_keys
+
+abbrev pub approval : Table
+approval = paired (codes "approval") (tree_of Approval) to_custodian
+
+abbrev pub table_of : TableName → Table
+table_of Meta = meta
+table_of Keys = keys
+table_of Custodian = custodian
+table_of Approval = approval
+
+-- The index of a primary key that is no INTEGER PRIMARY KEY is made with its table, and has the tree behind the table's.
+abbrev pub key_index : TableName → Index
+key_index name = automatic (table_of name) 0 (table_of name).primary (tree_of name + 1)
+
+abbrev pub key_indexes : List Index
+key_indexes = key_index Custodian ∷ key_index Approval ∷ []
+
+abbrev pub create_text : TableName → List ℕ
+create_text Meta = codes "CREATE TABLE meta (id INTEGER PRIMARY KEY, version INTEGER NOT NULL, latest INTEGER NOT NULL, key_count INTEGER NOT NULL) STRICT"
+create_text Keys = codes "CREATE TABLE keys (number INTEGER PRIMARY KEY, kind INTEGER NOT NULL, owner TEXT NOT NULL, purpose TEXT NOT NULL, state INTEGER NOT NULL, initial INTEGER NOT NULL, activation INTEGER NOT NULL, protect_stop INTEGER NOT NULL, deactivation INTEGER NOT NULL, destroyed INTEGER NOT NULL, compromised INTEGER NOT NULL, occurrence INTEGER NOT NULL) STRICT"
+create_text Custodian = codes "CREATE TABLE custodian (key_no INTEGER NOT NULL REFERENCES keys(number), name TEXT NOT NULL, PRIMARY KEY (key_no, name)) STRICT"
+create_text Approval = codes "CREATE TABLE approval (key_no INTEGER NOT NULL, name TEXT NOT NULL, PRIMARY KEY (key_no, name), FOREIGN KEY (key_no, name) REFERENCES custodian(key_no, name) ON DELETE CASCADE) STRICT"
+
+abbrev pub count_text : TableName → List ℕ
+count_text Meta = codes "SELECT count(*) FROM meta"
+count_text Keys = codes "SELECT count(*) FROM keys"
+count_text Custodian = codes "SELECT count(*) FROM custodian"
+count_text Approval = codes "SELECT count(*) FROM approval"
 
 -- ---- cells. A row begins with its rowid; the cell of an INTEGER PRIMARY KEY shows that, and is kept as NULL.
 
@@ -132,87 +206,3 @@ IsInRange Meta counts = IsMoment counts.latest
 IsInRange Keys keys = AllByRecursion IsKey keys
 IsInRange Custodian names = AreNames names
 IsInRange Approval names = AreNames names
-
--- ---- the refinement
-
--- the rows of a table
-abbrev pub rows_of : TableName → Database → List Cells
-rows_of name db = db.trees (tree_of name)
-
--- The database holds the tables: its schema is a register's, which its trees list and obey, and each table's rows are
--- those of its content, which is in range.
-pub record Holds (t : Tables) (db : Database) : Type 0 where
-  pub schema : IsRegister db.schema
-  pub sound : IsDatabase db
-  pub in_range : (name : TableName) → IsInRange name (content name t)
-  pub shown : (name : TableName) → Shows name (content name t) (rows_of name db)
-
--- ---- what the calls make of the tables
-
--- where the database holds tables of which P says something, it comes to hold what f makes of them
-abbrev pub Makes : (Tables → Type 0) → (Tables → Tables) → Database → Database → Type 0
-Makes P f old new = (t : Tables) → Holds t old → P t → Holds (f t) new
-
--- whatever the tables hold
-abbrev pub Always : Tables → Type 0
-Always t = Unit {0}
-
--- the tables have as many keys
-abbrev pub HasKeys : ℕ → Tables → Type 0
-HasKeys count t = length t.keys ≡ count
-
--- the key with its state at a moment
-abbrev pub advanced : ℕ → Key → Key
-advanced at k = record k { row = record { dates = k.row.dates; state = state_at k.row.dates at } }
-
-abbrev pub with_keys_advanced : ℕ → Tables → Tables
-with_keys_advanced at t = record t { keys = map (advanced at) t.keys }
-
-abbrev pub with_key : Key → Tables → Tables
-with_key k t = record t { keys = t.keys ++ k ∷ [] }
-
-abbrev pub with_counts : ℕ → ℕ → Tables → Tables
-with_counts latest key_count t = record t { counts = record { latest = latest; key_count = key_count } }
-
--- what f makes of a key, where the number is its own
-abbrev pub where_number : ℕ → (Key → Key) → ℕ × Key → Key
-where_number number f numbered = if numbered.0 == number then f numbered.1 else numbered.1
-
--- what f makes of the key with this number, in its place
-abbrev pub with_key_at : ℕ → (Key → Key) → Tables → Tables
-with_key_at number f t = record t { keys = map (where_number number f) (numbered t.keys) }
-
-abbrev pub in_state : State → Key → Key
-in_state state k = record k { row = record { dates = k.row.dates; state = state } }
-
--- a key with an owner and a row; its Initial Date stays
-abbrev pub held_by : List ℕ → Row → Key → Key
-held_by owner row k = record k { owner = owner; row = record { dates = record row.dates { initial = k.row.dates.initial }; state = row.state } }
-
--- the key with this number
-abbrev pub key_at : List Key → ℕ → Option Key
-key_at keys zero = None
-key_at keys (suc before) = slice_get keys before
-
--- ---- names at keys
-
-abbrev pub with_custodian : KeyName → Tables → Tables
-with_custodian at_key t = record t { custodians = t.custodians ++ at_key ∷ [] }
-
-abbrev pub with_approval : KeyName → Tables → Tables
-with_approval at_key t = record t { approvals = t.approvals ++ at_key ∷ [] }
-
--- all but this name at this key
-abbrev pub without_name : ℕ → List ℕ → List KeyName → List KeyName
-without_name key name names = filter (λ at_key. not (is_key_name key name at_key)) names
-
--- the approval of one who is custodian no more goes too
-abbrev pub without_custodian : ℕ → List ℕ → Tables → Tables
-without_custodian key name t = record t { custodians = without_name key name t.custodians; approvals = without_name key name t.approvals }
-
-abbrev pub without_approval : ℕ → List ℕ → Tables → Tables
-without_approval key name t = record t { approvals = without_name key name t.approvals }
-
--- no approval of this key's
-abbrev pub without_approvals : ℕ → Tables → Tables
-without_approvals key t = record t { approvals = filter (λ at_key. not (is_at key at_key)) t.approvals }

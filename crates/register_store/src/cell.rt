@@ -23,30 +23,6 @@ use sqlite::types::{ToSql, ValueRef};
 /// What stands for a date that is not set: the second past the last moment, so that it comes after every moment.
 const UNSET: u64 = LAST_SECOND + 1;
 
-/// A key's type, kept by its code.
-#[derive(Clone, Copy)]
-pub(crate) struct KindCell(pub(crate) KeyType);
-
-impl<'a> ToSql<'a> for KindCell {
-    ghost to_sql = { λ kind. Int (pos (key_type_code kind.0)) };
-
-    fn to_sql(self) -> ValueRef<'a> {
-        ValueRef::Int(i64::from(self.0.code()))
-    }
-}
-
-/// A state, kept by its code.
-#[derive(Clone, Copy)]
-pub(crate) struct StateCell(pub(crate) State);
-
-impl<'a> ToSql<'a> for StateCell {
-    ghost to_sql = { λ state. Int (pos (state_code state.0)) };
-
-    fn to_sql(self) -> ValueRef<'a> {
-        ValueRef::Int(i64::from(self.0.code()))
-    }
-}
-
 /// A moment, kept as its second.
 #[derive(Clone, Copy)]
 pub(crate) struct MomentCell(pub(crate) Moment);

@@ -2,11 +2,12 @@
 ghost use Rattle.std.specs.Prelude.{◌≡◌, ◌<◌, ◌≤◌, ◌+◌};
 ghost use Rattle.register_core.specs.declared.limits.TheConstants.{MAX_KEYS};
 ghost use Rattle.sql_steps.specs.Steps.{Steps};
-ghost use Rattle.register_store.specs.Tables.{Makes, Always, HasKeys, with_counts};
+ghost use Rattle.register_store.specs.Making.{Makes, Always, HasKeys, with_counts};
 ghost use Rattle.register_store.specs.Change.{with_custody, with_change};
 
 use crate::cell::MomentCell;
-use crate::custody::{Role, add_name, end_approvals, remove_name};
+use crate::custody::RoleChange::{Given, Taken};
+use crate::custody::{Role, change_role, end_approvals};
 use crate::error::StoreError;
 use crate::key_row::{add_key, update_key};
 use moment_core::Moment;
@@ -25,10 +26,20 @@ fn write_custody<S: Alter>(
 {
     match custody {
         CustodyChange::Kept => Ok(()),
-        CustodyChange::CustodianAdded(name) => add_name(tx, Role::Custodian, number, name),
-        CustodyChange::CustodianRemoved(name) => remove_name(tx, Role::Custodian, number, name),
-        CustodyChange::Approved(name) => add_name(tx, Role::Approver, number, name),
-        CustodyChange::Withdrawn(name) => remove_name(tx, Role::Approver, number, name),
+        CustodyChange::CustodianAdded(name) => change_role(
+            tx,
+            Given(Role::Custodian),
+            number,
+            name,
+        ),
+        CustodyChange::CustodianRemoved(name) => change_role(
+            tx,
+            Taken(Role::Custodian),
+            number,
+            name,
+        ),
+        CustodyChange::Approved(name) => change_role(tx, Given(Role::Approver), number, name),
+        CustodyChange::Withdrawn(name) => change_role(tx, Taken(Role::Approver), number, name),
         CustodyChange::ApprovalsEnded => end_approvals(tx, number),
     }
 }

@@ -2,12 +2,10 @@
 ghost use Rattle.std.specs.Prelude.{◌≡◌, false, map, IfOk};
 ghost use Rattle.sqlite.specs.declared.types.Value.TheVariants.{Text as Words};
 ghost use Rattle.sqlite.specs.Order.{column};
-ghost use Rattle.register_core.specs.KeyName.{key_name};
 ghost use Rattle.sql_steps.specs.Steps.{Steps};
 ghost use Rattle.register_store.specs.Reading.{AreNamesOf, HasNames, Reads};
-ghost use Rattle.register_store.specs.Roles.{insert_text, delete_text, select_text, with_role};
-ghost use Rattle.register_store.specs.Roles.{without_role};
-ghost use Rattle.register_store.specs.Tables.{Makes, Always, without_approvals};
+ghost use Rattle.register_store.specs.Roles.{change_text, select_text, with_role_changed};
+ghost use Rattle.register_store.specs.Making.{Makes, Always, without_approvals};
 
 use crate::cell::name_in;
 use crate::error::StoreError;
@@ -25,24 +23,6 @@ pub(crate) enum Role {
 }
 
 impl Role {
-    fn insert_sql(self) -> &'static str
-        ensures { result.now ≡ insert_text self }
-    {
-        match self {
-            Role::Custodian => "INSERT INTO custodian (key_no, name) VALUES (?1, ?2)",
-            Role::Approver => "INSERT INTO approval (key_no, name) VALUES (?1, ?2)",
-        }
-    }
-
-    fn delete_sql(self) -> &'static str
-        ensures { result.now ≡ delete_text self }
-    {
-        match self {
-            Role::Custodian => "DELETE FROM custodian WHERE key_no = ?1 AND name = ?2",
-            Role::Approver => "DELETE FROM approval WHERE key_no = ?1 AND name = ?2",
-        }
-    }
-
     fn select_sql(self) -> &'static str
         ensures { result.now ≡ select_text self }
     {
@@ -53,34 +33,47 @@ impl Role {
     }
 }
 
-/// Gives the name this role at the key. The database refuses it where the name has the role already, where there is no
-/// such key, and for an approver where the name is no custodian.
-pub(crate) fn add_name<S: Alter>(
-    tx: &mut Transaction<'_, S>,
-    role: Role,
-    key: u32,
-    name: &Name,
-) -> Result<(), StoreError>
-    ensures same_reference { tx.new.conn.ghost_name ≡ tx.old.conn.ghost_name }
-    ensures added { Steps S.Store (λ _. Makes Always (with_role role (key_name key name.now)))
-        tx.old.conn.now tx.new.conn.now result }
-{
-    tx.execute(role.insert_sql(), params![key, name.text()])?;
-    Ok(())
+/// What becomes of a role that a name may have at a key.
+#[derive(Clone, Copy, Debug, PartialEq, Eq)]
+pub(crate) enum RoleChange {
+    Given(Role),
+    Taken(Role),
 }
 
-/// Takes this role at the key from the name. With a custodian its approval goes too.
-pub(crate) fn remove_name<S: Alter>(
+impl RoleChange {
+    fn sql(self) -> &'static str
+        ensures { result.now ≡ change_text self }
+    {
+        match self {
+            RoleChange::Given(Role::Custodian) => {
+                "INSERT INTO custodian (key_no, name) VALUES (?1, ?2)"
+            }
+            RoleChange::Given(Role::Approver) => {
+                "INSERT INTO approval (key_no, name) VALUES (?1, ?2)"
+            }
+            RoleChange::Taken(Role::Custodian) => {
+                "DELETE FROM custodian WHERE key_no = ?1 AND name = ?2"
+            }
+            RoleChange::Taken(Role::Approver) => {
+                "DELETE FROM approval WHERE key_no = ?1 AND name = ?2"
+            }
+        }
+    }
+}
+
+/// Gives the name a role at the key, or takes it. With a custodian its approval goes too. The database refuses to give
+/// a role where the name has it already, where there is no such key, and for an approver where the name is no custodian.
+pub(crate) fn change_role<S: Alter>(
     tx: &mut Transaction<'_, S>,
-    role: Role,
+    change: RoleChange,
     key: u32,
     name: &Name,
 ) -> Result<(), StoreError>
     ensures same_reference { tx.new.conn.ghost_name ≡ tx.old.conn.ghost_name }
-    ensures removed { Steps S.Store (λ _. Makes Always (without_role role key name.now))
+    ensures changed { Steps S.Store (λ _. Makes Always (with_role_changed change key name.now))
         tx.old.conn.now tx.new.conn.now result }
 {
-    tx.execute(role.delete_sql(), params![key, name.text()])?;
+    tx.execute(change.sql(), params![key, name.text()])?;
     Ok(())
 }
 

@@ -2,7 +2,7 @@
 ghost use Rattle.std.specs.Prelude.{◌≡◌, ◌≤◌, Some, IfOk};
 ghost use Rattle.lifecycle_core.specs.Row.{IsRightAt};
 ghost use Rattle.sql_steps.specs.Steps.{Steps};
-ghost use Rattle.register_store.specs.Tables.{Makes, HasKeys, with_keys_advanced};
+ghost use Rattle.register_store.specs.Making.{Makes, HasKeys, with_keys_advanced};
 ghost use Rattle.register_store.specs.Reading.{FindsKey};
 ghost use Rattle.register_store.specs.Due.{AdvancesKey};
 

@@ -4,14 +4,14 @@ ghost use Rattle.sqlite.specs.Held.{state};
 ghost use Rattle.sql_steps.specs.Steps.{Steps};
 ghost use Rattle.lifecycle_core.specs.declared.dates.Dates.{Dates};
 ghost use Rattle.register_core.specs.declared.key.Key.{Key};
-ghost use Rattle.register_store.specs.Tables.{AreDates, IsKey, Makes, Always, with_key};
-ghost use Rattle.register_store.specs.Tables.{with_key_at, held_by, in_state};
+ghost use Rattle.register_store.specs.Tables.{AreDates, IsKey};
+ghost use Rattle.register_store.specs.Making.{Makes, Always, with_key, with_key_at, held_by};
+ghost use Rattle.register_store.specs.Making.{in_state};
 ghost use Rattle.register_store.specs.Reading.{FindsKey, HasRow, IsRowOf, Reads, ShowsDates};
 ghost use Rattle.register_store.specs.Reading.{ShowsKey};
 
 use crate::cell::{
-    DateCell, KindCell, MomentCell, StateCell, date_in, kind_in, moment_in, name_in, purpose_in,
-    state_in,
+    DateCell, MomentCell, date_in, kind_in, moment_in, name_in, purpose_in, state_in,
 };
 use crate::error::StoreError;
 use lifecycle_core::{Dates, Row, State};
@@ -112,10 +112,10 @@ pub(crate) fn add_key<S: Alter>(
         destroyed, compromised, occurrence) VALUES (?1, ?2, ?3, ?4, ?5, ?6, ?7, ?8, ?9, ?10, ?11, ?12)",
         params![
             number,
-            KindCell(key.kind),
+            u32::from(key.kind.code()),
             key.owner.text(),
             key.purpose.text(),
-            StateCell(key.row.state),
+            u32::from(key.row.state.code()),
             MomentCell(dates.initial),
             DateCell(dates.activation),
             DateCell(dates.protect_stop),
@@ -147,7 +147,7 @@ pub(crate) fn update_key<S: Alter>(
         params![
             number,
             owner.text(),
-            StateCell(row.state),
+            u32::from(row.state.code()),
             DateCell(dates.activation),
             DateCell(dates.protect_stop),
             DateCell(dates.deactivation),
@@ -171,7 +171,7 @@ pub(crate) fn set_state<S: Alter>(
 {
     tx.execute(
         "UPDATE keys SET state = ?2 WHERE number = ?1",
-        params![number, StateCell(state)],
+        params![number, u32::from(state.code())],
     )?;
     Ok(())
 }

@@ -1,6 +1,6 @@
 //! The tables of a register.
 ghost use Rattle.std.specs.Prelude.{◌≡◌};
-ghost use Rattle.register_store.specs.Schema.{create_text, count_text};
+ghost use Rattle.register_store.specs.Tables.{create_text, count_text};
 
 /// One of the tables of a register.
 #[derive(Clone, Copy, Debug, PartialEq, Eq)]

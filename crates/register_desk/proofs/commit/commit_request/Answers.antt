@@ -2,7 +2,7 @@ use Rattle.std.proofs.Common.{◌≡◌, Ok, Err, rules, subst}
 use Rattle.sqlite.specs.Held.{state}
 use Rattle.sql_steps.specs.Steps.{TransactsBy}
 use Rattle.sql_steps.proofs.Stepping.{commits, transacts_as, fails_as}
-use Rattle.register_store.specs.Tables.{Makes, HasKeys}
+use Rattle.register_store.specs.Making.{Makes, HasKeys}
 use Rattle.register_desk.specs.Step.{with_request}
 use Rattle.register_desk.proofs.commit.commit_request.Goals as goal
 

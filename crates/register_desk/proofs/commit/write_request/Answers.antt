@@ -2,7 +2,7 @@ use Rattle.std.proofs.Common.{Ok}
 use Rattle.sqlite.specs.Held.{state}
 use Rattle.sql_steps.specs.Steps.{Then}
 use Rattle.sql_steps.proofs.Stepping.{steps_then, steps_weaker}
-use Rattle.register_store.specs.Tables.{Makes, Always, HasKeys, with_keys_advanced, with_counts}
+use Rattle.register_store.specs.Making.{Makes, Always, HasKeys, with_keys_advanced, with_counts}
 use Rattle.register_store.specs.Change.{with_change}
 use Rattle.register_desk.specs.Step.{with_request}
 use Rattle.register_desk.proofs.Requests.{makes_request}

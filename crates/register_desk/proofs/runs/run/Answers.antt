@@ -1,5 +1,5 @@
 use Rattle.std.proofs.Common.{List, ℕ, Option, ap, ◌∙◌, subst}
-use Rattle.register_desk.specs.Run.{RunsOver}
+use Rattle.register_desk.specs.Run.{RunsOver, TookBytes, Wrote}
 use Rattle.register_desk.proofs.ServingLemmas.{runs_so}
 use Rattle.register_desk.proofs.runs.run.Goals as goal
 
@@ -12,3 +12,23 @@ returns-clause-agrees g c h bytes items rest stands clean known has =
     (ap (λ r. g.R.Read.remaining r.inner) c.begin.ensures ∙ known) has stands clean c.run_lines.ensures.serves in
     subst (λ (o : Option (List ℕ)). RunsOver g.S.Store h items rest c.run_lines.result.end c.run_lines.result.replies o new c.run_lines.new.desk)
     (ap (λ w. g.W.Write.contents w.inner) c.begin-2.ensures) runs
+
+pub returns-clause-reader : goal.returns-clause-reader
+returns-clause-reader g c =
+    let left = c.run_lines.ensures.reader in
+    let begun = ap (λ r. g.R.Read.remaining r.inner) c.begin.ensures in
+    record {
+      took = subst (λ (before : Option (List ℕ)). TookBytes before (g.R.Read.remaining c.run_lines.new.reader.inner) c.run_lines.result.read) begun left.took;
+      at_end = left.at_end;
+      fault = left.fault;
+    }
+
+pub returns-clause-writer : goal.returns-clause-writer
+returns-clause-writer g c =
+    let left = c.run_lines.ensures.writer in
+    let begun = ap (λ w. g.W.Write.contents w.inner) c.begin-2.ensures in
+    record {
+      wrote = subst (λ (before : Option (List ℕ)). Wrote before (g.W.Write.contents c.run_lines.new.writer.inner) c.run_lines.result.written) begun left.wrote;
+      flushed = λ sound before. left.flushed sound (ap (λ w. w.unflushed) c.begin-2.ensures ∙ before);
+      fault = left.fault;
+    }

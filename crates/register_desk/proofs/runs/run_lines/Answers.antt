@@ -1,9 +1,11 @@
-use Rattle.std.proofs.Common.{◌≡◌, sym, ◌+◌, ap, refl, ◌∙◌, arith}
+use Rattle.std.proofs.Common.{◌≡◌, sym, ◌+◌, ap, refl, subst, ◌∙◌, arith}
 use Rattle.register_desk.specs.declared.end.End.{End}
-use Rattle.register_desk.specs.declared.end.End.TheVariants.{ReadFault}
+use Rattle.register_desk.specs.declared.end.End.TheVariants.{ReadFault, WriteFault}
 use Rattle.register_desk.specs.declared.runs.Finish.TheVariants.{AtEnd, Ended}
+use Rattle.streams.specs.declared.watched.TheConstants.{MAX_IDLE_TURNS}
 use Rattle.streams.specs.Lines.{Cut, work_left}
-use Rattle.register_desk.proofs.ServingLemmas.{served_begin, took_begin, took_then, wrote_item, wrote_part, wrote_begin, stopped_so, all_so, served_more, serves_same, wrote_same}
+use Rattle.streams.specs.Watched.{IsFaulted}
+use Rattle.register_desk.proofs.ServingLemmas.{served_begin, took_begin, took_then, no_read_fault, wrote_item, wrote_part, wrote_begin, stopped_so, all_so, served_more, serves_same, wrote_same}
 use Rattle.register_desk.proofs.runs.run_lines.Goals as goal
 use Rattle.register_desk.proofs.runs.run_lines.Goals.{in-Ok-Line+in-Err-answer_line, in-Ok-End, in-Err}
 
@@ -66,40 +68,56 @@ returns-clause-serves g c =
           (record { middle = _; served = served })
     ]
 
-pub returns-clause-read : goal.returns-clause-read
-returns-clause-read g c =
+pub returns-clause-reader : goal.returns-clause-reader
+returns-clause-reader g c =
     let took = took_then _ _ _ c.loop-lines.lines.taken c.loop-lines.lines c.next.new.self c.loop-lines.invariant.took refl c.next.ensures.taken in
-    (took.0, took.1, c.bytes_taken.ensures ∙ took.2)
+    record {
+      took = (took.0, took.1, c.bytes_taken.ensures ∙ took.2);
+      at_end = λ rest e. elim c.match-next.branch [
+        | in-Ok-Line+in-Err-answer_line w ↦ let apart : Ended w.in-Err-answer_line.stop.end ≡ AtEnd rest = sym w.end-is ∙ e in absurd cc
+        | in-Ok-End w ↦ w.in-Ok-End.ensures.at_end w.in-Ok-End.field-0-is
+        | in-Err w ↦ let apart : Ended ReadFault ≡ AtEnd rest = sym w.end-is ∙ e in absurd cc
+      ];
+      fault = λ e. elim c.match-next.branch [
+        | in-Ok-Line+in-Err-answer_line w ↦
+            let ended : Ended w.in-Err-answer_line.stop.end ≡ Ended ReadFault = sym w.end-is ∙ e in
+            let same : w.in-Err-answer_line.stop.end ≡ ReadFault = cc in
+            absurd (no_read_fault g.S.Store _ _ _ _ _ _ w.in-Err-answer_line.stop.written w.in-Err-answer_line.ensures.stop same)
+        | in-Ok-End w ↦ let apart : AtEnd w.length-rest.result ≡ Ended ReadFault = sym w.end-is ∙ e in absurd cc
+        | in-Err w ↦ w.in-Err.ensures.err
+      ];
+    }
 
-pub returns-clause-written : goal.returns-clause-written
-returns-clause-written g c =
+pub returns-clause-writer : goal.returns-clause-writer
+returns-clause-writer g c =
     let old = g.W.Write.contents c.args.writer.now.inner in
     let wrote = c.loop-lines.invariant.wrote in
-    elim c.match-next.branch [
-      | in-Ok-Line+in-Err-answer_line w ↦
-          wrote_same old _ _ c.match-next.written (c.loop-lines.written + w.in-Err-answer_line.stop.written) w.written-is (ap (λ x. g.W.Write.contents x.inner) w.writer-is)
-          (wrote_part g.S.Store old _ _ c.loop-lines.desk w.answer_line.new.desk w.item_of.result w.in-Err-answer_line.stop.end c.loop-lines.written w.in-Err-answer_line.stop.written wrote w.in-Err-answer_line.ensures.stop)
-      | in-Ok-End w ↦ wrote_same old _ _ c.match-next.written c.loop-lines.written w.written-is (ap (λ x. g.W.Write.contents x.inner) w.writer-is) wrote
-      | in-Err w ↦ wrote_same old _ _ c.match-next.written c.loop-lines.written w.written-is (ap (λ x. g.W.Write.contents x.inner) w.writer-is) wrote
-    ]
-
-pub returns-clause-at_end : goal.returns-clause-at_end
-returns-clause-at_end g c rest e = elim c.match-next.branch [
-  | in-Ok-Line+in-Err-answer_line w ↦ let apart : Ended w.in-Err-answer_line.stop.end ≡ AtEnd rest = sym w.end-is ∙ e in absurd cc
-  | in-Ok-End w ↦ w.in-Ok-End.ensures.at_end w.in-Ok-End.field-0-is
-  | in-Err w ↦ let apart : Ended ReadFault ≡ AtEnd rest = sym w.end-is ∙ e in absurd cc
-]
-
-pub returns-clause-flushed : goal.returns-clause-flushed
-returns-clause-flushed g c sound before =
-    let kept = c.loop-lines.invariant.flushed before in
-    elim c.match-next.branch [
-      | in-Ok-Line+in-Err-answer_line w ↦
-          let untouched = w.in-Err-answer_line.ensures.untouched (λ fault. sound (w.end-is ∙ ap (λ (end : End). Ended end) fault)) in
-          ap (λ x. x.unflushed) w.writer-is ∙ ap (λ x. x.unflushed) untouched ∙ kept
-      | in-Ok-End w ↦ ap (λ x. x.unflushed) w.writer-is ∙ kept
-      | in-Err w ↦ ap (λ x. x.unflushed) w.writer-is ∙ kept
-    ]
+    record {
+      wrote = elim c.match-next.branch [
+        | in-Ok-Line+in-Err-answer_line w ↦
+            wrote_same old _ _ c.match-next.written (c.loop-lines.written + w.in-Err-answer_line.stop.written) w.written-is (ap (λ x. g.W.Write.contents x.inner) w.writer-is)
+            (wrote_part g.S.Store old _ _ c.loop-lines.desk w.answer_line.new.desk w.item_of.result w.in-Err-answer_line.stop.end c.loop-lines.written w.in-Err-answer_line.stop.written wrote w.in-Err-answer_line.ensures.stop)
+        | in-Ok-End w ↦ wrote_same old _ _ c.match-next.written c.loop-lines.written w.written-is (ap (λ x. g.W.Write.contents x.inner) w.writer-is) wrote
+        | in-Err w ↦ wrote_same old _ _ c.match-next.written c.loop-lines.written w.written-is (ap (λ x. g.W.Write.contents x.inner) w.writer-is) wrote
+      ];
+      flushed = λ sound before.
+          let kept = c.loop-lines.invariant.flushed before in
+          elim c.match-next.branch [
+            | in-Ok-Line+in-Err-answer_line w ↦
+                let untouched = w.in-Err-answer_line.ensures.untouched (λ fault. sound (w.end-is ∙ ap (λ (end : End). Ended end) fault)) in
+                ap (λ x. x.unflushed) w.writer-is ∙ ap (λ x. x.unflushed) untouched ∙ kept
+            | in-Ok-End w ↦ ap (λ x. x.unflushed) w.writer-is ∙ kept
+            | in-Err w ↦ ap (λ x. x.unflushed) w.writer-is ∙ kept
+          ];
+      fault = λ e. elim c.match-next.branch [
+        | in-Ok-Line+in-Err-answer_line w ↦
+            let ended : Ended w.in-Err-answer_line.stop.end ≡ Ended WriteFault = sym w.end-is ∙ e in
+            let same : w.in-Err-answer_line.stop.end ≡ WriteFault = cc in
+            subst (λ x. IsFaulted x.failed MAX_IDLE_TURNS x.idle) (sym w.writer-is) (w.in-Err-answer_line.ensures.cause same)
+        | in-Ok-End w ↦ let apart : AtEnd w.length-rest.result ≡ Ended WriteFault = sym w.end-is ∙ e in absurd cc
+        | in-Err w ↦ let apart : Ended ReadFault ≡ Ended WriteFault = sym w.end-is ∙ e in absurd cc
+      ];
+    }
 
 pub returns-clause-whole : goal.returns-clause-whole
 returns-clause-whole g c before sound =

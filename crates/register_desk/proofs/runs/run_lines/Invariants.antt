@@ -3,7 +3,8 @@ use Rattle.std.specs.Io.KnownBytes.{prepend_known}
 use Rattle.register_core.specs.declared.line.TheConstants.{MAX_REPLY_LENGTH}
 use Rattle.streams.specs.declared.lines.TheConstants.{MAX_PIECE_LENGTH}
 use Rattle.streams.specs.Lines.{work_left}
-use Rattle.register_desk.specs.Serving.{Served, Wrote, TookBytes}
+use Rattle.register_desk.specs.Run.{TookBytes, Wrote}
+use Rattle.register_desk.specs.Serving.{Served}
 use Rattle.register_desk.proofs.runs.run_lines.Given as goal
 
 abbrev pub invariant-loop-lines : goal.invariant-loop-lines

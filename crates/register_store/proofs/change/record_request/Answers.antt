@@ -1,6 +1,6 @@
 use Rattle.sqlite.specs.Held.{state}
 use Rattle.sql_steps.proofs.Stepping.{runs}
-use Rattle.register_store.specs.Tables.{Makes, Always, with_counts}
+use Rattle.register_store.specs.Making.{Makes, Always, with_counts}
 use Rattle.register_store.proofs.CountsRow.{counts_text, params, records}
 use Rattle.register_store.proofs.change.record_request.Goals as goal
 

@@ -5,7 +5,7 @@ use Rattle.sql_steps.proofs.Stepping.{steps_then, steps_weaker}
 use Rattle.register_core.specs.declared.change.Change.{Change}
 use Rattle.register_core.specs.declared.change.Change.TheVariants.{Held}
 use Rattle.register_store.specs.Change.{with_change, with_custody}
-use Rattle.register_store.specs.Tables.{Makes, Always, HasKeys, held_by, with_key_at}
+use Rattle.register_store.specs.Making.{Makes, Always, HasKeys, held_by, with_key_at}
 use Rattle.register_store.proofs.change.write_change.Goals as goal
 
 pub returns-in_ok-update_key-in-Held-clause-written : goal.returns-in_ok-update_key-in-Held-clause-written

@@ -2,7 +2,7 @@ use Rattle.std.proofs.Common.{pos, [], ◌∷◌}
 use Rattle.sqlite.specs.declared.types.Value.TheVariants.{Int}
 use Rattle.sqlite.specs.Held.{state}
 use Rattle.sql_steps.proofs.Stepping.{runs}
-use Rattle.register_store.specs.Tables.{Makes, Always, without_approvals}
+use Rattle.register_store.specs.Making.{Makes, Always, without_approvals}
 use Rattle.register_store.proofs.NameRemoved.{approvals_text, removes_approvals}
 use Rattle.register_store.proofs.custody.end_approvals.Goals as goal
 

@@ -3,7 +3,7 @@ use Rattle.sqlite.specs.Held.{state}
 use Rattle.sql_steps.specs.Steps.{Change, StepsBy, Then}
 use Rattle.sql_steps.proofs.Stepping.{steps_as, steps_then}
 use Rattle.register_store.specs.declared.error.StoreError.{StoreError}
-use Rattle.register_store.specs.Tables.{Makes, Always, HasKeys, with_keys_advanced}
+use Rattle.register_store.specs.Making.{Makes, Always, HasKeys, with_keys_advanced}
 use Rattle.register_store.specs.Due.{AdvancesKey, with_first_advanced}
 use Rattle.register_store.proofs.Advancing.{next_advanced, each_advanced}
 use Rattle.register_store.proofs.due.advance_due.Goals as goal

@@ -2,7 +2,7 @@ use Rattle.std.proofs.Common.{◌≡◌, ◌≤◌, ℕ, suc, Ok}
 use Rattle.sqlite.specs.Held.{state}
 use Rattle.sql_steps.specs.Steps.{StepsBy}
 use Rattle.register_store.specs.declared.error.StoreError.{StoreError}
-use Rattle.register_store.specs.Tables.{Makes, Always}
+use Rattle.register_store.specs.Making.{Makes, Always}
 use Rattle.register_store.specs.Due.{with_first_advanced}
 use Rattle.register_store.proofs.due.advance_due.Given as goal
 

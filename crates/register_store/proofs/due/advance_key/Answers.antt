@@ -4,7 +4,7 @@ use Rattle.sql_steps.specs.Steps.{Change, Then}
 use Rattle.sql_steps.proofs.Stepping.{fails, steps_as, steps_weaker, steps_then}
 use Rattle.lifecycle_core.specs.State.{state_at}
 use Rattle.register_core.specs.declared.key.Key.{Key}
-use Rattle.register_store.specs.Tables.{Makes, Always, in_state, with_key_at}
+use Rattle.register_store.specs.Making.{Makes, Always, in_state, with_key_at}
 use Rattle.register_store.specs.Reading.{FindsKey}
 use Rattle.register_store.specs.Due.{AdvancesKey}
 use Rattle.register_store.proofs.Advancing.{sets_state, has_state}

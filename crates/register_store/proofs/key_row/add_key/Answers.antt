@@ -1,7 +1,8 @@
 use Rattle.std.proofs.Common.{◌≡◌, ◌+◌, length}
 use Rattle.sqlite.specs.Held.{state}
 use Rattle.sql_steps.proofs.Stepping.{runs}
-use Rattle.register_store.specs.Tables.{IsKey, Makes, with_key}
+use Rattle.register_store.specs.Tables.{IsKey}
+use Rattle.register_store.specs.Making.{Makes, with_key}
 use Rattle.register_store.proofs.KeyRow.{insert_text, params, adds_key}
 use Rattle.register_store.proofs.key_row.add_key.Goals as goal
 
@@ -28,11 +29,15 @@ returns-clause-added g c =
     (λ clean inside. rw (
       c.params-to_sql.ensures,
       c.params-to_sql-2.ensures,
+      c.from.ensures,
+      c.code.ensures,
       c.params-to_sql-3.ensures,
       c.text.ensures.value,
       c.params-to_sql-4.ensures,
       c.text-2.ensures.value,
       c.params-to_sql-5.ensures,
+      c.from-2.ensures,
+      c.code-2.ensures,
       c.params-to_sql-6.ensures.value,
       c.params-to_sql-7.ensures.value,
       c.params-to_sql-8.ensures.value,

@@ -1,6 +1,6 @@
 use Rattle.sqlite.specs.Held.{state}
 use Rattle.sql_steps.proofs.Stepping.{runs}
-use Rattle.register_store.specs.Tables.{Makes, Always, held_by, with_key_at}
+use Rattle.register_store.specs.Making.{Makes, Always, held_by, with_key_at}
 use Rattle.register_store.proofs.KeyChange.{AreLaterDates, key_params, key_text, updates_key}
 use Rattle.register_store.proofs.key_row.update_key.Goals as goal
 
@@ -11,7 +11,8 @@ returns-clause-updated g c =
     let number = c.args.number in
     let owner = c.args.owner.now in
     let row = c.args.row.now in
-    let in_range : AreLaterDates row.dates = record {
+    let in_range : AreLaterDates row.dates = λ initial is. record {
+      initial = is;
       activation = c.params-to_sql-4.ensures.in_range;
       protect_stop = c.params-to_sql-5.ensures.in_range;
       deactivation = c.params-to_sql-6.ensures.in_range;
@@ -26,6 +27,8 @@ returns-clause-updated g c =
       c.params-to_sql-2.ensures,
       c.text.ensures.value,
       c.params-to_sql-3.ensures,
+      c.from.ensures,
+      c.code.ensures,
       c.params-to_sql-4.ensures.value,
       c.params-to_sql-5.ensures.value,
       c.params-to_sql-6.ensures.value,

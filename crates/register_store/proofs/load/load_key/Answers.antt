@@ -3,7 +3,8 @@ use Rattle.std.specs.Option.{option_map}
 use Rattle.sqlite.specs.Held.{state}
 use Rattle.register_store.specs.declared.custody.Role.TheVariants.{Custodian, Approver}
 use Rattle.register_store.specs.Reading.{HasKey, HasNames, HasRow, loaded}
-use Rattle.register_store.specs.Tables.{Tables, key_at}
+use Rattle.register_store.specs.Tables.{Tables}
+use Rattle.register_store.specs.Making.{key_at}
 use Rattle.register_store.proofs.Readings.{reads_as, reads_fail, reads_then}
 use Rattle.register_store.proofs.load.load_key.Goals as goal
 

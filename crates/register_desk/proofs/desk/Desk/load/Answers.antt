@@ -1,5 +1,6 @@
 use Rattle.std.proofs.Common.{refl, ◌∙◌}
 use Rattle.register_store.specs.Reading.{HasKey}
+use Rattle.register_desk.specs.Register.{tables}
 use Rattle.register_desk.proofs.Grows.{loaded_is}
 use Rattle.register_desk.proofs.Readings.{ends_by_error, found_in, nothing_done, read_failed, read_well, whole_is_memory}
 use Rattle.register_desk.proofs.desk.Desk.load.Goals as goal
@@ -13,7 +14,7 @@ returns-in-Ok-clause-reads g c =
 
 pub returns-in-Ok-clause-loaded : goal.returns-in-Ok-clause-loaded
 returns-in-Ok-clause-loaded g c h stands clean =
-    found_in g.S.Store (HasKey c.args.number) c.args.self.now c.load_key.new.connection c.in-Ok.found c.if-self.false c.in-Ok.ensures.reads h stands clean ∙ loaded_is h c.args.number
+    found_in g.S.Store (HasKey c.args.number) c.args.self.now c.load_key.new.connection c.in-Ok.found c.if-self.false c.in-Ok.ensures.reads (tables h) stands.sees clean ∙ loaded_is h c.args.number
 
 pub returns-in-Err-clause-ends : goal.returns-in-Err-clause-ends
 returns-in-Err-clause-ends g c = ends_by_error c.args.self.now c.end_by.new.self c.in-Err.error c.end_by.result c.if-self.false c.end_by.ensures.memory c.end_by.ensures.store
