@@ -62,16 +62,7 @@ fn rows_are_right(rt: HostRuntime) {
     assert!(rt; is_right(dates_in_use(), State::Deactivated, 1000));
 }
 
-const STATES: [State; 6] = [
-    State::PreActive,
-    State::Active,
-    State::Deactivated,
-    State::Compromised,
-    State::Destroyed,
-    State::DestroyedCompromised,
-];
-
-/// For each state that is left, whether each of [`STATES`] may be entered from it.
+/// For each state that is left, whether each of [`State::ALL`] may be entered from it.
 #[rattlefmt::skip]
 const ALLOWED: [(State, [bool; 6]); 6] = [
     (State::PreActive, [false, true, false, true, true, false]),
@@ -84,7 +75,7 @@ const ALLOWED: [(State, [bool; 6]); 6] = [
 
 /// Whether these are the states that may be entered.
 fn may_enter(from: State, allowed: &[bool; 6]) -> bool {
-    STATES
+    State::ALL
         .iter()
         .zip(allowed)
         .all(|(to, expected)| may(from, *to) == *expected)

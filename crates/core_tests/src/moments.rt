@@ -1,14 +1,9 @@
 //! Sums with calendar months and days, compared with the worked rows and with the calendar of
 //! Python's datetime.
-mod edges;
-mod later_month_ends;
-mod month_ends;
+mod sums;
 
-use edges::EDGES;
-use later_month_ends::LATER_MONTH_ENDS;
 use moment_core::{LAST_SECOND, Moment};
-use month_ends::MONTH_ENDS;
-use std::process::Abort;
+use sums::SUMS;
 
 /// A moment, the months that are added, and the sum: in seconds, `None` past the last moment.
 const MONTHS_ADDED: [(u64, u16, Option<u64>); 6] = [
@@ -65,22 +60,15 @@ fn days_added(rt: HostRuntime) {
     }
 }
 
-/// Compares each sum of the rows with `plus_months`. A sum of 0 stands for none.
-fn compare(rt: &impl Abort, rows: &[(u64, u16, u64)]) {
-    for (seconds, months, sum) in rows {
+#[test]
+fn sums_of_months(rt: HostRuntime) {
+    for (seconds, months, sum) in &SUMS {
         let sum = if *sum == 0 { None } else { Some(*sum) };
         assert!(rt;
             is_months_later(*seconds, *months, sum),
             "{seconds} plus {months} months"
         );
     }
-}
-
-#[test]
-fn months_after_month_ends(rt: HostRuntime) {
-    compare(&rt, &MONTH_ENDS);
-    compare(&rt, &LATER_MONTH_ENDS);
-    compare(&rt, &EDGES);
 }
 
 const TEXTS: [(u64, &[u8; 20]); 4] = [

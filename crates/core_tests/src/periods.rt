@@ -131,10 +131,8 @@ fn is_same(answer: Option<Answer>, expected: Option<Answer>) -> bool {
 #[test]
 fn fill_by_rows(rt: HostRuntime) {
     for (name, kind, given, outcome) in &FILLS {
-        assert!(rt;
-            is_same(after_fill(*kind, given), expected(outcome, given)),
-            "{name}"
-        );
+        let is = is_same(after_fill(*kind, given), expected(outcome, given));
+        assert!(rt; is, "{name}");
     }
 }
 
@@ -160,10 +158,8 @@ const TRIMS: [Case; 3] = [
 #[test]
 fn trim_by_rows(rt: HostRuntime) {
     for (name, kind, given, outcome) in &TRIMS {
-        assert!(rt;
-            is_same(after_trim(*kind, given), expected(outcome, given)),
-            "{name}"
-        );
+        let is = is_same(after_trim(*kind, given), expected(outcome, given));
+        assert!(rt; is, "{name}");
     }
 }
 

@@ -14,17 +14,26 @@ use register_core::{
     plain, read_command, read_request, reply_line,
 };
 use std::alloc::Global;
+use std::fmt;
 use std::test::Fail;
 
+/// Whether the value is printed so.
+fn is_printed(alloc: Global, value: Option<impl fmt::Debug + Copy>, text: &str) -> bool {
+    match value {
+        Some(value) => match format!(in alloc; "{value:?}") {
+            Ok(printed) => printed.as_str() == text,
+            Err(_) => false,
+        },
+        None => false,
+    }
+}
+
 #[test]
-fn names_and_purposes_are_printed(rt: HostRuntime) -> Result<(), Fail> {
-    let name = Name::new(b"ops-1@hsm.example").ok_or("a name")?;
-    let name = format!(in rt.alloc(); "{name:?}")?;
-    assert_eq!(rt; name.as_str(), "\"ops-1@hsm.example\"");
-    let purpose = Purpose::new("backups of Zürich".as_bytes()).ok_or("a purpose")?;
-    let purpose = format!(in rt.alloc(); "{purpose:?}")?;
-    assert_eq!(rt; purpose.as_str(), "\"backups of Zürich\"");
-    Ok(())
+fn names_and_purposes_are_printed(rt: HostRuntime) {
+    let name = Name::new(b"ops-1@hsm.example");
+    assert!(rt; is_printed(rt.alloc(), name, "\"ops-1@hsm.example\""));
+    let purpose = Purpose::new("backups of Zürich".as_bytes());
+    assert!(rt; is_printed(rt.alloc(), purpose, "\"backups of Zürich\""));
 }
 
 /// The request of the line.
@@ -34,37 +43,48 @@ fn request(line: &str) -> Result<Request, Fail> {
 
 /// Whether the line is read as alice's request 7 at 100 to register a key of bob's.
 fn is_registration(line: &[u8]) -> bool {
-    let Some(
-        Request {
-            moment,
-            caller,
-            number,
-            command,
-        },
-    ) = read_request(line)
-    else {
-        return false;
-    };
-    let Command::Register {
-        kind,
-        owner,
-        activation,
-        protect_stop,
-        deactivation,
-        purpose,
-    } = command
-    else {
-        return false;
-    };
-    moment.seconds() == 100
-        && caller.text() == "alice"
-        && number.get() == 7
-        && kind == KeyType::KeyWrapping
-        && owner.text() == "bob"
-        && activation == Moment::new(100)
-        && protect_stop == Moment::new(200)
-        && deactivation == Moment::new(300)
-        && purpose.text() == "wraps the backup keys"
+    match read_request(line) {
+        Some(request) => {
+            request.moment.seconds() == 100
+                && request.caller.text() == "alice"
+                && request.number.get() == 7
+                && is_of_bob(&request.command)
+                && has_dates(&request.command)
+        }
+        None => false,
+    }
+}
+
+fn is_of_bob(command: &Command) -> bool {
+    match command {
+        Command::Register {
+            kind,
+            owner,
+            purpose,
+            ..
+        } => {
+            *kind == KeyType::KeyWrapping
+                && owner.text() == "bob"
+                && purpose.text() == "wraps the backup keys"
+        }
+        _ => false,
+    }
+}
+
+fn has_dates(command: &Command) -> bool {
+    match command {
+        Command::Register {
+            activation,
+            protect_stop,
+            deactivation,
+            ..
+        } => {
+            *activation == Moment::new(100)
+                && *protect_stop == Moment::new(200)
+                && *deactivation == Moment::new(300)
+        }
+        _ => false,
+    }
 }
 
 #[test]
@@ -159,24 +179,28 @@ const REGISTRATIONS: [(&str, Option<u64>, Option<u64>); 5] = [
     ("100 ann 1 register master bob - 10 - x", Some(10), None),
 ];
 
+/// Whether the line is accepted as the first, and gives its key these dates.
+fn has_defaults(
+    alloc: Global,
+    line: &str,
+    protect_stop: Option<u64>,
+    deactivation: Option<u64>,
+) -> bool {
+    let Some(request) = read_request(line.as_bytes()) else {
+        return false;
+    };
+    let dates = plain::dates(&[request], 1);
+    matches!(plain::verdict(alloc, &[], &request), Ok(None))
+        && dates.protect_stop.map(Moment::seconds) == protect_stop
+        && dates.deactivation.map(Moment::seconds) == deactivation
+}
+
 #[test]
-fn dates_of_registrations(rt: HostRuntime) -> Result<(), Fail> {
+fn dates_of_registrations(rt: HostRuntime) {
     for (line, protect_stop, deactivation) in &REGISTRATIONS {
-        let request = request(line)?;
-        assert_eq!(rt; plain::verdict(rt.alloc(), &[], &request)?, None);
-        let dates = plain::dates(&[request], 1);
-        assert_eq!(rt;
-            dates.protect_stop.map(Moment::seconds),
-            *protect_stop,
-            "{line}"
-        );
-        assert_eq!(rt;
-            dates.deactivation.map(Moment::seconds),
-            *deactivation,
-            "{line}"
-        );
+        let is = has_defaults(rt.alloc(), line, *protect_stop, *deactivation);
+        assert!(rt; is, "{line}");
     }
-    Ok(())
 }
 
 /// A line on a key that was registered at 100 for ann, Active from 200 until 400 with its

@@ -15,10 +15,6 @@ reason_code PrivilegeWithdrawn = 7
 
 -- the reasons that make a key compromised: both kinds of compromise (this register's own)
 abbrev pub is_compromise : Reason → Bool
-is_compromise Unspecified = false
 is_compromise KeyCompromise = true
 is_compromise CaCompromise = true
-is_compromise AffiliationChanged = false
-is_compromise Superseded = false
-is_compromise CessationOfOperation = false
-is_compromise PrivilegeWithdrawn = false
+is_compromise _ = false

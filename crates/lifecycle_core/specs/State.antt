@@ -5,23 +5,20 @@ use Rattle.lifecycle_core.specs.declared.state.State.{State}
 use Rattle.lifecycle_core.specs.declared.state.State.TheVariants.{PreActive, Active, Deactivated, Compromised, Destroyed, DestroyedCompromised}
 use Rattle.lifecycle_core.specs.declared.dates.Dates.{Dates}
 
--- the name of a state
-abbrev pub state_text : State → List ℕ
-state_text PreActive = codes "Pre-Active"
-state_text Active = codes "Active"
-state_text Deactivated = codes "Deactivated"
-state_text Compromised = codes "Compromised"
-state_text Destroyed = codes "Destroyed"
-state_text DestroyedCompromised = codes "Destroyed-Compromised"
+-- the value of a state in KMIP 1.2 (the State Enumeration of section 9.1.3.2), and its name
+abbrev pub state_row : State → ℕ × List ℕ
+state_row PreActive = (1, codes "Pre-Active")
+state_row Active = (2, codes "Active")
+state_row Deactivated = (3, codes "Deactivated")
+state_row Compromised = (4, codes "Compromised")
+state_row Destroyed = (5, codes "Destroyed")
+state_row DestroyedCompromised = (6, codes "Destroyed-Compromised")
 
--- the value of a state in KMIP 1.2: the State Enumeration of section 9.1.3.2
 abbrev pub state_code : State → ℕ
-state_code PreActive = 1
-state_code Active = 2
-state_code Deactivated = 3
-state_code Compromised = 4
-state_code Destroyed = 5
-state_code DestroyedCompromised = 6
+state_code state = (state_row state).0
+
+abbrev pub state_text : State → List ℕ
+state_text state = (state_row state).1
 
 -- a date is reached at t where it is set and at most t
 abbrev pub is_reached_at : Option ℕ → ℕ → Bool

@@ -1,7 +1,7 @@
 -- What a key may be used for in its states: KMIP 1.2 section 3.22.
 use Rattle.std.specs.Prelude.{ℕ, Bool, true, false, ◌&&◌, nat_lt, List, codes, Option, None, Some}
 use Rattle.lifecycle_core.specs.declared.state.State.{State}
-use Rattle.lifecycle_core.specs.declared.state.State.TheVariants.{PreActive, Active, Deactivated, Compromised, Destroyed, DestroyedCompromised}
+use Rattle.lifecycle_core.specs.declared.state.State.TheVariants.{Active, Deactivated, Compromised}
 use Rattle.lifecycle_core.specs.declared.dates.Dates.{Dates}
 use Rattle.lifecycle_core.specs.declared.usage.Process.{Process}
 use Rattle.lifecycle_core.specs.declared.usage.Process.TheVariants.{Yes, Special, No}
@@ -17,21 +17,15 @@ process_text No = codes "no"
 -- whether a key processes protected data: a deactivated or compromised one does so only under
 -- extraordinary circumstances, with special permission
 abbrev pub process_in : State → Process
-process_in PreActive = No
 process_in Active = Yes
 process_in Deactivated = Special
 process_in Compromised = Special
-process_in Destroyed = No
-process_in DestroyedCompromised = No
+process_in _ = No
 
 -- only an active key applies protection
 abbrev pub is_active : State → Bool
-is_active PreActive = false
 is_active Active = true
-is_active Deactivated = false
-is_active Compromised = false
-is_active Destroyed = false
-is_active DestroyedCompromised = false
+is_active _ = false
 
 -- a date is still to come at t where it is set and above t
 abbrev pub is_ahead_at : Option ℕ → ℕ → Bool

@@ -4,13 +4,13 @@ ghost use Rattle.std.specs.Prelude.{◌≡◌};
 /// A revocation reason of KMIP 1.2, section 3.31.
 #[derive(Clone, Copy, Debug, PartialEq, Eq, Hash)]
 pub enum Reason {
-    Unspecified,
-    KeyCompromise,
-    CaCompromise,
-    AffiliationChanged,
-    Superseded,
-    CessationOfOperation,
-    PrivilegeWithdrawn,
+    Unspecified = 1,
+    KeyCompromise = 2,
+    CaCompromise = 3,
+    AffiliationChanged = 4,
+    Superseded = 5,
+    CessationOfOperation = 6,
+    PrivilegeWithdrawn = 7,
 }
 
 impl Reason {
@@ -22,15 +22,7 @@ impl Reason {
     pub fn code(self) -> u8
         ensures { result ≡ reason_code self }
     {
-        match self {
-            Reason::Unspecified => 1,
-            Reason::KeyCompromise => 2,
-            Reason::CaCompromise => 3,
-            Reason::AffiliationChanged => 4,
-            Reason::Superseded => 5,
-            Reason::CessationOfOperation => 6,
-            Reason::PrivilegeWithdrawn => 7,
-        }
+        self as u8
     }
 
     /// The reason with this value, or `None` below 1 and above 7.

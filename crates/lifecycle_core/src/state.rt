@@ -16,32 +16,28 @@ impl State {
     ghost use Rattle.std.specs.Prelude.{◌<◌, ◌⊎◌, IfSome, IfNone};
     ghost use Rattle.lifecycle_core.specs.State.{state_text, state_code};
 
+    /// Each state once.
+    pub const ALL: [State; 6] = [
+        State::PreActive,
+        State::Active,
+        State::Deactivated,
+        State::Compromised,
+        State::Destroyed,
+        State::DestroyedCompromised,
+    ];
+
     /// The state's name. The hyphen in `Destroyed-Compromised` is this register's own.
     pub fn text(self) -> &'static str
         ensures { result.now ≡ state_text self }
     {
-        match self {
-            State::PreActive => "Pre-Active",
-            State::Active => "Active",
-            State::Deactivated => "Deactivated",
-            State::Compromised => "Compromised",
-            State::Destroyed => "Destroyed",
-            State::DestroyedCompromised => "Destroyed-Compromised",
-        }
+        self.row().1
     }
 
     /// The state's value in the State Enumeration of KMIP 1.2 (section 9.1.3.2), from 1 to 6.
     pub fn code(self) -> u8
         ensures { result ≡ state_code self }
     {
-        match self {
-            State::PreActive => 1,
-            State::Active => 2,
-            State::Deactivated => 3,
-            State::Compromised => 4,
-            State::Destroyed => 5,
-            State::DestroyedCompromised => 6,
-        }
+        self.row().0
     }
 
     /// The state with this value, or `None` below 1 and above 6.
@@ -49,14 +45,21 @@ impl State {
         ensures found { IfSome result (λ state. state_code state ≡ code) }
         ensures none { IfNone result ((code < 1) ⊎ (6 < code)) }
     {
-        match code {
-            1 => Some(State::PreActive),
-            2 => Some(State::Active),
-            3 => Some(State::Deactivated),
-            4 => Some(State::Compromised),
-            5 => Some(State::Destroyed),
-            6 => Some(State::DestroyedCompromised),
-            _ => None,
+        Self::ALL.iter().copied().find(|state| state.code() == code)
+    }
+
+    /// The state's value and its name.
+    fn row(self) -> (u8, &'static str)
+        ensures code { result.0 ≡ state_code self }
+        ensures text { result.1.now ≡ state_text self }
+    {
+        match self {
+            State::PreActive => (1, "Pre-Active"),
+            State::Active => (2, "Active"),
+            State::Deactivated => (3, "Deactivated"),
+            State::Compromised => (4, "Compromised"),
+            State::Destroyed => (5, "Destroyed"),
+            State::DestroyedCompromised => (6, "Destroyed-Compromised"),
         }
     }
 }

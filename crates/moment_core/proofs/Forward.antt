@@ -1,10 +1,9 @@
 -- A moment some months on is no earlier.
-use Rattle.std.proofs.Common.{◌≡◌, ℕ, zero, suc, ◌+◌, ◌-◌, ◌*◌, ◌/◌, ◌%◌, ◌<◌, ◌≤◌, nat_le, cond, Bool, true, false, Some, None, Option, refl, sym, ap, ◌∙◌, arith, ◌⊎◌, inl, inr}
+use Rattle.std.proofs.Common.{◌≡◌, ℕ, zero, suc, ◌+◌, ◌-◌, ◌*◌, ◌/◌, ◌%◌, ◌<◌, ◌≤◌, cond, Bool, true, false, Some, None, refl, sym, ap, ◌∙◌, arith, inl, inr}
 use Rattle.std.proofs.lemmas.Bool.{cases_lt}
-use Rattle.moment_core.specs.declared.moment.TheConstants.{LAST_SECOND}
 use Rattle.moment_core.specs.Dates.{IsCivil}
-use Rattle.moment_core.specs.Calendar.{Civil, month_days, year_days, civil, days_of_years, days_of_months, day_number, months_on, in_range, months_after}
-use Rattle.moment_core.proofs.Civils.{civil_is, month_days_bounds, days_of_months_all, days_of_months_more, days_of_months_none, days_of_years_more}
+use Rattle.moment_core.specs.Calendar.{Civil, month_days, year_days, civil, days_of_years, days_of_months, day_number, months_on, months_after}
+use Rattle.moment_core.proofs.Civils.{civil_is, days_of_months_all, days_of_months_more, days_of_months_none, days_of_years_more}
 
 -- the first day of a month, months being counted through the years
 abbrev first_of : ℕ → ℕ

@@ -22,28 +22,6 @@ text_is m s year month day e y mo d =
     ∙ ap (λ (k : ℕ). date_text (date_at s).year (date_at s).month k ++ time_text (s % 86_400)) d
     ∙ ap moment_text e
 
--- where the parts of a moment stand in its text
-pub record IsTextOf (text : List ℕ) (m : ℕ) : Type 0 where
-  pub century : take 2 (drop 0 text) ≡ two_digits ((date_at m).year / 100)
-  pub year : take 2 (drop 2 text) ≡ two_digits ((date_at m).year % 100)
-  pub month : take 2 (drop 5 text) ≡ two_digits (date_at m).month
-  pub day : take 2 (drop 8 text) ≡ two_digits (date_at m).day
-  pub hour : take 2 (drop 11 text) ≡ two_digits (m % 86_400 / 3600)
-  pub minute : take 2 (drop 14 text) ≡ two_digits (m % 86_400 / 60 % 60)
-  pub second : take 2 (drop 17 text) ≡ two_digits (m % 86_400 % 60)
-
-pub text_of : (text : List ℕ) (m : ℕ) → text ≡ moment_text m → IsTextOf text m
-unfolding moment_text
-text_of text m e = record {
-  century = ap (λ (s : List ℕ). take 2 (drop 0 s)) e;
-  year = ap (λ (s : List ℕ). take 2 (drop 2 s)) e;
-  month = ap (λ (s : List ℕ). take 2 (drop 5 s)) e;
-  day = ap (λ (s : List ℕ). take 2 (drop 8 s)) e;
-  hour = ap (λ (s : List ℕ). take 2 (drop 11 s)) e;
-  minute = ap (λ (s : List ℕ). take 2 (drop 14 s)) e;
-  second = ap (λ (s : List ℕ). take 2 (drop 17 s)) e;
-}
-
 -- the parts of a moment's date
 pub record IsInYears (c : Civil) : Type 0 where
   pub civil : IsCivil c
@@ -59,6 +37,39 @@ in_years m is =
       last = year_bound (date_at m) of.civil (omega (arith, of.number, is));
       month = omega (arith, of.civil.month);
       day = omega (arith, of.civil.day, month_days_bounds (date_at m).year (date_at m).month);
+    }
+
+-- two digits, and the number that they are of
+pub record IsOf (digits : List ℕ) (n : ℕ) : Type 0 where
+  pub small : n < 100
+  pub same : digits ≡ two_digits n
+
+-- where the parts of a moment stand in its text
+pub record IsTextOf (text : List ℕ) (m : ℕ) : Type 0 where
+  pub century : IsOf (take 2 (drop 0 text)) ((date_at m).year / 100)
+  pub year : IsOf (take 2 (drop 2 text)) ((date_at m).year % 100)
+  pub month : IsOf (take 2 (drop 5 text)) (date_at m).month
+  pub day : IsOf (take 2 (drop 8 text)) (date_at m).day
+  pub hour : IsOf (take 2 (drop 11 text)) (m % 86_400 / 3600)
+  pub minute : IsOf (take 2 (drop 14 text)) (m % 86_400 / 60 % 60)
+  pub second : IsOf (take 2 (drop 17 text)) (m % 86_400 % 60)
+
+stands : (text : List ℕ) (m at n : ℕ) → n < 100 → take 2 (drop at (moment_text m)) ≡ two_digits n → text ≡ moment_text m
+    → IsOf (take 2 (drop at text)) n
+stands text m at n small there e = record { small = small; same = ap (λ (s : List ℕ). take 2 (drop at s)) e ∙ there }
+
+pub text_of : (text : List ℕ) (m : ℕ) → IsMoment m → text ≡ moment_text m → IsTextOf text m
+unfolding moment_text
+text_of text m is e =
+    let years = in_years m is in
+    record {
+      century = stands text m 0 _ (omega (arith, years.last)) refl e;
+      year = stands text m 2 _ (omega arith) refl e;
+      month = stands text m 5 _ (years.month) refl e;
+      day = stands text m 8 _ (years.day) refl e;
+      hour = stands text m 11 _ (omega arith) refl e;
+      minute = stands text m 14 _ (omega arith) refl e;
+      second = stands text m 17 _ (omega arith) refl e;
     }
 
 -- a moment from its parts
@@ -79,9 +90,15 @@ pub some_is : (o : Option ℕ) (m n : ℕ) → IsMoment m → n ≡ m → (IsSom
 some_is None m n is e in_range value = absurd (cc (in_range.1 (omega (arith, is, e))))
 some_is (Some k) m n is e in_range value = ap (λ (k : ℕ). Some k) (value ∙ e)
 
--- the digits are read as this value
-abbrev pub ReadsAs : List ℕ → ℕ → Type 0
-ReadsAs digits value = (n : ℕ) → n < 100 → digits ≡ two_digits n → Some value ≡ Some n
+-- the digits are read as this value, or are not of a number
+abbrev pub Reads : List ℕ → Option ℕ → Type 0
+Reads digits value = (n : ℕ) → n < 100 → digits ≡ two_digits n → value ≡ Some n
+
+pub unread : {digits : List ℕ} {n : ℕ} → IsOf digits n → Reads digits None → ⊥
+unread {digits} {n} of none = let e = none n of.small of.same in cc
+
+read_as : {digits : List ℕ} {n value : ℕ} → IsOf digits n → Reads digits (Some value) → value ≡ n
+read_as {digits} {n} {value} of reads = some_same value n (reads n of.small of.same)
 
 -- the numbers that are read where a moment's text has its date are the date's
 pub record IsDateRead (hundreds ones of_month of_day m : ℕ) : Type 0 where
@@ -89,33 +106,24 @@ pub record IsDateRead (hundreds ones of_month of_day m : ℕ) : Type 0 where
   pub month : of_month ≡ (date_at m).month
   pub day : of_day ≡ (date_at m).day
 
-pub date_read : (text : List ℕ) (m century year month day : ℕ) → IsMoment m → text ≡ moment_text m
-    → ReadsAs (take 2 (drop 0 text)) century → ReadsAs (take 2 (drop 2 text)) year
-    → ReadsAs (take 2 (drop 5 text)) month → ReadsAs (take 2 (drop 8 text)) day
+pub date_read : {century year month day : ℕ} (text : List ℕ) (m : ℕ) → IsMoment m → text ≡ moment_text m
+    → Reads (take 2 (drop 0 text)) (Some century) → Reads (take 2 (drop 2 text)) (Some year)
+    → Reads (take 2 (drop 5 text)) (Some month) → Reads (take 2 (drop 8 text)) (Some day)
     → IsDateRead century year month day m
-date_read text m century year month day is e of_century of_year of_month of_day =
-    let years = in_years m is in
-    let at = text_of text m e in
-    let high = some_same century ((date_at m).year / 100)
-    (of_century ((date_at m).year / 100) (omega (arith, years.last)) at.century) in
-    let low = some_same year ((date_at m).year % 100) (of_year ((date_at m).year % 100) (omega arith) at.year) in
-    record {
-      year = omega (arith, high, low);
-      month = some_same month (date_at m).month (of_month (date_at m).month years.month at.month);
-      day = some_same day (date_at m).day (of_day (date_at m).day years.day at.day);
-    }
+date_read {century} {year} {month} {day} text m is e of_century of_year of_month of_day =
+    let at = text_of text m is e in
+    let high = read_as at.century of_century in
+    let low = read_as at.year of_year in
+    record { year = omega (arith, high, low); month = read_as at.month of_month; day = read_as at.day of_day }
 
 -- and so for the time of day
-pub time_read : (text : List ℕ) (m hour minute second : ℕ) → text ≡ moment_text m
-    → ReadsAs (take 2 (drop 11 text)) hour → ReadsAs (take 2 (drop 14 text)) minute
-    → ReadsAs (take 2 (drop 17 text)) second
+pub time_read : {hour minute second : ℕ} (text : List ℕ) (m : ℕ) → IsMoment m → text ≡ moment_text m
+    → Reads (take 2 (drop 11 text)) (Some hour) → Reads (take 2 (drop 14 text)) (Some minute)
+    → Reads (take 2 (drop 17 text)) (Some second)
     → m ≡ day_number (date_at m) * 86_400 + hour * 3600 + minute * 60 + second
-time_read text m hour minute second e of_hour of_minute of_second =
-    let at = text_of text m e in
-    let h = some_same hour (m % 86_400 / 3600) (of_hour (m % 86_400 / 3600) (omega arith) at.hour) in
-    let n = some_same minute (m % 86_400 / 60 % 60) (of_minute (m % 86_400 / 60 % 60) (omega arith) at.minute) in
-    let s = some_same second (m % 86_400 % 60) (of_second (m % 86_400 % 60) (omega arith) at.second) in
-    omega (arith, from_parts m, h, n, s)
+time_read {hour} {minute} {second} text m is e of_hour of_minute of_second =
+    let at = text_of text m is e in
+    omega (arith, from_parts m, read_as at.hour of_hour, read_as at.minute of_minute, read_as at.second of_second)
 
 -- two digits are of one number below 100
 pub one_number : (a b : ℕ) → a < 100 → b < 100 → two_digits a ≡ two_digits b → a ≡ b
@@ -124,20 +132,18 @@ one_number a b a_in b_in e =
     let ones : 48 + a % 10 ≡ 48 + b % 10 = ap (λ (s : List ℕ). get_or s 1 0) e in
     omega arith
 
+reads_same : {digits : List ℕ} {a : ℕ} → IsOf digits a → Reads digits (Some a)
+reads_same {digits} {a} of b small other =
+    ap (λ (k : ℕ). Some k) (one_number a b of.small small (sym of.same ∙ other))
+
 -- the text of a moment reads as the moment's own parts
 pub one_moment : (m n : ℕ) → IsMoment m → IsMoment n → moment_text m ≡ moment_text n → m ≡ n
 one_moment m n of_m of_n e =
-    let reads = λ (digits : List ℕ) (a : ℕ) (a_in : a < 100) (same : digits ≡ two_digits a) (b : ℕ) (b_in : b < 100)
-    (other : digits ≡ two_digits b).
-    ap (λ (k : ℕ). Some k) (one_number a b a_in b_in (sym same ∙ other)) in
-    let years = in_years m of_m in
-    let at = text_of (moment_text m) m refl in
-    let date = date_read (moment_text m) n ((date_at m).year / 100) ((date_at m).year % 100) (date_at m).month
-    (date_at m).day of_n e
-    (reads _ _ (omega (arith, years.last)) at.century) (reads _ _ (omega arith) at.year)
-    (reads _ _ years.month at.month) (reads _ _ years.day at.day) in
-    let time = time_read (moment_text m) n (m % 86_400 / 3600) (m % 86_400 / 60 % 60) (m % 86_400 % 60) e
-    (reads _ _ (omega arith) at.hour) (reads _ _ (omega arith) at.minute) (reads _ _ (omega arith) at.second) in
+    let at = text_of (moment_text m) m of_m refl in
+    let date = date_read (moment_text m) n of_n e
+    (reads_same at.century) (reads_same at.year) (reads_same at.month) (reads_same at.day) in
+    let time = time_read (moment_text m) n of_n e
+    (reads_same at.hour) (reads_same at.minute) (reads_same at.second) in
     let year : (date_at m).year ≡ (date_at n).year = omega (arith, date.year) in
     let number = ap (λ (k : ℕ). day_number (record { year = k; month = (date_at m).month; day = (date_at m).day })) year
     ∙ ap (λ (k : ℕ). day_number (record { year = (date_at n).year; month = k; day = (date_at m).day })) date.month

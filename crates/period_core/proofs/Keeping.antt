@@ -17,28 +17,19 @@ keeps d stop end stop_kept end_kept = record {
   compromise_occurrence = refl;
 }
 
-abbrev dates_of : (i : ℕ) (a p e x y z : Option ℕ) → Dates
-dates_of i a p e x y z = record {
-  initial = i;
-  activation = a;
-  protect_stop = p;
-  deactivation = e;
-  destroy = x;
-  compromise = y;
-  compromise_occurrence = z;
-}
+abbrev dates_with : Dates → (a p e : Option ℕ) → Dates
+dates_with d a p e = record d { activation = a; protect_stop = p; deactivation = e }
 
-by_cases : (kind : KeyType) (i : ℕ) (a p e x y z : Option ℕ)
-    → KeepsGiven (dates_of i a p e x y z) (filled kind (dates_of i a p e x y z))
-by_cases kind i None None None x y z = keeps _ _ _ tt tt
-by_cases kind i None None (Some e) x y z = keeps _ _ _ tt refl
-by_cases kind i None (Some p) None x y z = keeps _ _ _ refl tt
-by_cases kind i None (Some p) (Some e) x y z = keeps _ _ _ refl refl
-by_cases kind i (Some a) None None x y z = keeps _ _ _ tt tt
-by_cases kind i (Some a) None (Some e) x y z = keeps _ _ _ tt refl
-by_cases kind i (Some a) (Some p) None x y z = keeps _ _ _ refl tt
-by_cases kind i (Some a) (Some p) (Some e) x y z = keeps _ _ _ refl refl
+by_cases : (kind : KeyType) (d : Dates) (a p e : Option ℕ)
+    → KeepsGiven (dates_with d a p e) (filled kind (dates_with d a p e))
+by_cases kind d None None None = keeps _ _ _ tt tt
+by_cases kind d None None (Some e) = keeps _ _ _ tt refl
+by_cases kind d None (Some p) None = keeps _ _ _ refl tt
+by_cases kind d None (Some p) (Some e) = keeps _ _ _ refl refl
+by_cases kind d (Some a) None None = keeps _ _ _ tt tt
+by_cases kind d (Some a) None (Some e) = keeps _ _ _ tt refl
+by_cases kind d (Some a) (Some p) None = keeps _ _ _ refl tt
+by_cases kind d (Some a) (Some p) (Some e) = keeps _ _ _ refl refl
 
 pub filled_keeps : (kind : KeyType) (d : Dates) → KeepsGiven d (filled kind d)
-filled_keeps kind d =
-    by_cases kind d.initial d.activation d.protect_stop d.deactivation d.destroy d.compromise d.compromise_occurrence
+filled_keeps kind d = by_cases kind d d.activation d.protect_stop d.deactivation

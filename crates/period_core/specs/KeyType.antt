@@ -4,21 +4,18 @@ use Rattle.std.specs.Prelude.{ℕ, List, codes}
 use Rattle.period_core.specs.declared.key_type.KeyType.{KeyType}
 use Rattle.period_core.specs.declared.key_type.KeyType.TheVariants.{DataEncryption, Authentication, KeyWrapping, PrivateSignature, PrivateAuthentication, PrivateTransport, Master}
 
-abbrev pub key_type_text : KeyType → List ℕ
-key_type_text DataEncryption = codes "data-encryption"
-key_type_text Authentication = codes "authentication"
-key_type_text KeyWrapping = codes "key-wrapping"
-key_type_text PrivateSignature = codes "private-signature"
-key_type_text PrivateAuthentication = codes "private-authentication"
-key_type_text PrivateTransport = codes "private-transport"
-key_type_text Master = codes "master"
+-- the code that stands for a type where it is stored, and the type's text
+abbrev pub key_type_row : KeyType → ℕ × List ℕ
+key_type_row DataEncryption = (1, codes "data-encryption")
+key_type_row Authentication = (2, codes "authentication")
+key_type_row KeyWrapping = (3, codes "key-wrapping")
+key_type_row PrivateSignature = (4, codes "private-signature")
+key_type_row PrivateAuthentication = (5, codes "private-authentication")
+key_type_row PrivateTransport = (6, codes "private-transport")
+key_type_row Master = (7, codes "master")
 
--- the code that stands for a type where it is stored
 abbrev pub key_type_code : KeyType → ℕ
-key_type_code DataEncryption = 1
-key_type_code Authentication = 2
-key_type_code KeyWrapping = 3
-key_type_code PrivateSignature = 4
-key_type_code PrivateAuthentication = 5
-key_type_code PrivateTransport = 6
-key_type_code Master = 7
+key_type_code kind = (key_type_row kind).0
+
+abbrev pub key_type_text : KeyType → List ℕ
+key_type_text kind = (key_type_row kind).1

@@ -35,15 +35,7 @@ impl KeyType {
     pub fn text(self) -> &'static str
         ensures { result.now ≡ key_type_text self }
     {
-        match self {
-            KeyType::DataEncryption => "data-encryption",
-            KeyType::Authentication => "authentication",
-            KeyType::KeyWrapping => "key-wrapping",
-            KeyType::PrivateSignature => "private-signature",
-            KeyType::PrivateAuthentication => "private-authentication",
-            KeyType::PrivateTransport => "private-transport",
-            KeyType::Master => "master",
-        }
+        self.row().1
     }
 
     /// The type with this text, or `None` where there is none.
@@ -58,15 +50,7 @@ impl KeyType {
     pub fn code(self) -> u8
         ensures { result ≡ key_type_code self }
     {
-        match self {
-            KeyType::DataEncryption => 1,
-            KeyType::Authentication => 2,
-            KeyType::KeyWrapping => 3,
-            KeyType::PrivateSignature => 4,
-            KeyType::PrivateAuthentication => 5,
-            KeyType::PrivateTransport => 6,
-            KeyType::Master => 7,
-        }
+        self.row().0
     }
 
     /// The type with this code, or `None` below 1 and above 7.
@@ -74,15 +58,22 @@ impl KeyType {
         ensures found { IfSome result (λ k. key_type_code k ≡ code) }
         ensures none { IfNone result ((code < 1) ⊎ (7 < code)) }
     {
-        match code {
-            1 => Some(KeyType::DataEncryption),
-            2 => Some(KeyType::Authentication),
-            3 => Some(KeyType::KeyWrapping),
-            4 => Some(KeyType::PrivateSignature),
-            5 => Some(KeyType::PrivateAuthentication),
-            6 => Some(KeyType::PrivateTransport),
-            7 => Some(KeyType::Master),
-            _ => None,
+        Self::ALL.iter().copied().find(|kind| kind.code() == code)
+    }
+
+    /// The type's code and its text.
+    fn row(self) -> (u8, &'static str)
+        ensures code { result.0 ≡ key_type_code self }
+        ensures text { result.1.now ≡ key_type_text self }
+    {
+        match self {
+            KeyType::DataEncryption => (1, "data-encryption"),
+            KeyType::Authentication => (2, "authentication"),
+            KeyType::KeyWrapping => (3, "key-wrapping"),
+            KeyType::PrivateSignature => (4, "private-signature"),
+            KeyType::PrivateAuthentication => (5, "private-authentication"),
+            KeyType::PrivateTransport => (6, "private-transport"),
+            KeyType::Master => (7, "master"),
         }
     }
 

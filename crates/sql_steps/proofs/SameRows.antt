@@ -70,13 +70,13 @@ pub table_without_all : (ids : List ℤ) (rows : List Row) → IsTable rows → 
 table_without_all [] rows t = t
 table_without_all (id ∷ ids) rows t = table_without_all ids (without_rowid id rows) (table_filter _ rows t)
 
+turned : (b : Bool) → not b ≡ true → b ≡ false
+turned true e = absurd cc
+turned false e = refl
+
 pub without_all_drops : (ids : List ℤ) (rows : List Row) (x : Row) (id : ℤ) → Has (without_all rows ids) x → Has ids id → has_rowid id x ≡ false
 without_all_drops [] rows x id h k = absurd k
 without_all_drops (i ∷ ids) rows x id h (inl same) = let was = (has_filtered _ rows x (without_all_has ids (without_rowid i rows) x h)).1 in subst (λ j. has_rowid j x ≡ false) (sym same) (turned (has_rowid i x) was)
-  where
-    turned : (b : Bool) → not b ≡ true → b ≡ false
-    turned true e = absurd cc
-    turned false e = refl
 without_all_drops (i ∷ ids) rows x id h (inr later) = without_all_drops ids (without_rowid i rows) x id h later
 
 pub without_all_keeps : (ids : List ℤ) (rows : List Row) (x : Row) → Has rows x → ((id : ℤ) → Has ids id → has_rowid id x ≡ false) → Has (without_all rows ids) x
@@ -100,6 +100,39 @@ table_map f (r ∷ rows) keeps t = (
   table_map f rows (λ x h. keeps x (inr h)) t.1,
 )
 
+has_its_rowid : (x : Row) (id : ℤ) → rowid x ≡ Int id → has_rowid id x ≡ true
+has_its_rowid x id e = ap (λ v. is_eq (value_cmp v (Int id))) e ∙ ap is_eq (tied_itself value_cmp_total (Int id))
+
+tied : (o : Ordering) → is_eq o ≡ true → o ≡ Equal
+tied Less e = absurd cc
+tied Equal e = refl
+tied Greater e = absurd cc
+
+-- a DELETE of the rows that pass leaves the others, in their order
+module _ (rows : List Row) (ids : List ℤ) (p : Row → Bool) (table : IsTable rows)
+    (ids_from : (id : ℤ) → Has ids id → (x : Row) × Has rows x × (p x ≡ true) × (rowid x ≡ Int id))
+    (ids_all : (x : Row) → Has rows x → p x ≡ true → (id : ℤ) × Has ids id × (rowid x ≡ Int id)) where
+  left_fails : (y : Row) → Has (without_all rows ids) y → p y ≡ false
+  left_fails y h = elim (cases_Bool (p y)) [
+    | inl passes ↦ absurd (let it = ids_all y (without_all_has ids rows y h) passes in let out = without_all_drops ids rows y it.0 h it.1 in let in_it = has_its_rowid y it.0 it.2 in cc)
+    | inr fails ↦ fails
+  ]
+
+  fails_left : (x : Row) → Has rows x → p x ≡ false → Has (without_all rows ids) x
+  fails_left x h fails = without_all_keeps ids rows x h (λ id k. elim (cases_Bool (has_rowid id x)) [
+    | inl has ↦ absurd (let from = ids_from id k in let same = same_row rows x from.0 table h from.1 (ap (value_cmp (rowid x)) from.3 ∙ tied _ has) in let passes = ap p same ∙ from.2 in cc)
+    | inr not_it ↦ not_it
+  ])
+
+  stays : (y : Row) → Has (without_all rows ids) y → Has (filter (λ r. not (p r)) rows) y
+  stays y h = has_kept (λ r. not (p r)) rows y (without_all_has ids rows y h) (ap not (left_fails y h))
+
+  was_kept : (y : Row) → Has (filter (λ r. not (p r)) rows) y → Has (without_all rows ids) y
+  was_kept y h = let it = has_filtered (λ r. not (p r)) rows y h in fails_left y it.0 (turned (p y) it.1)
+
+  pub deletes_each : without_all rows ids ≡ filter (λ r. not (p r)) rows
+  deletes_each = same_tables _ _ (table_without_all ids rows table) (table_filter _ rows table) stays was_kept
+
 abbrev pub changed_by : (Row → Bool) → (Row → Row) → Row → Row
 changed_by p g r = cond (p r) (g r) r
 
@@ -115,21 +148,12 @@ module _ (rows news : List Row) (ids : List ℤ) (p : Row → Bool) (g : Row →
   changed_keeps : (r : Row) → Has rows r → rowid (changed r) ≡ rowid r
   changed_keeps r h = elim (p r) as (λ b. rowid (cond b (g r) r) ≡ rowid r) [ true ↦ keeps r h | false ↦ refl ]
 
-  stands : (x : Row) (id : ℤ) → rowid x ≡ Int id → has_rowid id x ≡ true
-  stands x id e = ap (λ v. is_eq (value_cmp v (Int id))) e ∙ ap is_eq (tied_itself value_cmp_total (Int id))
-
-  tied : (o : Ordering) → is_eq o ≡ true → o ≡ Equal
-  tied Less e = absurd cc
-  tied Equal e = refl
-  tied Greater e = absurd cc
-
   on : (y : Row) → Has (put_all (without_all rows ids) news) y → Has (map changed rows) y
   on y h = elim (put_all_has news (without_all rows ids) y h) [
     | inl new ↦ let it = news_from y new in subst (Has (map changed rows)) (ap (λ b. cond b (g it.0) it.0) it.2 ∙ sym it.3) (has_map changed rows it.0 it.1)
-    | inr old ↦ let was = without_all_has ids rows y old in elim (cases_Bool (p y)) [
-      | inl passes ↦ absurd (let it = ids_all y was passes in let out = without_all_drops ids rows y it.0 old it.1 in let in_it = stands y it.0 it.2 in cc)
-      | inr fails ↦ subst (Has (map changed rows)) (ap (λ b. cond b (g y) y) fails) (has_map changed rows y was)
-    ]
+    | inr old ↦
+        let fails = left_fails rows ids p table ids_from ids_all y old in
+        subst (Has (map changed rows)) (ap (λ b. cond b (g y) y) fails) (has_map changed rows y (without_all_has ids rows y old))
   ]
 
   off : (y : Row) → Has (map changed rows) y → Has (put_all (without_all rows ids) news) y
@@ -138,42 +162,8 @@ module _ (rows news : List Row) (ids : List ℤ) (p : Row → Bool) (g : Row →
       elim (cases_Bool (p it.0)) [
         | inl passes ↦ put_all_adds news (without_all rows ids) y fresh (subst (Has news) (sym (it.2 ∙ ap (λ b. cond b (g it.0) it.0) passes)) (news_all it.0 it.1 passes))
         | inr fails ↦ put_all_keeps news (without_all rows ids) y fresh (subst (Has (without_all rows ids)) (sym (it.2 ∙ ap (λ b. cond b (g it.0) it.0) fails))
-            (without_all_keeps ids rows it.0 it.1 (λ id k. elim (cases_Bool (has_rowid id it.0)) [
-              | inl has ↦ absurd (let from = ids_from id k in let same = same_row rows it.0 from.0 table it.1 from.1 (ap (value_cmp (rowid it.0)) from.3 ∙ tied _ has) in let passes = ap p same ∙ from.2 in cc)
-              | inr not_it ↦ not_it
-            ])))
+            (fails_left rows ids p table ids_from ids_all it.0 it.1 fails))
       ]
 
   pub updates_each : put_all (without_all rows ids) news ≡ map (changed_by p g) rows
   updates_each = same_tables _ _ (table_put_all news (without_all rows ids) (table_without_all ids rows table)) (table_map changed rows changed_keeps table) on off
-
--- a DELETE of the rows that pass leaves the others, in their order
-module _ (rows : List Row) (ids : List ℤ) (p : Row → Bool) (table : IsTable rows)
-    (ids_from : (id : ℤ) → Has ids id → (x : Row) × Has rows x × (p x ≡ true) × (rowid x ≡ Int id))
-    (ids_all : (x : Row) → Has rows x → p x ≡ true → (id : ℤ) × Has ids id × (rowid x ≡ Int id)) where
-  stood : (x : Row) (id : ℤ) → rowid x ≡ Int id → has_rowid id x ≡ true
-  stood x id e = ap (λ v. is_eq (value_cmp v (Int id))) e ∙ ap is_eq (tied_itself value_cmp_total (Int id))
-
-  equal : (o : Ordering) → is_eq o ≡ true → o ≡ Equal
-  equal Less e = absurd cc
-  equal Equal e = refl
-  equal Greater e = absurd cc
-
-  stays : (y : Row) → Has (without_all rows ids) y → Has (filter (λ r. not (p r)) rows) y
-  stays y h =
-      let was = without_all_has ids rows y h in
-      elim (cases_Bool (p y)) [
-        | inl passes ↦ absurd (let it = ids_all y was passes in let out = without_all_drops ids rows y it.0 h it.1 in let in_it = stood y it.0 it.2 in cc)
-        | inr fails ↦ has_kept (λ r. not (p r)) rows y was (ap not fails)
-      ]
-
-  was_kept : (y : Row) → Has (filter (λ r. not (p r)) rows) y → Has (without_all rows ids) y
-  was_kept y h =
-      let it = has_filtered (λ r. not (p r)) rows y h in
-      without_all_keeps ids rows y it.0 (λ id k. elim (cases_Bool (has_rowid id y)) [
-        | inl has ↦ absurd (let from = ids_from id k in let same = same_row rows y from.0 table it.0 from.1 (ap (value_cmp (rowid y)) from.3 ∙ equal _ has) in let passes = ap not (ap p same ∙ from.2) in let kept = it.1 in cc)
-        | inr not_it ↦ not_it
-      ])
-
-  pub deletes_each : without_all rows ids ≡ filter (λ r. not (p r)) rows
-  deletes_each = same_tables _ _ (table_without_all ids rows table) (table_filter _ rows table) stays was_kept

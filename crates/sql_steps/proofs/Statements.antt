@@ -16,14 +16,15 @@ use Rattle.sqlite.specs.Source.TheVariants.{Values}
 use Rattle.sqlite.specs.Command.{Command}
 use Rattle.sqlite.specs.Command.TheVariants.{Insert, Update, Delete}
 use Rattle.sqlite.specs.Edit.{Edit, edit_of, Applies}
+use Rattle.sqlite_rules.specs.Edit.{taken_by}
 use Rattle.sqlite_rules.specs.Action.{works, Writes}
 use Rattle.sqlite_rules.specs.Calls.{ids_of}
 use Rattle.sqlite.specs.Cast.{cast}
 use Rattle.sqlite.specs.Rowids.TheVariants.{Chosen, Given}
 use Rattle.sqlite.specs.declared.run.Mode.{Mode}
-use Rattle.sqlite.specs.Does.{Tally, Does, AtPlace, OnRows}
+use Rattle.sqlite.specs.Does.{Tally, Does, AtPlace, OnRows, Concludes}
 use Rattle.sqlite.specs.Effect.{Database, value_rows}
-use Rattle.sqlite.specs.Rows.{Task, Written, stamped}
+use Rattle.sqlite.specs.Rows.{Part, Then, Gives, Queried, Edited, Task, Written, stamped}
 use Rattle.sqlite.specs.Tree.{Trees}
 use Rattle.sqlite.specs.declared.error.Error.{Error}
 use Rattle.sqlite_trees.proofs.ListLemmas.{map-map, filter_as_flat_map, map-flat_map, flat_map_same_on}
@@ -86,36 +87,42 @@ module _ (limit : Option ℕ) (mode : Mode) (params : Row) (db : Database) (sche
       let wrote = subst (λ rows. Writes schema mode.keys db.trees (edit_of db.trees table [] Chosen 0 rows) (Ok written.0)) given.1.1 written.1 in
       (ap (λ (d : Database). d.schema) now, subst (Applies schema mode.keys db.trees (inserted terms width)) (sym whole) (one_step schema mode.keys db.trees written.0 (inserted terms width) none wrote))
 
+  -- what an UPDATE and a DELETE do: their query finds rows, and the edit of these is written
+  abbrev Rewrites : Query → (List Row → Edit) → (List Row → List Row) → Part Written
+  Rewrites q edit wrote =
+      Then (Queried limit (record { schema = schema; trees = db.trees }) (record { lets = []; body = q }) params) (λ rows.
+      Then (Edited schema mode.keys db.trees (edit rows)) (λ next. Gives (record { trees = next; rows = wrote rows; last = None })))
+
+  abbrev pub Leaves : Query → (List Row → Edit) → Database → Type 0
+  Leaves q edit after = (after.schema ≡ schema) × (rows : List Row) × IsSureAnswer q (overlay db.trees []) params rows × Writes schema mode.keys db.trees (edit rows) (Ok after.trees)
+
+  rewritten : (q : Query) (edit : List Row → Edit) (wrote : List Row → List Row) (tally : Tally) (after : Database)
+      → Then (Rewrites q edit wrote) (Concludes task mode None) (Ok (tally, after)) → Leaves q edit after
+  rewritten q edit wrote tally after h =
+      let done = went h in
+      let now : after ≡ record { schema = schema; trees = done.0.trees } = ap (λ (p : Tally × Database). p.1) (same_value (went (went done.2).2).2) in
+      let given = went done.1 in
+      let written = went given.2 in
+      let trees : done.0.trees ≡ written.0 = ap (λ (it : Written). it.trees) (same_value written.2) in
+      let whole : after.trees ≡ written.0 = ap (λ (d : Database). d.trees) now ∙ trees in
+      (ap (λ (d : Database). d.schema) now, given.0, given.1.answer, subst (λ t. Writes schema mode.keys db.trees (edit given.0) (Ok t)) (sym whole) written.1)
+
   abbrev pub updated : List Row → Edit
   updated rows = edit_of db.trees table (ids_of rows) Given 1 rows
 
   -- an UPDATE writes the answer of its query over the rows that it names
   pub updates : slice_get schema.tables at ≡ Some table → (q : Query) (text : List ℕ) (tally : Tally) (after : Database)
-      → Does limit mode params db text None (Update at (record { lets = []; body = q })) (Ok (tally, after))
-      → (after.schema ≡ schema) × (rows : List Row) × IsSureAnswer q (overlay db.trees []) params rows × Writes schema mode.keys db.trees (updated rows) (Ok after.trees)
+      → Does limit mode params db text None (Update at (record { lets = []; body = q })) (Ok (tally, after)) → Leaves q updated after
   updates there q text tally after h =
-      let done = went (on_table (Update at (record { lets = []; body = q })) text (Ok (tally, after)) there h) in
-      let now : after ≡ record { schema = schema; trees = done.0.trees } = ap (λ (p : Tally × Database). p.1) (same_value (went (went done.2).2).2) in
-      let given = went done.1 in
-      let written = went given.2 in
-      let trees : done.0.trees ≡ written.0 = ap (λ (it : Written). it.trees) (same_value written.2) in
-      let whole : after.trees ≡ written.0 = ap (λ (d : Database). d.trees) now ∙ trees in
-      (ap (λ (d : Database). d.schema) now, given.0, given.1.answer, subst (λ t. Writes schema mode.keys db.trees (updated given.0) (Ok t)) (sym whole) written.1)
+      rewritten q updated (λ rows. (updated rows).news) tally after (on_table (Update at (record { lets = []; body = q })) text (Ok (tally, after)) there h)
 
   abbrev pub deleted : List Row → Edit
   deleted rows = edit_of db.trees table (ids_of rows) Given 0 []
 
   pub deletes : slice_get schema.tables at ≡ Some table → (q : Query) (text : List ℕ) (tally : Tally) (after : Database)
-      → Does limit mode params db text None (Delete at (record { lets = []; body = q })) (Ok (tally, after))
-      → (after.schema ≡ schema) × (rows : List Row) × IsSureAnswer q (overlay db.trees []) params rows × Writes schema mode.keys db.trees (deleted rows) (Ok after.trees)
+      → Does limit mode params db text None (Delete at (record { lets = []; body = q })) (Ok (tally, after)) → Leaves q deleted after
   deletes there q text tally after h =
-      let done = went (on_table (Delete at (record { lets = []; body = q })) text (Ok (tally, after)) there h) in
-      let now : after ≡ record { schema = schema; trees = done.0.trees } = ap (λ (p : Tally × Database). p.1) (same_value (went (went done.2).2).2) in
-      let given = went done.1 in
-      let written = went given.2 in
-      let trees : done.0.trees ≡ written.0 = ap (λ (it : Written). it.trees) (same_value written.2) in
-      let whole : after.trees ≡ written.0 = ap (λ (d : Database). d.trees) now ∙ trees in
-      (ap (λ (d : Database). d.schema) now, given.0, given.1.answer, subst (λ t. Writes schema mode.keys db.trees (deleted given.0) (Ok t)) (sym whole) written.1)
+      rewritten q deleted (λ rows. taken_by db.trees (deleted rows)) tally after (on_table (Delete at (record { lets = []; body = q })) text (Ok (tally, after)) there h)
 
 -- ---- the queries
 

@@ -4,7 +4,7 @@ Run in this folder, with Python 3.11 and nothing but its standard library, as
 
     python3 months.py
 
-It writes month_ends.rt, later_month_ends.rt and edges.rt. The dates are those of
+It writes sums.rt. The dates are those of
 Python's datetime and the month lengths those of its calendar module.
 """
 
@@ -73,19 +73,18 @@ def edges():
     return [row(date, months) for date in dates + ends for months in MONTHS]
 
 
-def write(file, name, comment, rows):
+def write(file, rows):
     """A Rattle file with the rows as a constant."""
     with open(file, "w", encoding="ascii", newline="\n") as out:
         out.write("//! Made by months.py.\n\n")
-        out.write(f"/// {comment}: moment, months, sum, with 0 for none.\n")
+        out.write("/// The last day of each month from 1970 to 2039, leap years, ends of centuries and both ends of\n")
+        out.write("/// the range: moment, months, sum, with 0 for none.\n")
         out.write("#[rattlefmt::skip]\n")
-        out.write(f"pub const {name}: [(u64, u16, u64); {len(rows)}] = [\n")
+        out.write(f"pub const SUMS: [(u64, u16, u64); {len(rows)}] = [\n")
         for start in range(0, len(rows), ROWS_A_LINE):
             line = ", ".join(str(one) for one in rows[start : start + ROWS_A_LINE])
             out.write(f"    {line},\n")
         out.write("];\n")
 
 
-write("month_ends.rt", "MONTH_ENDS", "The last day of each month from 1970 to 2004", month_ends(1970, 2004))
-write("later_month_ends.rt", "LATER_MONTH_ENDS", "The last day of each month from 2005 to 2039", month_ends(2005, 2039))
-write("edges.rt", "EDGES", "Leap years, ends of centuries and both ends of the range", edges())
+write("sums.rt", month_ends(1970, 2039) + edges())

@@ -8,41 +8,41 @@ use std::process::Abort;
 use std::test::Fail;
 
 /// A line and the line of its reply.
-type Row = (&'static [u8], &'static [u8]);
+type Row = (&'static str, &'static str);
 
-/// A key is destroyed once it has two approvals, and is then compromised.
+/// Two custodians approve that a key is destroyed.
 #[rattlefmt::skip]
-const DESTRUCTION: [Row; 11] = [
-    (b"100 ann 1 register master bob - - - spare", b"ok 1 Pre-Active 100\n"),
-    (b"101 bob 1 add-custodian 1 cat", b"ok 1 Pre-Active 101\n"),
-    (b"102 bob 2 add-custodian 1 dan", b"ok 1 Pre-Active 102\n"),
-    (b"103 cat 1 approve 1", b"ok 1 Pre-Active 103\n"),
-    (b"104 dan 1 approve 1", b"ok 1 Pre-Active 104\n"),
-    (b"105 bob 3 remove-custodian 1 dan", b"ok 1 Pre-Active 105\n"),
-    (b"106 bob 4 destroy 1", b"refused 18 ApprovalsMissing have=1 need=2\n"),
-    (b"106 bob 4 add-custodian 1 dan", b"ok 1 Pre-Active 106\n"),
-    (b"107 dan 2 approve 1", b"ok 1 Pre-Active 107\n"),
-    (b"108 bob 5 destroy 1", b"ok 1 Destroyed 108\n"),
-    (b"109 zed 1 revoke 1 2 -", b"ok 1 Destroyed-Compromised 109\n"),
+const APPROVED: [Row; 5] = [
+    ("100 ann 1 register master bob - - - spare", "ok 1 Pre-Active 100\n"),
+    ("101 bob 1 add-custodian 1 cat", "ok 1 Pre-Active 101\n"),
+    ("102 bob 2 add-custodian 1 dan", "ok 1 Pre-Active 102\n"),
+    ("103 cat 1 approve 1", "ok 1 Pre-Active 103\n"),
+    ("104 dan 1 approve 1", "ok 1 Pre-Active 104\n"),
 ];
 
-/// A key that two have approved to destroy is compromised.
+/// One of them comes again, and the key is destroyed once it has two approvals, and is then
+/// compromised.
 #[rattlefmt::skip]
-const COMPROMISE: [Row; 6] = [
-    (b"100 ann 1 register master bob - - - spare", b"ok 1 Pre-Active 100\n"),
-    (b"101 bob 1 add-custodian 1 cat", b"ok 1 Pre-Active 101\n"),
-    (b"102 bob 2 add-custodian 1 dan", b"ok 1 Pre-Active 102\n"),
-    (b"103 cat 1 approve 1", b"ok 1 Pre-Active 103\n"),
-    (b"104 dan 1 approve 1", b"ok 1 Pre-Active 104\n"),
-    (b"105 zed 1 revoke 1 3 50", b"ok 1 Compromised 105\n"),
+const DESTROYED: [Row; 6] = [
+    ("105 bob 3 remove-custodian 1 dan", "ok 1 Pre-Active 105\n"),
+    ("106 bob 4 destroy 1", "refused 18 ApprovalsMissing have=1 need=2\n"),
+    ("106 bob 4 add-custodian 1 dan", "ok 1 Pre-Active 106\n"),
+    ("107 dan 2 approve 1", "ok 1 Pre-Active 107\n"),
+    ("108 bob 5 destroy 1", "ok 1 Destroyed 108\n"),
+    ("109 zed 1 revoke 1 2 -", "ok 1 Destroyed-Compromised 109\n"),
 ];
 
-/// Compares the answers to the lines with the replies beside them. Key 1 as it stands behind those
-/// that are accepted.
-fn key_behind(rt: &impl Abort, alloc: Global, rows: &[Row]) -> Result<Held, Fail> {
+/// It is compromised before that.
+const COMPROMISED: [Row; 1] = [("105 zed 1 revoke 1 3 50", "ok 1 Compromised 105\n")];
+
+/// Compares the answers to the lines of [`APPROVED`] and to those that follow with the replies
+/// beside them. Key 1 as it stands behind those that are accepted.
+fn key_behind(rt: &impl Abort, alloc: Global, following: &[Row]) -> Result<Held, Fail> {
+    let mut rows = APPROVED.to_vec(alloc)?;
+    rows.extend_from_slice(following)?;
     let mut items = Vec::new(alloc);
-    for (line, _) in rows {
-        items.push(read_request(line))?;
+    for (line, _) in &rows {
+        items.push(read_request(line.as_bytes()))?;
     }
     assert!(rt; items.len() < 100);
     let answers = plain::answers(alloc, &items)?;
@@ -51,7 +51,7 @@ fn key_behind(rt: &impl Abort, alloc: Global, rows: &[Row]) -> Result<Held, Fail
     for (index, answer) in answers.iter().enumerate() {
         assert!(rt; index < rows.len() && index < items.len());
         let (_, reply) = rows[index];
-        assert!(rt; reply_line(answer).as_bytes() == reply, "line {index}");
+        assert!(rt; reply_line(answer).as_str() == reply, "line {index}");
         if let (Ok(_), Some(request)) = (answer, &items[index]) {
             accepted.push(*request)?;
         }
@@ -70,25 +70,35 @@ fn are_names(names: &Names, texts: &[&str]) -> bool {
             .all(|(name, text)| name.text().as_bytes() == text.as_bytes())
 }
 
+/// Whether the key is in this state, was destroyed and compromised at these seconds, and has these
+/// approvals of its custodians cat and dan.
+fn is_key(
+    key: &Held,
+    state: State,
+    destroy: Option<u64>,
+    compromise: Option<u64>,
+    approvals: &[&str],
+) -> bool {
+    key.row.state == state
+        && key.row.dates.destroy.map(Moment::seconds) == destroy
+        && key.row.dates.compromise.map(Moment::seconds) == compromise
+        && are_names(&key.custodians, &["cat", "dan"])
+        && are_names(&key.approvals, approvals)
+}
+
 #[test]
 fn destruction(rt: HostRuntime) -> Result<(), Fail> {
-    let key = key_behind(&rt, rt.alloc(), &DESTRUCTION)?;
-    assert_eq!(rt; key.row.state, State::DestroyedCompromised);
-    assert_eq!(rt; key.row.dates.destroy, Moment::new(108));
-    assert_eq!(rt; key.row.dates.compromise, Moment::new(109));
-    assert!(rt; are_names(&key.custodians, &["cat", "dan"]));
-    assert!(rt; are_names(&key.approvals, &["cat", "dan"]));
+    let key = key_behind(&rt, rt.alloc(), &DESTROYED)?;
+    let after = State::DestroyedCompromised;
+    assert!(rt; is_key(&key, after, Some(108), Some(109), &["cat", "dan"]));
     Ok(())
 }
 
 #[test]
 fn compromise(rt: HostRuntime) -> Result<(), Fail> {
-    let key = key_behind(&rt, rt.alloc(), &COMPROMISE)?;
-    assert_eq!(rt; key.row.state, State::Compromised);
-    assert_eq!(rt; key.row.dates.compromise, Moment::new(105));
+    let key = key_behind(&rt, rt.alloc(), &COMPROMISED)?;
+    assert!(rt; is_key(&key, State::Compromised, None, Some(105), &[]));
     assert_eq!(rt; key.row.dates.compromise_occurrence, Moment::new(50));
-    assert!(rt; are_names(&key.custodians, &["cat", "dan"]));
-    assert!(rt; are_names(&key.approvals, &[]));
     Ok(())
 }
 
