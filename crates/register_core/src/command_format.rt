@@ -274,10 +274,10 @@ pub fn command_text(command: &Command) -> CommandText
         Command::Activate { key } => key_text("activate ", key),
         Command::SetDates {
             key,
-            activation,
-            protect_stop,
-            deactivation,
-        } => set_text(key, activation, protect_stop, deactivation),
+            ref activation,
+            ref protect_stop,
+            ref deactivation,
+        } => set_text(key, *activation, *protect_stop, *deactivation),
         Command::Revoke {
             key,
             reason,
