@@ -170,3 +170,17 @@ fold_next step first h i q k lt is =
     ∙ ap (fold step first) (own_grows front q k)
     ∙ fold-append step first (own front k) (concerning (count front) q k)
     ∙ one_after step (fold step first (own front k)) q (is_key k (key_of (count front) q.command))
+
+-- The same of a loop over the history, which knows what the front gave, and how many keys it made.
+pub fold_with : {X : Type 0} (step : X → Request → X) (first : X) (h : List Request) (k : ℕ) {i : ℕ} {q : Request} {made : ℕ} {before after : X} → i < length h → q ≡ get_or h i q →
+    made ≡ count (take i h) → before ≡ fold step first (own (take i h) k) → after ≡ cond (is_key k (key_of made q.command)) (step before q) before →
+    after ≡ fold step first (own (take (i + 1) h) k)
+fold_with {X} step first h k {i} {q} {made} {before} lt is counted given now =
+    now
+    ∙ ap (λ (n : ℕ). cond (is_key k (key_of n q.command)) (step before q) before) counted
+    ∙ ap (λ (x : X). cond (is_key k (key_of (count (take i h)) q.command)) (step x q) x) given
+    ∙ sym (fold_next step first h i q k lt is)
+
+pub count_with : (h : List Request) {i : ℕ} {q : Request} {made more : ℕ} → i < length h → q ≡ get_or h i q → made ≡ count (take i h) → more ≡ made_by q.command →
+    made + more ≡ count (take (i + 1) h)
+count_with h {i} {q} lt is counted one = let next = count_next h i q lt is in omega (arith, next, counted, one)

@@ -19,13 +19,16 @@ use Rattle.register_core.specs.declared.request.Command.{Command}
 use Rattle.register_core.specs.declared.request.Command.TheVariants.{Register, Activate, SetDates, Revoke, Assign, AddCustodian, RemoveCustodian, Approve, Withdraw, Destroy, Advance}
 use Rattle.register_core.specs.declared.request.Edit.{Edit}
 use Rattle.register_core.specs.declared.request.Edit.TheVariants.{Keep, Clear, Set}
+use Rattle.moment_core.specs.Moment.{IsMoment}
 use Rattle.register_core.specs.Name.{IsName, is_name_byte}
+use Rattle.register_core.specs.Number.{IsNumber}
+use Rattle.register_core.specs.Purpose.{IsPurpose}
 use Rattle.period_core.specs.KeyType.{key_type_text}
 use Rattle.register_core.specs.Request.{IsCommand, IsDate, IsEdit, IsKeyNumber, IsRequest, IsLineOf, StandsFor, IsItem, date_text, edit_text, command_text, request_text}
 use Rattle.register_core.specs.CommandText.{IsCommandText, IsCommandItem}
-use Rattle.register_core.specs.Reading.{◌>>=◌, is_space, field_at, field_as, moment_at, date_at, edit_at, key_number_at, reason_at, occurrence_at, request_number_at, name_at, key_type_at, purpose_at, register_at, set_at, revoke_at, key_and_name_at, key_command, name_command, keyed_by, keyed_at, behind_at, worded_at, command_at, fields_at, request_at}
-use Rattle.register_core.proofs.Fields.{bind_some, some_is, none_from, HasNoSpace, field_takes, field_again, as_takes, as_again}
-use Rattle.register_core.proofs.Readers.{moment_reader, date_reader, edit_reader, moment_small, key_number_reader, key_number_small, request_number_reader, request_number_small, name_reader, purpose_reader, key_type_reader, reason_reader, reason_text, reason_small, occurrence_reader, not_space}
+use Rattle.register_core.specs.Reading.{◌>>=◌, is_space, field_at, field_then, moment_at, date_at, edit_at, key_number_at, reason_at, occurrence_at, request_number_at, name_at, key_type_at, purpose_at, registered, register_at, dates_set, set_at, revoked, revoke_at, key_and_name_at, key_command, name_command, keyed_by, keyed_at, behind_at, worded_at, command_at, requested, fields_at, request_at}
+use Rattle.register_core.proofs.Fields.{bind_some, some_is, none_from, IsReader, HasNoSpace, field_takes, field_again, then_reader}
+use Rattle.register_core.proofs.Readers.{moment_reader, date_reader, edit_reader, moment_small, key_number_reader, key_number_small, request_number_reader, request_number_small, name_reader, purpose_reader, key_type_reader, reason_reader, reason_text, reason_small, IsOccurrence, occurrence_reader, not_space}
 
 -- ---- what has no space
 
@@ -38,17 +41,23 @@ digits_solid (c ∷ cs) h =
 decimal_solid : (n : ℕ) → n < 2 ^ 64 → HasNoSpace (decimal n)
 decimal_solid n lt = digits_solid (decimal n) ((decimal_is_IsNumeral n lt).0.1)
 
+moment_solid : (m : ℕ) → IsMoment m → HasNoSpace (decimal m)
+moment_solid m in_range = decimal_solid m (moment_small m in_range)
+
 date_solid : (x : Option ℕ) → IsDate x → HasNoSpace (date_text x)
 date_solid None in_range = refl
-date_solid (Some m) in_range = decimal_solid m (moment_small m in_range)
+date_solid (Some m) in_range = moment_solid m in_range
 
 edit_solid : (x : Edit) → IsEdit x → HasNoSpace (edit_text x)
 edit_solid Keep in_range = refl
 edit_solid Clear in_range = refl
-edit_solid (Set m) in_range = decimal_solid m (moment_small m in_range)
+edit_solid (Set m) in_range = moment_solid m in_range
 
 key_number_solid : (key : ℕ) → IsKeyNumber key → HasNoSpace (decimal key)
 key_number_solid key in_range = decimal_solid key (key_number_small key in_range)
+
+request_number_solid : (n : ℕ) → IsNumber n → HasNoSpace (decimal n)
+request_number_solid n in_range = decimal_solid n (request_number_small n in_range)
 
 reason_solid : (reason : Reason) → HasNoSpace (reason_text reason)
 reason_solid reason = decimal_solid (reason_code reason) (reason_small reason)
@@ -92,37 +101,7 @@ joined_named word k n = simp append_assoc
 joined_request : (m c n d : List ℕ) → m ++ codes " " ++ c ++ codes " " ++ n ++ codes " " ++ d ≡ before m (before c (before n d))
 joined_request m c n d = simp append_assoc
 
--- the same of fields that were read one after the other
-nested_register : (b k b1 o b2 a b3 p b4 d b5 u : List ℕ) → b ≡ before k b1 → b1 ≡ before o b2 → b2 ≡ before a b3 → b3 ≡ before p b4 → b4 ≡ before d b5 → b5 ≡ u
-    → before (codes "register") b ≡ codes "register " ++ k ++ codes " " ++ o ++ codes " " ++ a ++ codes " " ++ p ++ codes " " ++ d ++ codes " " ++ u
-nested_register b k b1 o b2 a b3 p b4 d b5 u ek eo ea ep ed eu = rw (ek, eo, ea, ep, ed, eu) (sym (joined_register k o a p d u))
-
-nested_set : (b k b1 a b2 p b3 d : List ℕ) → b ≡ before k b1 → b1 ≡ before a b2 → b2 ≡ before p b3 → b3 ≡ d
-    → before (codes "set") b ≡ codes "set " ++ k ++ codes " " ++ a ++ codes " " ++ p ++ codes " " ++ d
-nested_set b k b1 a b2 p b3 d ek ea ep ed = rw (ek, ea, ep, ed) (sym (joined_set k a p d))
-
-nested_revoke : (b k b1 r b2 o : List ℕ) → b ≡ before k b1 → b1 ≡ before r b2 → b2 ≡ o → before (codes "revoke") b ≡ codes "revoke " ++ k ++ codes " " ++ r ++ codes " " ++ o
-nested_revoke b k b1 r b2 o ek er eo = rw (ek, er, eo) (sym (joined_revoke k r o))
-
-nested_request : (b m b1 c b2 n b3 d : List ℕ) → b ≡ before m b1 → b1 ≡ before c b2 → b2 ≡ before n b3 → b3 ≡ d → b ≡ m ++ codes " " ++ c ++ codes " " ++ n ++ codes " " ++ d
-nested_request b m b1 c b2 n b3 d em ec en ed = rw (em, ec, en, ed) (sym (joined_request m c n d))
-
--- ---- the steps of register_at
-
-abbrev with_dates : KeyType → List ℕ → Option ℕ → Option ℕ → Option ℕ → List ℕ → Option Command
-with_dates k o a p d bytes = purpose_at bytes >>= λ u. Some (Register k o a p d u)
-
-abbrev from_deactivation : KeyType → List ℕ → Option ℕ → Option ℕ → List ℕ → Option Command
-from_deactivation k o a p bytes = field_as date_at bytes >>= λ x. with_dates k o a p x.0 x.1
-
-abbrev from_protect_stop : KeyType → List ℕ → Option ℕ → List ℕ → Option Command
-from_protect_stop k o a bytes = field_as date_at bytes >>= λ x. from_deactivation k o a x.0 x.1
-
-abbrev from_activation : KeyType → List ℕ → List ℕ → Option Command
-from_activation k o bytes = field_as date_at bytes >>= λ x. from_protect_stop k o x.0 x.1
-
-abbrev from_owner : KeyType → List ℕ → Option Command
-from_owner k bytes = field_as name_at bytes >>= λ x. from_activation k x.0 x.1
+-- ---- what stands behind the words register, set and revoke
 
 -- what is read behind a word
 record IsBehind (word bytes : List ℕ) (q : Command) : Type 0 where
@@ -133,55 +112,83 @@ record IsBehind (word bytes : List ℕ) (q : Command) : Type 0 where
 behind_this : (this bytes : List ℕ) (made q : Command) → IsCommand made → before this bytes ≡ command_text made → Some made ≡ Some q → IsBehind this bytes q
 behind_this this bytes made q in_range text e = subst (IsBehind this bytes) (some_is made q e) (record { in_range = in_range; text = text })
 
+-- the command that is made of fields which were read behind this word
+made_behind : {A : Type 0} {read_by : List ℕ → Option A} {text : A → List ℕ} {P : A → Type 0} → IsReader read_by text P → (this : List ℕ) (made : A → Command)
+    → ((x : A) → P x → IsCommand (made x)) → ((x : A) → command_text (made x) ≡ before this (text x))
+    → (bytes : List ℕ) (q : Command) → (read_by bytes >>= λ x. Some (made x)) ≡ Some q → IsBehind this bytes q
+made_behind {A} {read_by} own this made in_range text bytes q e =
+    let x = bind_some (read_by bytes) (λ x. Some (made x)) q e in
+    let taken = own.takes bytes x.0 x.1 in
+    behind_this this bytes (made x.0) q (in_range x.0 taken.0) (ap (before this) taken.1 ∙ sym (text x.0)) x.2
+
+name_solid : (name : List ℕ) → IsName name → HasNoSpace name
+name_solid name in_range = name_bytes_solid name in_range.2
+
+abbrev Registered : Type 0
+Registered = KeyType × (List ℕ × (Option ℕ × (Option ℕ × (Option ℕ × List ℕ))))
+
+register_reader : IsReader (field_then key_type_at (λ _. field_then name_at (λ _. field_then date_at (λ _. field_then date_at (λ _. field_then date_at (λ _. purpose_at))))))
+    (λ (x : Registered). before (key_type_text x.0) (before x.1.0 (before (date_text x.1.1.0) (before (date_text x.1.1.1.0) (before (date_text x.1.1.1.1.0) x.1.1.1.1.1)))))
+    (λ (x : Registered). Unit {0} × (IsName x.1.0 × (IsDate x.1.1.0 × (IsDate x.1.1.1.0 × (IsDate x.1.1.1.1.0 × IsPurpose x.1.1.1.1.1)))))
+register_reader =
+    then_reader key_type_reader (λ k _. key_type_solid k) (λ _. then_reader name_reader name_solid (λ _.
+    then_reader date_reader date_solid (λ _. then_reader date_reader date_solid (λ _. then_reader date_reader date_solid (λ _. purpose_reader)))))
+
 register_takes : (bytes : List ℕ) (q : Command) → register_at bytes ≡ Some q → IsBehind (codes "register") bytes q
 unfolding register_at
-register_takes bytes q e =
-    let k = bind_some (field_as key_type_at bytes) (λ x. from_owner x.0 x.1) q e in
-    let o = bind_some (field_as name_at k.0.1) (λ x. from_activation k.0.0 x.0 x.1) q k.2 in
-    let a = bind_some (field_as date_at o.0.1) (λ x. from_protect_stop k.0.0 o.0.0 x.0 x.1) q o.2 in
-    let p = bind_some (field_as date_at a.0.1) (λ x. from_deactivation k.0.0 o.0.0 a.0.0 x.0 x.1) q a.2 in
-    let d = bind_some (field_as date_at p.0.1) (λ x. with_dates k.0.0 o.0.0 a.0.0 p.0.0 x.0 x.1) q p.2 in
-    let u = bind_some (purpose_at d.0.1) (λ x. Some (Register k.0.0 o.0.0 a.0.0 p.0.0 d.0.0 x)) q d.2 in
-    let tk = as_takes key_type_reader bytes k.0 k.1 in
-    let to = as_takes name_reader k.0.1 o.0 o.1 in
-    let ta = as_takes date_reader o.0.1 a.0 a.1 in
-    let tp = as_takes date_reader a.0.1 p.0 p.1 in
-    let td = as_takes date_reader p.0.1 d.0 d.1 in
-    let tu = purpose_reader.takes d.0.1 u.0 u.1 in
-    let made : Command = Register k.0.0 o.0.0 a.0.0 p.0.0 d.0.0 u.0 in
-    let read = nested_register bytes (key_type_text k.0.0) k.0.1 o.0.0 o.0.1 (date_text a.0.0) a.0.1 (date_text p.0.0) p.0.1 (date_text d.0.0) d.0.1 u.0 tk.1 to.1 ta.1 tp.1 td.1 tu.1 in
-    behind_this (codes "register") bytes made q (to.0, ta.0, tp.0, td.0, tu.0) read u.2
+register_takes =
+    made_behind register_reader (codes "register") registered (λ x h. (h.1.0, h.1.1.0, h.1.1.1.0, h.1.1.1.1.0, h.1.1.1.1.1))
+    (λ x. joined_register (key_type_text x.0) x.1.0 (date_text x.1.1.0) (date_text x.1.1.1.0) (date_text x.1.1.1.1.0) x.1.1.1.1.1)
 
 register_again : (k : KeyType) (o : List ℕ) (a p d : Option ℕ) (u : List ℕ) → IsCommand (Register k o a p d u)
     → register_at (before (key_type_text k) (before o (before (date_text a) (before (date_text p) (before (date_text d) u))))) ≡ Some (Register k o a p d u)
 unfolding register_at
 register_again k o a p d u in_range =
-    let dates : List ℕ = before (date_text a) (before (date_text p) (before (date_text d) u)) in
-    rw (
-      as_again key_type_reader k (before o dates) tt (key_type_solid k),
-      as_again name_reader o dates in_range.0 (name_bytes_solid o in_range.0.2),
-      as_again date_reader a (before (date_text p) (before (date_text d) u)) in_range.1 (date_solid a in_range.1),
-      as_again date_reader p (before (date_text d) u) in_range.2 (date_solid p in_range.2),
-      as_again date_reader d u in_range.3 (date_solid d in_range.3),
-      purpose_reader.again u in_range.4,
-    ) refl
+    ap (λ (read : Option Registered). read >>= λ x. Some (registered x))
+    (register_reader.again (k, (o, (a, (p, (d, u))))) (tt, (in_range.0, (in_range.1, (in_range.2, (in_range.3, in_range.4))))))
+
+abbrev DatesSet : Type 0
+DatesSet = ℕ × (Edit × (Edit × Edit))
+
+set_reader : IsReader (field_then key_number_at (λ _. field_then edit_at (λ _. field_then edit_at (λ _. edit_at))))
+    (λ (x : DatesSet). before (decimal x.0) (before (edit_text x.1.0) (before (edit_text x.1.1.0) (edit_text x.1.1.1))))
+    (λ (x : DatesSet). IsKeyNumber x.0 × (IsEdit x.1.0 × (IsEdit x.1.1.0 × IsEdit x.1.1.1)))
+set_reader = then_reader key_number_reader key_number_solid (λ _. then_reader edit_reader edit_solid (λ _. then_reader edit_reader edit_solid (λ _. edit_reader)))
+
+set_takes : (bytes : List ℕ) (q : Command) → set_at bytes ≡ Some q → IsBehind (codes "set") bytes q
+unfolding set_at
+set_takes =
+    made_behind set_reader (codes "set") dates_set (λ x h. (h.0, h.1.0, h.1.1.0, h.1.1.1))
+    (λ x. joined_set (decimal x.0) (edit_text x.1.0) (edit_text x.1.1.0) (edit_text x.1.1.1))
+
+set_again : (key : ℕ) (a p d : Edit) → IsCommand (SetDates key a p d)
+    → set_at (before (decimal key) (before (edit_text a) (before (edit_text p) (edit_text d)))) ≡ Some (SetDates key a p d)
+unfolding set_at
+set_again key a p d in_range =
+    ap (λ (read : Option DatesSet). read >>= λ x. Some (dates_set x)) (set_reader.again (key, (a, (p, d))) (in_range.0, (in_range.1, (in_range.2, in_range.3))))
+
+abbrev Revoked : Type 0
+Revoked = ℕ × (Reason × Option ℕ)
+
+revoke_reader : IsReader (field_then key_number_at (λ _. field_then reason_at occurrence_at))
+    (λ (x : Revoked). before (decimal x.0) (before (reason_text x.1.0) (date_text x.1.1))) (λ (x : Revoked). IsKeyNumber x.0 × (Unit {0} × IsOccurrence x.1.0 x.1.1))
+revoke_reader = then_reader key_number_reader key_number_solid (λ _. then_reader reason_reader (λ r _. reason_solid r) occurrence_reader)
+
+revoke_takes : (bytes : List ℕ) (q : Command) → revoke_at bytes ≡ Some q → IsBehind (codes "revoke") bytes q
+unfolding revoke_at
+revoke_takes =
+    made_behind revoke_reader (codes "revoke") revoked (λ x h. (h.0, h.1.1.0, h.1.1.1)) (λ x. joined_revoke (decimal x.0) (reason_text x.1.0) (date_text x.1.1))
+
+revoke_again : (key : ℕ) (r : Reason) (o : Option ℕ) → IsCommand (Revoke key r o) → revoke_at (before (decimal key) (before (reason_text r) (date_text o))) ≡ Some (Revoke key r o)
+unfolding revoke_at
+revoke_again key r o in_range =
+    ap (λ (read : Option Revoked). read >>= λ x. Some (revoked x)) (revoke_reader.again (key, (r, o)) (in_range.0, (tt, (in_range.1, in_range.2))))
 
 -- ---- a key's number, alone or with a name
 
-key_and_name_takes : (bytes : List ℕ) (y : ℕ × List ℕ) → key_and_name_at bytes ≡ Some y → IsKeyNumber y.0 × IsName y.1 × (bytes ≡ before (decimal y.0) y.1)
+key_and_name_reader : IsReader key_and_name_at (λ (y : ℕ × List ℕ). before (decimal y.0) y.1) (λ (y : ℕ × List ℕ). IsKeyNumber y.0 × IsName y.1)
 unfolding key_and_name_at
-key_and_name_takes bytes y e =
-    let k = bind_some (field_as key_number_at bytes) (λ x. name_at x.1 >>= λ n. Some (x.0, n)) y e in
-    let n = bind_some (name_at k.0.1) (λ x. Some (k.0.0, x)) y k.2 in
-    let number = as_takes key_number_reader bytes k.0 k.1 in
-    let name = name_reader.takes k.0.1 n.0 n.1 in
-    let made : ℕ × List ℕ = (k.0.0, n.0) in
-    subst (λ (z : ℕ × List ℕ). IsKeyNumber z.0 × IsName z.1 × (bytes ≡ before (decimal z.0) z.1)) (some_is made y n.2)
-    (number.0, name.0, number.1 ∙ ap (before (decimal k.0.0)) name.1)
-
-key_and_name_again : (key : ℕ) (n : List ℕ) → IsKeyNumber key → IsName n → key_and_name_at (before (decimal key) n) ≡ Some (key, n)
-unfolding key_and_name_at
-key_and_name_again key n in_range name = rw (as_again key_number_reader key n in_range (key_number_solid key in_range), name_reader.again n name) refl
+key_and_name_reader = then_reader key_number_reader key_number_solid (λ _. name_reader)
 
 -- a number alone has no name behind it
 no_space_in : (xs rest : List ℕ) → HasNoSpace (before xs rest) → ⊥
@@ -191,7 +198,7 @@ no_space_in (x ∷ xs) rest solid = no_space_in xs rest (and_parts _ _ solid).1
 no_name : (key : ℕ) → IsKeyNumber key → key_and_name_at (decimal key) ≡ None
 no_name key in_range =
     none_from (key_and_name_at (decimal key)) (λ (y : ℕ × List ℕ) (e : key_and_name_at (decimal key) ≡ Some y).
-    no_space_in (decimal y.0) y.1 (subst HasNoSpace (key_and_name_takes (decimal key) y e).2 (key_number_solid key in_range)))
+    no_space_in (decimal y.0) y.1 (subst HasNoSpace (key_and_name_reader.takes (decimal key) y e).1 (key_number_solid key in_range)))
 
 single_again : (word : List ℕ) (key : ℕ) (q : Command) → IsKeyNumber key → key_command word key ≡ Some q → keyed_at word (decimal key) ≡ Some q
 unfolding keyed_at
@@ -199,72 +206,7 @@ single_again word key q in_range read = rw (no_name key in_range, key_number_rea
 
 pair_again : (word : List ℕ) (key : ℕ) (n : List ℕ) (q : Command) → IsKeyNumber key → IsName n → name_command word key n ≡ Some q → keyed_at word (before (decimal key) n) ≡ Some q
 unfolding keyed_at
-pair_again word key n q in_range name read = rw (key_and_name_again key n in_range name) read
-
--- ---- the words set and revoke
-
-abbrev with_edits : ℕ → Edit → Edit → List ℕ → Option Command
-with_edits k a p bytes = edit_at bytes >>= λ d. Some (SetDates k a p d)
-
-abbrev from_edited_stop : ℕ → Edit → List ℕ → Option Command
-from_edited_stop k a bytes = field_as edit_at bytes >>= λ x. with_edits k a x.0 x.1
-
-abbrev from_edited_activation : ℕ → List ℕ → Option Command
-from_edited_activation k bytes = field_as edit_at bytes >>= λ x. from_edited_stop k x.0 x.1
-
-set_takes : (bytes : List ℕ) (q : Command) → set_at bytes ≡ Some q → IsBehind (codes "set") bytes q
-unfolding set_at
-set_takes bytes q e =
-    let k = bind_some (field_as key_number_at bytes) (λ x. from_edited_activation x.0 x.1) q e in
-    let a = bind_some (field_as edit_at k.0.1) (λ x. from_edited_stop k.0.0 x.0 x.1) q k.2 in
-    let p = bind_some (field_as edit_at a.0.1) (λ x. with_edits k.0.0 a.0.0 x.0 x.1) q a.2 in
-    let d = bind_some (edit_at p.0.1) (λ x. Some (SetDates k.0.0 a.0.0 p.0.0 x)) q p.2 in
-    let tk = as_takes key_number_reader bytes k.0 k.1 in
-    let ta = as_takes edit_reader k.0.1 a.0 a.1 in
-    let tp = as_takes edit_reader a.0.1 p.0 p.1 in
-    let td = edit_reader.takes p.0.1 d.0 d.1 in
-    let made : Command = SetDates k.0.0 a.0.0 p.0.0 d.0 in
-    let read = nested_set bytes (decimal k.0.0) k.0.1 (edit_text a.0.0) a.0.1 (edit_text p.0.0) p.0.1 (edit_text d.0) tk.1 ta.1 tp.1 td.1 in
-    behind_this (codes "set") bytes made q (tk.0, ta.0, tp.0, td.0) read d.2
-
-set_again : (key : ℕ) (a p d : Edit) → IsCommand (SetDates key a p d)
-    → set_at (before (decimal key) (before (edit_text a) (before (edit_text p) (edit_text d)))) ≡ Some (SetDates key a p d)
-unfolding set_at
-set_again key a p d in_range =
-    rw (
-      as_again key_number_reader key (before (edit_text a) (before (edit_text p) (edit_text d))) in_range.0 (key_number_solid key in_range.0),
-      as_again edit_reader a (before (edit_text p) (edit_text d)) in_range.1 (edit_solid a in_range.1),
-      as_again edit_reader p (edit_text d) in_range.2 (edit_solid p in_range.2),
-      edit_reader.again d in_range.3,
-    ) refl
-
-abbrev with_reason : ℕ → Reason → List ℕ → Option Command
-with_reason k r bytes = occurrence_at r bytes >>= λ o. Some (Revoke k r o)
-
-abbrev from_reason : ℕ → List ℕ → Option Command
-from_reason k bytes = field_as reason_at bytes >>= λ x. with_reason k x.0 x.1
-
-revoke_takes : (bytes : List ℕ) (q : Command) → revoke_at bytes ≡ Some q → IsBehind (codes "revoke") bytes q
-unfolding revoke_at
-revoke_takes bytes q e =
-    let k = bind_some (field_as key_number_at bytes) (λ x. from_reason x.0 x.1) q e in
-    let r = bind_some (field_as reason_at k.0.1) (λ x. with_reason k.0.0 x.0 x.1) q k.2 in
-    let o = bind_some (occurrence_at r.0.0 r.0.1) (λ x. Some (Revoke k.0.0 r.0.0 x)) q r.2 in
-    let tk = as_takes key_number_reader bytes k.0 k.1 in
-    let tr = as_takes reason_reader k.0.1 r.0 r.1 in
-    let to = (occurrence_reader r.0.0).takes r.0.1 o.0 o.1 in
-    let made : Command = Revoke k.0.0 r.0.0 o.0 in
-    let read = nested_revoke bytes (decimal k.0.0) k.0.1 (reason_text r.0.0) r.0.1 (date_text o.0) tk.1 tr.1 to.1 in
-    behind_this (codes "revoke") bytes made q (tk.0, to.0.0, to.0.1) read o.2
-
-revoke_again : (key : ℕ) (r : Reason) (o : Option ℕ) → IsCommand (Revoke key r o) → revoke_at (before (decimal key) (before (reason_text r) (date_text o))) ≡ Some (Revoke key r o)
-unfolding revoke_at
-revoke_again key r o in_range =
-    rw (
-      as_again key_number_reader key (before (reason_text r) (date_text o)) in_range.0 (key_number_solid key in_range.0),
-      as_again reason_reader r (date_text o) tt (reason_solid r),
-      (occurrence_reader r).again o (in_range.1, in_range.2),
-    ) refl
+pair_again word key n q in_range name read = rw (key_and_name_reader.again (key, n) (in_range, name)) read
 
 -- ---- texts that are read exactly where they are a value's
 
@@ -324,8 +266,8 @@ keyed_takes word bytes q e = by (key_and_name_at bytes) refl e
   where
     by : (o : Option (ℕ × List ℕ)) → key_and_name_at bytes ≡ o → keyed_by word bytes o ≡ Some q → IsBehind word bytes q
     by (Some y) is read =
-        let taken = key_and_name_takes bytes y is in
-        subst (λ (b : List ℕ). IsBehind word b q) (sym taken.2) (name_command_takes word y.0 y.1 q taken.0 taken.1 read)
+        let taken = key_and_name_reader.takes bytes y is in
+        subst (λ (b : List ℕ). IsBehind word b q) (sym taken.1) (name_command_takes word y.0 y.1 q taken.0.0 taken.0.1 read)
     by None is read =
         let k = bind_some (key_number_at bytes) (λ key. key_command word key) q read in
         let taken = key_number_reader.takes bytes k.0 k.1 in
@@ -402,14 +344,16 @@ same_command = same_value command_at IsCommandText command_takes command_read
 
 -- ---- lines
 
-abbrev with_command : ℕ → List ℕ → ℕ → List ℕ → Option Request
-with_command m c n bytes = command_at bytes >>= λ q. Some (record { moment = m; caller = c; number = n; command = q })
+abbrev Requested : Type 0
+Requested = ℕ × (List ℕ × (ℕ × Command))
 
-abbrev from_number : ℕ → List ℕ → List ℕ → Option Request
-from_number m c bytes = field_as request_number_at bytes >>= λ x. with_command m c x.0 x.1
+command_reader : IsReader command_at command_text IsCommand
+command_reader = record { takes = command_takes; again = command_again }
 
-abbrev from_caller : ℕ → List ℕ → Option Request
-from_caller m bytes = field_as name_at bytes >>= λ x. from_number m x.0 x.1
+fields_reader : IsReader (field_then moment_at (λ _. field_then name_at (λ _. field_then request_number_at (λ _. command_at))))
+    (λ (x : Requested). before (decimal x.0) (before x.1.0 (before (decimal x.1.1.0) (command_text x.1.1.1))))
+    (λ (x : Requested). IsMoment x.0 × (IsName x.1.0 × (IsNumber x.1.1.0 × IsCommand x.1.1.1)))
+fields_reader = then_reader moment_reader moment_solid (λ _. then_reader name_reader name_solid (λ _. then_reader request_number_reader request_number_solid (λ _. command_reader)))
 
 -- what is read as the fields of a line
 record IsFieldsOf (line : List ℕ) (q : Request) : Type 0 where
@@ -419,32 +363,19 @@ record IsFieldsOf (line : List ℕ) (q : Request) : Type 0 where
 fields_takes : (line : List ℕ) (q : Request) → fields_at line ≡ Some q → IsFieldsOf line q
 unfolding fields_at
 fields_takes line q e =
-    let m = bind_some (field_as moment_at line) (λ x. from_caller x.0 x.1) q e in
-    let c = bind_some (field_as name_at m.0.1) (λ x. from_number m.0.0 x.0 x.1) q m.2 in
-    let n = bind_some (field_as request_number_at c.0.1) (λ x. with_command m.0.0 c.0.0 x.0 x.1) q c.2 in
-    let d = bind_some (command_at n.0.1) (λ x. Some (record { moment = m.0.0; caller = c.0.0; number = n.0.0; command = x })) q n.2 in
-    let tm = as_takes moment_reader line m.0 m.1 in
-    let tc = as_takes name_reader m.0.1 c.0 c.1 in
-    let tn = as_takes request_number_reader c.0.1 n.0 n.1 in
-    let td = command_takes n.0.1 d.0 d.1 in
-    let made : Request = record { moment = m.0.0; caller = c.0.0; number = n.0.0; command = d.0 } in
-    let read = nested_request line (decimal m.0.0) m.0.1 c.0.0 c.0.1 (decimal n.0.0) n.0.1 (command_text d.0) tm.1 tc.1 tn.1 td.1 in
-    subst (IsFieldsOf line) (some_is made q d.2) (record {
-      in_range = record { moment = tm.0; caller = tc.0; number = tn.0; command = td.0 };
-      text = read;
+    let x = bind_some (field_then moment_at (λ _. field_then name_at (λ _. field_then request_number_at (λ _. command_at))) line) (λ x. Some (requested x)) q e in
+    let taken = fields_reader.takes line x.0 x.1 in
+    subst (IsFieldsOf line) (some_is (requested x.0) q x.2) (record {
+      in_range = record { moment = taken.0.0; caller = taken.0.1.0; number = taken.0.1.1.0; command = taken.0.1.1.1 };
+      text = taken.1 ∙ sym (joined_request (decimal x.0.0) x.0.1.0 (decimal x.0.1.1.0) (command_text x.0.1.1.1));
     })
 
 fields_again : (q : Request) → IsRequest q → fields_at (request_text q) ≡ Some q
 unfolding fields_at
 fields_again q in_range =
-    let numbered : List ℕ = before (decimal q.number) (command_text q.command) in
     ap fields_at (joined_request (decimal q.moment) q.caller (decimal q.number) (command_text q.command))
-    ∙ rw (
-      as_again moment_reader q.moment (before q.caller numbered) in_range.moment (decimal_solid q.moment (moment_small q.moment in_range.moment)),
-      as_again name_reader q.caller numbered in_range.caller (name_bytes_solid q.caller in_range.caller.2),
-      as_again request_number_reader q.number (command_text q.command) in_range.number (decimal_solid q.number (request_number_small q.number in_range.number)),
-      command_again q.command in_range.command,
-    ) refl
+    ∙ ap (λ (read : Option Requested). read >>= λ x. Some (requested x))
+    (fields_reader.again (q.moment, (q.caller, (q.number, q.command))) (in_range.moment, (in_range.caller, (in_range.number, in_range.command))))
 
 guard_none : (b : Bool) (o : Option Request) (q : Request) → cond b None o ≡ Some q → (b ≡ false) × (o ≡ Some q)
 guard_none true o q e = absurd cc

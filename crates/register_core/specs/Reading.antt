@@ -119,40 +119,46 @@ field_as read_by bytes = do
   value ← read_by field.0
   Some (value, field.1)
 
+-- such a field, and what is read of what stands behind it, which may rest on the field's value
+abbrev pub field_then : {A B : Type 0} → (List ℕ → Option A) → (A → List ℕ → Option B) → List ℕ → Option (A × B)
+field_then read_by read_behind bytes = do
+  value ← field_as read_by bytes
+  behind ← read_behind value.0 value.1
+  Some (value.0, behind)
+
+-- the command of the fields that register_at reads
+abbrev pub registered : KeyType × (List ℕ × (Option ℕ × (Option ℕ × (Option ℕ × List ℕ)))) → Command
+registered (kind, (owner, (activation, (protect_stop, (deactivation, purpose))))) = Register kind owner activation protect_stop deactivation purpose
+
 -- what stands behind the word register
 unfoldable pub register_at : List ℕ → Option Command
 register_at bytes = do
-  kind ← field_as key_type_at bytes
-  owner ← field_as name_at kind.1
-  activation ← field_as date_at owner.1
-  protect_stop ← field_as date_at activation.1
-  deactivation ← field_as date_at protect_stop.1
-  purpose ← purpose_at deactivation.1
-  Some (Register kind.0 owner.0 activation.0 protect_stop.0 deactivation.0 purpose)
+  read ← field_then key_type_at (λ _. field_then name_at (λ _. field_then date_at (λ _. field_then date_at (λ _. field_then date_at (λ _. purpose_at))))) bytes
+  Some (registered read)
 
 -- the number of a key, and the name behind it
 unfoldable pub key_and_name_at : List ℕ → Option (ℕ × List ℕ)
-key_and_name_at bytes = do
-  key ← field_as key_number_at bytes
-  name ← name_at key.1
-  Some (key.0, name)
+key_and_name_at bytes = field_then key_number_at (λ _. name_at) bytes
+
+-- the command of the fields that set_at reads
+abbrev pub dates_set : ℕ × (Edit × (Edit × Edit)) → Command
+dates_set (key, (activation, (protect_stop, deactivation))) = SetDates key activation protect_stop deactivation
 
 -- what stands behind the word set
 unfoldable pub set_at : List ℕ → Option Command
 set_at bytes = do
-  key ← field_as key_number_at bytes
-  activation ← field_as edit_at key.1
-  protect_stop ← field_as edit_at activation.1
-  deactivation ← edit_at protect_stop.1
-  Some (SetDates key.0 activation.0 protect_stop.0 deactivation)
+  read ← field_then key_number_at (λ _. field_then edit_at (λ _. field_then edit_at (λ _. edit_at))) bytes
+  Some (dates_set read)
+
+-- the command of the fields that revoke_at reads
+abbrev pub revoked : ℕ × (Reason × Option ℕ) → Command
+revoked (key, (reason, occurrence)) = Revoke key reason occurrence
 
 -- what stands behind the word revoke
 unfoldable pub revoke_at : List ℕ → Option Command
 revoke_at bytes = do
-  key ← field_as key_number_at bytes
-  reason ← field_as reason_at key.1
-  occurrence ← occurrence_at reason.0 reason.1
-  Some (Revoke key.0 reason.0 occurrence)
+  read ← field_then key_number_at (λ _. field_then reason_at occurrence_at) bytes
+  Some (revoked read)
 
 -- the command on a key alone with this word
 unfoldable pub key_command : List ℕ → ℕ → Option Command
@@ -197,14 +203,15 @@ worded_at bytes = do
 unfoldable pub command_at : List ℕ → Option Command
 command_at bytes = if bytes_eq bytes (codes "advance") then Some Advance else worded_at bytes
 
+-- the request of the fields that fields_at reads
+abbrev pub requested : ℕ × (List ℕ × (ℕ × Command)) → Request
+requested (moment, (caller, (number, command))) = record { moment = moment; caller = caller; number = number; command = command }
+
 -- all fields of a line, whatever its length
 unfoldable pub fields_at : List ℕ → Option Request
 fields_at line = do
-  moment ← field_as moment_at line
-  caller ← field_as name_at moment.1
-  number ← field_as request_number_at caller.1
-  command ← command_at number.1
-  Some (record { moment = moment.0; caller = caller.0; number = number.0; command = command })
+  read ← field_then moment_at (λ _. field_then name_at (λ _. field_then request_number_at (λ _. command_at))) line
+  Some (requested read)
 
 -- the request whose line it is
 unfoldable pub request_at : List ℕ → Option Request

@@ -10,8 +10,8 @@ ghost use Rattle.register_core.specs.Reading.{key_command, name_command, keyed_a
 ghost use Rattle.register_core.specs.Reading.{command_at};
 
 use crate::field::{
-    date_of, edit_of, key_number_of, key_type_of, name_of, occurrence_of, purpose_of, put_date,
-    put_edit, put_number, reason_of, split_field, split_key_number,
+    date_of, edit_of, key_number_of, key_type_of, name_of, next_field, occurrence_of, purpose_of,
+    put_date, put_edit, put_number, reason_of, split_field, split_key_number,
 };
 use crate::name::Name;
 use crate::purpose::Purpose;
@@ -33,24 +33,14 @@ const MAX_WORD_LENGTH: usize = 17;
 fn register_of(bytes: &[u8]) -> Option<Command>
     ensures { result ≡ register_at bytes.now }
 {
-    let (field, rest) = split_field(bytes)?;
-    let kind = key_type_of(field)?;
-    let (field, rest) = split_field(rest)?;
-    let owner = name_of(field)?;
-    let (field, rest) = split_field(rest)?;
-    let activation = date_of(field)?;
-    let (field, rest) = split_field(rest)?;
-    let protect_stop = date_of(field)?;
-    let (field, rest) = split_field(rest)?;
-    let deactivation = date_of(field)?;
-    let purpose = purpose_of(rest)?;
+    let mut rest = bytes;
     Some(Command::Register {
-        kind,
-        owner,
-        activation,
-        protect_stop,
-        deactivation,
-        purpose,
+        kind: key_type_of(next_field(&mut rest)?)?,
+        owner: name_of(next_field(&mut rest)?)?,
+        activation: date_of(next_field(&mut rest)?)?,
+        protect_stop: date_of(next_field(&mut rest)?)?,
+        deactivation: date_of(next_field(&mut rest)?)?,
+        purpose: purpose_of(rest)?,
     })
 }
 
@@ -69,17 +59,12 @@ fn key_and_name_of(bytes: &[u8]) -> Option<(u32, Name)>
 fn set_of(bytes: &[u8]) -> Option<Command>
     ensures { result ≡ set_at bytes.now }
 {
-    let (key, rest) = split_key_number(bytes)?;
-    let (field, rest) = split_field(rest)?;
-    let activation = edit_of(field)?;
-    let (field, rest) = split_field(rest)?;
-    let protect_stop = edit_of(field)?;
-    let deactivation = edit_of(rest)?;
+    let (key, mut rest) = split_key_number(bytes)?;
     Some(Command::SetDates {
         key,
-        activation,
-        protect_stop,
-        deactivation,
+        activation: edit_of(next_field(&mut rest)?)?,
+        protect_stop: edit_of(next_field(&mut rest)?)?,
+        deactivation: edit_of(rest)?,
     })
 }
 
@@ -224,11 +209,8 @@ fn register_text(
     text.push_str(kind.text());
     text.push_str(" ");
     text.push_str(owner.text());
-    text.push_str(" ");
     put_date(&mut text, activation);
-    text.push_str(" ");
     put_date(&mut text, protect_stop);
-    text.push_str(" ");
     put_date(&mut text, deactivation);
     text.push_str(" ");
     text.push_str(purpose.text());
@@ -245,11 +227,8 @@ fn set_text(
     ensures { result.bytes ≡ command_text (SetDates key activation protect_stop deactivation) }
 {
     let mut text = key_text("set ", key);
-    text.push_str(" ");
     put_edit(&mut text, activation);
-    text.push_str(" ");
     put_edit(&mut text, protect_stop);
-    text.push_str(" ");
     put_edit(&mut text, deactivation);
     text
 }
@@ -265,7 +244,6 @@ fn revoke_text(
     let mut text = key_text("revoke ", key);
     text.push_str(" ");
     put_number(&mut text, u64::from(reason.code()));
-    text.push_str(" ");
     put_date(&mut text, occurrence);
     text
 }
@@ -284,44 +262,37 @@ pub fn command_text(command: &Command) -> CommandText
     ensures text { result ≡ command_text command.now }
     ensures short { length result ≤ MAX_COMMAND_LENGTH }
 {
-    let text = match command {
+    let text = match *command {
         Command::Register {
             kind,
-            owner,
+            ref owner,
             activation,
             protect_stop,
             deactivation,
-            purpose,
-        } => register_text(
-            *kind,
-            owner,
-            *activation,
-            *protect_stop,
-            *deactivation,
-            purpose,
-        ),
-        Command::Activate { key } => key_text("activate ", *key),
+            ref purpose,
+        } => register_text(kind, owner, activation, protect_stop, deactivation, purpose),
+        Command::Activate { key } => key_text("activate ", key),
         Command::SetDates {
             key,
-            activation,
-            protect_stop,
-            deactivation,
-        } => set_text(*key, *activation, *protect_stop, *deactivation),
+            ref activation,
+            ref protect_stop,
+            ref deactivation,
+        } => set_text(key, *activation, *protect_stop, *deactivation),
         Command::Revoke {
             key,
             reason,
             occurrence,
-        } => revoke_text(*key, *reason, *occurrence),
-        Command::Assign { key, owner } => key_and_name_text("assign ", *key, owner),
-        Command::AddCustodian { key, name } => key_and_name_text("add-custodian ", *key, name),
-        Command::RemoveCustodian { key, name } => key_and_name_text(
+        } => revoke_text(key, reason, occurrence),
+        Command::Assign { key, ref owner } => key_and_name_text("assign ", key, owner),
+        Command::AddCustodian { key, ref name } => key_and_name_text("add-custodian ", key, name),
+        Command::RemoveCustodian { key, ref name } => key_and_name_text(
             "remove-custodian ",
-            *key,
+            key,
             name,
         ),
-        Command::Approve { key } => key_text("approve ", *key),
-        Command::Withdraw { key } => key_text("withdraw ", *key),
-        Command::Destroy { key } => key_text("destroy ", *key),
+        Command::Approve { key } => key_text("approve ", key),
+        Command::Withdraw { key } => key_text("withdraw ", key),
+        Command::Destroy { key } => key_text("destroy ", key),
         Command::Advance => advance_text(),
     };
     ShortText::new(text)

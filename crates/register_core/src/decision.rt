@@ -6,14 +6,13 @@ ghost use Rattle.register_core.specs.Decision.{IsRightKey, IsViewOf, LeadsTo, he
 ghost use Rattle.register_core.specs.Decision.{change_by, reply_to, reply_of_view};
 
 use crate::change::{Accept, Change};
-use crate::effect::{custody_change, dates_after, given_dates, owner_after, row_at};
+use crate::effect::{custody_change, dates_after, no_dates, owner_after, row_at};
 use crate::key::Key;
 use crate::reply::{Refusal, Reply};
 use crate::request::{Command, Request};
 use crate::verdict::judge;
 use crate::view::{Held, View};
 use moment_core::Moment;
-use period_core::filled;
 
 /// What the accepted request makes of the key that it names by this number.
 fn held_change(key: u32, held: &Held, request: &Request) -> Change
@@ -34,25 +33,24 @@ fn held_change(key: u32, held: &Held, request: &Request) -> Change
 fn change_by(named: &Option<Held>, request: &Request) -> Change
     ensures { result ≡ change_by named.now request.now }
 {
+    let at = request.moment;
+    let command = &request.command;
     if let Command::Register {
         kind,
         owner,
-        activation,
-        protect_stop,
-        deactivation,
         purpose,
-    } = request.command
+        ..
+    } = *command
     {
-        let at = request.moment;
-        let given = given_dates(at, activation, protect_stop, deactivation);
+        let row = row_at(dates_after(kind, &no_dates(), at, command), at);
         return Change::Made(Key {
             kind,
             owner,
             purpose,
-            row: row_at(filled(kind, given), at),
+            row,
         });
     }
-    match (request.command.key(), named) {
+    match (command.key(), named) {
         (Some(key), Some(held)) => held_change(key, held, request),
         _ => Change::Nothing,
     }

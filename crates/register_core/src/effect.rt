@@ -1,7 +1,8 @@
 //! What a command does to a key: to its dates, its owner and its custody.
 ghost use Rattle.std.specs.Prelude.{◌≡◌};
-ghost use Rattle.register_core.specs.Effect.{owner_after, given_dates, edited, edited_dates};
-ghost use Rattle.register_core.specs.Effect.{no_later_than, dates_after, row_at, custody_change};
+ghost use Rattle.register_core.specs.Effect.{owner_after, no_dates, given_dates, edited};
+ghost use Rattle.register_core.specs.Effect.{edited_dates, no_later_than, dates_after, row_at};
+ghost use Rattle.register_core.specs.Effect.{custody_change};
 
 use crate::change::CustodyChange;
 use crate::name::Name;
@@ -9,6 +10,21 @@ use crate::request::{Command, Edit};
 use lifecycle_core::{Dates, Row, state_of};
 use moment_core::Moment;
 use period_core::{KeyType, filled, trimmed};
+
+/// The dates of a key before it is registered: none is set.
+pub(crate) fn no_dates() -> Dates
+    ensures { result ≡ no_dates }
+{
+    Dates {
+        initial: Moment::new(0).unwrap(),
+        activation: None,
+        protect_stop: None,
+        deactivation: None,
+        destroy: None,
+        compromise: None,
+        compromise_occurrence: None,
+    }
+}
 
 /// The dates that a registration at the moment gives a key, before Fill.
 pub fn given_dates(
@@ -24,9 +40,7 @@ pub fn given_dates(
         activation,
         protect_stop,
         deactivation,
-        destroy: None,
-        compromise: None,
-        compromise_occurrence: None,
+        ..no_dates()
     }
 }
 

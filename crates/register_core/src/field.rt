@@ -1,6 +1,6 @@
 //! The fields of a line: what stands between its spaces.
 ghost use Rattle.std.specs.Prelude.{◌≡◌, ◌≢◌, ℕ, ◌+◌, ◌<◌, ◌≤◌, ◌^◌, ◌↔◌, ◌⊎◌, ◌++◌, decimal};
-ghost use Rattle.std.specs.Prelude.{length, position, IsSome, IfSome, IfNone};
+ghost use Rattle.std.specs.Prelude.{codes, length, position, IsSome, IfSome, IfNone};
 ghost use Rattle.arrayvec.specs.ArrayString.{array_string_len};
 ghost use Rattle.lifecycle_core.specs.Reason.{reason_code};
 ghost use Rattle.register_core.specs.Request.{IsKeyNumber, date_text, edit_text};
@@ -35,6 +35,15 @@ pub(crate) fn split_field(bytes: &[u8]) -> Option<(&[u8], &[u8])>
 {
     let end = first_space(bytes)?;
     Some((&bytes[..end], &bytes[end + 1..]))
+}
+
+/// Takes the field before the first space, and leaves what stands behind that space.
+pub(crate) fn next_field<'a>(rest: &mut &'a [u8]) -> Option<&'a [u8]>
+    ensures { Gives (λ field. (field.now, rest.new.now)) result (field_at rest.old.now) }
+{
+    let (field, behind) = split_field(rest)?;
+    *rest = behind;
+    Some(field)
 }
 
 /// The number that the field writes in decimal, with no sign and no leading zero.
@@ -187,24 +196,26 @@ pub(crate) fn put_number<const N: usize>(line: &mut ArrayString<N>, number: u64)
     line.push_str(digits.format(number));
 }
 
-/// Appends the date, `-` for none.
+/// Appends a space, and behind it the date, `-` for none.
 pub(crate) fn put_date<const N: usize>(line: &mut ArrayString<N>, date: Option<Moment>)
-    requires { array_string_len line.old + 20 ≤ N }
-    ensures bytes { line.new.bytes ≡ line.old.bytes ++ date_text date }
-    ensures short { array_string_len line.new ≤ array_string_len line.old + 20 }
+    requires { array_string_len line.old + 21 ≤ N }
+    ensures bytes { line.new.bytes ≡ line.old.bytes ++ codes " " ++ date_text date }
+    ensures short { array_string_len line.new ≤ array_string_len line.old + 21 }
 {
+    line.push_str(" ");
     match date {
         Some(moment) => put_number(line, moment.seconds()),
         None => line.push_str("-"),
     }
 }
 
-/// Appends what becomes of a date.
+/// Appends a space, and behind it what becomes of a date.
 pub(crate) fn put_edit<const N: usize>(line: &mut ArrayString<N>, edit: Edit)
-    requires { array_string_len line.old + 20 ≤ N }
-    ensures bytes { line.new.bytes ≡ line.old.bytes ++ edit_text edit }
-    ensures short { array_string_len line.new ≤ array_string_len line.old + 20 }
+    requires { array_string_len line.old + 21 ≤ N }
+    ensures bytes { line.new.bytes ≡ line.old.bytes ++ codes " " ++ edit_text edit }
+    ensures short { array_string_len line.new ≤ array_string_len line.old + 21 }
 {
+    line.push_str(" ");
     match edit {
         Edit::Keep => line.push_str("="),
         Edit::Clear => line.push_str("-"),

@@ -5,13 +5,13 @@ ghost use Rattle.std.specs.Prelude.{◌≡◌, ◌+◌, ◌^◌, ◌<◌, ◌≤
 ghost use Rattle.std.specs.Prelude.{unwrap_or, IsSome, IfOk, OnOk, if◌then◌else◌};
 ghost use Rattle.register_core.specs.History.{latest, count, type, owner, dates};
 ghost use Rattle.register_core.specs.Subject.{key_of, made_by, is_key};
-ghost use Rattle.register_core.specs.Effect.{kind_after, owner_after, no_dates, dates_after};
+ghost use Rattle.register_core.specs.Effect.{kind_after, owner_after, dates_after};
 ghost use Rattle.register_core.specs.Custody.{held};
 ghost use Rattle.register_core.specs.Verdict.{verdict, reply};
 ghost use Rattle.register_core.specs.Decision.{IsViewOf};
 ghost use Rattle.register_core.specs.Fold.{history_after, answer_to, answers};
 
-use crate::effect::dates_after;
+use crate::effect::{dates_after, no_dates};
 use crate::name::Name;
 use crate::plain_custody::{approvals, custodians};
 use crate::reply::{Refusal, Reply};
@@ -145,20 +145,6 @@ fn dates_with(kind: KeyType, before: Dates, key: u32, made: u32, request: &Reque
         dates_after(kind, &before, request.moment, &request.command)
     } else {
         before
-    }
-}
-
-fn no_dates() -> Dates
-    ensures { result ≡ no_dates }
-{
-    Dates {
-        initial: Moment::new(0).unwrap(),
-        activation: None,
-        protect_stop: None,
-        deactivation: None,
-        destroy: None,
-        compromise: None,
-        compromise_occurrence: None,
     }
 }
 

@@ -1,5 +1,4 @@
-use Rattle.std.proofs.Common.{rules}
 use Rattle.register_core.proofs.effect.dates_after.Goals as goal
 
 pub returns-in-Activate : goal.returns-in-Activate
-returns-in-Activate c = search rules
+returns-in-Activate c = cc
