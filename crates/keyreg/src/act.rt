@@ -1,4 +1,7 @@
 //! What the program does, over the streams that it is given.
+ghost use Rattle.std.specs.Prelude.{◌≡◌, ◌<◌};
+ghost use Rattle.keyreg.specs.Act.{end_status, unopened_status, usage_status};
+
 use register_desk::{Desk, End, Finish, OpenRefusal, Watched, run};
 use sqlite::{Connection, MemStore};
 use std::alloc::Global;
@@ -17,7 +20,9 @@ const ENDED: u8 = 3;
 const FAULTED: u8 = 4;
 
 /// Names the end on `faults`, and gives its exit status.
-pub fn report_end(end: End, faults: &mut impl Write) -> u8 {
+pub fn report_end(end: End, faults: &mut impl Write) -> u8
+    ensures { result ≡ end_status end }
+{
     // Nobody is left to hear of a fault in reporting one.
     let _ = writeln!(faults, "keyreg: {end}");
     match end {
@@ -27,7 +32,9 @@ pub fn report_end(end: End, faults: &mut impl Write) -> u8 {
 }
 
 /// Names the refusal on `faults`, and gives its exit status.
-pub fn report_refusal(refusal: OpenRefusal, faults: &mut impl Write) -> u8 {
+pub fn report_refusal(refusal: OpenRefusal, faults: &mut impl Write) -> u8
+    ensures { result ≡ unopened_status }
+{
     let _ = writeln!(faults, "keyreg: {refusal}");
     UNOPENED
 }
@@ -53,7 +60,9 @@ pub fn act<R: Read + Drop, W: Write + Drop>(
     input: R,
     output: W,
     faults: &mut impl Write,
-) -> u8 {
+) -> u8
+    ensures { 0 < words → result ≡ usage_status }
+{
     if words > 0 {
         return USAGE;
     }

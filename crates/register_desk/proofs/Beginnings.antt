@@ -1,10 +1,9 @@
 -- A desk over tables that were just made.
-use Rattle.std.proofs.Common.{◌≡◌, [], Ok, IsTrue, refl, ap, ◌∙◌, arith}
+use Rattle.std.proofs.Common.{◌≡◌, [], Ok, IsTrue, refl}
 use Rattle.sqlite_trees.specs.declared.store.Store as store
 use Rattle.sqlite.specs.Tree.{Trees}
-use Rattle.sqlite.specs.Effect.{Database}
-use Rattle.sqlite.specs.State.{State, HasCleanDisk}
-use Rattle.sqlite.specs.Held.{Held, state}
+use Rattle.sqlite.specs.State.{State}
+use Rattle.sqlite.specs.Held.{state}
 use Rattle.sql_steps.specs.Steps.{TransactsBy}
 use Rattle.sql_steps.proofs.Stepping.{leaves_alone}
 use Rattle.register_store.specs.Tables.{no_rows}
@@ -14,24 +13,20 @@ use Rattle.register_desk.specs.declared.desk.Desk.{Desk}
 use Rattle.register_desk.specs.Register.{StandsFor}
 
 module _ {S : Type 0} (g : store.Ghosts S) where
-  pub empty_stands : {A E : Type 0} (before : State) (mid : Held S) (desk : Desk S g) (x : A)
-      → (HasCleanDisk (state g mid) → IsTrue (state g mid).is_open → ((state g mid).now ≡ before.committed) × ((state g mid).committed ≡ before.committed))
-      → TransactsBy {E = E} MakesEmpty (state g mid) (state g desk.connection) (Ok x)
+  pub empty_stands : {A E : Type 0} (before : State) (desk : Desk S g) (x : A) → TransactsBy {E = E} MakesEmpty before (state g desk.connection) (Ok x)
       → ((s : S) (db : Trees) → IsTrue (g.view s).is_open → g.recovers s db → db ≡ (g.view s).committed)
-      → desk.latest ≡ 0 → desk.keys ≡ 0 → before.committed.schema ≡ no_schema → StandsFor g desk []
-  empty_stands before mid desk x kept made settled latest_is keys_are empty = record {
+      → desk.latest ≡ 0 → desk.keys ≡ 0 → before.now.schema ≡ no_schema → StandsFor g desk []
+  empty_stands before desk x made settled latest_is keys_are empty = record {
     lawful = refl;
     latest_is = latest_is;
     keys_are = keys_are;
     sees = λ whole clean.
-        let early : HasCleanDisk (state g mid) = omega (arith, made.stop.clean) in
         let did = made.accepted clean in
-        let schema : (state g mid).now.schema ≡ no_schema = ap (λ (d : Database). d.schema) (kept early did.2).0 ∙ empty in
-        let holds : Holds no_rows (state g desk.connection).now = did.0 schema in
+        let holds : Holds no_rows (state g desk.connection).now = did.0 empty in
         record {
           is_open = did.3;
           holds = holds;
           committed = did.1;
-          leaves = λ trees may. ((state g desk.connection).now, holds, leaves_alone g settled MakesEmpty (state g mid) desk.connection (Ok x) made clean trees may);
+          leaves = λ trees may. ((state g desk.connection).now, holds, leaves_alone g settled MakesEmpty before desk.connection (Ok x) made clean trees may);
         };
   }

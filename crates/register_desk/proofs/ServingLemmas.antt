@@ -1,9 +1,9 @@
 -- Items that are served one after the other are those of the input, and their answers those of the history.
-use Rattle.std.proofs.Common.{◌≡◌, ℕ, suc, ◌+◌, List, [], ◌∷◌, ◌++◌, length, take, drop, Option, None, Some, Result, refl, sym, ap, subst, ◌∙◌, arith, append_assoc}
+use Rattle.std.proofs.Common.{◌≡◌, ℕ, suc, ◌+◌, List, [], ◌∷◌, ◌++◌, length, map, take, drop, Option, None, Some, Result, Err, refl, sym, ap, subst, ◌∙◌, arith, append_assoc}
 use Rattle.std.specs.Prelude.{slice_get}
 use Rattle.std.specs.List.{AllByRecursion}
 use Rattle.std.specs.Io.KnownBytes.{Consumes, Appends, IsAtEnd, prepend_known}
-use Rattle.std.proofs.lemmas.List.{append-nil, length-append, take_at, take-append-drop, length-take}
+use Rattle.std.proofs.lemmas.List.{map-append, append-nil, length-append, take_at, take-append-drop, length-take}
 use Rattle.std.proofs.lemmas.List.Sums.{fold-append}
 use Rattle.std.proofs.lemmas.Grind.{flat_map-append}
 use Rattle.sqlite_trees.specs.declared.store.Store.{Ghosts}
@@ -12,6 +12,7 @@ use Rattle.sqlite.specs.Held.{state}
 use Rattle.register_core.specs.declared.request.Request.{Request}
 use Rattle.register_core.specs.declared.reply.Reply.{Reply}
 use Rattle.register_core.specs.declared.reply.Refusal.{Refusal}
+use Rattle.register_core.specs.declared.reply.Refusal.TheVariants.{BadLine}
 use Rattle.register_core.specs.Request.{IsItem}
 use Rattle.register_core.specs.Fold.{history, history_after, answers, answer_to}
 use Rattle.streams.specs.declared.lines.TheConstants.{LINE_FEED}
@@ -23,8 +24,9 @@ use Rattle.register_desk.specs.declared.desk.Desk.{Desk}
 use Rattle.streams.specs.Lines.{Cut, HasNoLineFeed, Takes}
 use Rattle.register_desk.specs.Input.{with_line_feeds, AreItems, HasItems}
 use Rattle.register_desk.specs.Register.{StandsFor, LeavesOneOf}
-use Rattle.register_desk.specs.Run.{TookBytes, Wrote, answer_line, answer_lines, Answered, AnsweredInPart, RunsOver}
-use Rattle.register_desk.specs.Serving.{AnswersItem, WasClean, ServesItem, LeavesItem, WritesInPart, Took, Served, IsNextLine, ServesTo, ServedAll}
+use Rattle.register_desk.specs.Leaving.{GoesOn, IsBroken}
+use Rattle.register_desk.specs.Run.{TookBytes, Wrote, answer_line, answer_lines, Answered, AnsweredInPart, RunsOver, AreNoRequests, bad_lines, LeavesDesk, Refused, RefusedInPart, RunsBroken}
+use Rattle.register_desk.specs.Serving.{AnswersItem, WasClean, ServesItem, LeavesItem, WritesInPart, Took, Served, IsNextLine, ServesTo, ServedAll, IsQuiet, Quiet}
 use Rattle.register_desk.proofs.InputLemmas.{lines_begin, none_left, OneRequest, items_begin, no_more_items, are_items_more, all_more, with_line_feeds_more}
 
 -- ---- known bytes
@@ -53,6 +55,9 @@ appends_none (Some a) = sym (append-nil a)
 
 lines_more : (given : List (Result Reply Refusal)) (answer : Result Reply Refusal) → answer_lines (given ++ answer ∷ []) ≡ answer_lines given ++ answer_line answer
 lines_more given answer = flat_map-append answer_line given (answer ∷ []) ∙ ap (λ (l : List ℕ). answer_lines given ++ l) (append-nil (answer_line answer))
+
+bad_lines_more : (items : List (Option Request)) (item : Option Request) → bad_lines (items ++ item ∷ []) ≡ bad_lines items ++ answer_line (Err BadLine)
+bad_lines_more items item = ap answer_lines (map-append (λ _. Err BadLine) items (item ∷ [])) ∙ lines_more (map (λ _. Err BadLine) items) (Err BadLine)
 
 answers-append : (h : List Request) (items more : List (Option Request)) → answers h (items ++ more) ≡ answers h items ++ answers (history h items) more
 answers-append h [] more = refl
@@ -93,7 +98,19 @@ module _ {S : Type 0} (g : Ghosts S) where
     counted = refl;
     answered = λ h stands clean. (appends_none w, stands);
     clean = λ clean. clean;
+    quiet = λ broken. record { same = refl; none = tt; written = appends_none w };
   }
+
+  quiet_more : (v w x : Option (List ℕ)) (kept mid now : Desk S g) (items : List (Option Request)) (item : Option Request) (line : List ℕ) → IsBroken kept → Quiet g kept mid v w items → Appends w x line → IsQuiet g mid item line
+      → GoesOn mid now → Quiet g kept now v x (items ++ item ∷ [])
+  quiet_more v w x kept mid now items item line broken quiet written is_quiet goes =
+      let mid_broken : IsBroken mid = ap (λ (d : Desk S g). d.is_broken) quiet.same ∙ broken in
+      let it = is_quiet mid_broken in
+      record {
+        same = goes.broken mid_broken ∙ quiet.same;
+        none = all_more (λ (i : Option Request). i ≡ None) items item quiet.none it.0;
+        written = subst (Appends v x) (sym (bad_lines_more items item)) (appends_then v w x (bad_lines items) (answer_line (Err BadLine)) quiet.written (subst (Appends w x) it.1 written));
+      }
 
   -- the answers, with that of one item more
   answered_more : (v w x : Option (List ℕ)) (kept mid now : Desk S g) (items : List (Option Request)) (item : Option Request) (line : List ℕ)
@@ -110,14 +127,15 @@ module _ {S : Type 0} (g : Ghosts S) where
   -- one line more: its item was answered by its whole line and applied
   pub served_more : (a b c v w x : Option (List ℕ)) (kept mid now : Desk S g) (replies count : ℕ) (line : List ℕ) (item : Option Request) →
       Served g a b v w kept mid replies → HasNoLineFeed line → Consumes b c (line ++ LINE_FEED ∷ []) → IsItem line item →
-      ServesItem g mid now w x item count → Served g a c v x kept now (replies + 1)
-  served_more a b c v w x kept mid now replies count line item served unbroken consumed is serves = record {
+      ServesItem g mid now w x item count → GoesOn mid now → Served g a c v x kept now (replies + 1)
+  served_more a b c v w x kept mid now replies count line item served unbroken consumed is serves goes = record {
     lines = served.lines ++ line ∷ [];
     items = served.items ++ item ∷ [];
     took = took_more a b c served.lines served.items line item served.took unbroken consumed is;
     counted = length-append served.items (item ∷ []) ∙ ap (λ (n : ℕ). n + 1) served.counted;
     answered = answered_more v w x kept mid now served.items item serves.line served.answered serves.written serves.answers serves.clean;
     clean = λ clean. served.clean (serves.clean clean);
+    quiet = λ broken. quiet_more v w x kept mid now served.items item serves.line broken (served.quiet broken) serves.written serves.quiet goes;
   }
 
 -- ---- what was taken is the front of the input
@@ -172,6 +190,15 @@ module _ {S : Type 0} (g : Ghosts S) (one : OneRequest) (h : List Request) (byte
           some = omega (arith, served.counted, ap length split.parts, length-append served.items split.more);
           written = subst (λ l. Appends v w (answer_lines l)) (sym (first_answers h all served.items split.more replies split.parts served.counted)) it.0;
           stands = subst (λ is. StandsFor g now (history h is)) (sym first) it.1;
+        }
+
+    pub refused_so : IsBroken kept → Refused all replies v w
+    refused_so broken =
+        let it = served.quiet broken in
+        record {
+          some = omega (arith, served.counted, ap length split.parts, length-append served.items split.more);
+          none = subst AreNoRequests (sym first) it.none;
+          written = subst (λ is. Appends v w (bad_lines is)) (sym first) it.written;
         }
 
     -- at the end of the input every item was served, and the rest is what is left
@@ -230,6 +257,21 @@ module _ {S : Type 0} (g : Ghosts S) (one : OneRequest) (h : List Request) (byte
             front = (drop n wrote.line, append_assoc whole (take n wrote.line) (drop n wrote.line) ∙ ap (λ (l : List ℕ). whole ++ l) (take-append-drop n wrote.line) ∙ lines);
             written = appends_then v w x whole (take n wrote.line) before.0 wrote.written;
             stands = subst (StandsFor g after) (sym with_it) it.1;
+          }
+
+      -- of a broken desk too
+      pub refused_in_part : (x : Option (List ℕ)) (after : Desk S g) (n : ℕ) → IsBroken kept → WritesInPart g now after w x item n → RefusedInPart all replies v x
+      refused_in_part x after n broken wrote =
+          let it = served.quiet broken in
+          let quiet = wrote.quiet (ap (λ (d : Desk S g). d.is_broken) it.same ∙ broken) in
+          let whole = bad_lines served.items in
+          let lines : whole ++ wrote.line ≡ bad_lines (take (replies + 1) all) = ap (λ (l : List ℕ). whole ++ l) quiet.1 ∙ sym (bad_lines_more served.items item) ∙ ap bad_lines (sym one_more) in
+          record {
+            some = omega (arith, ap length parts, length-append served.items (item ∷ beyond.more), served.counted);
+            none = subst AreNoRequests (sym one_more) (all_more (λ (i : Option Request). i ≡ None) served.items item it.none quiet.0);
+            bytes = whole ++ take n wrote.line;
+            front = (drop n wrote.line, append_assoc whole (take n wrote.line) (drop n wrote.line) ∙ ap (λ (l : List ℕ). whole ++ l) (take-append-drop n wrote.line) ∙ lines);
+            written = appends_then v w x whole (take n wrote.line) it.written wrote.written;
           }
 
 -- ---- the loop over the lines
@@ -315,14 +357,17 @@ appends_nothing v w x bytes p q = subst (Appends v x) (append-nil bytes) (append
 module _ {S : Type 0} (g : Ghosts S) where
   -- the same items, where the line in hand wrote nothing and the desk goes on to stand for what it stood for
   served_still : (a b v w x : Option (List ℕ)) (kept mid now : Desk S g) (replies : ℕ) → Served g a b v w kept mid replies → Appends w x [] → ((h : List Request) → StandsFor g mid h → StandsFor g now h) → WasClean g mid now
-      → Served g a b v x kept now replies
-  served_still a b v w x kept mid now replies served nothing still was = record {
+      → (IsBroken mid → now ≡ mid) → Served g a b v x kept now replies
+  served_still a b v w x kept mid now replies served nothing still was same = record {
     lines = served.lines;
     items = served.items;
     took = served.took;
     counted = served.counted;
     answered = λ h stands clean. let it = served.answered h stands (was clean) in (appends_nothing v w x (answer_lines (answers h served.items)) it.0 nothing, still (history h served.items) it.1);
     clean = λ clean. served.clean (was clean);
+    quiet = λ broken.
+        let it = served.quiet broken in
+        record { same = same (ap (λ (d : Desk S g). d.is_broken) it.same ∙ broken) ∙ it.same; none = it.none; written = appends_nothing v w x (bad_lines served.items) it.written nothing };
   }
 
   runs_known : OneRequest → (h : List Request) (bytes : List ℕ) (all : List (Option Request)) (rest : List ℕ) (old new : Option (List ℕ)) (kept now : Desk S g) (replies : ℕ) (end : Finish) →
@@ -333,11 +378,11 @@ module _ {S : Type 0} (g : Ghosts S) where
   runs_known one h bytes all rest old new kept now replies (Ended ReadFault) has stands clean serves = answered_so g one h bytes all rest has serves.middle old new kept now replies serves.served stands clean
   runs_known one h bytes all rest old new kept now replies (Ended Memory) has stands clean serves =
       let back = serves.leaves.0 in
-      let still = served_still (Some bytes) serves.middle old serves.so_far new kept serves.mid now replies serves.served serves.leaves.1 back.stands back.clean in
+      let still = served_still (Some bytes) serves.middle old serves.so_far new kept serves.mid now replies serves.served serves.leaves.1 back.stands back.clean (λ broken. absurd (let both = sym broken ∙ back.was in cc)) in
       answered_so g one h bytes all rest has serves.middle old new kept now replies still stands clean
   runs_known one h bytes all rest old new kept now replies (Ended Store) has stands clean serves =
       let stop = serves.leaves.0 in
-      let still = served_still (Some bytes) serves.middle old serves.so_far new kept serves.mid now replies serves.served serves.leaves.1 stop.stands stop.clean in
+      let still = served_still (Some bytes) serves.middle old serves.so_far new kept serves.mid now replies serves.served serves.leaves.1 stop.stands stop.clean (λ broken. absurd (let both = sym broken ∙ stop.was in cc)) in
       let behind = before_it g one h bytes all rest has serves.middle old serves.so_far kept serves.mid replies serves.served serves.after serves.line serves.item serves.next in
       let ahead = with_it g one h bytes all rest has serves.middle old serves.so_far kept serves.mid replies serves.served serves.after serves.line serves.item serves.next in
       let at = there g one h bytes all rest has serves.middle old serves.so_far kept serves.mid replies serves.served serves.after serves.line serves.item serves.next in
@@ -350,7 +395,7 @@ module _ {S : Type 0} (g : Ghosts S) where
       )
   runs_known one h bytes all rest old new kept now replies (Ended Broken) has stands clean serves =
       let stop = serves.leaves.0 in
-      let still = served_still (Some bytes) serves.middle old serves.so_far new kept serves.mid now replies serves.served serves.leaves.1 (λ k it. subst (λ (d : Desk S g). StandsFor g d k) (sym stop.same) it) (λ clean. subst (λ (d : Desk S g). HasCleanDisk (state g d.connection)) stop.same clean) in
+      let still = served_still (Some bytes) serves.middle old serves.so_far new kept serves.mid now replies serves.served serves.leaves.1 (λ k it. subst (λ (d : Desk S g). StandsFor g d k) (sym stop.same) it) (λ clean. subst (λ (d : Desk S g). HasCleanDisk (state g d.connection)) stop.same clean) (λ broken. stop.same) in
       let at = there g one h bytes all rest has serves.middle old serves.so_far kept serves.mid replies serves.served serves.after serves.line serves.item serves.next in (
         answered_so g one h bytes all rest has serves.middle old new kept now replies still stands clean,
         record { request = stop.request; next = at ∙ ap (λ i. Some i) stop.is; broken = stop.broken },
@@ -362,6 +407,32 @@ module _ {S : Type 0} (g : Ghosts S) where
       before ≡ Some bytes → HasItems bytes all rest → StandsFor g kept h → HasCleanDisk (state g now.connection) → ServesTo g before old new kept now replies end → RunsOver g h all rest end replies old new now
   runs_so one h bytes all rest before old new kept now replies end known has stands clean serves =
       runs_known one h bytes all rest old new kept now replies end has stands clean (subst (λ b. ServesTo g b old new kept now replies end) known serves)
+
+  -- ---- a run of a broken desk, by how it ended
+
+  broken_known : OneRequest → (bytes : List ℕ) (all : List (Option Request)) (rest : List ℕ) (old new : Option (List ℕ)) (kept now : Desk S g) (replies : ℕ) (end : Finish) →
+      HasItems bytes all rest → IsBroken kept → LeavesDesk kept now end → ServesTo g (Some bytes) old new kept now replies end → RunsBroken all rest end replies old new
+  broken_known one bytes all rest old new kept now replies (AtEnd left) has broken leaves serves =
+      let ended = ended_so g one [] bytes all rest has serves.middle old new kept now replies serves.served serves.after serves.rest serves.unbroken serves.consumed serves.at_end in
+      (refused_so g one [] bytes all rest has serves.middle old new kept now replies serves.served broken, ended.0, serves.counted ∙ ended.1)
+  broken_known one bytes all rest old new kept now replies (Ended ReadFault) has broken leaves serves = refused_so g one [] bytes all rest has serves.middle old new kept now replies serves.served broken
+  broken_known one bytes all rest old new kept now replies (Ended Memory) has broken leaves serves =
+      absurd (let both = sym broken ∙ sym (ap (λ (d : Desk S g). d.is_broken) (leaves.broken broken)) ∙ serves.leaves.0.whole in cc)
+  broken_known one bytes all rest old new kept now replies (Ended Store) has broken leaves serves = absurd (let both = sym broken ∙ (leaves.store refl).0 in cc)
+  broken_known one bytes all rest old new kept now replies (Ended Broken) has broken leaves serves =
+      let stop = serves.leaves.0 in
+      let refused = refused_so g one [] bytes all rest has serves.middle old serves.so_far kept serves.mid replies serves.served broken in
+      let at = there g one [] bytes all rest has serves.middle old serves.so_far kept serves.mid replies serves.served serves.after serves.line serves.item serves.next in (
+        record { some = refused.some; none = refused.none; written = appends_nothing old serves.so_far new (bad_lines (take replies all)) refused.written serves.leaves.1 },
+        (stop.request, at ∙ ap (λ i. Some i) stop.is),
+      )
+  broken_known one bytes all rest old new kept now replies (Ended WriteFault) has broken leaves serves =
+      refused_in_part g one [] bytes all rest has serves.middle old serves.so_far kept serves.mid replies serves.served serves.after serves.line serves.item serves.next new now serves.part broken serves.leaves
+
+  pub broken_so : OneRequest → (bytes : List ℕ) (all : List (Option Request)) (rest : List ℕ) (before old new : Option (List ℕ)) (kept now : Desk S g) (replies : ℕ) (end : Finish) →
+      before ≡ Some bytes → HasItems bytes all rest → IsBroken kept → LeavesDesk kept now end → ServesTo g before old new kept now replies end → RunsBroken all rest end replies old new
+  broken_so one bytes all rest before old new kept now replies end known has broken leaves serves =
+      broken_known one bytes all rest old new kept now replies end has broken leaves (subst (λ b. ServesTo g b old new kept now replies end) known serves)
 
   -- ---- the same, of values that are equal
 

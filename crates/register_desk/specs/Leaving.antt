@@ -34,6 +34,11 @@ module _ {S : Type 0} {g : Ghosts S} where
   EndsBy old new ReadFault = ⊥
   EndsBy old new WriteFault = ⊥
 
+  -- a call that went on to its end: a whole desk stays whole, and a broken one is as it was
+  pub record GoesOn (old new : Desk S g) : Type 0 where
+    pub whole : IsWhole old → IsWhole new
+    pub broken : IsBroken old → new ≡ old
+
   -- a call that uses the database: an answer comes of a whole desk and leaves it whole, and an end as it says
   abbrev pub Ends : {T : Type 0} → Desk S g → Desk S g → Result T End → Type 0
   Ends old new result = MatchResult result (λ _. IsWhole old × IsWhole new) (EndsBy old new)

@@ -1,5 +1,5 @@
 -- What the items that were served so far made of the desk and of the bytes. That it is what the history says is proved of `run`.
-use Rattle.std.specs.Prelude.{◌≡◌, ℕ, ◌≤◌, true, false, List, [], ◌∷◌, ◌++◌, length, take, Option, Some}
+use Rattle.std.specs.Prelude.{◌≡◌, ℕ, ◌≤◌, true, false, List, [], ◌∷◌, ◌++◌, length, take, Option, None, Some, Err}
 use Rattle.std.specs.List.{AllByRecursion}
 use Rattle.std.specs.Io.KnownBytes.{Consumes, Appends, IsAtEnd}
 use Rattle.sqlite_trees.specs.declared.store.Store.{Ghosts}
@@ -16,8 +16,10 @@ use Rattle.register_desk.specs.declared.runs.Finish.TheVariants.{AtEnd, Ended}
 use Rattle.register_desk.specs.declared.desk.Desk.{Desk}
 use Rattle.streams.specs.Lines.{HasNoLineFeed}
 use Rattle.register_desk.specs.Input.{with_line_feeds, AreItems}
+use Rattle.register_desk.specs.Leaving.{EndsBy, GoesOn}
 use Rattle.register_desk.specs.Register.{StandsFor, LeavesOneOf}
-use Rattle.register_desk.specs.Run.{answer_line, answer_lines}
+use Rattle.register_core.specs.declared.reply.Refusal.TheVariants.{BadLine}
+use Rattle.register_desk.specs.Run.{AreNoRequests, bad_lines, answer_line, answer_lines}
 
 -- ---- bytes
 
@@ -45,6 +47,10 @@ module _ {S : Type 0} (g : Ghosts S) where
   abbrev pub WasClean : Desk S g → Desk S g → Type 0
   WasClean kept now = HasCleanDisk (state g now.connection) → HasCleanDisk (state g kept.connection)
 
+  -- a broken desk answers no request
+  abbrev pub IsQuiet : Desk S g → Option Request → List ℕ → Type 0
+  IsQuiet kept item line = kept.is_broken ≡ true → (item ≡ None) × (line ≡ answer_line (Err BadLine))
+
   -- the item was answered by a whole line, of this number of bytes, and applied
   pub record ServesItem (kept now : Desk S g) (old new : Option (List ℕ)) (item : Option Request) (count : ℕ) : Type 0 where
     pub line : List ℕ
@@ -52,11 +58,13 @@ module _ {S : Type 0} (g : Ghosts S) where
     pub counted : count ≡ length line
     pub answers : AnswersItem kept now item line
     pub clean : WasClean kept now
+    pub quiet : IsQuiet kept item line
 
   -- the database refused the item, which broke the desk
   pub record BreaksAt (kept now : Desk S g) (item : Option Request) : Type 0 where
     pub request : Request
     pub is : item ≡ Some request
+    pub was : kept.is_broken ≡ false
     pub broken : now.is_broken ≡ true
     pub stands : (h : List Request) → StandsFor g kept h → StandsFor g now h
     pub leaves : (h : List Request) → StandsFor g kept h → HasCleanDisk (state g now.connection) → LeavesOneOf h (history_after h (Some request)) (state g now.connection)
@@ -71,6 +79,7 @@ module _ {S : Type 0} (g : Ghosts S) where
 
   -- memory gave out before the item was applied, and the desk goes on to stand for what it stood for
   pub record HoldsBack (kept now : Desk S g) : Type 0 where
+    pub was : kept.is_broken ≡ false
     pub whole : now.is_broken ≡ false
     pub stands : (h : List Request) → StandsFor g kept h → StandsFor g now h
     pub clean : WasClean kept now
@@ -89,6 +98,7 @@ module _ {S : Type 0} (g : Ghosts S) where
     pub within : part ≤ length line
     pub answers : AnswersItem kept now item line
     pub clean : WasClean kept now
+    pub quiet : IsQuiet kept item line
 
   -- what an item leaves whose answer was not written whole
   abbrev pub LeavesItem : Desk S g → Desk S g → Option (List ℕ) → Option (List ℕ) → Option Request → End → ℕ → Type 0
@@ -98,7 +108,21 @@ module _ {S : Type 0} (g : Ghosts S) where
   LeavesItem kept now old new item ReadFault part = StopsItem kept now item ReadFault
   LeavesItem kept now old new item WriteFault part = WritesInPart kept now old new item part
 
+  -- what the end of an item leaves of the desk: a fault of the writer comes behind an item that was applied
+  abbrev pub StopsBy : Desk S g → Desk S g → End → Type 0
+  StopsBy kept now Memory = EndsBy kept now Memory
+  StopsBy kept now Store = EndsBy kept now Store
+  StopsBy kept now Broken = EndsBy kept now Broken
+  StopsBy kept now ReadFault = EndsBy kept now ReadFault
+  StopsBy kept now WriteFault = GoesOn kept now
+
   -- ---- the items so far
+
+  -- a broken desk refused these items, which are no requests, and is as it was
+  pub record Quiet (kept now : Desk S g) (old new : Option (List ℕ)) (items : List (Option Request)) : Type 0 where
+    pub same : now ≡ kept
+    pub none : AreNoRequests items
+    pub written : Appends old new (bad_lines items)
 
   -- as many items as there are replies were taken, answered and applied
   pub record Served (before after old new : Option (List ℕ)) (kept now : Desk S g) (replies : ℕ) : Type 0 where
@@ -108,6 +132,7 @@ module _ {S : Type 0} (g : Ghosts S) where
     pub counted : length items ≡ replies
     pub answered : (h : List Request) → StandsFor g kept h → HasCleanDisk (state g now.connection) → Appends old new (answer_lines (answers h items)) × StandsFor g now (history h items)
     pub clean : WasClean kept now
+    pub quiet : kept.is_broken ≡ true → Quiet kept now old new items
 
   -- every line was served, and this many bytes are left
   pub record ServedAll (before old new : Option (List ℕ)) (kept now : Desk S g) (replies left : ℕ) : Type 0 where

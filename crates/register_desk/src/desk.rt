@@ -10,7 +10,7 @@ use crate::record::Record;
 use lifecycle_core::{Usage, usage_of};
 use moment_core::Moment;
 use register_core::{Change, Command, Held, MAX_KEYS, Purpose, Request, View, decide};
-use register_store::{StoreError, create, find_row, has_tables, load_key};
+use register_store::{StoreError, create, find_row, load_key};
 use sqlite::{Alter, Connection};
 use std::alloc::Global;
 
@@ -32,7 +32,6 @@ pub struct Desk<S: Alter> {
 impl<S: Alter> Desk<S> {
     ghost use Rattle.std.specs.Prelude.{◌≡◌, ◌≢◌, ◌≤◌, ◌⊎◌, ◌+◌, List, [], ◌∷◌, Some, None, Err};
     ghost use Rattle.std.specs.Prelude.{IfOk, IfErr, OnOk, OnErr};
-    ghost use Rattle.sqlite.specs.State.{HasCleanDisk};
     ghost use Rattle.sqlite.specs.Held.{state};
     ghost use Rattle.register_core.specs.declared.request.Request.{Request};
     ghost use Rattle.register_core.specs.History.{latest, count};
@@ -41,7 +40,7 @@ impl<S: Alter> Desk<S> {
     ghost use Rattle.register_core.specs.Fold.{history};
     ghost use Rattle.sql_steps.specs.Steps.{Transacts};
     ghost use Rattle.register_store.specs.Change.{made_count};
-    ghost use Rattle.register_store.specs.Creation.{HasTable};
+    ghost use Rattle.register_store.specs.Creation.{Finds};
     ghost use Rattle.register_store.specs.Schema.{no_schema};
     ghost use Rattle.register_store.specs.Tables.{Tables};
     ghost use Rattle.register_store.specs.Making.{Makes, HasKeys};
@@ -49,6 +48,7 @@ impl<S: Alter> Desk<S> {
     ghost use Rattle.register_desk.specs.Leaving.{IsWhole, IsBroken, IsClean, Ends, EndsBy};
     ghost use Rattle.register_desk.specs.Leaving.{ChangesNothing, KeepsCounts, LeavesEither};
     ghost use Rattle.register_desk.specs.Leaving.{LeavesWithChange, connection_of};
+    ghost use Rattle.register_desk.specs.Opening.{CreatesNothing};
     ghost use Rattle.register_desk.specs.Register.{IsOver, StandsFor};
     ghost use Rattle.register_desk.specs.Shown.{shown, usage};
     ghost use Rattle.register_desk.specs.Step.{with_request};
@@ -62,22 +62,17 @@ impl<S: Alter> Desk<S> {
     pub fn create(alloc: Global, mut connection: Connection<S>) -> Result<Desk<S>, Unopened<S>>
         requires { connection.in_transaction ≡ false }
         // In an empty database the register is that of no request.
-        ensures stands { (state S.Store connection).committed.schema ≡ no_schema
+        ensures stands { (state S.Store connection).now.schema ≡ no_schema
             → IfOk result (λ desk. StandsFor S.Store desk []) }
         ensures whole { IfOk result IsWhole }
         ensures idle { IfErr result (λ unopened. unopened.connection.in_transaction ≡ false) }
         ensures refused { IfErr result (λ unopened. (unopened.refusal ≡ OpenRefusal.Store)
             ⊎ (unopened.refusal ≡ OpenRefusal.NotARegister)) }
         ensures there { IfErr result (λ unopened. unopened.refusal ≡ OpenRefusal.NotARegister
-            → HasCleanDisk (state S.Store unopened.connection)
-            → HasTable (state S.Store connection).now.schema) }
+            → Finds S.Store connection unopened.connection) }
+        ensures leaves { IfErr result (λ unopened.
+            CreatesNothing S.Store connection unopened.connection) }
     {
-        if has_tables(&mut connection) {
-            return Err(Unopened {
-                refusal: OpenRefusal::NotARegister,
-                connection,
-            });
-        }
         match create(&mut connection) {
             Ok(()) => Ok(Desk {
                 alloc,
@@ -86,8 +81,8 @@ impl<S: Alter> Desk<S> {
                 keys: 0,
                 is_broken: false,
             }),
-            Err(_) => Err(Unopened {
-                refusal: OpenRefusal::Store,
+            Err(error) => Err(Unopened {
+                refusal: OpenRefusal::from(error),
                 connection,
             }),
         }

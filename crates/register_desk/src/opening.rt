@@ -2,6 +2,7 @@
 ghost use Rattle.std.specs.Prelude.{◌≡◌};
 
 use crate::end::End;
+use register_store::CreateError;
 use sqlite::{Alter, Connection};
 use std::fmt;
 
@@ -21,6 +22,20 @@ pub enum OpenRefusal {
 pub struct Unopened<S: Alter> {
     pub refusal: OpenRefusal,
     pub connection: Connection<S>,
+}
+
+/// The refusal that an error in making the tables comes to.
+impl From<CreateError> for OpenRefusal {
+    ghost use Rattle.register_desk.specs.Opening.{create_refusal};
+
+    ghost from_gives = { λ error refusal. refusal ≡ create_refusal error };
+
+    fn from(error: CreateError) -> OpenRefusal {
+        match error {
+            CreateError::HasTables => OpenRefusal::NotARegister,
+            CreateError::Database(_) => OpenRefusal::Store,
+        }
+    }
 }
 
 /// The refusal's name. A refusal that is the end of a call too has the end's.

@@ -6,11 +6,12 @@ ghost use Rattle.register_core.specs.declared.line.TheConstants.{MAX_LINE_LENGTH
 ghost use Rattle.register_core.specs.Request.{IsItem};
 ghost use Rattle.streams.specs.Watched.{IsFaulted};
 ghost use Rattle.register_desk.specs.Input.{HasItems};
-ghost use Rattle.register_desk.specs.Leaving.{IsWhole, IsClean};
+ghost use Rattle.register_desk.specs.Leaving.{EndsBy, GoesOn, IsBroken, IsClean};
 ghost use Rattle.register_desk.specs.Register.{StandsFor};
-ghost use Rattle.register_desk.specs.Run.{LeavesReader, LeavesWriter, RunsOver};
-ghost use Rattle.register_desk.specs.Serving.{AnswersItem, WasClean, ServesItem, StopsItem};
-ghost use Rattle.register_desk.specs.Serving.{LeavesItem, ServesTo};
+ghost use Rattle.register_desk.specs.Run.{LeavesDesk, LeavesReader, LeavesWriter, RunsBroken};
+ghost use Rattle.register_desk.specs.Run.{RunsOver};
+ghost use Rattle.register_desk.specs.Serving.{AnswersItem, IsQuiet, WasClean, ServesItem};
+ghost use Rattle.register_desk.specs.Serving.{StopsItem, LeavesItem, ServesTo, StopsBy};
 
 use crate::desk::Desk;
 use crate::end::End;
@@ -18,7 +19,7 @@ use register_core::laws::one_request;
 use register_core::{MAX_LINE_LENGTH, Refusal, ReplyLine, Request, read_request, reply_line};
 use sqlite::Alter;
 use std::io::{Read, Write};
-use streams::{Lines, MAX_IDLE_TURNS, MAX_READS, Next, ReadFault, Watched};
+use streams::{Lines, MAX_IDLE_TURNS, Next, ReadFault, Watched};
 
 /// How a run ended.
 #[derive(Clone, Copy, Debug, PartialEq, Eq)]
@@ -62,9 +63,10 @@ fn answer_item<S: Alter>(desk: &mut Desk<S>, item: &Option<Request>) -> Result<R
     ensures answers { IfOk result (λ line. AnswersItem S.Store desk.old desk.new item.now line) }
     ensures clean { OnOk result (WasClean S.Store desk.old desk.new) }
     ensures short { IfOk result (λ line. length line ≤ MAX_REPLY_LENGTH) }
+    ensures quiet { IfOk result (IsQuiet S.Store desk.old item.now) }
     ensures stop { IfErr result (λ end. StopsItem S.Store desk.old desk.new item.now end) }
-    ensures whole { IsWhole desk.old → OnOk result (IsWhole desk.new) }
-    ensures stays { IsWhole desk.old → IfErr result (λ end. end ≢ End.Store → IsWhole desk.new) }
+    ensures goes_on { OnOk result (GoesOn desk.old desk.new) }
+    ensures ends { IfErr result (λ end. EndsBy desk.old desk.new end) }
 {
     let outcome = match item {
         Some(request) => desk.apply(request)?.outcome(),
@@ -88,10 +90,10 @@ fn answer_line<W: Write, S: Alter>(
         IsFaulted writer.new.failed MAX_IDLE_TURNS writer.new.idle) }
     ensures within { IfErr result (λ stop. stop.written ≤ MAX_REPLY_LENGTH) }
     ensures flushed { OnOk result (writer.new.unflushed ≡ false) }
+    ensures bounded { writer.old.idle ≤ MAX_IDLE_TURNS → writer.new.idle ≤ MAX_IDLE_TURNS }
     ensures untouched { IfErr result (λ stop. stop.end ≢ End.WriteFault → writer.new ≡ writer.old) }
-    ensures whole { IsWhole desk.old → OnOk result (IsWhole desk.new) }
-    ensures stays { IsWhole desk.old →
-        IfErr result (λ stop. stop.end ≢ End.Store → IsWhole desk.new) }
+    ensures goes_on { OnOk result (GoesOn desk.old desk.new) }
+    ensures ends { IfErr result (λ stop. StopsBy S.Store desk.old desk.new stop.end) }
 {
     let line = match answer_item(desk, item) {
         Ok(line) => line,
@@ -119,8 +121,7 @@ fn run_lines<R: Read, W: Write, S: Alter>(
         (W.contents writer.new.inner) desk.old desk.new result.replies result.end }
     ensures reader { LeavesReader R.remaining reader.old reader.new result }
     ensures writer { LeavesWriter W.contents writer.old writer.new result }
-    // A desk that is whole stays so unless the run ends by 31.
-    ensures whole { IsWhole desk.old → result.end ≢ Finish.Ended End.Store → IsWhole desk.new }
+    ensures desk { LeavesDesk desk.old desk.new result.end }
 {
     let mut lines = Lines::new();
     let mut written: u64 = 0;
@@ -169,10 +170,14 @@ pub fn run<R: Read, W: Write, S: Alter>(
         R.remaining reader.old.inner ≡ Some bytes → HasItems bytes items rest →
         RunsOver S.Store h items rest result.end result.replies
         (W.contents writer.old.inner) (W.contents writer.new.inner) desk.new }
+    // A broken desk answers what is no request, up to the first item that is one.
+    ensures broken { (bytes : List ℕ) (items : List (Option Request)) (rest : List ℕ) →
+        IsBroken desk.old → R.remaining reader.old.inner ≡ Some bytes → HasItems bytes items rest →
+        RunsBroken items rest result.end result.replies
+        (W.contents writer.old.inner) (W.contents writer.new.inner) }
     ensures reader { LeavesReader R.remaining reader.old reader.new result }
     ensures writer { LeavesWriter W.contents writer.old writer.new result }
-    // A desk that is whole stays so unless the run ends by 31.
-    ensures whole { IsWhole desk.old → result.end ≢ Finish.Ended End.Store → IsWhole desk.new }
+    ensures desk { LeavesDesk desk.old desk.new result.end }
 {
     reader.begin();
     writer.begin();

@@ -1,8 +1,11 @@
 -- Making the tables of a register, one after the other.
-use Rattle.std.specs.Prelude.{◌≡◌, ◌<◌, ℕ, Bool, true, false, List, [], length, Ok}
+use Rattle.std.specs.Prelude.{◌≡◌, ◌<◌, ℕ, Bool, true, false, List, [], length, Ok, IsTrue}
 use Rattle.sqlite.specs.Effect.{Database}
+use Rattle.sqlite.specs.Held.{Held as Connection, state}
 use Rattle.sqlite.specs.Listing.{understood}
 use Rattle.sqlite.specs.Schema.{Schema}
+use Rattle.sqlite.specs.State.{State, HasCleanDisk, Survives}
+use Rattle.sqlite_trees.specs.declared.store.Store.{Ghosts}
 use Rattle.sqlite_resolve.specs.declared.compiled.Compiled.{Compiled}
 use Rattle.sql_steps.specs.Creating.{Creates}
 use Rattle.register_store.specs.declared.table.TableName.{TableName}
@@ -50,3 +53,15 @@ AnswersMeaning sql = Answers (λ schema. HasMeaning schema sql)
 -- nothing is changed
 abbrev pub IsSame : Database → Database → Type 0
 IsSame old new = new ≡ old
+
+-- inside a transaction: one of the tables is there
+abbrev pub FindsTable : State → State → Type 0
+FindsTable old new = HasCleanDisk new → IsTrue old.in_transaction → HasTable old.now.schema
+
+-- outside one: one of the tables is there, and a stop leaves what it left before
+pub record FindsBy (old new : State) : Type 0 where
+  pub there : HasCleanDisk new → HasTable old.now.schema
+  pub survives : Survives old new (λ _. ⊥)
+
+abbrev pub Finds : {S : Type 0} → (g : Ghosts S) → Connection S → Connection S → Type 0
+Finds g old new = FindsBy (state g old) (state g new)

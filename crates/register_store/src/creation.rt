@@ -1,30 +1,28 @@
 //! Making the tables of a register, and whether they are there.
-ghost use Rattle.std.specs.Prelude.{◌≡◌, false};
-ghost use Rattle.std.specs.Bool.{OnTrue};
-ghost use Rattle.sqlite.specs.State.{HasCleanDisk, Survives};
+ghost use Rattle.std.specs.Prelude.{◌≡◌, false, Err};
 ghost use Rattle.sqlite.specs.Held.{state};
-ghost use Rattle.sql_steps.specs.Steps.{Steps, Transacts, KeepsCommitted};
+ghost use Rattle.sql_steps.specs.Steps.{Steps, Transacts};
 ghost use Rattle.register_store.specs.Creation.{MakesEmpty, MakesTable, AddsMeta, HasTable};
-ghost use Rattle.register_store.specs.Creation.{Answers, AnswersMeaning};
+ghost use Rattle.register_store.specs.Creation.{Answers, AnswersMeaning, Finds, FindsTable};
 
-use crate::error::StoreError;
+use crate::error::CreateError;
 use crate::table::{TABLES, TableName};
 use sqlite::{Alter, Connection, Error, Transaction};
 
 /// Whether the text has a meaning. Where it has none, nothing has changed.
-fn has_meaning<S: Alter>(tx: &mut Transaction<'_, S>, sql: &str) -> Result<bool, StoreError>
+fn has_meaning<S: Alter>(tx: &mut Transaction<'_, S>, sql: &str) -> Result<bool, Error>
     ensures same_reference { tx.new.conn.ghost_name ≡ tx.old.conn.ghost_name }
     ensures answer { Steps S.Store (AnswersMeaning sql.now) tx.old.conn.now tx.new.conn.now result }
 {
     match tx.query_row(sql, &[]) {
         Ok(_) => Ok(true),
         Err(Error::SqlInputError(_)) => Ok(false),
-        Err(error) => Err(StoreError::Database(error)),
+        Err(error) => Err(error),
     }
 }
 
 /// Whether one of the register's tables is there: the count of its rows has a meaning.
-fn has_one<S: Alter>(tx: &mut Transaction<'_, S>) -> Result<bool, StoreError>
+fn has_one<S: Alter>(tx: &mut Transaction<'_, S>) -> Result<bool, Error>
     ensures same_reference { tx.new.conn.ghost_name ≡ tx.old.conn.ghost_name }
     ensures answer { Steps S.Store (Answers HasTable) tx.old.conn.now tx.new.conn.now result }
 {
@@ -34,20 +32,6 @@ fn has_one<S: Alter>(tx: &mut Transaction<'_, S>) -> Result<bool, StoreError>
         }
     }
     Ok(false)
-}
-
-/// Whether one of the register's tables is there. It changes nothing: what was committed stands. Where the database
-/// refused, the answer is `false`.
-pub fn has_tables<S: Alter>(connection: &mut Connection<S>) -> bool
-    requires { connection.old.in_transaction ≡ false }
-    ensures idle { connection.new.in_transaction ≡ false }
-    ensures there { HasCleanDisk (state S.Store connection.new)
-        → OnTrue result (HasTable (state S.Store connection.old).now.schema) }
-    ensures kept { KeepsCommitted (state S.Store connection.old) (state S.Store connection.new) }
-    ensures survives { Survives (state S.Store connection.old) (state S.Store connection.new) (λ _. ⊥) }
-{
-    let mut tx = connection.transaction();
-    has_one(&mut tx).unwrap_or(false)
 }
 
 /// Makes one of the tables, where those before it are made.
@@ -81,17 +65,33 @@ fn make_tables<S: Alter>(tx: &mut Transaction<'_, S>) -> Result<(), Error>
     Ok(())
 }
 
+/// Makes the tables where none of them is there.
+fn make_where_none<S: Alter>(tx: &mut Transaction<'_, S>) -> Result<(), CreateError>
+    ensures same_reference { tx.new.conn.ghost_name ≡ tx.old.conn.ghost_name }
+    ensures made { Steps S.Store (λ _. MakesEmpty) tx.old.conn.now tx.new.conn.now result }
+    ensures there { result ≡ Err CreateError.HasTables
+        → FindsTable (state S.Store tx.old.conn.now) (state S.Store tx.new.conn.now) }
+{
+    if has_one(tx)? {
+        return Err(CreateError::HasTables);
+    }
+    make_tables(tx)?;
+    Ok(())
+}
+
 /// Makes the tables of an empty register, all of them or none, and so over a stop.
 ///
 /// # Errors
-/// [`StoreError::Database`] where the database refused, as where one of the tables is there.
-pub fn create<S: Alter>(connection: &mut Connection<S>) -> Result<(), StoreError>
+/// [`CreateError::HasTables`] where one of the tables is there, and [`CreateError::Database`] where the database refused.
+pub fn create<S: Alter>(connection: &mut Connection<S>) -> Result<(), CreateError>
     requires { connection.old.in_transaction ≡ false }
     ensures idle { connection.new.in_transaction ≡ false }
     ensures made { Transacts S.Store MakesEmpty connection.old connection.new result }
+    ensures there { result ≡ Err CreateError.HasTables
+        → Finds S.Store connection.old connection.new }
 {
     let mut tx = connection.transaction();
-    make_tables(&mut tx)?;
+    make_where_none(&mut tx)?;
     tx.commit()?;
     Ok(())
 }

@@ -1,4 +1,4 @@
-//! Why a call of the store failed.
+//! Why calls of the store fail.
 use std::alloc::AllocFailed;
 use thiserror::Error;
 
@@ -14,6 +14,28 @@ pub enum StoreError {
     /// A row is one that no register holds, or one that a register holds is not there.
     #[error("the tables are those of no register")]
     NoRegister,
+}
+
+/// Why the tables of a register were not made.
+#[derive(Clone, Copy, Debug, PartialEq, Eq, Error)]
+pub enum CreateError {
+    /// One of them is there: the count of its rows has a meaning. Nothing changed.
+    #[error("a table of a register is there")]
+    HasTables,
+    /// A call of the database was refused.
+    #[error("the database refused: {0}")]
+    Database(sqlite::Error),
+}
+
+impl From<sqlite::Error> for CreateError {
+    ghost use Rattle.std.specs.Prelude.{◌≡◌};
+    ghost use Rattle.register_store.specs.declared.error.CreateError.TheVariants.{Database};
+
+    ghost from_gives = { λ refused error. error ≡ Database refused };
+
+    fn from(refused: sqlite::Error) -> CreateError {
+        CreateError::Database(refused)
+    }
 }
 
 impl From<sqlite::Error> for StoreError {

@@ -22,8 +22,8 @@ mod load;
 mod table;
 
 pub use change::{record_request, write_change};
-pub use creation::{create, has_tables};
+pub use creation::create;
 pub use due::advance_due;
-pub use error::StoreError;
+pub use error::{CreateError, StoreError};
 pub use key_row::find_row;
 pub use load::load_key;

@@ -124,6 +124,7 @@ impl<const MAX_LENGTH: usize> Lines<MAX_LENGTH> {
             work_left reader.new.turns self.new.unread
             < work_left reader.old.turns self.old.unread) }
         ensures turns { reader.old.turns ≤ reader.new.turns }
+        ensures bounded { reader.old.turns ≤ MAX_READS → reader.new.turns ≤ MAX_READS }
 
         ensures err { OnErr result (IsFaulted reader.new.failed MAX_READS reader.new.turns) }
         ensures sound { OnOk result (reader.new.failed ≡ reader.old.failed) }
@@ -195,6 +196,7 @@ impl<const MAX_LENGTH: usize> Lines<MAX_LENGTH> {
         ensures within { self.new.taken ≤ MAX_PIECE_LENGTH * reader.new.turns }
         ensures later { OnOk result
             ((reader.old.turns < reader.new.turns) × (reader.new.turns ≤ MAX_READS)) }
+        ensures bounded { reader.old.turns ≤ MAX_READS → reader.new.turns ≤ MAX_READS }
         ensures sound { OnOk result (reader.new.failed ≡ reader.old.failed) }
         ensures err { OnErr result (IsFaulted reader.new.failed MAX_READS reader.new.turns) }
         ensures turns { reader.old.turns ≤ reader.new.turns }

@@ -155,6 +155,7 @@ impl<R: Read> Watched<R> {
             ((self.old.turns < self.new.turns) × (self.new.turns ≤ max_turns)) }
         ensures sound { OnOk result (self.new.failed ≡ self.old.failed) }
         ensures busy { OnOk result (self.new.idle ≡ 0) }
+        ensures bounded { self.old.turns ≤ max_turns → self.new.turns ≤ max_turns }
 
         // Nothing is lost at an error, which comes of a failure or of too many turns.
         ensures kept { OnErr result
@@ -206,6 +207,7 @@ impl<W: Write> Watched<W> {
 
         // A flush takes a turn, and bytes take one before it.
         ensures flushed { OnOk result (self.new.unflushed ≡ false) }
+        ensures bounded { self.old.idle ≤ max_idle → self.new.idle ≤ max_idle }
         ensures turned { OnOk result (one_more self.old.turns ≤ self.new.turns) }
         ensures wrote { OnOk result
             (0 < length bytes.now → one_more (one_more self.old.turns) ≤ self.new.turns) }
@@ -237,6 +239,7 @@ impl<W: Write> Watched<W> {
         ensures sound { OnOk result (self.new.failed ≡ self.old.failed) }
         ensures wrote { OnOk result
             (0 < length bytes.now → one_more self.old.turns ≤ self.new.turns) }
+        ensures bounded { self.old.idle ≤ max_idle → self.new.idle ≤ max_idle }
         ensures bound { IfErr result (λ fault. fault.written ≤ length bytes.now) }
         ensures part { IfErr result (λ fault.
             Appends (W.contents self.old.inner) (W.contents self.new.inner)
@@ -264,6 +267,7 @@ impl<W: Write> Watched<W> {
         ensures bytes { Keeps (W.contents self.old.inner) (W.contents self.new.inner) }
         ensures sound { OnTrue result (self.new.failed ≡ self.old.failed) }
         ensures flushed { OnTrue result (self.new.unflushed ≡ false) }
+        ensures bounded { self.old.idle ≤ max_idle → self.new.idle ≤ max_idle }
         ensures turned { OnTrue result (one_more self.old.turns ≤ self.new.turns) }
         ensures err { OnFalse result (IsFaulted self.new.failed max_idle self.new.idle) }
         ensures turns { self.old.turns ≤ self.new.turns }

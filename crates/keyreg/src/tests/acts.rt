@@ -1,7 +1,7 @@
 //! The program's exit statuses, and what it names on standard error.
 use super::worked_rows::{FIRST_DAY, WORKED_ROWS, WorkedRow, input_of, output_of};
 use crate::act::{act, report_end, report_refusal};
-use register_desk::{End, OpenRefusal};
+use register_desk::{End, MAX_IDLE_TURNS, MAX_READS, OpenRefusal};
 use register_faults::{BrokenAfter, Trouble, Troubled};
 use std::alloc::{AllocError, Global};
 use std::test::Fail;
@@ -123,4 +123,10 @@ fn status_4_where_no_fault_can_be_named(rt: HostRuntime) {
     let status = act(rt.alloc(), 0, BrokenAfter(b""), &mut output, &mut faults);
     assert_eq!(rt; status, 4);
     assert!(rt; output.is_empty() && faults.inner.is_empty());
+}
+
+#[test]
+fn bounds_of_a_run(rt: HostRuntime) {
+    assert_eq!(rt; MAX_READS, 2_000_000_000);
+    assert_eq!(rt; MAX_IDLE_TURNS, 10_000);
 }

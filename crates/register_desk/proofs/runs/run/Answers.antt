@@ -1,6 +1,6 @@
 use Rattle.std.proofs.Common.{List, ℕ, Option, ap, ◌∙◌, subst}
-use Rattle.register_desk.specs.Run.{RunsOver, TookBytes, Wrote}
-use Rattle.register_desk.proofs.ServingLemmas.{runs_so}
+use Rattle.register_desk.specs.Run.{RunsBroken, RunsOver, TookBytes, Wrote}
+use Rattle.register_desk.proofs.ServingLemmas.{broken_so, runs_so}
 use Rattle.register_desk.proofs.runs.run.Goals as goal
 
 pub returns-clause-agrees : goal.returns-clause-agrees
@@ -21,6 +21,7 @@ returns-clause-reader g c =
       took = subst (λ (before : Option (List ℕ)). TookBytes before (g.R.Read.remaining c.run_lines.new.reader.inner) c.run_lines.result.read) begun left.took;
       at_end = left.at_end;
       fault = left.fault;
+      bounded = left.bounded;
     }
 
 pub returns-clause-writer : goal.returns-clause-writer
@@ -31,4 +32,13 @@ returns-clause-writer g c =
       wrote = subst (λ (before : Option (List ℕ)). Wrote before (g.W.Write.contents c.run_lines.new.writer.inner) c.run_lines.result.written) begun left.wrote;
       flushed = λ sound before. left.flushed sound (ap (λ w. w.unflushed) c.begin-2.ensures ∙ before);
       fault = left.fault;
+      bounded = left.bounded;
     }
+
+pub returns-clause-broken : goal.returns-clause-broken
+returns-clause-broken g c bytes items rest broken known has =
+    let old = g.W.Write.contents c.begin-2.new.self.inner in
+    let new = g.W.Write.contents c.run_lines.new.writer.inner in
+    let runs = broken_so g.S.Store c.one_request.ensures bytes items rest (g.R.Read.remaining c.begin.new.self.inner) old new c.args.desk.now c.run_lines.new.desk c.run_lines.result.replies c.run_lines.result.end
+    (ap (λ r. g.R.Read.remaining r.inner) c.begin.ensures ∙ known) has broken c.run_lines.ensures.desk c.run_lines.ensures.serves in
+    subst (λ (o : Option (List ℕ)). RunsBroken items rest c.run_lines.result.end c.run_lines.result.replies o new) (ap (λ w. g.W.Write.contents w.inner) c.begin-2.ensures) runs

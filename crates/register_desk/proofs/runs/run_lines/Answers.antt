@@ -1,10 +1,11 @@
-use Rattle.std.proofs.Common.{◌≡◌, sym, ◌+◌, ap, refl, subst, ◌∙◌, arith}
+use Rattle.std.proofs.Common.{◌≡◌, ◌≤◌, sym, ◌+◌, ap, refl, subst, ◌∙◌, arith}
 use Rattle.register_desk.specs.declared.end.End.{End}
 use Rattle.register_desk.specs.declared.end.End.TheVariants.{ReadFault, WriteFault}
 use Rattle.register_desk.specs.declared.runs.Finish.TheVariants.{AtEnd, Ended}
 use Rattle.streams.specs.declared.watched.TheConstants.{MAX_IDLE_TURNS}
 use Rattle.streams.specs.Lines.{Cut, work_left}
 use Rattle.streams.specs.Watched.{IsFaulted}
+use Rattle.register_desk.proofs.Goings.{goes_then, leaves_going, leaves_same, leaves_stopped, still}
 use Rattle.register_desk.proofs.ServingLemmas.{served_begin, took_begin, took_then, no_read_fault, wrote_item, wrote_part, wrote_begin, stopped_so, all_so, served_more, serves_same, wrote_same}
 use Rattle.register_desk.proofs.runs.run_lines.Goals as goal
 use Rattle.register_desk.proofs.runs.run_lines.Goals.{in-Ok-Line+in-Err-answer_line, in-Ok-End, in-Err}
@@ -20,8 +21,10 @@ loop-lines-init g c =
       within = omega (arith, taken);
       some = omega (arith, ap (work_left c.args.reader.now.turns) unread);
       short = omega arith;
+      reads_bounded = omega arith;
+      idle_bounded = omega arith;
       flushed = λ e. e;
-      whole = λ e. e;
+      goes_on = still g.S.Store c.args.desk.now;
     }
 
 pub loop-lines-preserved : goal.loop-lines-preserved
@@ -32,14 +35,16 @@ loop-lines-preserved g c =
     let item = c.item_of.ensures cut.0 cut.1.counted cut.1.kept in
     record {
       served = served_more g.S.Store _ _ _ _ _ _ c.args.desk.now c.loop-lines.desk c.answer_line.new.desk c.loop-lines.replies c.in-Ok.count cut.0 c.item_of.result
-          invariant.served cut.1.unbroken cut.1.consumed item c.in-Ok.ensures.serves;
+          invariant.served cut.1.unbroken cut.1.consumed item c.in-Ok.ensures.serves c.in-Ok.ensures.goes_on;
       took = took_then _ _ _ c.loop-lines.lines.taken c.loop-lines.lines c.next.new.self invariant.took refl c.in-Ok-Line.ensures.taken;
       wrote = wrote_item g.S.Store _ _ _ c.loop-lines.desk c.answer_line.new.desk c.item_of.result c.loop-lines.written c.in-Ok.count invariant.wrote c.in-Ok.ensures.serves;
       within = c.in-Ok-Line.ensures.within;
       some = omega (arith, less, invariant.some);
       short = omega (arith, invariant.short, c.in-Ok.ensures.short);
+      reads_bounded = c.next.ensures.bounded invariant.reads_bounded;
+      idle_bounded = c.in-Ok.ensures.bounded invariant.idle_bounded;
       flushed = λ e. c.in-Ok.ensures.flushed;
-      whole = λ e. c.in-Ok.ensures.whole (invariant.whole e);
+      goes_on = goes_then g.S.Store c.args.desk.now c.loop-lines.desk c.answer_line.new.desk invariant.goes_on c.in-Ok.ensures.goes_on;
     }
 
 pub returns-clause-serves : goal.returns-clause-serves
@@ -86,6 +91,7 @@ returns-clause-reader g c =
         | in-Ok-End w ↦ let apart : AtEnd w.length-rest.result ≡ Ended ReadFault = sym w.end-is ∙ e in absurd cc
         | in-Err w ↦ w.in-Err.ensures.err
       ];
+      bounded = c.next.ensures.bounded c.loop-lines.invariant.reads_bounded;
     }
 
 pub returns-clause-writer : goal.returns-clause-writer
@@ -117,14 +123,24 @@ returns-clause-writer g c =
         | in-Ok-End w ↦ let apart : AtEnd w.length-rest.result ≡ Ended WriteFault = sym w.end-is ∙ e in absurd cc
         | in-Err w ↦ let apart : Ended ReadFault ≡ Ended WriteFault = sym w.end-is ∙ e in absurd cc
       ];
+      bounded = elim c.match-next.branch [
+        | in-Ok-Line+in-Err-answer_line w ↦ subst (λ x. x.idle ≤ MAX_IDLE_TURNS) (sym w.writer-is) (w.in-Err-answer_line.ensures.bounded c.loop-lines.invariant.idle_bounded)
+        | in-Ok-End w ↦ subst (λ x. x.idle ≤ MAX_IDLE_TURNS) (sym w.writer-is) c.loop-lines.invariant.idle_bounded
+        | in-Err w ↦ subst (λ x. x.idle ≤ MAX_IDLE_TURNS) (sym w.writer-is) c.loop-lines.invariant.idle_bounded
+      ];
     }
 
-pub returns-clause-whole : goal.returns-clause-whole
-returns-clause-whole g c before sound =
-    let kept = c.loop-lines.invariant.whole before in
+pub returns-clause-desk : goal.returns-clause-desk
+returns-clause-desk g c =
+    let goes = c.loop-lines.invariant.goes_on in
     elim c.match-next.branch [
       | in-Ok-Line+in-Err-answer_line w ↦
-          ap (λ x. x.is_broken) w.desk-is ∙ w.in-Err-answer_line.ensures.stays kept (λ store. sound (w.end-is ∙ ap (λ (end : End). Ended end) store))
-      | in-Ok-End w ↦ ap (λ x. x.is_broken) w.desk-is ∙ kept
-      | in-Err w ↦ ap (λ x. x.is_broken) w.desk-is ∙ kept
+          leaves_same g.S.Store c.args.desk.now c.match-next.desk w.answer_line.new.desk c.match-next.end (Ended w.in-Err-answer_line.stop.end) w.end-is w.desk-is
+          (leaves_stopped g.S.Store c.args.desk.now c.loop-lines.desk w.answer_line.new.desk w.in-Err-answer_line.stop.end goes w.in-Err-answer_line.ensures.ends)
+      | in-Ok-End w ↦
+          leaves_same g.S.Store c.args.desk.now c.match-next.desk c.loop-lines.desk c.match-next.end (AtEnd w.length-rest.result) w.end-is w.desk-is
+          (leaves_going g.S.Store c.args.desk.now c.loop-lines.desk (AtEnd w.length-rest.result) (λ is. cc) (λ is. cc) goes)
+      | in-Err w ↦
+          leaves_same g.S.Store c.args.desk.now c.match-next.desk c.loop-lines.desk c.match-next.end (Ended ReadFault) w.end-is w.desk-is
+          (leaves_going g.S.Store c.args.desk.now c.loop-lines.desk (Ended ReadFault) (λ is. cc) (λ is. cc) goes)
     ]

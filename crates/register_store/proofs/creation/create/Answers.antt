@@ -1,18 +1,20 @@
-use Rattle.std.proofs.Common.{Ok, rules}
+use Rattle.std.proofs.Common.{◌≡◌, true, Ok, Err, refl, sym, ap, subst, arith, rules}
+use Rattle.sqlite.specs.State.{HasCleanDisk}
 use Rattle.sqlite.specs.Held.{state}
 use Rattle.sql_steps.specs.Steps.{TransactsBy}
-use Rattle.sql_steps.proofs.Stepping.{commits, transacts_as, fails_as}
-use Rattle.register_store.specs.declared.error.StoreError.{StoreError}
-use Rattle.register_store.specs.Creation.{MakesEmpty}
+use Rattle.sql_steps.proofs.Stepping.{commits, given_up_survives, transacts_as, fails_as}
+use Rattle.register_store.specs.declared.error.CreateError.{CreateError}
+use Rattle.register_store.specs.declared.error.CreateError.TheVariants.{HasTables}
+use Rattle.register_store.specs.Creation.{FindsBy, FindsTable, MakesEmpty}
 use Rattle.register_store.proofs.creation.create.Goals as goal
 
 pub returns-in_err-commit-clause-made : goal.returns-in_err-commit-clause-made
 returns-in_err-commit-clause-made g c =
     let old = state g.S.Store c.args.connection.now in
     let end = c.commit.new.self.0 in
-    let whole : TransactsBy {E = StoreError} MakesEmpty old (state g.S.Store end) c.from_residual-in_err-commit.result =
+    let whole : TransactsBy {E = CreateError} MakesEmpty old (state g.S.Store end) c.from_residual-in_err-commit.result =
     fails_as MakesEmpty old (state g.S.Store end) _ _ c.from_residual-in_err-commit.ensures.0
-    (commits MakesEmpty old (λ _. MakesEmpty) (state g.S.Store c.make_tables.new.tx.conn.now) (state g.S.Store end) _ _ (λ db made. made) (rw c.transaction-tx.ensures.begun at c.in_ok-make_tables.ensures.made)
+    (commits MakesEmpty old (λ _. MakesEmpty) (state g.S.Store c.make_where_none.new.tx.conn.now) (state g.S.Store end) _ _ (λ db made. made) (rw c.transaction-tx.ensures.begun at c.in_ok-make_where_none.ensures.made)
     c.in_err-commit.ensures.ok c.in_err-commit.ensures.err c.in_err-commit.ensures.survives) in
     search rules
 
@@ -20,8 +22,22 @@ pub returns-clause-made : goal.returns-clause-made
 returns-clause-made g c =
     let old = state g.S.Store c.args.connection.now in
     let end = c.commit.new.self.0 in
-    let whole : TransactsBy {E = StoreError} MakesEmpty old (state g.S.Store end) (Ok (tt {0})) =
+    let whole : TransactsBy {E = CreateError} MakesEmpty old (state g.S.Store end) (Ok (tt {0})) =
     transacts_as MakesEmpty old (state g.S.Store end) c.in_ok-commit.field-0 _
-    (commits MakesEmpty old (λ _. MakesEmpty) (state g.S.Store c.make_tables.new.tx.conn.now) (state g.S.Store end) _ _ (λ db made. made) (rw c.transaction-tx.ensures.begun at c.in_ok-make_tables.ensures.made)
+    (commits MakesEmpty old (λ _. MakesEmpty) (state g.S.Store c.make_where_none.new.tx.conn.now) (state g.S.Store end) _ _ (λ db made. made) (rw c.transaction-tx.ensures.begun at c.in_ok-make_where_none.ensures.made)
     c.in_ok-commit.ensures.ok c.in_ok-commit.ensures.err c.in_ok-commit.ensures.survives) in
     search rules
+
+pub returns-in_err-make_where_none-clause-there : goal.returns-in_err-make_where_none-clause-there
+returns-in_err-make_where_none-clause-there g c is =
+    let old = state g.S.Store c.args.connection.now in
+    let mid = state g.S.Store c.make_where_none.new.tx.conn.now in
+    let end = c.drop-tx.new.self.0 in
+    let same : end ≡ c.connection-1.given.0 = search rules in
+    let cause : HasTables ≡ c.in_err-make_where_none.field-0.0 = rw is at c.from_residual.ensures.1 in
+    let there : FindsTable (record old { in_transaction = true }) mid = rw c.transaction-tx.ensures.begun at (c.in_err-make_where_none.ensures.there (ap (λ (e : CreateError). Err e) (sym cause))) in
+    let dropped = c.drop-tx.ensures.survives in
+    subst (λ h. FindsBy old (state g.S.Store h)) same (record {
+      there = λ clean. let early : HasCleanDisk mid = omega (arith, dropped.clean, clean) in there early refl;
+      survives = given_up_survives (λ _. MakesEmpty) old mid (state g.S.Store end) _ (rw c.transaction-tx.ensures.begun at c.in_err-make_where_none.ensures.made) c.drop-tx.ensures.undone dropped;
+    })

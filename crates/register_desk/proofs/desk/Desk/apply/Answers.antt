@@ -84,6 +84,9 @@ returns-in_err-key-clause-store g c h stands clean =
 
 pub returns-in_err-key-clause-tables : goal.returns-in_err-key-clause-tables
 returns-in_err-key-clause-tables g c t over clean =
-    of_residual _ c.from_residual.result c.in_err-key.field-0.0 c.from_residual.ensures.1 (λ is. (Nothing, λ trees may.
-    let it = leaves_seen g.S.Store _ _ t _ c.in_err-key.ensures.reads c.in_err-key.ensures.ends over.sees clean is trees may in
-    (it.0, inl it.1, it.2)))
+    of_residual _ c.from_residual.result c.in_err-key.field-0.0 c.from_residual.ensures.1 (λ is. (
+      Nothing,
+      λ trees may.
+          let it = leaves_seen g.S.Store _ _ t _ c.in_err-key.ensures.reads c.in_err-key.ensures.ends over.sees clean is trees may in
+          (it.0, inl it.1, it.2),
+    ))

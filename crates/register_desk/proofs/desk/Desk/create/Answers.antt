@@ -6,4 +6,4 @@ use Rattle.register_desk.proofs.desk.Desk.create.Goals as goal
 pub returns-in-Ok-clause-stands : goal.returns-in-Ok-clause-stands
 returns-in-Ok-clause-stands g c empty =
     let zero : c.unwrap.result ≡ 0 = search rules in
-    empty_stands g.S.Store (state g.S.Store c.args.connection) c.has_tables.new.connection _ c.in-Ok.field-0 c.has_tables.ensures.kept c.in-Ok.ensures.made g.met.S.Store.settled zero refl empty
+    empty_stands g.S.Store (state g.S.Store c.args.connection) _ c.in-Ok.field-0 c.in-Ok.ensures.made g.met.S.Store.settled zero refl empty

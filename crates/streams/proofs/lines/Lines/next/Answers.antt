@@ -65,6 +65,7 @@ loop-self-preserved g c =
             bytes _ before more.taken read.taken,
       );
       within = read.within;
+      bounded = λ before. most;
       sound = search rules;
       turns = search rules;
       work = omega (arith, less, c.loop-self.invariant.work);

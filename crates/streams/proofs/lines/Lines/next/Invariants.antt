@@ -17,6 +17,7 @@ invariant-loop-self g l = record {
   within : l.self.taken ≤ MAX_PIECE_LENGTH * l.reader.turns;
   sound : l.reader.failed ≡ l.fn.reader.failed;
   turns : l.fn.reader.turns ≤ l.reader.turns;
+  bounded : l.fn.reader.turns ≤ MAX_READS → l.reader.turns ≤ MAX_READS;
   work : work_left l.reader.turns l.self.unread ≤ work_left l.fn.reader.turns l.fn.self.unread;
 }
 

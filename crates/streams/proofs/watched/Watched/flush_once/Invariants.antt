@@ -8,6 +8,7 @@ invariant-loop-self g l = record {
   kept : Keeps (g.W.Write.contents l.initial.self.inner) (g.W.Write.contents l.self.inner);
   sound : l.self.failed ≡ l.initial.self.failed;
   later : l.initial.self.turns ≤ l.self.turns;
+  bounded : l.initial.self.idle ≤ l.max_idle → l.self.idle ≤ l.max_idle;
 }
 
 abbrev pub decreases-loop-self : goal.decreases-loop-self

@@ -10,6 +10,7 @@ invariant-loop-self g l = record {
   sound : l.self.failed ≡ l.initial.self.failed;
   later : l.initial.self.turns ≤ l.self.turns;
   idle : l.initial.self.idle ≤ l.self.idle;
+  bounded : l.initial.self.turns ≤ l.max_turns → l.self.turns ≤ l.max_turns;
 }
 
 abbrev pub decreases-loop-self : goal.decreases-loop-self

@@ -10,6 +10,7 @@ invariant-loop-written g l = record {
   part : Appends (g.W.Write.contents l.initial.self.inner) (g.W.Write.contents l.self.inner) (take l.written l.bytes);
   sound : l.self.failed ≡ l.initial.self.failed;
   later : l.initial.self.turns ≤ l.self.turns;
+  bounded : l.initial.self.idle ≤ l.max_idle → l.self.idle ≤ l.max_idle;
   counted : 0 < l.written → one_more l.initial.self.turns ≤ l.self.turns;
 }
 
