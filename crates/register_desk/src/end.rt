@@ -3,20 +3,20 @@ ghost use Rattle.std.specs.Prelude.{◌≡◌};
 
 use std::fmt;
 
-/// What ends a call before its work is done, by its number.
+/// What ends a call before its work is done.
 #[derive(Clone, Copy, Debug, PartialEq, Eq, Hash)]
 pub enum End {
-    /// A growth was refused. What was accepted before stands, and the request in hand changed nothing.
-    Memory = 30,
-    /// A call of the database was refused, or a row is one that no register holds. The register is as before or has
-    /// the whole request, and the desk is broken.
-    Store = 31,
-    /// The desk was broken by an earlier end 31. Nothing changed.
-    Broken = 32,
-    /// A read failed, or the bound on a reader's turns was met.
-    ReadFault = 35,
-    /// A write failed or took no byte, or the bound on a writer's idle turns was met.
-    WriteFault = 36,
+    /// 30: a growth was refused. What was accepted before stands, and the request in hand changed nothing.
+    Memory,
+    /// 31: a call of the database was refused, or a row is one that no register holds. The register is as before or
+    /// has the whole request, and the desk is broken.
+    Store,
+    /// 32: the desk was broken by an earlier end 31. Nothing changed.
+    Broken,
+    /// 35: a read failed, or the bound on a reader's turns was met.
+    ReadFault,
+    /// 36: a write failed or took no byte, or the bound on a writer's idle turns was met.
+    WriteFault,
 }
 
 impl End {
@@ -26,7 +26,13 @@ impl End {
     pub fn number(self) -> u8
         ensures { result ≡ end_number self }
     {
-        self as u8
+        match self {
+            End::Memory => 30,
+            End::Store => 31,
+            End::Broken => 32,
+            End::ReadFault => 35,
+            End::WriteFault => 36,
+        }
     }
 }
 
