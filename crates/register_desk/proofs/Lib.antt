@@ -6,3 +6,4 @@ pub mod Standing
 pub mod Beginnings
 pub mod Readings
 pub mod ServingLemmas
+pub mod Cutting

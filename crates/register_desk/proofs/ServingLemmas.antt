@@ -25,7 +25,7 @@ use Rattle.streams.specs.Lines.{Cut, HasNoLineFeed, Takes}
 use Rattle.register_desk.specs.Input.{with_line_feeds, AreItems, HasItems}
 use Rattle.register_desk.specs.Register.{StandsFor, LeavesOneOf}
 use Rattle.register_desk.specs.Leaving.{GoesOn, IsBroken}
-use Rattle.register_desk.specs.Run.{TookBytes, Wrote, answer_line, answer_lines, Answered, AnsweredInPart, RunsOver, AreNoRequests, bad_lines, LeavesDesk, Refused, RefusedInPart, RunsBroken}
+use Rattle.register_desk.specs.Run.{TookBytes, Wrote, answer_line, answer_lines, Answered, AnsweredInPart, RunsOver, AreNoRequests, bad_lines, LeavesDesk, Refused, RefusedInPart, RunsBroken, StandsForSome}
 use Rattle.register_desk.specs.Serving.{AnswersItem, WasClean, ServesItem, LeavesItem, WritesInPart, Took, Served, IsNextLine, ServesTo, ServedAll, IsQuiet, Quiet}
 use Rattle.register_desk.proofs.InputLemmas.{lines_begin, none_left, OneRequest, items_begin, no_more_items, are_items_more, all_more, with_line_feeds_more}
 
@@ -407,6 +407,37 @@ module _ {S : Type 0} (g : Ghosts S) where
       before ≡ Some bytes → HasItems bytes all rest → StandsFor g kept h → HasCleanDisk (state g now.connection) → ServesTo g before old new kept now replies end → RunsOver g h all rest end replies old new now
   runs_so one h bytes all rest before old new kept now replies end known has stands clean serves =
       runs_known one h bytes all rest old new kept now replies end has stands clean (subst (λ b. ServesTo g b old new kept now replies end) known serves)
+
+  -- ---- a run over bytes that nobody tells, by how it ended
+
+  pub some_so : (h : List Request) (before old new : Option (List ℕ)) (kept now : Desk S g) (replies : ℕ) (end : Finish) → StandsFor g kept h → HasCleanDisk (state g now.connection) → ServesTo g before old new kept now replies end
+      → StandsForSome g h replies end now
+  some_so h before old new kept now replies (AtEnd left) stands clean serves =
+      record { items = serves.served.items; counted = omega (arith, serves.served.counted); stands = (serves.served.answered h stands clean).1 }
+  some_so h before old new kept now replies (Ended ReadFault) stands clean serves =
+      record { items = serves.served.items; counted = omega (arith, serves.served.counted); stands = (serves.served.answered h stands clean).1 }
+  some_so h before old new kept now replies (Ended Memory) stands clean serves =
+      let back = serves.leaves.0 in
+      record { items = serves.served.items; counted = omega (arith, serves.served.counted); stands = back.stands _ (serves.served.answered h stands (back.clean clean)).1 }
+  some_so h before old new kept now replies (Ended Store) stands clean serves =
+      let stop = serves.leaves.0 in
+      record { items = serves.served.items; counted = omega (arith, serves.served.counted); stands = stop.stands _ (serves.served.answered h stands (stop.clean clean)).1 }
+  some_so h before old new kept now replies (Ended Broken) stands clean serves =
+      let same = serves.leaves.0.same in
+      let early = subst (λ (d : Desk S g). HasCleanDisk (state g d.connection)) same clean in
+      record {
+        items = serves.served.items;
+        counted = omega (arith, serves.served.counted);
+        stands = subst (λ (d : Desk S g). StandsFor g d (history h serves.served.items)) (sym same) (serves.served.answered h stands early).1;
+      }
+  some_so h before old new kept now replies (Ended WriteFault) stands clean serves =
+      let wrote = serves.leaves in
+      let so_far = (serves.served.answered h stands (wrote.clean clean)).1 in
+      record {
+        items = serves.served.items ++ serves.item ∷ [];
+        counted = length-append serves.served.items (serves.item ∷ []) ∙ ap (λ (n : ℕ). n + 1) serves.served.counted;
+        stands = subst (StandsFor g now) (sym (history_more h serves.served.items serves.item)) (wrote.answers (history h serves.served.items) so_far clean).1;
+      }
 
   -- ---- a run of a broken desk, by how it ended
 

@@ -133,6 +133,19 @@ RunsBroken items rest (Ended Broken) replies old new = Refused items replies old
 RunsBroken items rest (Ended ReadFault) replies old new = Refused items replies old new
 RunsBroken items rest (Ended WriteFault) replies old new = RefusedInPart items replies old new
 
+-- ---- items that are not known
+
+-- an item was applied whose line was not written whole
+abbrev pub in_hand : Finish → ℕ
+in_hand (Ended WriteFault) = 1
+in_hand _ = 0
+
+-- the desk stands for the history of some items, as many as were answered, or one more
+pub record StandsForSome {S : Type 0} (g : Ghosts S) (h : List Request) (replies : ℕ) (end : Finish) (desk : Desk S g) : Type 0 where
+  pub items : List (Option Request)
+  pub counted : length items ≡ replies + in_hand end
+  pub stands : StandsFor g desk (history h items)
+
 -- ---- what a stop leaves
 
 -- a stop leaves the register without the next item's request, or with it where it is to be accepted

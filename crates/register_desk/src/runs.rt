@@ -9,7 +9,7 @@ ghost use Rattle.register_desk.specs.Input.{HasItems};
 ghost use Rattle.register_desk.specs.Leaving.{EndsBy, GoesOn, IsBroken, IsClean};
 ghost use Rattle.register_desk.specs.Register.{StandsFor};
 ghost use Rattle.register_desk.specs.Run.{LeavesDesk, LeavesReader, LeavesWriter, RunsBroken};
-ghost use Rattle.register_desk.specs.Run.{RunsOver};
+ghost use Rattle.register_desk.specs.Run.{RunsOver, StandsForSome};
 ghost use Rattle.register_desk.specs.Serving.{AnswersItem, IsQuiet, WasClean, ServesItem};
 ghost use Rattle.register_desk.specs.Serving.{StopsItem, LeavesItem, ServesTo, StopsBy};
 
@@ -170,6 +170,9 @@ pub fn run<R: Read, W: Write, S: Alter>(
         R.remaining reader.old.inner ≡ Some bytes → HasItems bytes items rest →
         RunsOver S.Store h items rest result.end result.replies
         (W.contents writer.old.inner) (W.contents writer.new.inner) desk.new }
+    // Whatever the reader tells of its bytes, the desk stands for the history of some items.
+    ensures some { (h : List Request) → StandsFor S.Store desk.old h → IsClean S.Store desk.new →
+        StandsForSome S.Store h result.replies result.end desk.new }
     // A broken desk answers what is no request, up to the first item that is one.
     ensures broken { (bytes : List ℕ) (items : List (Option Request)) (rest : List ℕ) →
         IsBroken desk.old → R.remaining reader.old.inner ≡ Some bytes → HasItems bytes items rest →

@@ -1,6 +1,6 @@
 use Rattle.std.proofs.Common.{List, ℕ, Option, ap, ◌∙◌, subst}
 use Rattle.register_desk.specs.Run.{RunsBroken, RunsOver, TookBytes, Wrote}
-use Rattle.register_desk.proofs.ServingLemmas.{broken_so, runs_so}
+use Rattle.register_desk.proofs.ServingLemmas.{broken_so, runs_so, some_so}
 use Rattle.register_desk.proofs.runs.run.Goals as goal
 
 pub returns-clause-agrees : goal.returns-clause-agrees
@@ -42,3 +42,8 @@ returns-clause-broken g c bytes items rest broken known has =
     let runs = broken_so g.S.Store c.one_request.ensures bytes items rest (g.R.Read.remaining c.begin.new.self.inner) old new c.args.desk.now c.run_lines.new.desk c.run_lines.result.replies c.run_lines.result.end
     (ap (λ r. g.R.Read.remaining r.inner) c.begin.ensures ∙ known) has broken c.run_lines.ensures.desk c.run_lines.ensures.serves in
     subst (λ (o : Option (List ℕ)). RunsBroken items rest c.run_lines.result.end c.run_lines.result.replies o new) (ap (λ w. g.W.Write.contents w.inner) c.begin-2.ensures) runs
+
+pub returns-clause-some : goal.returns-clause-some
+returns-clause-some g c h stands clean =
+    some_so g.S.Store h (g.R.Read.remaining c.begin.new.self.inner) (g.W.Write.contents c.begin-2.new.self.inner) (g.W.Write.contents c.run_lines.new.writer.inner) c.args.desk.now c.run_lines.new.desk
+    c.run_lines.result.replies c.run_lines.result.end stands clean c.run_lines.ensures.serves
