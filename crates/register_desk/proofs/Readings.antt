@@ -102,7 +102,7 @@ module _ {S : Type 0} (g : store.Ghosts S) where
   read_failed Found old new after error whole reads same counts memory = only_read Found old new after (Err error) whole reads same counts
       (λ still t sees clean.
       let clean_after : HasCleanDisk (state g after) = subst (λ c. HasCleanDisk (state g c)) same clean in
-      reads.memory clean_after t (sees whole (reads.clean clean_after)).holds (memory still))
+      (reads.failed clean_after t (sees whole (reads.clean clean_after)).holds).unchanged (memory still))
 
 -- ---- ends
 

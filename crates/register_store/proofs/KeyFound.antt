@@ -24,17 +24,35 @@ use Rattle.sql_steps.proofs.Members.{contains_has, from_picked, to_picked}
 use Rattle.sql_steps.proofs.Queries.{compares, gives_one, gives_none, one_only_reads, none_only_reads}
 use Rattle.sql_steps.proofs.Statements.{picked, is_picked}
 use Rattle.register_core.specs.declared.key.Key.{Key}
-use Rattle.register_store.specs.declared.error.StoreError.TheVariants.{Memory}
+use Rattle.register_store.specs.declared.error.StoreError.TheVariants.{Memory, NoRegister}
 use Rattle.register_store.specs.declared.table.TableName.TheVariants.{Keys}
 use Rattle.register_store.specs.Tables.{tree_of, Tables, IsKey, key_cells, key_row, numbered}
 use Rattle.register_store.specs.Schema.{schema_with, Holds}
 use Rattle.register_store.specs.Making.{key_at}
-use Rattle.register_store.specs.Reading.{FindsKey, HasRow, IsRowOf, ReadsBy}
+use Rattle.register_store.specs.Reading.{FindsKey, HasRow, IsRowOf, ReadsBy, IsNoKey, ShowsKey}
 use Rattle.register_store.proofs.Decoding.{same_key}
-use Rattle.register_store.proofs.Readings.{no_memory, reads_by}
+use Rattle.register_store.proofs.Readings.{fails_refused, reads_by}
 use Rattle.register_store.proofs.Texts.{find_text, find_is, find_plain, find_unlisted, has_number, cells_shown}
 
 -- ---- numbered keys
+
+-- the cells of a key show it
+shows_cells : (k : Key) → IsKey k → ShowsKey (key_cells k) k
+shows_cells k is = record {
+  kind = refl;
+  owner = refl;
+  purpose = refl;
+  state = refl;
+  dates = record {
+    initial = refl;
+    activation = (refl, is.dates.activation);
+    protect_stop = (refl, is.dates.protect_stop);
+    deactivation = (refl, is.dates.deactivation);
+    destroy = (refl, is.dates.destroy);
+    compromise = (refl, is.dates.compromise);
+    compromise_occurrence = (refl, is.dates.compromise_occurrence);
+  };
+}
 
 -- a numbered key stands at its number's place
 at_number : (n : ℕ) (keys : List Key) (x : ℕ × Key) → Has (enumerate_from n keys) x → (i : ℕ) × (x.0 ≡ n + i) × (slice_get keys i ≡ Some x.1)
@@ -145,11 +163,20 @@ module _ (number : ℕ) where
         let none = finds_none (subst (λ x. QueriesRow find_text params old new (Err x)) reads.0 asked) in
         (reads.1 ∙ none.1, none.0)
 
+    -- no row of the tables is taken for one that no register holds
+    registered_so : (r : Result Cells Error) (q : Result (Option Key) StoreError) → IfErr q (λ error. error ≡ NoRegister → IsNoKey r) → QueriesRow find_text params old new r → IfErr q (λ error. error ≢ NoRegister)
+    registered_so r (Ok found) none asked = tt
+    registered_so (Ok row) (Err e) none asked =
+        let got = finds row asked in
+        let key = in_range t.keys number got.0 got.1 (holds.in_range Keys) in
+        λ is. none is got.0 key (subst (λ cells. ShowsKey cells got.0) (sym got.2) (shows_cells got.0 key))
+    registered_so (Err f) (Err e) none asked = none
+
   -- outside a transaction
   pub row_read : (old new : State) (r : Result Cells Error) (q : Result (Option Key) StoreError) → IfOk q (IsRowOf r) → IfErr q (λ error. error ≢ Memory)
-      → (HasCleanDisk new → QueriesRow find_text params old new r) → Survives old new (CommitsShowing find_text params old) → ReadsBy (HasRow number) old new q
-  row_read old new r q reads failed asked survives = reads_by find_text params find_plain old new survives (HasRow number) q
-      (λ clean t holds. found_so old new t holds r q reads (asked clean)) (λ clean t holds. no_memory q (IsUnchanged old new) failed)
+      → IfErr q (λ error. error ≡ NoRegister → IsNoKey r) → (HasCleanDisk new → QueriesRow find_text params old new r) → Survives old new (CommitsShowing find_text params old) → ReadsBy (HasRow number) old new q
+  row_read old new r q reads failed none asked survives = reads_by find_text params find_plain old new survives (HasRow number) q
+      (λ clean t holds. found_so old new t holds r q reads (asked clean)) (λ clean t holds. fails_refused q old new failed (registered_so old new t holds r q none (asked clean)))
 
   -- inside a transaction it is a step, whatever the database holds
   pub loads : (old new : State) (r : Result Cells Error) (q : Result (Option Key) StoreError) → IfOk q (IsRowOf r)

@@ -1,5 +1,5 @@
 -- What the searches for the names of a key's custodians and approvals find.
-use Rattle.std.proofs.Common.{◌≡◌, ℕ, pos, List, [], ◌∷◌, map, filter, drop, codes, Bool, false, Result, Ok, Err, IfOk, refl, sym, ap, subst, ◌∙◌}
+use Rattle.std.proofs.Common.{◌≡◌, ◌≢◌, ℕ, pos, List, [], ◌∷◌, map, filter, drop, codes, Bool, false, Result, Ok, Err, IfOk, IfErr, refl, sym, ap, subst, ◌∙◌}
 use Rattle.std.proofs.lemmas.List.Sorted.{IsPermutation-map, IsPermutation-sym, IsPermutation-trans}
 use Rattle.std.specs.List.Sorted.{IsPermutation}
 use Rattle.sqlite.specs.declared.error.Error.{Error}
@@ -15,23 +15,27 @@ use Rattle.sqlite.specs.Tree.{Trees}
 use Rattle.sqlite.proofs.Callers.{IsPlain, command_of}
 use Rattle.sqlite_schema.specs.declared.schema.Index.{Index}
 use Rattle.sqlite_tied.specs.Compute.{everything}
+use Rattle.sqlite_rules.proofs.ListLemmas.{all_has}
 use Rattle.sqlite_trees.proofs.ListLemmas.{map-map}
+use Rattle.sql_steps.proofs.SameRows.{has_map, map_has}
+use Rattle.sql_steps.proofs.Updates.{has_permutation}
 use Rattle.sql_steps.proofs.Queries.{gives_all, only_reads}
 use Rattle.sql_steps.proofs.Statements.{plain_query, picked, is_picked}
 use Rattle.register_core.specs.KeyName.{KeyName, is_at, names_at}
+use Rattle.register_core.specs.Name.{IsName}
 use Rattle.register_core.specs.Names.{sorted_names}
 use Rattle.register_store.specs.declared.error.StoreError.{StoreError}
-use Rattle.register_store.specs.declared.error.StoreError.TheVariants.{Database}
+use Rattle.register_store.specs.declared.error.StoreError.TheVariants.{Database, NoRegister}
 use Rattle.register_store.specs.declared.custody.Role.{Role}
 use Rattle.register_store.specs.declared.custody.Role.TheVariants as role
 use Rattle.register_store.specs.declared.table.TableName.TheVariants.{Custodian, Approval}
 use Rattle.register_store.specs.Roles.{names_of, select_text}
-use Rattle.register_store.specs.Reading.{AreNamesOf, ReadsBy}
-use Rattle.register_store.specs.Tables.{tree_of, Tables, ShowsNames, name_cells}
+use Rattle.register_store.specs.Reading.{AreNamesOf, HasNoName, ReadsBy}
+use Rattle.register_store.specs.Tables.{tree_of, Tables, AreNames, ShowsNames, name_cells}
 use Rattle.register_store.specs.Schema.{schema_with, Holds}
-use Rattle.register_store.proofs.NameRows.{cells_filtered}
+use Rattle.register_store.proofs.NameRows.{cells_filtered, names_left}
 use Rattle.register_store.proofs.NameTests.{at_key, key_past, key_is}
-use Rattle.register_store.proofs.Readings.{at_memory, no_memory, reads_by}
+use Rattle.register_store.proofs.Readings.{fails_refused, fails_unchanged, reads_by}
 
 -- ---- names in cells
 
@@ -92,7 +96,8 @@ module _ (sql : List ℕ) (tree : ℕ) (search_is : IsSearch sql tree) (key : �
       (subst (IsPermutation (map (λ (cells : Cells). column cells 1) (map (drop 1) (filter passing rows)))) right
       (IsPermutation-map (λ (cells : Cells). column cells 1) _ _ (cells_filtered passing (is_at key) (key_past tree name_shown key) (key_is tree name_shown key) entries rows shows.cells)))
 
-  module _ (entries_of : Tables → List KeyName) (shown : (t : Tables) (old : State) → Holds t old.now → ShowsNames (entries_of t) (old.now.trees tree)) (old new : State)
+  module _ (entries_of : Tables → List KeyName) (shown : (t : Tables) (old : State) → Holds t old.now → ShowsNames (entries_of t) (old.now.trees tree))
+      (in_range : (t : Tables) (old : State) → Holds t old.now → AreNames (entries_of t)) (old new : State)
       (survives : Survives old new (CommitsShowing sql params old)) where
     abbrev Found : Tables → List (List ℕ) → Type 0
     Found t names = names ≡ sorted_names (names_at key (entries_of t))
@@ -103,26 +108,46 @@ module _ (sql : List ℕ) (tree : ℕ) (search_is : IsSearch sql tree) (key : �
         let more = holds.schema.more in
         only_reads sql params old new (schema_with more) holds.schema.is tree at_key name_shown name_column (search_is.is more) (search_is.plain more) (search_is.unlisted more) (search_is.low old.now.trees) rows asked
 
+    -- the rows show the names at the key
+    shown_names : (t : Tables) → Holds t old.now → (rows : List Cells) → Shown sql params old new rows → IsPermutation (map (λ row. column row 0) rows) (map Words (names_at key (entries_of t)))
+    shown_names t holds rows asked =
+        let more = holds.schema.more in
+        let all = gives_all sql params old new (schema_with more) holds.schema.is tree at_key name_shown name_column (search_is.is more) (search_is.plain more) (search_is.unlisted more)
+        (search_is.low old.now.trees) rows asked in
+        IsPermutation-trans _ _ _ (IsPermutation-sym _ _ (IsPermutation-map (λ (row : Cells). column row 0) _ _ all)) (found_names (entries_of t) (old.now.trees tree) (shown t old holds))
+
     -- what is read of it is the names, in order
     found_so : (t : Tables) → Holds t old.now → (rows : List Cells) (q : Result (List (List ℕ)) StoreError) → IfOk q (AreNamesOf rows) → Shown sql params old new rows
         → IfOk q (λ names. Found t names × IsUnchanged old new)
     found_so t holds rows (Err e) reads asked = tt
     found_so t holds rows (Ok names) reads asked =
-        let more = holds.schema.more in
-        let all = gives_all sql params old new (schema_with more) holds.schema.is tree at_key name_shown name_column (search_is.is more) (search_is.plain more) (search_is.unlisted more)
-        (search_is.low old.now.trees) rows asked in
-        let same = IsPermutation-trans _ _ _ (IsPermutation-sym _ _ (IsPermutation-map (λ (row : Cells). column row 0) _ _ all)) (found_names (entries_of t) (old.now.trees tree) (shown t old holds)) in
-        (reads (names_at key (entries_of t)) same, unchanged_so t holds rows asked)
+        (reads (names_at key (entries_of t)) (shown_names t holds rows asked), unchanged_so t holds rows asked)
+
+    -- each row that was given shows a name
+    no_other : (t : Tables) → Holds t old.now → (rows : List Cells) → Shown sql params old new rows → HasNoName rows → ⊥
+    no_other t holds rows asked none =
+        let names = names_at key (entries_of t) in
+        let there = has_permutation _ (map Words names) (column none.0 0) (shown_names t holds rows asked) (has_map (λ row. column row 0) rows none.0 none.1) in
+        let word = map_has Words names (column none.0 0) there in
+        let entry = map_has (λ (entry : KeyName). entry.name) (filter (is_at key) (entries_of t)) word.0 word.1 in
+        let is = all_has (λ (entry : KeyName). IsName entry.name) (filter (is_at key) (entries_of t)) entry.0 (names_left (is_at key) (entries_of t) (in_range t old holds)) entry.1 in
+        none.2 word.0 (subst IsName (sym entry.2) is) word.2
+
+    registered_so : (t : Tables) → Holds t old.now → (rows : List Cells) (q : Result (List (List ℕ)) StoreError) → IfErr q (λ error. error ≡ NoRegister → HasNoName rows) → Shown sql params old new rows
+        → IfErr q (λ error. error ≢ NoRegister)
+    registered_so t holds rows (Ok names) none asked = tt
+    registered_so t holds rows (Err e) none asked = λ is. no_other t holds rows asked (none is)
 
     -- the rows were given
-    pub names_read : (rows : List Cells) (q : Result (List (List ℕ)) StoreError) → IfOk q (AreNamesOf rows) → (HasCleanDisk new → Shown sql params old new rows) → ReadsBy Found old new q
-    names_read rows q reads asked = reads_by sql params search_is.plain old new survives Found q
-        (λ clean t holds. found_so t holds rows q reads (asked clean)) (λ clean t holds. at_memory q (IsUnchanged old new) (unchanged_so t holds rows (asked clean)))
+    pub names_read : (rows : List Cells) (q : Result (List (List ℕ)) StoreError) → IfOk q (AreNamesOf rows) → IfErr q (λ error. error ≡ NoRegister → HasNoName rows) → (HasCleanDisk new → Shown sql params old new rows)
+        → ReadsBy Found old new q
+    names_read rows q reads none asked = reads_by sql params search_is.plain old new survives Found q (λ clean t holds. found_so t holds rows q reads (asked clean))
+        (λ clean t holds. fails_unchanged q old new (unchanged_so t holds rows (asked clean)) (registered_so t holds rows q none (asked clean)))
 
     -- the database refused
     pub names_refused : (error : Error) → ReadsBy Found old new (Err (Database error))
     names_refused error = reads_by sql params search_is.plain old new survives Found (Err (Database error)) (λ clean t holds. tt)
-        (λ clean t holds. no_memory {A = List (List ℕ)} (Err (Database error)) (IsUnchanged old new) (λ e. cc))
+        (λ clean t holds. fails_refused {A = List (List ℕ)} (Err (Database error)) old new (λ e. cc) (λ e. cc))
 
 -- ---- the two tables
 
@@ -134,6 +159,10 @@ pub select_is : (role : Role) → IsSearch (select_text role) (tree_at role)
 unfolding understood everything
 select_is role.Custodian = record { is = λ more. refl; plain = λ more. (refl, refl); unlisted = λ more. refl; low = λ db. refl }
 select_is role.Approver = record { is = λ more. refl; plain = λ more. (refl, refl); unlisted = λ more. refl; low = λ db. refl }
+
+pub names_ranged : (role : Role) (t : Tables) (old : State) → Holds t old.now → AreNames (names_of role t)
+names_ranged role.Custodian t old holds = holds.in_range Custodian
+names_ranged role.Approver t old holds = holds.in_range Approval
 
 pub names_shown : (role : Role) (t : Tables) (old : State) → Holds t old.now → ShowsNames (names_of role t) (old.now.trees (tree_at role))
 names_shown role.Custodian t old holds = holds.shown Custodian

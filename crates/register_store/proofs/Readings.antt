@@ -1,5 +1,5 @@
 -- What calls that only read do, one by one and one after the other.
-use Rattle.std.proofs.Common.{◌≡◌, ◌≢◌, ℕ, List, Result, Ok, Err, IfOk, IfErr, sym, subst, ◌∙◌, arith}
+use Rattle.std.proofs.Common.{◌≡◌, ◌≢◌, ℕ, List, Result, Ok, Err, IfOk, IfErr, sym, subst, arith}
 use Rattle.std.specs.Prelude.{IsErrAnd}
 use Rattle.sqlite.specs.Listing.{understood}
 use Rattle.sqlite.specs.Order.{Row as Cells}
@@ -8,20 +8,20 @@ use Rattle.sqlite.proofs.Callers.{IsPlain, never_commits, unchanged_then}
 use Rattle.sqlite.proofs.StateLemmas.{survives_then, survives_weaker}
 use Rattle.sqlite_schema.specs.declared.schema.Index.{Index}
 use Rattle.register_store.specs.declared.error.StoreError.{StoreError}
-use Rattle.register_store.specs.declared.error.StoreError.TheVariants.{Memory}
-use Rattle.register_store.specs.Reading.{ReadsBy}
+use Rattle.register_store.specs.declared.error.StoreError.TheVariants.{Memory, NoRegister}
+use Rattle.register_store.specs.Reading.{ReadFails, ReadsBy}
 use Rattle.register_store.specs.Tables.{Tables}
 use Rattle.register_store.specs.Schema.{schema_with, Holds}
 
--- what holds anyhow holds where memory gave out
-pub at_memory : {A : Type 0} (r : Result A StoreError) (P : Type 0) → P → IfErr r (λ error. error ≡ Memory → P)
-at_memory (Ok x) P holds = tt
-at_memory (Err error) P holds = λ is. holds
+-- a failure where nothing is changed
+pub fails_unchanged : {A : Type 0} (r : Result A StoreError) (old new : State) → IsUnchanged old new → IfErr r (λ error. error ≢ NoRegister) → IfErr r (ReadFails old new)
+fails_unchanged (Ok x) old new same registered = tt
+fails_unchanged (Err error) old new same registered = record { unchanged = λ is. same; registered = registered }
 
--- what never gives that answer claims nothing of it
-pub no_memory : {A : Type 0} (r : Result A StoreError) (P : Type 0) → IfErr r (λ error. error ≢ Memory) → IfErr r (λ error. error ≡ Memory → P)
-no_memory (Ok x) P other = tt
-no_memory (Err error) P other = λ is. absurd (other is)
+-- a failure that is no want of memory
+pub fails_refused : {A : Type 0} (r : Result A StoreError) (old new : State) → IfErr r (λ error. error ≢ Memory) → IfErr r (λ error. error ≢ NoRegister) → IfErr r (ReadFails old new)
+fails_refused (Ok x) old new other registered = tt
+fails_refused (Err error) old new other registered = record { unchanged = λ is. absurd (other is); registered = registered }
 
 -- ---- one query
 
@@ -34,8 +34,8 @@ module _ (sql : List ℕ) (params : Cells) (plain : (more : List Index) → IsPl
 
   pub reads_by : {T : Type 0} (Found : Tables → T → Type 0) (q : Result T StoreError)
       → (HasCleanDisk new → (t : Tables) → Holds t old.now → IfOk q (λ value. Found t value × IsUnchanged old new))
-      → (HasCleanDisk new → (t : Tables) → Holds t old.now → IfErr q (λ error. error ≡ Memory → IsUnchanged old new)) → ReadsBy Found old new q
-  reads_by Found q found memory = record { found = found; memory = memory; clean = λ clean. omega (arith, survives.clean); survives = λ clean. commits_none }
+      → (HasCleanDisk new → (t : Tables) → Holds t old.now → IfErr q (ReadFails old new)) → ReadsBy Found old new q
+  reads_by Found q found failed = record { found = found; failed = failed; clean = λ clean. omega (arith, survives.clean); survives = λ clean. commits_none }
 
 -- ---- one reading after another
 
@@ -44,7 +44,7 @@ pub reads_as : {A B : Type 0} (First : Tables → A → Type 0) (Next : Tables �
     → ReadsBy First old new (Ok x) → ReadsBy Next old new (Ok y)
 reads_as First Next old new x y weaker one = record {
   found = λ clean t holds. let it = one.found clean t holds in (weaker t it.0, it.1);
-  memory = λ clean t holds. tt;
+  failed = λ clean t holds. tt;
   clean = one.clean;
   survives = one.survives;
 }
@@ -55,7 +55,7 @@ pub reads_fail : {A B : Type 0} (First : Tables → A → Type 0) (Next : Tables
 reads_fail First Next old new e (Ok y) failed one = absurd failed
 reads_fail First Next old new e (Err x) same one = record {
   found = λ clean t holds. tt;
-  memory = λ clean t holds memory. one.memory clean t holds (sym same ∙ memory);
+  failed = λ clean t holds. subst (ReadFails old new) (sym same) (one.failed clean t holds);
   clean = one.clean;
   survives = one.survives;
 }
@@ -69,14 +69,14 @@ module _ {A B : Type 0} (First : Tables → A → Type 0) (Next : Tables → B �
   joined (Ok y) t first next = ((first.0, next.0), unchanged_then a b c first.1 next.1)
   joined (Err e) t first next = tt
 
-  lost : (r : Result B StoreError) → IsUnchanged a b → IfErr r (λ error. error ≡ Memory → IsUnchanged b c) → IfErr r (λ error. error ≡ Memory → IsUnchanged a c)
+  lost : (r : Result B StoreError) → IsUnchanged a b → IfErr r (ReadFails b c) → IfErr r (ReadFails a c)
   lost (Ok y) first next = tt
-  lost (Err e) first next = λ is. unchanged_then a b c first (next is)
+  lost (Err e) first next = record { unchanged = λ is. unchanged_then a b c first (next.unchanged is); registered = next.registered }
 
   pub reads_then : ReadsBy (λ t y. First t x × Next t y) a c r
   reads_then = record {
     found = λ clean t holds. joined r t (one.found (two.clean clean) t holds) (two.found clean t (held clean t holds));
-    memory = λ clean t holds. lost r (one.found (two.clean clean) t holds).1 (two.memory clean t (held clean t holds));
+    failed = λ clean t holds. lost r (one.found (two.clean clean) t holds).1 (two.failed clean t (held clean t holds));
     clean = λ clean. one.clean (two.clean clean);
     survives = λ clean t holds. survives_then a b c (λ _. ⊥) (λ _. ⊥) (λ _. ⊥) (λ _ _ none. none) (λ _ _ none. none)
         (one.survives (two.clean clean) t holds) (two.survives clean t (held clean t holds));

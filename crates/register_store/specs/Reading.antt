@@ -1,5 +1,5 @@
 -- What is read of a register in a database.
-use Rattle.std.specs.Prelude.{◌≡◌, ℕ, pos, List, map, Option, None, Some, Result, Ok, Err, IfOk, IfErr, IsPermutation}
+use Rattle.std.specs.Prelude.{◌≡◌, ◌≢◌, ℕ, pos, List, map, Option, None, Some, Result, Ok, Err, IfOk, IfErr, IsPermutation}
 use Rattle.std.specs.Option.{option_map}
 use Rattle.sqlite.specs.declared.types.Value.TheVariants.{Int, Text as Words}
 use Rattle.sqlite.specs.Order.{Row, column}
@@ -8,6 +8,7 @@ use Rattle.sqlite.specs.declared.error.Error.TheVariants.{QueryReturnedNoRows}
 use Rattle.sqlite.specs.Effect.{Database}
 use Rattle.sqlite.specs.Held.{Held as Connection, state}
 use Rattle.sqlite.specs.State.{State, HasCleanDisk, IsUnchanged, Survives}
+use Rattle.sqlite_rules.specs.Lists.{Has}
 use Rattle.sqlite_trees.specs.declared.store.Store.{Ghosts}
 use Rattle.lifecycle_core.specs.declared.dates.Dates.{Dates}
 use Rattle.lifecycle_core.specs.State.{state_code}
@@ -15,13 +16,14 @@ use Rattle.period_core.specs.KeyType.{key_type_code}
 use Rattle.register_core.specs.declared.key.Key.{Key}
 use Rattle.register_core.specs.declared.view.Held.{Held}
 use Rattle.register_core.specs.KeyName.{names_at}
+use Rattle.register_core.specs.Name.{IsName}
 use Rattle.register_core.specs.Names.{sorted_names}
 use Rattle.register_core.specs.Request.{IsDate}
 use Rattle.register_store.specs.declared.custody.Role.{Role}
 use Rattle.register_store.specs.declared.error.StoreError.{StoreError}
-use Rattle.register_store.specs.declared.error.StoreError.TheVariants.{Memory}
+use Rattle.register_store.specs.declared.error.StoreError.TheVariants.{Memory, NoRegister}
 use Rattle.register_store.specs.Roles.{names_of}
-use Rattle.register_store.specs.Tables.{Tables, date_cell}
+use Rattle.register_store.specs.Tables.{Tables, date_cell, IsKey}
 use Rattle.register_store.specs.Schema.{Holds}
 use Rattle.register_store.specs.Making.{key_at}
 
@@ -56,11 +58,16 @@ HasKey number t found = found ≡ option_map (loaded number t) (key_at t.keys nu
 abbrev pub FindsKey : ℕ → Option Key → Database → Database → Type 0
 FindsKey number found old new = (t : Tables) → Holds t old → (new ≡ old) × (found ≡ key_at t.keys number)
 
+-- where memory gave out nothing is changed, and no row is taken for one that no register holds
+pub record ReadFails (old new : State) (error : StoreError) : Type 0 where
+  pub unchanged : error ≡ Memory → IsUnchanged old new
+  pub registered : error ≢ NoRegister
+
 -- Outside one, where the database holds tables and the disk is clean: what is given is found in them, and nothing is
--- changed, also where memory gave out; a stop leaves what it left before.
+-- changed; a failure is as above; a stop leaves what it left before.
 pub record ReadsBy {T : Type 0} (Found : Tables → T → Type 0) (old new : State) (result : Result T StoreError) : Type 0 where
   pub found : HasCleanDisk new → (t : Tables) → Holds t old.now → IfOk result (λ value. Found t value × IsUnchanged old new)
-  pub memory : HasCleanDisk new → (t : Tables) → Holds t old.now → IfErr result (λ error. error ≡ Memory → IsUnchanged old new)
+  pub failed : HasCleanDisk new → (t : Tables) → Holds t old.now → IfErr result (ReadFails old new)
   pub clean : HasCleanDisk new → HasCleanDisk old
   pub survives : HasCleanDisk new → (t : Tables) → Holds t old.now → Survives old new (λ _. ⊥)
 
@@ -91,6 +98,15 @@ pub record ShowsKey (row : Row) (k : Key) : Type 0 where
 abbrev pub IsRowOf : Result Row Error → Option Key → Type 0
 IsRowOf (Ok row) found = (key : Key) × (found ≡ Some key) × ShowsKey row key
 IsRowOf (Err error) found = (error ≡ QueryReturnedNoRows) × (found ≡ None)
+
+-- the row shows no key
+abbrev pub IsNoKey : Result Row Error → Type 0
+IsNoKey (Ok row) = (k : Key) → IsKey k → ShowsKey row k → ⊥
+IsNoKey (Err error) = ⊥
+
+-- the first column of one of the rows shows no name
+abbrev pub HasNoName : List Row → Type 0
+HasNoName rows = (row : Row) × Has rows row × ((name : List ℕ) → IsName name → column row 0 ≢ Words name)
 
 -- where the first column of the rows shows some names, these in order
 abbrev pub AreNamesOf : List Row → List (List ℕ) → Type 0

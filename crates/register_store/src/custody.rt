@@ -1,9 +1,9 @@
 //! Custodians of keys, and approvals of their destruction: finding, adding and removing them.
-ghost use Rattle.std.specs.Prelude.{◌≡◌, false, map, IfOk};
+ghost use Rattle.std.specs.Prelude.{◌≡◌, false, map, IfOk, IfErr};
 ghost use Rattle.sqlite.specs.declared.types.Value.TheVariants.{Text as Words};
 ghost use Rattle.sqlite.specs.Order.{column};
 ghost use Rattle.sql_steps.specs.Steps.{Steps};
-ghost use Rattle.register_store.specs.Reading.{AreNamesOf, HasNames, Reads};
+ghost use Rattle.register_store.specs.Reading.{AreNamesOf, HasNames, HasNoName, Reads};
 ghost use Rattle.register_store.specs.Roles.{change_text, select_text, with_role_changed};
 ghost use Rattle.register_store.specs.Making.{Makes, Always, without_approvals};
 
@@ -92,7 +92,10 @@ pub(crate) fn end_approvals<S: Alter>(
 
 /// The name in the first cell of each row.
 fn names_in(alloc: Global, rows: &[Row]) -> Result<Vec<Name>, StoreError>
-    ensures { IfOk result (λ names. map (λ row. column row 0) rows.now ≡ map Words names.items) }
+    ensures names { IfOk result (λ names.
+        map (λ row. column row 0) rows.now ≡ map Words names.items) }
+    ensures unregistered { IfErr result (λ error. error ≡ StoreError.NoRegister
+        → HasNoName rows.now) }
 {
     let mut names = Vec::new(alloc);
     for row in rows {
@@ -104,7 +107,9 @@ fn names_in(alloc: Global, rows: &[Row]) -> Result<Vec<Name>, StoreError>
 
 /// The names that a search for names found, in order of their bytes.
 fn sorted_in(alloc: Global, rows: &[Row]) -> Result<Names, StoreError>
-    ensures { IfOk result (AreNamesOf rows.now) }
+    ensures names { IfOk result (AreNamesOf rows.now) }
+    ensures unregistered { IfErr result (λ error. error ≡ StoreError.NoRegister
+        → HasNoName rows.now) }
 {
     let mut names = Names::from_vec(names_in(alloc, rows)?);
     names.sort();

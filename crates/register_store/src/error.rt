@@ -50,6 +50,11 @@ impl From<sqlite::Error> for StoreError {
 }
 
 impl<T: Drop> From<AllocFailed<T>> for StoreError {
+    ghost use Rattle.std.specs.Prelude.{◌≡◌};
+    ghost use Rattle.register_store.specs.declared.error.StoreError.TheVariants.{Memory};
+
+    ghost from_gives = { λ failed error. error ≡ Memory };
+
     fn from(_: AllocFailed<T>) -> StoreError {
         StoreError::Memory
     }
