@@ -127,18 +127,30 @@ name_solid name in_range = name_bytes_solid name in_range.2
 abbrev Registered : Type 0
 Registered = KeyType × (List ℕ × (Option ℕ × (Option ℕ × (Option ℕ × List ℕ))))
 
-register_reader : IsReader (field_then key_type_at (λ _. field_then name_at (λ _. field_then date_at (λ _. field_then date_at (λ _. field_then date_at (λ _. purpose_at))))))
-    (λ (x : Registered). before (key_type_text x.0) (before x.1.0 (before (date_text x.1.1.0) (before (date_text x.1.1.1.0) (before (date_text x.1.1.1.1.0) x.1.1.1.1.1)))))
-    (λ (x : Registered). Unit {0} × (IsName x.1.0 × (IsDate x.1.1.0 × (IsDate x.1.1.1.0 × (IsDate x.1.1.1.1.0 × IsPurpose x.1.1.1.1.1)))))
+abbrev text_of_registered : Registered → List ℕ
+text_of_registered (kind, (owner, (activation, (protect_stop, (deactivation, purpose))))) =
+    before (key_type_text kind) (before owner (before (date_text activation) (before (date_text protect_stop) (before (date_text deactivation) purpose))))
+
+abbrev AreRegistered : Registered → Type 0
+AreRegistered (kind, (owner, (activation, (protect_stop, (deactivation, purpose))))) =
+    Unit {0} × (IsName owner × (IsDate activation × (IsDate protect_stop × (IsDate deactivation × IsPurpose purpose))))
+
+register_reader : IsReader (field_then key_type_at (λ _. field_then name_at (λ _. field_then date_at (λ _. field_then date_at (λ _. field_then date_at (λ _. purpose_at)))))) text_of_registered AreRegistered
 register_reader =
     then_reader key_type_reader (λ k _. key_type_solid k) (λ _. then_reader name_reader name_solid (λ _.
     then_reader date_reader date_solid (λ _. then_reader date_reader date_solid (λ _. then_reader date_reader date_solid (λ _. purpose_reader)))))
 
+registered_ranges : (x : Registered) → AreRegistered x → IsCommand (registered x)
+registered_ranges (kind, (owner, (activation, (protect_stop, (deactivation, purpose))))) (is_kind, (is_owner, (is_activation, (is_protect_stop, (is_deactivation, is_purpose))))) =
+    (is_owner, is_activation, is_protect_stop, is_deactivation, is_purpose)
+
+registered_text : (x : Registered) → command_text (registered x) ≡ before (codes "register") (text_of_registered x)
+registered_text (kind, (owner, (activation, (protect_stop, (deactivation, purpose))))) =
+    joined_register (key_type_text kind) owner (date_text activation) (date_text protect_stop) (date_text deactivation) purpose
+
 register_takes : (bytes : List ℕ) (q : Command) → register_at bytes ≡ Some q → IsBehind (codes "register") bytes q
 unfolding register_at
-register_takes =
-    made_behind register_reader (codes "register") registered (λ x h. (h.1.0, h.1.1.0, h.1.1.1.0, h.1.1.1.1.0, h.1.1.1.1.1))
-    (λ x. joined_register (key_type_text x.0) x.1.0 (date_text x.1.1.0) (date_text x.1.1.1.0) (date_text x.1.1.1.1.0) x.1.1.1.1.1)
+register_takes = made_behind register_reader (codes "register") registered registered_ranges registered_text
 
 register_again : (k : KeyType) (o : List ℕ) (a p d : Option ℕ) (u : List ℕ) → IsCommand (Register k o a p d u)
     → register_at (before (key_type_text k) (before o (before (date_text a) (before (date_text p) (before (date_text d) u))))) ≡ Some (Register k o a p d u)
@@ -350,9 +362,13 @@ Requested = ℕ × (List ℕ × (ℕ × Command))
 command_reader : IsReader command_at command_text IsCommand
 command_reader = record { takes = command_takes; again = command_again }
 
-fields_reader : IsReader (field_then moment_at (λ _. field_then name_at (λ _. field_then request_number_at (λ _. command_at))))
-    (λ (x : Requested). before (decimal x.0) (before x.1.0 (before (decimal x.1.1.0) (command_text x.1.1.1))))
-    (λ (x : Requested). IsMoment x.0 × (IsName x.1.0 × (IsNumber x.1.1.0 × IsCommand x.1.1.1)))
+abbrev text_of_requested : Requested → List ℕ
+text_of_requested (moment, (caller, (number, command))) = before (decimal moment) (before caller (before (decimal number) (command_text command)))
+
+abbrev AreRequested : Requested → Type 0
+AreRequested (moment, (caller, (number, command))) = IsMoment moment × (IsName caller × (IsNumber number × IsCommand command))
+
+fields_reader : IsReader (field_then moment_at (λ _. field_then name_at (λ _. field_then request_number_at (λ _. command_at)))) text_of_requested AreRequested
 fields_reader = then_reader moment_reader moment_solid (λ _. then_reader name_reader name_solid (λ _. then_reader request_number_reader request_number_solid (λ _. command_reader)))
 
 -- what is read as the fields of a line
@@ -360,15 +376,18 @@ record IsFieldsOf (line : List ℕ) (q : Request) : Type 0 where
   in_range : IsRequest q
   text : line ≡ request_text q
 
+requested_fields : (line : List ℕ) (x : Requested) → AreRequested x → line ≡ text_of_requested x → IsFieldsOf line (requested x)
+requested_fields line (moment, (caller, (number, command))) (is_moment, (is_caller, (is_number, is_command))) text = record {
+  in_range = record { moment = is_moment; caller = is_caller; number = is_number; command = is_command };
+  text = text ∙ sym (joined_request (decimal moment) caller (decimal number) (command_text command));
+}
+
 fields_takes : (line : List ℕ) (q : Request) → fields_at line ≡ Some q → IsFieldsOf line q
 unfolding fields_at
 fields_takes line q e =
     let x = bind_some (field_then moment_at (λ _. field_then name_at (λ _. field_then request_number_at (λ _. command_at))) line) (λ x. Some (requested x)) q e in
     let taken = fields_reader.takes line x.0 x.1 in
-    subst (IsFieldsOf line) (some_is (requested x.0) q x.2) (record {
-      in_range = record { moment = taken.0.0; caller = taken.0.1.0; number = taken.0.1.1.0; command = taken.0.1.1.1 };
-      text = taken.1 ∙ sym (joined_request (decimal x.0.0) x.0.1.0 (decimal x.0.1.1.0) (command_text x.0.1.1.1));
-    })
+    subst (IsFieldsOf line) (some_is (requested x.0) q x.2) (requested_fields line x.0 taken.0 taken.1)
 
 fields_again : (q : Request) → IsRequest q → fields_at (request_text q) ≡ Some q
 unfolding fields_at

@@ -14,7 +14,7 @@ from datetime import datetime, timedelta
 EPOCH = datetime(1970, 1, 1)
 LAST_YEAR = 9999
 MONTHS = [0, 1, 2, 11, 12, 24, 36, 120, 1200, 65535]
-ROWS_A_LINE = 3
+ROWS_A_LINE = 4
 
 
 def seconds(date):
