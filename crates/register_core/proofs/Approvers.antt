@@ -31,7 +31,7 @@ use Rattle.register_core.proofs.CustodyOnce.{any_joined, same_entry}
 -- ---- lists with a entry fewer or more
 
 -- a entry is in what is left of a list exactly where it is in the list and is left
-left : (entry : KeyName) (r : KeyName → Bool) (entries : List (KeyName)) → list_any (is_key_name entry.key entry.name) (filter r entries) ≡ list_any (is_key_name entry.key entry.name) entries && r entry
+pub left : (entry : KeyName) (r : KeyName → Bool) (entries : List (KeyName)) → list_any (is_key_name entry.key entry.name) (filter r entries) ≡ list_any (is_key_name entry.key entry.name) entries && r entry
 left entry r [] = refl
 left entry r (other ∷ entries) = by (is_key_name entry.key entry.name other) refl (r other) refl (left entry r entries)
   where
@@ -63,7 +63,7 @@ left entry r (other ∷ entries) = by (is_key_name entry.key entry.name other) r
 
 -- ---- one request more
 
-abbrev has : ℕ → List ℕ → List (KeyName) → Bool
+abbrev pub has : ℕ → List ℕ → List (KeyName) → Bool
 has k name entries = list_any (is_key_name k name) entries
 
 abbrev OwnApprove : List (KeyName) → List (KeyName) → Type 0
@@ -108,7 +108,7 @@ own_next n ApprovalsEnded approving own given holds = fewer (λ entry. not (is_a
 
 -- ---- the caller that approves
 
-among_entries : (k : ℕ) (name : List ℕ) (entries : List (KeyName)) → is_among name (Rattle.register_core.specs.Names.sorted_names (names_at k entries)) ≡ has k name entries
+pub among_entries : (k : ℕ) (name : List ℕ) (entries : List (KeyName)) → is_among name (Rattle.register_core.specs.Names.sorted_names (names_at k entries)) ≡ has k name entries
 among_entries k name entries = any_sorted_names (λ other. bytes_eq other name) (names_at k entries) ∙ any_of_key k name entries
 
 never_approved : (b : Bool) (name : List ℕ) → cond b ApprovalsEnded Kept ≡ Approved name → ⊥

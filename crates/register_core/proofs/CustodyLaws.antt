@@ -13,7 +13,7 @@ use Rattle.register_core.specs.declared.request.Command.TheVariants.{Register as
 use Rattle.register_core.specs.KeyName.{names_at}
 use Rattle.register_core.specs.Names.{sorted_names}
 use Rattle.register_core.specs.History.{count, type, dates}
-use Rattle.register_core.specs.Subject.{is_key, named}
+use Rattle.register_core.specs.Subject.{named}
 use Rattle.register_core.specs.Effect.{given_dates, edited_dates, compromised, deactivated, dates_after, custody_change}
 use Rattle.register_core.specs.Custody.{all_custodians, all_approvals, approvals}
 use Rattle.register_core.specs.Verdict.{verdict}
@@ -21,13 +21,13 @@ use Rattle.register_core.specs.CustodyRefusal.{approvals_missing, min_approvals}
 use Rattle.register_core.specs.Fold.{IsLawful}
 use Rattle.register_core.specs.Laws.{IsAccepted, HasKey}
 use Rattle.register_core.specs.Decision.{approvals_by}
-use Rattle.register_core.proofs.Histories.{count_grows, key_named, dates_named, dates_other, dates_made}
+use Rattle.register_core.proofs.Histories.{count_grows, dates_named, dates_other, dates_made}
 use Rattle.register_core.proofs.Dating.{filled_keeps, trimmed_keeps}
 use Rattle.register_core.proofs.Decisions.{standing}
 use Rattle.register_core.proofs.CustodyLeads.{not_refused, custody_lead}
 use Rattle.register_core.proofs.Lawful.{lawful_holds}
 use Rattle.register_core.proofs.OnKey.{IsOn, IsOther, on_key, which}
-use Rattle.register_core.proofs.CustodyStay.{custody_same, approvals_stay}
+use Rattle.register_core.proofs.CustodyStay.{custody_same, custody_other, approvals_stay}
 
 -- ---- keys that are not made yet
 
@@ -55,8 +55,7 @@ nobody_yet h lawful = lawful_holds NobodyBeyond nobody_next (λ k beyond. (refl,
 
 -- a request that names no key, or another, leaves the approvals of key k as they were
 other_approvals : (h : List Request) (q : Request) (k : ℕ) → verdict h q ≡ None → IsOther h q k → approvals (h ++ q ∷ []) k ≡ approvals h k
-other_approvals h q k accepted other =
-    ap sorted_names (custody_same h q k accepted (λ n names. sym (ap (is_key k) (key_named q.command (count h) n names)) ∙ other.other)).approvals
+other_approvals h q k accepted other = ap sorted_names (custody_other h q k accepted other).approvals
 
 pub stay : (h : List Request) (q : Request) → IsAccepted h q → (k : ℕ) → HasKey h k → IsSome (dates h k).destroy → approvals (h ++ q ∷ []) k ≡ approvals h k
 stay h q is k has set = elim (which h q k is.accepted (omega (arith, has.1, count_grows h q))) [

@@ -120,7 +120,7 @@ revoked h q k true true entries = append-nil _ ∙ filter_same _ _ (λ entry. ap
 revoked h q k true false entries = same_entries (λ entry. is_at k entry && true && false) (λ entry. and_not (is_at k entry) true false refl) entries
 revoked h q k false kept entries = same_entries (λ entry. is_at k entry && false && kept) (λ entry. and_not (is_at k entry) false kept refl) entries
 
-kept_custodians : (k : ℕ) (ends : Bool) (entries : List (KeyName)) → custodians_by k (cond ends ApprovalsEnded Kept) entries ≡ entries
+pub kept_custodians : (k : ℕ) (ends : Bool) (entries : List (KeyName)) → custodians_by k (cond ends ApprovalsEnded Kept) entries ≡ entries
 kept_custodians k true entries = refl
 kept_custodians k false entries = refl
 

@@ -16,15 +16,16 @@ use Rattle.register_core.specs.declared.change.CustodyChange.{CustodyChange}
 use Rattle.register_core.specs.declared.change.CustodyChange.TheVariants.{Kept, CustodianAdded, CustodianRemoved, Approved, Withdrawn, ApprovalsEnded}
 use Rattle.register_core.specs.KeyName.{KeyName, key_name, is_key_name, is_at, names_at}
 use Rattle.register_core.specs.Names.{sorted_names}
-use Rattle.register_core.specs.History.{dates}
+use Rattle.register_core.specs.History.{count, dates}
 use Rattle.register_core.specs.Custody.{all_custodians, all_approvals, approvals}
 use Rattle.register_core.specs.Verdict.{is_for, verdict}
-use Rattle.register_core.specs.Subject.{named}
+use Rattle.register_core.specs.Subject.{named_by, is_key, named}
 use Rattle.register_core.specs.Decision.{custodians_by, approvals_by}
 use Rattle.register_core.specs.Effect.{custody_change}
+use Rattle.register_core.proofs.Histories.{key_named}
 use Rattle.register_core.proofs.CustodyLeads.{nobody_changes, custody_lead}
 use Rattle.register_core.proofs.Walks.{names_joined}
-use Rattle.register_core.proofs.OnKey.{IsOn, on_key}
+use Rattle.register_core.proofs.OnKey.{IsOn, IsMade, IsOther, on_key}
 
 -- ---- the custody of other keys
 
@@ -94,6 +95,13 @@ custody_same h q k accepted others = by (named q.command) refl
           custodians = ap (names_at k) lead.custodians_are ∙ other_custodians n k custody (all_custodians h) (others n names);
           approvals = ap (names_at k) lead.approvals_are ∙ other_approvals n k custody (all_approvals h) (others n names);
         }
+
+-- one that makes key k, or leaves it alone, does neither
+pub custody_made : (h : List Request) (q : Request) (k : ℕ) → verdict h q ≡ None → IsMade h q k → CustodySame h q k
+custody_made h q k accepted made = custody_same h q k accepted (λ n names. absurd (let none : named q.command ≡ None = ap named_by made.makes in let e = sym names ∙ none in cc))
+
+pub custody_other : (h : List Request) (q : Request) (k : ℕ) → verdict h q ≡ None → IsOther h q k → CustodySame h q k
+custody_other h q k accepted other = custody_same h q k accepted (λ n names. sym (ap (is_key k) (key_named q.command (count h) n names)) ∙ other.other)
 
 -- ---- the approvals of a destroyed key
 

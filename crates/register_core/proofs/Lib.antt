@@ -24,3 +24,6 @@ pub mod PathLaws
 pub mod CustodyLaws
 pub mod CustodyOnce
 pub mod Approvers
+pub mod FewLaws
+pub mod ApartLaw
+pub mod PastLaws

@@ -10,8 +10,8 @@ use Rattle.register_core.specs.declared.view.Held.{Held}
 use Rattle.register_core.specs.History.{latest, count, dates}
 use Rattle.register_core.specs.Subject.{Registration, Subject, Makes, Names, NoKey, subject, named_by, key_by, count_by, key_of, is_key, named}
 use Rattle.register_core.specs.Custody.{held}
-use Rattle.register_core.specs.Verdict.{not_custodian, is_for, frozen, unfit, judge, named_key, verdict}
-use Rattle.register_core.specs.CustodyRefusal.{approvals_missing}
+use Rattle.register_core.specs.Verdict.{not_custodian, is_for, frozen, unfit, occurs_later, judge, named_key, verdict}
+use Rattle.register_core.specs.CustodyRefusal.{too_many_custodians, owner_custodian, approvals_missing}
 use Rattle.register_core.proofs.Histories.{count_grows}
 use Rattle.register_core.proofs.CustodyLeads.{not_refused, IsNew}
 use Rattle.register_core.proofs.Refusals.{passes}
@@ -26,7 +26,10 @@ pub record IsOn (h : List Request) (q : Request) (k : ℕ) : Type 0 where
   pub fits_state : is_for q.command (state_at (dates h k) q.moment) ≡ true
   pub not_frozen : frozen (Some (standing h k)) q.moment q.command ≡ None
   pub fit : unfit (Some (standing h k)) q.moment q.command ≡ None
+  pub room : too_many_custodians (Some (standing h k)) q.command ≡ None
+  pub apart : owner_custodian (Some (standing h k)) q.command ≡ None
   pub enough : approvals_missing (Some (standing h k)) q.command ≡ None
+  pub occurred : occurs_later q.moment q.command ≡ None
   pub custodians_own : not_custodian (Some (standing h k)) q.caller q.command ≡ None
   pub new : IsNew h q k
 
@@ -53,7 +56,10 @@ on_there h q k names there accepted =
       fits_state = right_state _ _ passed.state;
       not_frozen = passed.free;
       fit = passed.fit;
+      room = passed.room;
+      apart = passed.apart;
       enough = passed.approved;
+      occurred = passed.occurred;
       custodians_own = passed.custodians;
       new = new_names h q k passed.new_custodian passed.new_approval;
     }

@@ -1,19 +1,20 @@
 //! Laws about this crate's definitions. Each function does nothing: its contract is the law.
-ghost use Rattle.std.specs.Prelude.{◌≡◌, ◌<◌, ◌≤◌, ◌++◌, ℕ, List, [], ◌∷◌, length, true, Some};
-ghost use Rattle.std.specs.Prelude.{IsSome};
+ghost use Rattle.std.specs.Prelude.{◌≡◌, ◌<◌, ◌≤◌, ◌++◌, ℕ, List, [], ◌∷◌, length, true, false};
+ghost use Rattle.std.specs.Prelude.{Some, is_some, IsSome, IsTrue};
 ghost use Rattle.lifecycle_core.specs.State.{state_at};
 ghost use Rattle.lifecycle_core.specs.Transition.{Leads};
-ghost use Rattle.period_core.specs.Fitting.{Fits};
+ghost use Rattle.period_core.specs.Fitting.{Fits, is_not_after};
 ghost use Rattle.register_core.specs.declared.request.Request.{Request};
 ghost use Rattle.register_core.specs.declared.request.Command.{Command};
 ghost use Rattle.register_core.specs.Fold.{IsLawful};
-ghost use Rattle.register_core.specs.History.{count, type, dates};
+ghost use Rattle.register_core.specs.History.{latest, count, type, dates, owner};
 ghost use Rattle.register_core.specs.Laws.{IsAccepted, HasKey, MovesOnly, AreDifferent};
 ghost use Rattle.register_core.specs.Laws.{state_of_key};
 ghost use Rattle.register_core.specs.Name.{is_among};
 ghost use Rattle.register_core.specs.Custody.{custodians, approvals};
 ghost use Rattle.register_core.specs.Request.{IsLineOf};
-ghost use Rattle.register_core.specs.CustodyRefusal.{min_approvals};
+ghost use Rattle.register_core.specs.Verdict.{max_keys};
+ghost use Rattle.register_core.specs.CustodyRefusal.{max_custodians};
 ghost use Rattle.register_core.specs.CommandText.{IsCommandText};
 
 /// No bytes are the line of two requests.
@@ -50,7 +51,7 @@ pub fn dates_freeze()
 pub fn destruction_is_approved()
     ensures enough { (h : List Request) (q : Request) → IsAccepted h q →
         (k : ℕ) → HasKey (h ++ q ∷ []) k → IsSome (dates (h ++ q ∷ []) k).destroy →
-        min_approvals ≤ length (approvals (h ++ q ∷ []) k) }
+        2 ≤ length (approvals (h ++ q ∷ []) k) }
     ensures stay { (h : List Request) (q : Request) → IsAccepted h q → (k : ℕ) → HasKey h k →
         IsSome (dates h k).destroy → approvals (h ++ q ∷ []) k ≡ approvals h k }
 {}
@@ -71,4 +72,47 @@ pub fn names_are_different()
 pub fn custodians_approve()
     ensures { (h : List Request) → IsLawful h → (k : ℕ) (name : List ℕ) →
         is_among name (approvals h k) ≡ true → is_among name (custodians h k) ≡ true }
+{}
+
+/// A key has no more custodians than it may have.
+pub fn custodians_are_few()
+    ensures { (h : List Request) → IsLawful h → (k : ℕ) →
+        length (custodians h k) ≤ max_custodians }
+{}
+
+/// No custodian of a key is its owner.
+pub fn custodians_are_not_owners()
+    ensures { (h : List Request) → IsLawful h → (k : ℕ) →
+        is_among (owner h k) (custodians h k) ≡ false }
+{}
+
+/// There are no more keys than the register takes.
+pub fn keys_are_limited()
+    ensures { (h : List Request) → IsLawful h → count h ≤ max_keys }
+{}
+
+/// What was done to a key was done at the latest moment or before.
+pub fn done_is_past()
+    ensures initial { (h : List Request) → IsLawful h → (k : ℕ) → HasKey h k →
+        (dates h k).initial ≤ latest h }
+    ensures destroy { (h : List Request) → IsLawful h → (k : ℕ) → HasKey h k →
+        IsTrue (is_not_after (dates h k).destroy (Some (latest h))) }
+    ensures compromise { (h : List Request) → IsLawful h → (k : ℕ) → HasKey h k →
+        IsTrue (is_not_after (dates h k).compromise (Some (latest h))) }
+{}
+
+/// A key with an Activation Date has a Protect Stop and a Deactivation Date.
+pub fn periods_are_whole()
+    ensures protect_stop { (h : List Request) → IsLawful h → (k : ℕ) → HasKey h k →
+        IsSome (dates h k).activation → IsSome (dates h k).protect_stop }
+    ensures deactivation { (h : List Request) → IsLawful h → (k : ℕ) → HasKey h k →
+        IsSome (dates h k).activation → IsSome (dates h k).deactivation }
+{}
+
+/// The occurrence of a compromise is set exactly where the compromise is, and is no later.
+pub fn occurrence_is_with_compromise()
+    ensures set { (h : List Request) → IsLawful h → (k : ℕ) → HasKey h k →
+        is_some (dates h k).compromise_occurrence ≡ is_some (dates h k).compromise }
+    ensures no_later { (h : List Request) → IsLawful h → (k : ℕ) → HasKey h k →
+        IsTrue (is_not_after (dates h k).compromise_occurrence (dates h k).compromise) }
 {}

@@ -1,0 +1,124 @@
+-- A lawful history has no more keys than the register takes, and no key of it more custodians than it may have.
+use Rattle.std.proofs.Common.{◌≡◌, ℕ, ◌+◌, ◌≤◌, suc, Bool, true, false, not, ◌&&◌, cond, List, [], ◌∷◌, ◌++◌, length, filter, map, None, Some, refl, sym, ap, subst, ◌∙◌, arith, inl, inr, is_gt}
+use Rattle.std.specs.Prelude.{is_none}
+use Rattle.std.specs.Ordering.{nat_cmp}
+use Rattle.std.specs.Cmp.Lexicographic.{slice_cmp}
+use Rattle.std.proofs.lemmas.Bool.{leb-false, cases_lt}
+use Rattle.std.proofs.lemmas.List.{length-append}
+use Rattle.lifecycle_core.specs.Reason.{is_compromise}
+use Rattle.register_core.specs.declared.request.Request.{Request}
+use Rattle.register_core.specs.declared.request.Command.{Command}
+use Rattle.register_core.specs.declared.request.Command.TheVariants.{Register as Registers, Revoke, AddCustodian, RemoveCustodian}
+use Rattle.register_core.specs.KeyName.{KeyName, key_name, is_key_name, is_at, names_at}
+use Rattle.register_core.specs.Names.{with_name, sorted_names}
+use Rattle.register_core.specs.History.{latest, count, dates}
+use Rattle.register_core.specs.Subject.{made_by}
+use Rattle.register_core.specs.Effect.{custody_change}
+use Rattle.register_core.specs.Custody.{all_custodians, custodians}
+use Rattle.register_core.specs.Verdict.{max_keys, too_many, named_key, verdict}
+use Rattle.register_core.specs.CustodyRefusal.{max_custodians, too_many_custodians}
+use Rattle.register_core.specs.Decision.{custodians_by}
+use Rattle.register_core.specs.Fold.{IsLawful}
+use Rattle.register_core.proofs.Histories.{count_grows}
+use Rattle.register_core.proofs.Refusals.{passes}
+use Rattle.register_core.proofs.Decisions.{standing}
+use Rattle.register_core.proofs.CustodyLeads.{not_refused, kept_custodians, custody_lead}
+use Rattle.register_core.proofs.CustodyStay.{custody_made, custody_other}
+use Rattle.register_core.proofs.CustodyLaws.{nobody_yet}
+use Rattle.register_core.proofs.Walks.{names_joined}
+use Rattle.register_core.proofs.Lawful.{lawful_holds}
+use Rattle.register_core.proofs.OnKey.{which}
+
+-- ---- keys
+
+room : (keys : ℕ) (c : Command) → too_many keys c ≡ None → keys ≤ max_keys → keys + made_by c ≤ max_keys
+room keys (Registers kind owner activation protect_stop deactivation purpose) free few = omega (arith, leb-false _ _ (not_refused _ _ free))
+room keys c free few = omega (arith, few)
+
+keys_next : (h : List Request) (q : Request) → IsLawful h → verdict h q ≡ None → count h ≤ max_keys → count (h ++ q ∷ []) ≤ max_keys
+keys_next h q lawful accepted few =
+    let free = (passes (latest h) (count h) (named_key h q.command) q accepted).numbered in
+    omega (arith, room (count h) q.command free few, count_grows h q)
+
+pub few_keys : (h : List Request) → IsLawful h → count h ≤ max_keys
+few_keys h lawful = lawful_holds (λ h. count h ≤ max_keys) keys_next (omega arith) h lawful
+
+-- ---- how many names there are
+
+with_length : (name : List ℕ) (names : List (List ℕ)) → length (with_name name names) ≡ suc (length names)
+with_length name [] = refl
+with_length name (first ∷ others) =
+    elim (is_gt (slice_cmp nat_cmp name first)) as (λ b. length (cond b (first ∷ with_name name others) (name ∷ first ∷ others)) ≡ suc (suc (length others))) [
+      | true ↦ ap suc (with_length name others)
+      | false ↦ refl
+    ]
+
+sorted_length : (names : List (List ℕ)) → length (sorted_names names) ≡ length names
+sorted_length [] = refl
+sorted_length (name ∷ others) = with_length name (sorted_names others) ∙ ap suc (sorted_length others)
+
+fewer : (k : ℕ) (p : KeyName → Bool) (entries : List KeyName) → length (names_at k (filter p entries)) ≤ length (names_at k entries)
+fewer k p [] = omega arith
+fewer k p (entry ∷ entries) = by (p entry) (is_at k entry) refl (fewer k p entries)
+  where
+    rest : List KeyName
+    rest = filter p entries
+
+    by : (b here : Bool) → is_at k entry ≡ here → length (names_at k rest) ≤ length (names_at k entries)
+        → length (names_at k (cond b (entry ∷ rest) rest)) ≤ length (map (λ (x : KeyName). x.name) (cond here (entry ∷ filter (is_at k) entries) (filter (is_at k) entries)))
+    by true true at less = omega (arith, less, ap (λ (b : Bool). length (map (λ (x : KeyName). x.name) (cond b (entry ∷ filter (is_at k) rest) (filter (is_at k) rest)))) at)
+    by true false at less = omega (arith, less, ap (λ (b : Bool). length (map (λ (x : KeyName). x.name) (cond b (entry ∷ filter (is_at k) rest) (filter (is_at k) rest)))) at)
+    by false true at less = omega (arith, less)
+    by false false at less = less
+
+one_at_most : (k : ℕ) (entry : KeyName) → length (names_at k (entry ∷ [])) ≤ 1
+one_at_most k entry = by (is_at k entry)
+  where
+    by : (b : Bool) → length (map (λ (x : KeyName). x.name) (cond b (entry ∷ []) [])) ≤ 1
+    by true = omega arith
+    by false = omega arith
+
+one_more : (k : ℕ) (entries : List KeyName) (entry : KeyName) → length (names_at k (entries ++ entry ∷ [])) ≤ length (names_at k entries) + 1
+one_more k entries entry =
+    omega (arith, ap length (names_joined k entries (entry ∷ [])), length-append (names_at k entries) (names_at k (entry ∷ [])), one_at_most k entry)
+
+-- ---- custodians
+
+abbrev IsFew : ℕ → List KeyName → Type 0
+IsFew k entries = length (names_at k entries) ≤ max_custodians
+
+few_after : (h : List Request) (q : Request) (k : ℕ) (c : Command) → too_many_custodians (Some (standing h k)) c ≡ None → IsFew k (all_custodians h)
+    → IsFew k (custodians_by k (custody_change (dates h k) q.caller c) (all_custodians h))
+few_after h q k (Revoke key reason occurrence) free few =
+    subst (IsFew k) (sym (kept_custodians k (is_compromise reason && is_none (dates h k).destroy) (all_custodians h))) few
+few_after h q k (AddCustodian key name) free few =
+    let space = leb-false _ _ (not_refused _ _ free) in
+    omega (arith, space, sorted_length (names_at k (all_custodians h)), one_more k (all_custodians h) (key_name k name))
+few_after h q k (RemoveCustodian key name) free few = omega (arith, few, fewer k (λ entry. not (is_key_name k name entry)) (all_custodians h))
+few_after h q k c free few = few
+
+abbrev AllFew : List Request → Type 0
+AllFew h = (k : ℕ) → k ≤ count h → IsFew k (all_custodians h)
+
+custodians_next : (h : List Request) (q : Request) → IsLawful h → verdict h q ≡ None → AllFew h → AllFew (h ++ q ∷ [])
+custodians_next h q lawful accepted before k high = elim (which h q k accepted high) [
+  | inl made ↦
+      let same = (custody_made h q k accepted made).custodians in
+      let nobody = (nobody_yet h lawful k (omega (arith, made.next))).0 in
+      omega (arith, ap length (same ∙ nobody))
+  | inr (inl on) ↦
+      let lead = custody_lead h q k on.names on.new in
+      subst (IsFew k) (sym lead.custodians_are) (few_after h q k q.command on.room (before k on.high))
+  | inr (inr other) ↦
+      let same = (custody_other h q k accepted other).custodians in
+      omega (arith, before k other.high, ap length same)
+]
+
+at_most : (h : List Request) → IsLawful h → (k : ℕ) → IsFew k (all_custodians h)
+at_most h lawful k = elim (cases_lt (count h) k) [
+  | inl beyond ↦ omega (arith, ap length (nobody_yet h lawful k beyond).0)
+  | inr high ↦ lawful_holds AllFew custodians_next (λ k high. omega arith) h lawful k high
+]
+
+pub few_custodians : (h : List Request) → IsLawful h → (k : ℕ) → length (custodians h k) ≤ max_custodians
+few_custodians h lawful k = omega (arith, sorted_length (names_at k (all_custodians h)), at_most h lawful k)
