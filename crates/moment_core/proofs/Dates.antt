@@ -2,8 +2,7 @@
 use Rattle.std.proofs.Common.{◌≡◌, ℕ, zero, suc, ◌+◌, ◌-◌, ◌*◌, ◌/◌, ◌%◌, ◌<◌, ◌≤◌, inl, inr, refl, sym, ap, ◌∙◌, arith, ℤ, pos, ◌+ℤ◌}
 use Rattle.std.specs.Prelude.{Bool, cond, Option, None, Some, IsSome, IfSome, ◌↔◌, min}
 use Rattle.std.proofs.lemmas.Bool.{cases_lt, le-leb, lt-leb}
-use Rattle.moment_core.specs.declared.moment.TheConstants.{LAST_SECOND}
-use Rattle.moment_core.specs.Moment.{IsMoment}
+use Rattle.moment_core.specs.Moment.{last_second, IsMoment}
 use Rattle.jiff_core.specs.declared.civil.date.Date.{Date}
 use Rattle.jiff_core.specs.Calendar as jiff
 use Rattle.jiff_core.specs.Calendar.{day_count, days_from_civil, days_in_month, days_in_year}
@@ -11,8 +10,8 @@ use Rattle.jiff_core.specs.Date.{epoch_day}
 use Rattle.jiff_core.proofs.SignedLemmas.{signed_arith}
 use Rattle.jiff_core.proofs.CalendarLemmas.{day_count-epoch, day_count-next_year, day_count-end, day_count-day_of_year, days_from_civil-day_count}
 use Rattle.jiff_core.proofs.DateLemmas.{epoch_day_injective}
-use Rattle.moment_core.specs.Dates.{IsCivil, HasParts}
-use Rattle.moment_core.specs.Calendar.{Civil, in_range, months_after, months_on, month_days, civil, days_of_years, days_of_months, day_number}
+use Rattle.moment_core.specs.Dates.{HasParts}
+use Rattle.moment_core.specs.Calendar.{Civil, IsCivil, in_range, months_after, months_on, month_days, civil, days_of_years, days_of_months, day_number}
 use Rattle.moment_core.proofs.Civils.{civil_is, days_of_years_more, days_of_years_mono, days_of_years_none, month_days_bounds}
 
 -- jiff counts the days of years from the year -10000 on
@@ -138,12 +137,12 @@ abbrev in_range_of : ℕ → Option ℕ
 in_range_of = in_range
 
 range_is : (n : ℕ) (o : Option ℕ) → (IsSome o ↔ IsMoment n) → IfSome o (λ m. m ≡ n) → o ≡ in_range n
-range_is n None both value = elim (cases_lt LAST_SECOND n) [
-  | inl past ↦ sym (ap (λ (b : Bool). cond b (Some n) None) (lt-leb n LAST_SECOND past))
+range_is n None both value = elim (cases_lt last_second n) [
+  | inl past ↦ sym (ap (λ (b : Bool). cond b (Some n) None) (lt-leb n last_second past))
   | inr within ↦ absurd (cc (both.1 within))
 ]
 range_is n (Some m) both value = ap (λ (k : ℕ). Some k) value
-    ∙ sym (ap (λ (b : Bool). cond b (Some n) None) (le-leb n LAST_SECOND (both.0 refl)))
+    ∙ sym (ap (λ (b : Bool). cond b (Some n) None) (le-leb n last_second (both.0 refl)))
 
 -- the sum is past the range where its year is
 pub past_range : (s n : ℕ) → 9999 < (months_on (civil (s / 86_400)) n).year → None ≡ months_after s n
@@ -152,7 +151,7 @@ past_range s n late =
     let date = months_on (civil (s / 86_400)) n in
     let far = late_year date (months_on_civil (civil (s / 86_400)) n (civil_is (s / 86_400)).civil) late in
     sym (ap (λ (b : Bool). cond b (Some (day_number date * 86_400 + s % 86_400)) None)
-    (lt-leb (day_number date * 86_400 + s % 86_400) LAST_SECOND (omega (arith, far))))
+    (lt-leb (day_number date * 86_400 + s % 86_400) last_second (omega (arith, far))))
 
 -- what a test for the range answers
 pub sum_is : (s n day : ℕ) (o : Option ℕ) → day ≡ day_number (months_on (civil (s / 86_400)) n)

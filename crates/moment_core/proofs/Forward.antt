@@ -1,15 +1,14 @@
 -- A moment some months on is no earlier.
 use Rattle.std.proofs.Common.{◌≡◌, ℕ, zero, suc, ◌+◌, ◌-◌, ◌*◌, ◌/◌, ◌%◌, ◌<◌, ◌≤◌, cond, Bool, true, false, Some, None, refl, sym, ap, ◌∙◌, arith, inl, inr}
 use Rattle.std.proofs.lemmas.Bool.{cases_lt}
-use Rattle.moment_core.specs.Dates.{IsCivil}
-use Rattle.moment_core.specs.Calendar.{Civil, month_days, year_days, civil, days_of_years, days_of_months, day_number, months_on, months_after}
+use Rattle.moment_core.specs.Calendar.{Civil, IsCivil, month_days, year_days, civil, days_of_years, days_of_months, day_number, months_on, months_after}
 use Rattle.moment_core.proofs.Civils.{civil_is, days_of_months_all, days_of_months_more, days_of_months_none, days_of_years_more}
 
 -- the first day of a month, months being counted through the years
-abbrev first_of : ℕ → ℕ
+abbrev pub first_of : ℕ → ℕ
 first_of months = days_of_years (months / 12 - 1970) + days_of_months (months / 12) (months % 12)
 
-abbrev length_of : ℕ → ℕ
+abbrev pub length_of : ℕ → ℕ
 length_of months = month_days (months / 12) (months % 12 + 1)
 
 within_year : (k : ℕ) → k % 12 < 11 → first_of (k + 1) ≡ first_of k + length_of k
@@ -40,17 +39,17 @@ over_year k low last =
     let twelve = ap (λ (m : ℕ). month_days (k / 12) (m + 1)) december in
     omega (arith, years, next, length, months, all, more, before, twelve)
 
-next_first : (k : ℕ) → 1970 * 12 ≤ k → first_of (k + 1) ≡ first_of k + length_of k
+pub next_first : (k : ℕ) → 1970 * 12 ≤ k → first_of (k + 1) ≡ first_of k + length_of k
 next_first k low = elim (cases_lt (k % 12) 11) [ inl lt ↦ within_year k lt | inr le ↦ over_year k low le ]
 
-later_first : (k n : ℕ) → 1970 * 12 ≤ k → first_of k ≤ first_of (n + k)
+pub later_first : (k n : ℕ) → 1970 * 12 ≤ k → first_of k ≤ first_of (n + k)
 later_first k zero low = omega (arith, ap first_of (let e : 0 + k ≡ k = omega arith in e))
 later_first k (suc n) low =
     let place : suc n + k ≡ n + k + 1 = omega arith in
     omega (arith, later_first k n low, next_first (n + k) (omega (arith, low)), ap first_of place)
 
 -- the number of a date, by its months
-number_by : (c : Civil) (months : ℕ) → c.year ≡ months / 12 → c.month ≡ months % 12 + 1
+pub number_by : (c : Civil) (months : ℕ) → c.year ≡ months / 12 → c.month ≡ months % 12 + 1
     → day_number c ≡ first_of months + (c.day - 1)
 number_by c months year month =
     let back : c.month - 1 ≡ months % 12 = omega (arith, month) in

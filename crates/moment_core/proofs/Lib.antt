@@ -2,3 +2,4 @@ pub mod Civils
 pub mod Dates
 pub mod Forward
 pub mod Texts
+pub mod Numbers

@@ -2,8 +2,7 @@
 use Rattle.std.proofs.Common.{◌≡◌, ℕ, ◌+◌, ◌*◌, ◌/◌, ◌%◌, ◌<◌, ◌≤◌, List, ◌++◌, take, drop, length, get_or, refl, sym, ap, ◌∙◌, arith}
 use Rattle.std.specs.Prelude.{Option, None, Some, IsSome, IfSome, ◌↔◌}
 use Rattle.moment_core.specs.Moment.{IsMoment}
-use Rattle.moment_core.specs.Calendar.{Civil, civil, day_number}
-use Rattle.moment_core.specs.Dates.{IsCivil}
+use Rattle.moment_core.specs.Calendar.{Civil, IsCivil, civil, day_number}
 use Rattle.moment_core.specs.Text.{two_digits, moment_text}
 use Rattle.moment_core.specs.Parts.{date_text, time_text}
 use Rattle.moment_core.proofs.Civils.{civil_is, month_days_bounds}

@@ -1,8 +1,7 @@
 -- The civil calendar of UTC, by its own rules (ISO 8601, the Gregorian calendar), and months added
 -- to moments.
-use Rattle.std.specs.Prelude.{ℕ, zero, suc, ◌+◌, ◌-◌, ◌*◌, ◌/◌, ◌%◌, ◌==◌, nat_lt, nat_le, min, Bool, not, ◌&&◌, ◌||◌, Option, None, Some, if◌then◌else◌}
-use Rattle.moment_core.specs.declared.moment.TheConstants.{LAST_SECOND}
-use Rattle.moment_core.specs.declared.calendar.TheConstants.{DAY_SECONDS}
+use Rattle.std.specs.Prelude.{ℕ, ◌≤◌, zero, suc, ◌+◌, ◌-◌, ◌*◌, ◌/◌, ◌%◌, ◌==◌, nat_lt, nat_le, min, Bool, not, ◌&&◌, ◌||◌, Option, None, Some, if◌then◌else◌}
+use Rattle.moment_core.specs.Moment.{last_second}
 
 -- a civil date: the year, the month from 1 to 12, and the day of the month from 1
 pub record Civil : Type 0 where
@@ -19,6 +18,12 @@ abbrev pub month_days : ℕ → ℕ → ℕ
 month_days year month =
     if month == 2 then (if is_leap year then 29 else 28) else
     (if (month == 4) || (month == 6) || (month == 9) || (month == 11) then 30 else 31)
+
+-- a date of the calendar from 1970 on
+pub record IsCivil (c : Civil) : Type 0 where
+  pub year : 1970 ≤ c.year
+  pub month : (1 ≤ c.month) × (c.month ≤ 12)
+  pub day : (1 ≤ c.day) × (c.day ≤ month_days c.year c.month)
 
 abbrev pub year_days : ℕ → ℕ
 year_days year = if is_leap year then 366 else 365
@@ -57,16 +62,20 @@ months_on c n =
     let month = months % 12 + 1 in
     record { year = year; month = month; day = min c.day (month_days year month) }
 
+-- the seconds of a day
+abbrev pub day_seconds : ℕ
+day_seconds = 86_400
+
 -- a second, where it is a moment
 abbrev pub in_range : ℕ → Option ℕ
-in_range seconds = if nat_le seconds LAST_SECOND then Some seconds else None
+in_range seconds = if nat_le seconds last_second then Some seconds else None
 
 -- the moment so many months on: its day's date so many months on, at the same second of the day
 unfoldable pub months_after : ℕ → ℕ → Option ℕ
 months_after moment n =
-    let day = day_number (months_on (civil (moment / DAY_SECONDS)) n) in
-    in_range (day * DAY_SECONDS + moment % DAY_SECONDS)
+    let day = day_number (months_on (civil (moment / day_seconds)) n) in
+    in_range (day * day_seconds + moment % day_seconds)
 
 -- the moment so many days on
 abbrev pub days_after : ℕ → ℕ → Option ℕ
-days_after moment n = in_range (moment + DAY_SECONDS * n)
+days_after moment n = in_range (moment + day_seconds * n)

@@ -1,7 +1,6 @@
 -- The text of a moment, as YYYY-MM-DDTHH:MM:SSZ (RFC 3339, in UTC).
 use Rattle.std.specs.Prelude.{ℕ, ◌+◌, ◌/◌, ◌%◌, List, [], ◌∷◌, ◌++◌, codes}
-use Rattle.moment_core.specs.Calendar.{civil}
-use Rattle.moment_core.specs.declared.calendar.TheConstants.{DAY_SECONDS}
+use Rattle.moment_core.specs.Calendar.{civil, day_seconds}
 
 -- two digits, and four
 abbrev pub two_digits : ℕ → List ℕ
@@ -12,8 +11,8 @@ four_digits n = two_digits (n / 100) ++ two_digits (n % 100)
 
 unfoldable pub moment_text : ℕ → List ℕ
 moment_text moment =
-    let date = civil (moment / DAY_SECONDS) in
-    let second = moment % DAY_SECONDS in
+    let date = civil (moment / day_seconds) in
+    let second = moment % day_seconds in
     four_digits date.year ++ codes "-" ++ two_digits date.month ++ codes "-"
     ++ two_digits date.day ++ codes "T" ++ two_digits (second / 3600) ++ codes ":"
     ++ two_digits (second / 60 % 60) ++ codes ":" ++ two_digits (second % 60) ++ codes "Z"

@@ -1,8 +1,8 @@
 //! Calendar months and days added to moments.
 ghost use Rattle.std.specs.Prelude.{◌≡◌, ◌≤◌, ◌<◌, ◌≤ℤ◌, pos, min, MatchOption, IfSome, Some};
-ghost use Rattle.moment_core.specs.Calendar.{Civil, civil, month_days, months_on, day_number};
-ghost use Rattle.moment_core.specs.Calendar.{months_after, days_after};
-ghost use Rattle.moment_core.specs.Dates.{IsCivil, HasParts};
+ghost use Rattle.moment_core.specs.Calendar.{Civil, IsCivil, civil, month_days, months_on};
+ghost use Rattle.moment_core.specs.Calendar.{day_number, months_after, days_after};
+ghost use Rattle.moment_core.specs.Dates.{HasParts};
 
 use crate::moment::Moment;
 use jiff_core::civil::Date;

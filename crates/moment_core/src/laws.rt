@@ -1,6 +1,6 @@
 //! Laws of the calendar and of the texts of moments.
 ghost use Rattle.std.specs.Prelude.{◌≡◌, ◌≤◌, ℕ, Some};
-ghost use Rattle.moment_core.specs.Calendar.{civil, day_number, months_after};
+ghost use Rattle.moment_core.specs.Calendar.{Civil, IsCivil, civil, day_number, months_after};
 ghost use Rattle.moment_core.specs.Moment.{IsMoment};
 ghost use Rattle.moment_core.specs.Text.{moment_text};
 
@@ -12,6 +12,11 @@ pub fn one_text()
 /// The number of a day's date is the day.
 pub fn day_numbers()
     ensures { (n : ℕ) → day_number (civil n) ≡ n }
+{}
+
+/// The date of a date's number is that date.
+pub fn dates_of_numbers()
+    ensures { (c : Civil) → IsCivil c → civil (day_number c) ≡ c }
 {}
 
 /// A moment some months on is no earlier.

@@ -9,7 +9,6 @@ use Rattle.std.proofs.lemmas.Bool.Decides.{nat_tests}
 use Rattle.std.proofs.lemmas.Fmt.{decimal_is_IsNumeral}
 use Rattle.std.proofs.lemmas.Slice.Eq.{bytes_eq-Decides}
 use Rattle.std.proofs.lemmas.Str.Parse.{digit_from_value}
-use Rattle.register_core.specs.declared.line.TheConstants.{MAX_LINE_LENGTH}
 use Rattle.lifecycle_core.specs.declared.reason.Reason.{Reason}
 use Rattle.lifecycle_core.specs.Reason.{reason_code}
 use Rattle.period_core.specs.declared.key_type.KeyType.{KeyType}
@@ -24,7 +23,7 @@ use Rattle.register_core.specs.Name.{IsName, is_name_byte}
 use Rattle.register_core.specs.Number.{IsNumber}
 use Rattle.register_core.specs.Purpose.{IsPurpose}
 use Rattle.period_core.specs.KeyType.{key_type_text}
-use Rattle.register_core.specs.Request.{IsCommand, IsDate, IsEdit, IsKeyNumber, IsRequest, IsLineOf, StandsFor, IsItem, date_text, edit_text, command_text, request_text}
+use Rattle.register_core.specs.Request.{max_line_length, IsCommand, IsDate, IsEdit, IsKeyNumber, IsRequest, IsLineOf, StandsFor, IsItem, date_text, edit_text, command_text, request_text}
 use Rattle.register_core.specs.CommandText.{IsCommandText, IsCommandItem}
 use Rattle.register_core.specs.Reading.{◌>>=◌, is_space, field_at, field_then, moment_at, date_at, edit_at, key_number_at, reason_at, occurrence_at, request_number_at, name_at, key_type_at, purpose_at, registered, register_at, dates_set, set_at, revoked, revoke_at, key_and_name_at, key_command, name_command, keyed_by, keyed_at, behind_at, worded_at, command_at, requested, fields_at, request_at}
 use Rattle.register_core.proofs.Fields.{bind_some, some_is, none_from, IsReader, HasNoSpace, field_takes, field_again, then_reader}
@@ -404,15 +403,15 @@ guard_none false o q e = (refl, e)
 pub request_takes : (line : List ℕ) (q : Request) → request_at line ≡ Some q → IsLineOf line q
 unfolding request_at
 request_takes line q e =
-    let g = guard_none (nat_lt MAX_LINE_LENGTH (length line)) (fields_at line) q e in
+    let g = guard_none (nat_lt max_line_length (length line)) (fields_at line) q e in
     let taken = fields_takes line q g.1 in
-    record { request = taken.in_range; within = ltb-false MAX_LINE_LENGTH (length line) g.0; text = taken.text }
+    record { request = taken.in_range; within = ltb-false max_line_length (length line) g.0; text = taken.text }
 
 -- Each line of a request is read.
 pub request_again : (line : List ℕ) (q : Request) → IsLineOf line q → request_at line ≡ Some q
 unfolding request_at
 request_again line q h =
-    let short : nat_lt MAX_LINE_LENGTH (length line) ≡ false = le-ltb MAX_LINE_LENGTH (length line) h.within in
+    let short : nat_lt max_line_length (length line) ≡ false = le-ltb max_line_length (length line) h.within in
     let fields : fields_at line ≡ Some q = ap fields_at h.text ∙ fields_again q h.request in
     rw (short, fields) refl
 

@@ -10,11 +10,7 @@ use Rattle.std.proofs.lemmas.Option.{cond_some}
 use Rattle.std.proofs.lemmas.Fmt.{decimal_is_IsNumeral, decimal_injective}
 use Rattle.std.proofs.lemmas.Slice.Eq.{bytes_eq-Decides}
 use Rattle.std.proofs.lemmas.Str.{IsUtf8-from_is_utf8, is_utf8-from_IsUtf8}
-use Rattle.moment_core.specs.declared.moment.TheConstants.{LAST_SECOND}
-use Rattle.moment_core.specs.Moment.{IsMoment}
-use Rattle.register_core.specs.declared.name.TheConstants.{MAX_NAME_LENGTH}
-use Rattle.register_core.specs.declared.number.TheConstants.{MAX_REQUEST_NUMBER}
-use Rattle.register_core.specs.declared.purpose.TheConstants.{MAX_PURPOSE_LENGTH}
+use Rattle.moment_core.specs.Moment.{last_second, IsMoment}
 use Rattle.lifecycle_core.specs.declared.reason.Reason.{Reason}
 use Rattle.lifecycle_core.specs.declared.reason.Reason.TheVariants.{Unspecified, KeyCompromise, CaCompromise, AffiliationChanged, Superseded, CessationOfOperation, PrivilegeWithdrawn}
 use Rattle.lifecycle_core.specs.Reason.{reason_code, is_compromise}
@@ -22,9 +18,9 @@ use Rattle.period_core.specs.declared.key_type.KeyType.{KeyType}
 use Rattle.period_core.specs.declared.key_type.KeyType.TheVariants.{DataEncryption, Authentication, KeyWrapping, PrivateSignature, PrivateAuthentication, PrivateTransport, Master}
 use Rattle.register_core.specs.declared.request.Edit.{Edit}
 use Rattle.register_core.specs.declared.request.Edit.TheVariants.{Keep, Clear, Set}
-use Rattle.register_core.specs.Name.{IsName, is_name_byte}
-use Rattle.register_core.specs.Number.{IsNumber}
-use Rattle.register_core.specs.Purpose.{IsPurpose, is_purpose_byte}
+use Rattle.register_core.specs.Name.{is_name_byte, max_name_length, IsName}
+use Rattle.register_core.specs.Number.{max_request_number, IsNumber}
+use Rattle.register_core.specs.Purpose.{is_purpose_byte, max_purpose_length, IsPurpose}
 use Rattle.period_core.specs.KeyType.{key_type_text}
 use Rattle.register_core.specs.Reading.{◌>>=◌, number_at, moment_at, date_at, edit_at, key_number_at, reasons, reason_at, occurrence_at, request_number_at, name_at, purpose_at, key_types, key_type_at, is_space, is_trimmed}
 use Rattle.register_core.specs.Request.{IsDate, IsKeyNumber, IsEdit, date_text, edit_text}
@@ -55,8 +51,8 @@ number_again least most small n within =
 pub moment_reader : IsReader moment_at decimal IsMoment
 unfolding moment_at
 moment_reader = record {
-  takes = λ field n e. let taken = number_takes 0 LAST_SECOND field n e in (taken.0.1, taken.1);
-  again = λ n in_range. number_again 0 LAST_SECOND (omega arith) n (omega arith, in_range);
+  takes = λ field n e. let taken = number_takes 0 last_second field n e in (taken.0.1, taken.1);
+  again = λ n in_range. number_again 0 last_second (omega arith) n (omega arith, in_range);
 }
 
 either : (b : Bool) → (b ≡ true) ⊎ (b ≡ false)
@@ -156,8 +152,8 @@ key_number_small n in_range = omega arith
 pub request_number_reader : IsReader request_number_at decimal IsNumber
 unfolding request_number_at
 request_number_reader = record {
-  takes = λ field n e. number_takes 1 MAX_REQUEST_NUMBER field n e;
-  again = λ n in_range. number_again 1 MAX_REQUEST_NUMBER (omega arith) n in_range;
+  takes = λ field n e. number_takes 1 max_request_number field n e;
+  again = λ n in_range. number_again 1 max_request_number (omega arith) n in_range;
 }
 
 -- a number that was made of the number in the field
@@ -194,13 +190,13 @@ pub name_reader : IsReader name_at itself IsName
 unfolding name_at
 name_reader = record {
   takes = λ field x e.
-      let got = cond_some (nat_le 1 (length field) && nat_le (length field) MAX_NAME_LENGTH && list_all is_name_byte field) field x e in
-      let outer = and_parts (nat_le 1 (length field) && nat_le (length field) MAX_NAME_LENGTH) (list_all is_name_byte field) got.0 in
-      let bounds = and_parts (nat_le 1 (length field)) (nat_le (length field) MAX_NAME_LENGTH) outer.0 in
-      (subst IsName got.1 (leb-true 1 (length field) bounds.0, leb-true (length field) MAX_NAME_LENGTH bounds.1, outer.1), got.1);
+      let got = cond_some (nat_le 1 (length field) && nat_le (length field) max_name_length && list_all is_name_byte field) field x e in
+      let outer = and_parts (nat_le 1 (length field) && nat_le (length field) max_name_length) (list_all is_name_byte field) got.0 in
+      let bounds = and_parts (nat_le 1 (length field)) (nat_le (length field) max_name_length) outer.0 in
+      (subst IsName got.1 (leb-true 1 (length field) bounds.0, leb-true (length field) max_name_length bounds.1, outer.1), got.1);
   again = λ x name.
       let low : nat_le 1 (length x) ≡ true = le-leb 1 (length x) name.0 in
-      let high : nat_le (length x) MAX_NAME_LENGTH ≡ true = le-leb (length x) MAX_NAME_LENGTH name.1 in
+      let high : nat_le (length x) max_name_length ≡ true = le-leb (length x) max_name_length name.1 in
       rw (low, high, name.2) refl;
 }
 
@@ -223,15 +219,15 @@ unfolding purpose_at
 purpose_reader = record {
   takes = λ bytes x e.
       let n = length bytes in
-      let got = cond_some (nat_le 1 n && nat_le n MAX_PURPOSE_LENGTH && is_utf8 bytes && list_all is_purpose_byte bytes && is_trimmed bytes) bytes x e in
-      let p4 = and_parts (nat_le 1 n && nat_le n MAX_PURPOSE_LENGTH && is_utf8 bytes && list_all is_purpose_byte bytes) (is_trimmed bytes) got.0 in
-      let p3 = and_parts (nat_le 1 n && nat_le n MAX_PURPOSE_LENGTH && is_utf8 bytes) (list_all is_purpose_byte bytes) p4.0 in
-      let p2 = and_parts (nat_le 1 n && nat_le n MAX_PURPOSE_LENGTH) (is_utf8 bytes) p3.0 in
-      let p1 = and_parts (nat_le 1 n) (nat_le n MAX_PURPOSE_LENGTH) p2.0 in
+      let got = cond_some (nat_le 1 n && nat_le n max_purpose_length && is_utf8 bytes && list_all is_purpose_byte bytes && is_trimmed bytes) bytes x e in
+      let p4 = and_parts (nat_le 1 n && nat_le n max_purpose_length && is_utf8 bytes && list_all is_purpose_byte bytes) (is_trimmed bytes) got.0 in
+      let p3 = and_parts (nat_le 1 n && nat_le n max_purpose_length && is_utf8 bytes) (list_all is_purpose_byte bytes) p4.0 in
+      let p2 = and_parts (nat_le 1 n && nat_le n max_purpose_length) (is_utf8 bytes) p3.0 in
+      let p1 = and_parts (nat_le 1 n) (nat_le n max_purpose_length) p2.0 in
       let ends = trimmed_ends bytes p4.1 in
       let whole : IsPurpose bytes = record {
         some = leb-true 1 n p1.0;
-        within = leb-true n MAX_PURPOSE_LENGTH p1.1;
+        within = leb-true n max_purpose_length p1.1;
         utf8 = IsUtf8-from_is_utf8 bytes p2.1;
         printable = p3.1;
         first = ends.0;
@@ -240,7 +236,7 @@ purpose_reader = record {
       (subst IsPurpose got.1 whole, got.1);
   again = λ x purpose.
       let low : nat_le 1 (length x) ≡ true = le-leb 1 (length x) purpose.some in
-      let high : nat_le (length x) MAX_PURPOSE_LENGTH ≡ true = le-leb (length x) MAX_PURPOSE_LENGTH purpose.within in
+      let high : nat_le (length x) max_purpose_length ≡ true = le-leb (length x) max_purpose_length purpose.within in
       let utf8 : is_utf8 x ≡ true = is_utf8-from_IsUtf8 x purpose.utf8 in
       let ends : is_trimmed x ≡ true = ends_trimmed x purpose.first purpose.last in
       rw (low, high, utf8, purpose.printable, ends) refl;

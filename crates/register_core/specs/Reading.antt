@@ -3,11 +3,6 @@ use Rattle.std.specs.Prelude.{◌≡◌, ℕ, ◌+◌, ◌-◌, ◌==◌, nat_le
 use Rattle.std.specs.List.{list_all, position}
 use Rattle.std.specs.Str.{bytes_eq, is_utf8}
 use Rattle.std.specs.Str.Parse.{digits_value}
-use Rattle.moment_core.specs.declared.moment.TheConstants.{LAST_SECOND}
-use Rattle.register_core.specs.declared.name.TheConstants.{MAX_NAME_LENGTH}
-use Rattle.register_core.specs.declared.number.TheConstants.{MAX_REQUEST_NUMBER}
-use Rattle.register_core.specs.declared.purpose.TheConstants.{MAX_PURPOSE_LENGTH}
-use Rattle.register_core.specs.declared.line.TheConstants.{MAX_LINE_LENGTH}
 use Rattle.lifecycle_core.specs.declared.reason.Reason.{Reason}
 use Rattle.lifecycle_core.specs.declared.reason.Reason.TheVariants.{Unspecified, KeyCompromise, CaCompromise, AffiliationChanged, Superseded, CessationOfOperation, PrivilegeWithdrawn}
 use Rattle.lifecycle_core.specs.Reason.{reason_code, is_compromise}
@@ -18,8 +13,11 @@ use Rattle.register_core.specs.declared.request.Command.{Command}
 use Rattle.register_core.specs.declared.request.Command.TheVariants.{Register, Activate, SetDates, Revoke, Assign, AddCustodian, RemoveCustodian, Approve, Withdraw, Destroy, Advance}
 use Rattle.register_core.specs.declared.request.Edit.{Edit}
 use Rattle.register_core.specs.declared.request.Edit.TheVariants.{Keep, Clear, Set}
-use Rattle.register_core.specs.Name.{is_name_byte}
-use Rattle.register_core.specs.Purpose.{is_purpose_byte}
+use Rattle.moment_core.specs.Moment.{last_second}
+use Rattle.register_core.specs.Name.{is_name_byte, max_name_length}
+use Rattle.register_core.specs.Number.{max_request_number}
+use Rattle.register_core.specs.Purpose.{is_purpose_byte, max_purpose_length}
+use Rattle.register_core.specs.Request.{max_line_length}
 use Rattle.period_core.specs.KeyType.{key_type_text}
 
 -- one step, and then the next, unless the first gives none
@@ -52,7 +50,7 @@ number_at least most field =
 
 -- the moment that the field writes
 unfoldable pub moment_at : List ℕ → Option ℕ
-moment_at field = number_at 0 LAST_SECOND field
+moment_at field = number_at 0 last_second field
 
 -- the date that the field writes, - for none
 unfoldable pub date_at : List ℕ → Option (Option ℕ)
@@ -85,12 +83,12 @@ occurrence_at reason field = if is_compromise reason then date_at field else if 
 
 -- a request's number that the field writes
 unfoldable pub request_number_at : List ℕ → Option ℕ
-request_number_at field = number_at 1 MAX_REQUEST_NUMBER field
+request_number_at field = number_at 1 max_request_number field
 
 -- the name that the field is
 unfoldable pub name_at : List ℕ → Option (List ℕ)
 name_at field =
-    if nat_le 1 (length field) && nat_le (length field) MAX_NAME_LENGTH && list_all is_name_byte field then Some field else None
+    if nat_le 1 (length field) && nat_le (length field) max_name_length && list_all is_name_byte field then Some field else None
 
 -- neither the first nor the last byte is a space
 abbrev pub is_trimmed : List ℕ → Bool
@@ -99,7 +97,7 @@ is_trimmed bytes = not (is_space (slice_index bytes 0)) && not (is_space (slice_
 -- the purpose that the bytes are
 unfoldable pub purpose_at : List ℕ → Option (List ℕ)
 purpose_at bytes =
-    if nat_le 1 (length bytes) && nat_le (length bytes) MAX_PURPOSE_LENGTH && is_utf8 bytes && list_all is_purpose_byte bytes && is_trimmed bytes
+    if nat_le 1 (length bytes) && nat_le (length bytes) max_purpose_length && is_utf8 bytes && list_all is_purpose_byte bytes && is_trimmed bytes
     then Some bytes else None
 
 -- each type once
@@ -215,4 +213,4 @@ fields_at line = do
 
 -- the request whose line it is
 unfoldable pub request_at : List ℕ → Option Request
-request_at line = if nat_lt MAX_LINE_LENGTH (length line) then None else fields_at line
+request_at line = if nat_lt max_line_length (length line) then None else fields_at line

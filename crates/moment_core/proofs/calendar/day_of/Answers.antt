@@ -3,8 +3,7 @@ use Rattle.std.proofs.lemmas.Int.{ints}
 use Rattle.jiff_core.specs.declared.civil.date.Date.{Date}
 use Rattle.jiff_core.specs.Date.{epoch_day, IsYmd}
 use Rattle.jiff_core.proofs.SignedLemmas.{signed_arith}
-use Rattle.moment_core.specs.Calendar.{Civil, day_number}
-use Rattle.moment_core.specs.Dates.{IsCivil}
+use Rattle.moment_core.specs.Calendar.{Civil, IsCivil, day_number}
 use Rattle.moment_core.proofs.Dates.{number_is}
 use Rattle.moment_core.proofs.calendar.day_of.Goals as goal
 
