@@ -17,7 +17,7 @@ keeps d stop end stop_kept end_kept = record {
   compromise_occurrence = refl;
 }
 
-abbrev dates_with : Dates → (a p e : Option ℕ) → Dates
+abbrev pub dates_with : Dates → (a p e : Option ℕ) → Dates
 dates_with d a p e = record d { activation = a; protect_stop = p; deactivation = e }
 
 by_cases : (kind : KeyType) (d : Dates) (a p e : Option ℕ)

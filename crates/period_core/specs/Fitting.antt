@@ -1,6 +1,6 @@
 -- Which dates fit a type of key, and what Fill and Trim make of dates. All of it is this register's
 -- own.
-use Rattle.std.specs.Prelude.{◌≡◌, ℕ, nat_lt, nat_le, min, Bool, true, ◌&&◌, ◌||◌, List, [], ◌∷◌, Option, None, Some, is_some, is_none, Result, Ok, Err, IsTrue, if◌then◌else◌}
+use Rattle.std.specs.Prelude.{◌≡◌, ◌≤◌, ℕ, nat_lt, nat_le, min, Bool, true, ◌&&◌, ◌||◌, List, [], ◌∷◌, Option, None, Some, is_some, is_none, Result, Ok, Err, IsTrue, if◌then◌else◌}
 use Rattle.lifecycle_core.specs.declared.dates.Dates.{Dates}
 use Rattle.moment_core.specs.Calendar.{months_after}
 use Rattle.period_core.specs.declared.key_type.KeyType.{KeyType}
@@ -134,6 +134,23 @@ pub record KeepsGiven (old new : Dates) : Type 0 where
   pub activation : new.activation ≡ old.activation
   pub protect_stop : KeepsDate old.protect_stop new.protect_stop
   pub deactivation : KeepsDate old.deactivation new.deactivation
+  pub initial : new.initial ≡ old.initial
+  pub destroy : new.destroy ≡ old.destroy
+  pub compromise : new.compromise ≡ old.compromise
+  pub compromise_occurrence : new.compromise_occurrence ≡ old.compromise_occurrence
+
+-- a date that was set stays set, and becomes no later
+abbrev pub CutsDate : Option ℕ → Option ℕ → Type 0
+CutsDate None new = Unit {0}
+CutsDate (Some date) None = ⊥
+CutsDate (Some date) (Some new) = new ≤ date
+
+-- Protect Stop and Deactivation, where they were given, become no later, and the other dates are as
+-- they were
+pub record CutsGiven (old new : Dates) : Type 0 where
+  pub activation : new.activation ≡ old.activation
+  pub protect_stop : CutsDate old.protect_stop new.protect_stop
+  pub deactivation : CutsDate old.deactivation new.deactivation
   pub initial : new.initial ≡ old.initial
   pub destroy : new.destroy ≡ old.destroy
   pub compromise : new.compromise ≡ old.compromise

@@ -13,6 +13,7 @@
 mod filling;
 mod fitting;
 mod key_type;
+pub mod laws;
 mod period;
 
 pub use filling::{DateRefusal, fill, trim};
