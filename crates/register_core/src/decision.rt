@@ -1,7 +1,6 @@
 //! What a request makes of the register, where the key that it names is known.
 ghost use Rattle.std.specs.Prelude.{◌≡◌, ◌≤◌, List, Some, IfOk, IfErr, None};
-ghost use Rattle.register_core.specs.declared.limits.TheConstants.{MAX_KEYS};
-ghost use Rattle.register_core.specs.Verdict.{judge_view, verdict, reply};
+ghost use Rattle.register_core.specs.Verdict.{max_keys, judge_view, verdict, reply};
 ghost use Rattle.register_core.specs.Decision.{IsRightKey, IsViewOf, LeadsTo, held_change};
 ghost use Rattle.register_core.specs.Decision.{change_by, reply_to, reply_of_view};
 
@@ -58,7 +57,7 @@ fn change_by(named: &Option<Held>, request: &Request) -> Change
 
 /// The reply to an accepted request with this change, where this many keys were made before it.
 fn reply_to(keys: u32, at: Moment, change: &Change) -> Reply
-    requires { keys ≤ MAX_KEYS }
+    requires { keys ≤ max_keys }
     ensures { result ≡ reply_to keys at change.now }
 {
     match change {
@@ -83,7 +82,7 @@ fn reply_to(keys: u32, at: Moment, change: &Change) -> Reply
 /// Decides on a request: it is accepted, with what it changes and its reply, or the first refusal
 /// that holds.
 pub fn decide(view: &View, request: &Request) -> Result<Accept, Refusal>
-    requires within { view.now.keys ≤ MAX_KEYS }
+    requires within { view.now.keys ≤ max_keys }
     requires right { IsRightKey view.now.key view.now.latest }
     ensures refused { IfErr result (λ refusal. judge_view view.now request.now ≡ Some refusal) }
     ensures accepted { IfOk result (λ accept. judge_view view.now request.now ≡ None) }

@@ -10,7 +10,6 @@ use Rattle.sqlite.specs.Held.{state}
 use Rattle.sql_steps.specs.Steps.{TransactsBy}
 use Rattle.sql_steps.proofs.Stepping.{leaves_alone}
 use Rattle.register_core.specs.declared.change.Change.{Change}
-use Rattle.register_core.specs.declared.limits.TheConstants.{MAX_KEYS}
 use Rattle.register_core.specs.declared.reply.Refusal.{Refusal}
 use Rattle.register_core.specs.declared.reply.Refusal.TheVariants.{Full}
 use Rattle.register_core.specs.declared.request.Request.{Request}
@@ -49,7 +48,7 @@ viewed g desk h q key stands named clean =
     record { stands = stands; named = is; view = record { latest_is = stands.latest_is; keys_are = stands.keys_are; key_is = is } }
 
 -- where a request is accepted, there is room for what it makes
-pub room_left : (last keys : ℕ) (key : Option Held) (q : Request) (change : Change) → keys ≤ MAX_KEYS → judge last keys key q ≡ None → change ≡ change_by key q → keys + made_count change ≤ MAX_KEYS
+pub room_left : (last keys : ℕ) (key : Option Held) (q : Request) (change : Change) → keys ≤ max_keys → judge last keys key q ≡ None → change ≡ change_by key q → keys + made_count change ≤ max_keys
 room_left last keys key q change within accepted is =
     let counted : made_count change ≡ count_by (subject q.command) = ap made_count is ∙ change_counts key q in
     let room = by (subject q.command) (λ i. subject q.command) in
@@ -59,7 +58,7 @@ room_left last keys key q change within accepted is =
     below true e = absurd (cc)
     below false e = λ i. false
 
-    by : (s : Subject) → subject q.command ≡ s → keys + count_by s ≤ MAX_KEYS
+    by : (s : Subject) → subject q.command ≡ s → keys + count_by s ≤ max_keys
     by (Makes made) makes =
         let none : too_many keys (registers made) ≡ None = ap (too_many keys) (sym (is_registration q.command made makes)) ∙ (passes last keys key q accepted).numbered in
         let less = leb-false max_keys keys (below (nat_le max_keys keys) none) in

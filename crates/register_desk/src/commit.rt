@@ -1,19 +1,19 @@
 //! The change of an accepted request, as one transaction.
 ghost use Rattle.std.specs.Prelude.{◌≡◌, ◌≤◌, ◌+◌, false};
-ghost use Rattle.register_core.specs.declared.limits.TheConstants.{MAX_KEYS};
+ghost use Rattle.register_core.specs.Verdict.{max_keys};
 ghost use Rattle.sql_steps.specs.Steps.{Steps, Transacts};
 ghost use Rattle.register_store.specs.Change.{made_count};
 ghost use Rattle.register_store.specs.Making.{Makes, HasKeys};
 ghost use Rattle.register_desk.specs.Step.{with_request};
 
 use moment_core::Moment;
-use register_core::{Change, MAX_KEYS};
+use register_core::Change;
 use register_store::{StoreError, advance_due, record_request, write_change};
 use sqlite::{Alter, Connection, Transaction};
 
 /// How many keys there are after the change.
 pub(crate) fn keys_after(keys: u32, change: &Change) -> u32
-    requires { keys ≤ MAX_KEYS }
+    requires { keys ≤ max_keys }
     ensures { result ≡ keys + made_count change.now }
 {
     match change {
@@ -31,7 +31,7 @@ fn write_request<S: Alter>(
     at: Moment,
     change: &Change,
 ) -> Result<(), StoreError>
-    requires within { keys ≤ MAX_KEYS }
+    requires within { keys ≤ max_keys }
     requires later { latest ≤ at }
     ensures same_reference { tx.new.conn.ghost_name ≡ tx.old.conn.ghost_name }
     ensures written { Steps S.Store (λ _. Makes (HasKeys keys) (with_request keys at change.now))
@@ -51,7 +51,7 @@ pub(crate) fn commit_request<S: Alter>(
     change: &Change,
 ) -> Result<(), StoreError>
     requires idle { connection.old.in_transaction ≡ false }
-    requires within { keys ≤ MAX_KEYS }
+    requires within { keys ≤ max_keys }
     requires later { latest ≤ at }
     ensures idle { connection.new.in_transaction ≡ false }
     ensures written { Transacts S.Store (Makes (HasKeys keys) (with_request keys at change.now))

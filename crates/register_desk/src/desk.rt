@@ -1,6 +1,6 @@
 //! The register over a database, and the only way to change it.
 ghost use Rattle.std.specs.Prelude.{◌≡◌, ◌≤◌, false};
-ghost use Rattle.register_core.specs.declared.limits.TheConstants.{MAX_KEYS};
+ghost use Rattle.register_core.specs.Verdict.{max_keys};
 
 use crate::answer::Answer;
 use crate::commit::{commit_request, keys_after};
@@ -9,7 +9,7 @@ use crate::opening::{OpenRefusal, Unopened};
 use crate::record::Record;
 use lifecycle_core::{Usage, usage_of};
 use moment_core::Moment;
-use register_core::{Change, Command, Held, MAX_KEYS, Purpose, Request, View, decide};
+use register_core::{Change, Command, Held, Purpose, Request, View, decide};
 use register_store::{StoreError, create, find_row, load_key};
 use sqlite::{Alter, Connection};
 use std::alloc::Global;
@@ -26,7 +26,7 @@ pub struct Desk<S: Alter> {
     keys: u32,
     is_broken: bool,
     ghost idle: { connection.in_transaction ≡ false },
-    ghost within: { keys ≤ MAX_KEYS },
+    ghost within: { keys ≤ max_keys },
 }
 
 impl<S: Alter> Desk<S> {
@@ -188,7 +188,7 @@ impl<S: Alter> Desk<S> {
     fn accept(&mut self, at: Moment, change: &Change) -> Result<(), End>
         requires whole { IsWhole self.old }
         requires later { self.old.latest ≤ at }
-        requires room { self.old.keys + made_count change.now ≤ MAX_KEYS }
+        requires room { self.old.keys + made_count change.now ≤ max_keys }
         ensures written { Transacts S.Store (Makes (HasKeys self.old.keys)
             (with_request self.old.keys at change.now))
             self.old.connection self.new.connection result }

@@ -1,6 +1,6 @@
 //! Writing what an accepted request changes.
 ghost use Rattle.std.specs.Prelude.{◌≡◌, ◌<◌, ◌≤◌, ◌+◌};
-ghost use Rattle.register_core.specs.declared.limits.TheConstants.{MAX_KEYS};
+ghost use Rattle.register_core.specs.Verdict.{max_keys};
 ghost use Rattle.sql_steps.specs.Steps.{Steps};
 ghost use Rattle.register_store.specs.Making.{Makes, Always, HasKeys, with_counts};
 ghost use Rattle.register_store.specs.Change.{with_custody, with_change};
@@ -11,7 +11,7 @@ use crate::custody::{Role, change_role, end_approvals};
 use crate::error::StoreError;
 use crate::key_row::{add_key, update_key};
 use moment_core::Moment;
-use register_core::{Change, CustodyChange, MAX_KEYS};
+use register_core::{Change, CustodyChange};
 use sqlite::{Alter, Transaction, params};
 
 /// Writes what becomes of the custody of the key with this number.
@@ -53,7 +53,7 @@ pub fn write_change<S: Alter>(
     keys: u32,
     change: &Change,
 ) -> Result<(), StoreError>
-    requires { keys ≤ MAX_KEYS }
+    requires { keys ≤ max_keys }
     ensures same_reference { tx.new.conn.ghost_name ≡ tx.old.conn.ghost_name }
     ensures written { Steps S.Store (λ _. Makes (HasKeys keys) (with_change change.now))
         tx.old.conn.now tx.new.conn.now result }

@@ -1,6 +1,6 @@
 //! A key in each of the six states, and what is decided on it.
 ghost use Rattle.std.specs.Prelude.{◌≤◌, IfOk};
-ghost use Rattle.register_core.specs.declared.limits.TheConstants.{MAX_KEYS};
+ghost use Rattle.register_core.specs.Verdict.{max_keys};
 ghost use Rattle.register_core.specs.Decision.{IsRightKey};
 
 use lifecycle_core::{Dates, Row, State, state_of};
@@ -58,7 +58,7 @@ pub fn view_with(
     custodians: &[&str],
     approvals: &[&str],
 ) -> Result<View, Fail>
-    ensures within { IfOk result (λ view. view.keys ≤ MAX_KEYS) }
+    ensures within { IfOk result (λ view. view.keys ≤ max_keys) }
     ensures right { IfOk result (λ view. IsRightKey view.key view.latest) }
 {
     let latest = Moment::new(600).ok_or("a moment")?;
@@ -80,7 +80,7 @@ pub fn view_with(
 /// The view of the key in this state at 1000, where cat, dan and eve are custodians, and cat and
 /// dan have approved.
 pub fn view_in(alloc: Global, state: State) -> Result<View, Fail>
-    ensures within { IfOk result (λ view. view.keys ≤ MAX_KEYS) }
+    ensures within { IfOk result (λ view. view.keys ≤ max_keys) }
     ensures right { IfOk result (λ view. IsRightKey view.key view.latest) }
 {
     view_with(
@@ -93,7 +93,7 @@ pub fn view_in(alloc: Global, state: State) -> Result<View, Fail>
 
 /// The answer to the request.
 pub fn answer_by(view: &View, request: &Request) -> Result<Reply, Refusal>
-    requires within { view.now.keys ≤ MAX_KEYS }
+    requires within { view.now.keys ≤ max_keys }
     requires right { IsRightKey view.now.key view.now.latest }
 {
     match decide(view, request) {
@@ -104,7 +104,7 @@ pub fn answer_by(view: &View, request: &Request) -> Result<Reply, Refusal>
 
 /// What becomes of the view's key by the request, if that is accepted.
 pub fn change_by(view: &View, request: &Request) -> Option<Change>
-    requires within { view.now.keys ≤ MAX_KEYS }
+    requires within { view.now.keys ≤ max_keys }
     requires right { IsRightKey view.now.key view.now.latest }
 {
     match decide(view, request) {
@@ -132,7 +132,7 @@ fn outcome_of(decision: Result<Accept, Refusal>) -> Option<Result<State, Refusal
 
 /// The state that key 1 has after the request, or the refusal.
 pub fn outcome_by(view: &View, request: &Request) -> Option<Result<State, Refusal>>
-    requires within { view.now.keys ≤ MAX_KEYS }
+    requires within { view.now.keys ≤ max_keys }
     requires right { IsRightKey view.now.key view.now.latest }
 {
     outcome_of(decide(view, request))
