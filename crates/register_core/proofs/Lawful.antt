@@ -3,8 +3,10 @@ use Rattle.std.proofs.Common.{◌≡◌, ◌+◌, ◌≤◌, Bool, true, false, 
 use Rattle.std.specs.Prelude.{is_none}
 use Rattle.std.proofs.lemmas.List.{append-nil, length-append, map-append}
 use Rattle.std.proofs.lemmas.List.Sums.{fold-append}
+use Rattle.std.specs.List.{AllByRecursion}
 use Rattle.register_core.specs.declared.request.Request.{Request}
 use Rattle.register_core.specs.declared.reply.Refusal.{Refusal}
+use Rattle.register_core.specs.Request.{IsRequest}
 use Rattle.register_core.specs.Verdict.{verdict}
 use Rattle.register_core.specs.Fold.{history_after, history, IsLawful}
 use Rattle.register_core.proofs.Folds.{history_within}
@@ -12,32 +14,37 @@ use Rattle.register_core.proofs.Folds.{history_within}
 abbrev items : List Request → List (Option Request)
 items h = map (λ (q : Request). Some q) h
 
+-- what holds of each of a list and of one behind it holds of each
+pub all_more : {X : Type 0} (P : X → Type 0) (xs : List X) (x : X) → AllByRecursion P xs → P x → AllByRecursion P (xs ++ x ∷ [])
+all_more P [] x all here = (here, tt)
+all_more P (y ∷ ys) x all here = (all.0, all_more P ys x all.1 here)
+
 lawful_grows : (h : List Request) (q : Request) → IsLawful h → history [] (items (h ++ q ∷ [])) ≡ history_after h (Some q)
 lawful_grows h q lawful =
     ap (history []) (map-append (λ (p : Request). Some p) h (q ∷ []))
     ∙ fold-append history_after [] (items h) (Some q ∷ [])
-    ∙ ap (λ (g : List Request). history_after g (Some q)) lawful
+    ∙ ap (λ (g : List Request). history_after g (Some q)) lawful.accepted
 
 either : (b : Bool) → (b ≡ true) ⊎ (b ≡ false)
 either true = inl refl
 either false = inr refl
 
-pub lawful_after : (h : List Request) (q : Request) → IsLawful h → IsLawful (history_after h (Some q))
-lawful_after h q lawful =
+pub lawful_after : (h : List Request) (q : Request) → IsRequest q → IsLawful h → IsLawful (history_after h (Some q))
+lawful_after h q request lawful =
     let grown = lawful_grows h q lawful in
     elim (either (is_none (verdict h q))) [
       | inl accepted ↦
           let same : history_after h (Some q) ≡ h ++ q ∷ [] = ap (λ (b : Bool). cond b (h ++ q ∷ []) h) accepted in
-          subst IsLawful (sym same) (grown ∙ same)
+          subst IsLawful (sym same) (record { in_range = all_more IsRequest h q lawful.in_range request; accepted = grown ∙ same })
       | inr refused ↦
           let same : history_after h (Some q) ≡ h = ap (λ (b : Bool). cond b (h ++ q ∷ []) h) refused in
           subst IsLawful (sym same) lawful
     ]
 
 -- the history with an accepted request is lawful
-pub lawful_with : (h : List Request) (q : Request) → IsLawful h → verdict h q ≡ None → IsLawful (h ++ q ∷ [])
-lawful_with h q lawful accepted =
-    subst IsLawful (ap (λ (refusal : Option Refusal). cond (is_none refusal) (h ++ q ∷ []) h) accepted) (lawful_after h q lawful)
+pub lawful_with : (h : List Request) (q : Request) → IsRequest q → IsLawful h → verdict h q ≡ None → IsLawful (h ++ q ∷ [])
+lawful_with h q request lawful accepted =
+    subst IsLawful (ap (λ (refusal : Option Refusal). cond (is_none refusal) (h ++ q ∷ []) h) accepted) (lawful_after h q request lawful)
 
 history_length : (later : List Request) (h : List Request) → length (history h (items later)) ≤ length h + length later
 history_length [] h = omega arith
@@ -48,17 +55,17 @@ none_from_test None e = refl
 none_from_test (Some refusal) e = absurd cc
 
 module _ (P : List Request → Type 0) (step : (h : List Request) (q : Request) → IsLawful h → verdict h q ≡ None → P h → P (h ++ q ∷ [])) where
-  lawful_from : (later h : List Request) → IsLawful h → P h → history h (items later) ≡ h ++ later → P (h ++ later)
-  lawful_from [] h lawful holds whole = subst P (sym (append-nil h)) holds
-  lawful_from (q ∷ later) h lawful holds whole = by (is_none (verdict h q)) refl whole (lawful_from later (h ++ q ∷ []))
+  lawful_from : (later h : List Request) → AllByRecursion IsRequest later → IsLawful h → P h → history h (items later) ≡ h ++ later → P (h ++ later)
+  lawful_from [] h each lawful holds whole = subst P (sym (append-nil h)) holds
+  lawful_from (q ∷ later) h each lawful holds whole = by (is_none (verdict h q)) refl whole (lawful_from later (h ++ q ∷ []) each.1)
     where
       by : (b : Bool) → is_none (verdict h q) ≡ b → history (cond b (h ++ q ∷ []) h) (items later) ≡ h ++ q ∷ later
           → (IsLawful (h ++ q ∷ []) → P (h ++ q ∷ []) → history (h ++ q ∷ []) (items later) ≡ (h ++ q ∷ []) ++ later → P ((h ++ q ∷ []) ++ later)) → P (h ++ q ∷ later)
       by true e rest next =
           let accepted = none_from_test (verdict h q) e in
-          subst P (append_assoc h (q ∷ []) later) (next (lawful_with h q lawful accepted) (step h q lawful accepted holds) (rest ∙ sym (append_assoc h (q ∷ []) later)))
+          subst P (append_assoc h (q ∷ []) later) (next (lawful_with h q each.0 lawful accepted) (step h q lawful accepted holds) (rest ∙ sym (append_assoc h (q ∷ []) later)))
       by false e rest next =
           absurd (omega (arith, ap length rest, history_length later h, length-append h (q ∷ later)))
 
   pub lawful_holds : P [] → (h : List Request) → IsLawful h → P h
-  lawful_holds first h lawful = lawful_from h [] refl first lawful
+  lawful_holds first h lawful = lawful_from h [] lawful.in_range (record { in_range = tt; accepted = refl }) first lawful.accepted

@@ -13,6 +13,7 @@ pub mod Lines
 pub mod Refusals
 pub mod Decisions
 pub mod Lawful
+pub mod Ranges
 pub mod OnKey
 pub mod CustodyStay
 pub mod Dating

@@ -1,9 +1,11 @@
 -- What a list of items makes of a history, and what they are answered. An item is a request, or none for a line that is no request.
 use Rattle.std.specs.Prelude.{◌≡◌, List, [], ◌∷◌, ◌++◌, map, fold, Option, None, Some, Result, Err, is_none, if◌then◌else◌}
+use Rattle.std.specs.List.{AllByRecursion}
 use Rattle.register_core.specs.declared.request.Request.{Request}
 use Rattle.register_core.specs.declared.reply.Reply.{Reply}
 use Rattle.register_core.specs.declared.reply.Refusal.{Refusal}
 use Rattle.register_core.specs.declared.reply.Refusal.TheVariants.{BadLine}
+use Rattle.register_core.specs.Request.{IsRequest}
 use Rattle.register_core.specs.Verdict.{verdict, answer}
 
 -- the history after an item: with the request at its end where that is accepted, else as it was
@@ -25,6 +27,7 @@ abbrev pub answers : List Request → List (Option Request) → List (Result Rep
 answers h [] = []
 answers h (item ∷ items) = answer_to h item ∷ answers (history_after h item) items
 
--- a list of requests that the register comes to have accepted: each is accepted behind those before it
-abbrev pub IsLawful : List Request → Type 0
-IsLawful h = history [] (map (λ q. Some q) h) ≡ h
+-- a list of requests that the register comes to have accepted: each is in its range, and accepted behind those before it
+pub record IsLawful (h : List Request) : Type 0 where
+  pub in_range : AllByRecursion IsRequest h
+  pub accepted : history [] (map (λ q. Some q) h) ≡ h

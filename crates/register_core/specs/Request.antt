@@ -1,5 +1,5 @@
 -- Requests in their ranges, and the one line of each. All of it is this register's own.
-use Rattle.std.specs.Prelude.{◌≡◌, false, ℕ, ◌≤◌, List, ◌++◌, length, codes, decimal, Option, None, Some}
+use Rattle.std.specs.Prelude.{◌≡◌, Bool, true, false, ◌&&◌, nat_lt, ℕ, ◌≤◌, List, ◌++◌, length, codes, decimal, Option, None, Some}
 use Rattle.moment_core.specs.Moment.{IsMoment}
 use Rattle.register_core.specs.Name.{IsName}
 use Rattle.register_core.specs.Number.{IsNumber}
@@ -11,6 +11,7 @@ use Rattle.register_core.specs.declared.request.Command.TheVariants.{Register, A
 use Rattle.register_core.specs.declared.request.Edit.{Edit}
 use Rattle.register_core.specs.declared.request.Edit.TheVariants.{Keep, Clear, Set}
 use Rattle.lifecycle_core.specs.Reason.{reason_code, is_compromise}
+use Rattle.register_core.specs.Subject.{named}
 
 -- how many bytes a request line has at most
 abbrev pub max_line_length : ℕ
@@ -52,6 +53,20 @@ pub record IsRequest (q : Request) : Type 0 where
   pub caller : IsName q.caller
   pub number : IsNumber q.number
   pub command : IsCommand q.command
+
+-- What the types of a command's parts leave open of these ranges. A key that is named has a number from 1 on,
+abbrev pub is_numbered : Option ℕ → Bool
+is_numbered None = true
+is_numbered (Some key) = nat_lt 0 key
+
+-- and an occurrence is given only with a compromise.
+abbrev pub is_dated : Command → Bool
+is_dated (Revoke key reason (Some occurrence)) = is_compromise reason
+is_dated c = true
+
+-- the command has a text
+abbrev pub has_text : Command → Bool
+has_text c = is_numbered (named c) && is_dated c
 
 -- ---- texts
 

@@ -80,6 +80,7 @@ pub enum Command {
 
 impl Command {
     ghost use Rattle.std.specs.Prelude.{◌≡◌};
+    ghost use Rattle.register_core.specs.Request.{is_dated, has_text};
     ghost use Rattle.register_core.specs.Subject.{named};
 
     /// The number of the key that the command names, if it names one.
@@ -98,6 +99,33 @@ impl Command {
             | Command::Withdraw { key }
             | Command::Destroy { key } => Some(key),
         }
+    }
+
+    /// An occurrence is given only with a reason that is a compromise.
+    fn is_dated(&self) -> bool
+        ensures { result ≡ is_dated self.now }
+    {
+        match *self {
+            Command::Revoke {
+                reason,
+                occurrence: Some(_),
+                ..
+            } => reason.is_compromise(),
+            _ => true,
+        }
+    }
+
+    /// Whether the command has a text, as that of each line has: a key that it names has a number from 1 on, and an
+    /// occurrence is given only with a reason that is a compromise (this register's own). The rest is in its ranges by
+    /// its types.
+    pub fn has_text(&self) -> bool
+        ensures { result ≡ has_text self.now }
+    {
+        let is_numbered = match self.key() {
+            Some(key) => key > 0,
+            None => true,
+        };
+        is_numbered && self.is_dated()
     }
 }
 

@@ -17,7 +17,7 @@ module _ {S : Type 0} (g : store.Ghosts S) where
       → ((s : S) (db : Trees) → IsTrue (g.view s).is_open → g.recovers s db → db ≡ (g.view s).committed)
       → desk.latest ≡ 0 → desk.keys ≡ 0 → before.now.schema ≡ no_schema → StandsFor g desk []
   empty_stands before desk x made settled latest_is keys_are empty = record {
-    lawful = refl;
+    lawful = record { in_range = tt; accepted = refl };
     latest_is = latest_is;
     keys_are = keys_are;
     sees = λ whole clean.

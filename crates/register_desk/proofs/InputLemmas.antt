@@ -104,10 +104,6 @@ are_items_more [] (i ∷ items) line item p q = absurd p
 are_items_more (l ∷ lines) [] line item p q = absurd p
 are_items_more (l ∷ lines) (i ∷ items) line item p q = (p.0, are_items_more lines items line item p.1 q)
 
-pub all_more : {X : Type 0} (P : X → Type 0) (xs : List X) (x : X) → AllByRecursion P xs → P x → AllByRecursion P (xs ++ x ∷ [])
-all_more P [] x p q = (q, tt)
-all_more P (y ∷ xs) x p q = (p.0, all_more P xs x p.1 q)
-
 pub with_line_feeds_more : (lines : List (List ℕ)) (line : List ℕ) → with_line_feeds (lines ++ line ∷ []) ≡ with_line_feeds lines ++ (line ++ LINE_FEED ∷ [])
 with_line_feeds_more [] line = append-nil (line ++ LINE_FEED ∷ [])
 with_line_feeds_more (l ∷ lines) line =

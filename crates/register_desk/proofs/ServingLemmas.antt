@@ -27,7 +27,8 @@ use Rattle.register_desk.specs.Register.{StandsFor, LeavesOneOf}
 use Rattle.register_desk.specs.Leaving.{GoesOn, IsBroken}
 use Rattle.register_desk.specs.Run.{TookBytes, Wrote, answer_line, answer_lines, Answered, AnsweredInPart, RunsOver, AreNoRequests, bad_lines, LeavesDesk, Refused, RefusedInPart, RunsBroken, StandsForSome}
 use Rattle.register_desk.specs.Serving.{AnswersItem, WasClean, ServesItem, LeavesItem, WritesInPart, Took, Served, IsNextLine, ServesTo, ServedAll, IsQuiet, Quiet}
-use Rattle.register_desk.proofs.InputLemmas.{lines_begin, none_left, OneRequest, items_begin, no_more_items, are_items_more, all_more, with_line_feeds_more}
+use Rattle.register_desk.proofs.InputLemmas.{lines_begin, none_left, OneRequest, items_begin, no_more_items, are_items_more, with_line_feeds_more}
+use Rattle.register_core.proofs.Lawful.{all_more}
 
 -- ---- known bytes
 

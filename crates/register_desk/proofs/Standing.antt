@@ -19,6 +19,7 @@ use Rattle.register_core.specs.Fold.{history_after}
 use Rattle.register_core.specs.History.{latest, count}
 use Rattle.register_core.specs.Laws.{IsAccepted}
 use Rattle.register_core.specs.Subject.{Subject, Makes, Names, NoKey, subject, count_by, made_by}
+use Rattle.register_core.specs.Request.{IsRequest}
 use Rattle.register_core.specs.Verdict.{judge, max_keys, named_key, too_many, verdict}
 use Rattle.register_core.proofs.Histories.{count_grows, latest_grows}
 use Rattle.register_core.proofs.Lawful.{lawful_after}
@@ -66,7 +67,7 @@ room_left last keys key q change within accepted is =
     by (Names k) names = omega arith
     by NoKey none = omega arith
 
-module _ {S : Type 0} (g : store.Ghosts S) (old : Desk S g) (h : List Request) (q : Request) (stands : StandsFor g old h) (accepted : verdict h q ≡ None)
+module _ {S : Type 0} (g : store.Ghosts S) (old : Desk S g) (h : List Request) (q : Request) (request : IsRequest q) (stands : StandsFor g old h) (accepted : verdict h q ≡ None)
     (change : Change) (key : Option Held) (key_is : key ≡ named_key h q.command) (change_is : change ≡ change_by key q) (leads : LeadsTo h q change) where
   abbrev grown : List Request
   grown = h ++ q ∷ []
@@ -114,7 +115,7 @@ module _ {S : Type 0} (g : store.Ghosts S) (old : Desk S g) (h : List Request) (
       → OnOk r (new.latest ≡ q.moment) → OnOk r (new.keys ≡ old.keys + made_count change) → OnOk r (StandsFor g new (history_after h (Some q)))
   stands_after new (Err e) whole written settled moment counted = tt
   stands_after new (Ok x) whole written settled moment counted = record {
-    lawful = lawful_after h q stands.lawful;
+    lawful = lawful_after h q request stands.lawful;
     latest_is = moment ∙ sym (latest_grows h q) ∙ ap latest (sym after_is);
     keys_are = counted ∙ ap (λ (n : ℕ). n + made_count change) stands.keys_are ∙ ap (λ (n : ℕ). count h + n) counted_after ∙ sym (count_grows h q) ∙ ap count (sym after_is);
     sees = λ still clean.

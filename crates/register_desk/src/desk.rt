@@ -9,7 +9,7 @@ use crate::opening::{OpenRefusal, Unopened};
 use crate::record::Record;
 use lifecycle_core::{Usage, usage_of};
 use moment_core::Moment;
-use register_core::{Change, Command, Held, Purpose, Request, View, decide};
+use register_core::{Change, Command, Held, Purpose, Refusal, Request, View, decide};
 use register_store::{StoreError, create, find_row, load_key};
 use sqlite::{Alter, Connection};
 use std::alloc::Global;
@@ -34,6 +34,7 @@ impl<S: Alter> Desk<S> {
     ghost use Rattle.std.specs.Prelude.{IfOk, IfErr, OnOk, OnErr};
     ghost use Rattle.sqlite.specs.Held.{state};
     ghost use Rattle.register_core.specs.declared.request.Request.{Request};
+    ghost use Rattle.register_core.specs.Request.{IsRequest, has_text};
     ghost use Rattle.register_core.specs.History.{latest, count};
     ghost use Rattle.register_core.specs.Verdict.{answer, named_key};
     ghost use Rattle.register_core.specs.Decision.{IsRightKey};
@@ -118,7 +119,8 @@ impl<S: Alter> Desk<S> {
         self.keys
     }
 
-    /// Applies a request: it is accepted, and then acts and is kept, or refused, and then changes nothing.
+    /// Applies a request: it is accepted, and then acts and is kept, or refused, and then changes nothing. A value that
+    /// is no line's request, as an occurrence with a reason that is no compromise, is [`Refusal::BadLine`].
     ///
     /// # Errors
     /// [`End::Store`] where the database refused, which breaks the desk: the register is as before or has the whole
@@ -128,10 +130,12 @@ impl<S: Alter> Desk<S> {
         ensures ends { Ends self.old self.new result }
         ensures clean { IsClean S.Store self.new → IsClean S.Store self.old }
         // The answer is the verdict over the history that the desk stands for.
-        ensures answer { (h : List Request) → StandsFor S.Store self.old h
+        ensures answer { (h : List Request) → StandsFor S.Store self.old h → IsRequest request.now
             → IsClean S.Store self.new → IfOk result (λ given. answered given ≡ answer h request.now) }
+        ensures no_request { has_text request.now.command ≡ false
+            → IfOk result (λ given. given ≡ Answer.Refused Refusal.BadLine) }
         // The desk then stands for the history with the request at its end, if that was accepted.
-        ensures stands { (h : List Request) → StandsFor S.Store self.old h
+        ensures stands { (h : List Request) → StandsFor S.Store self.old h → IsRequest request.now
             → IsClean S.Store self.new → OnOk result (StandsFor S.Store self.new (history h (Some request.now ∷ []))) }
         ensures err { (h : List Request) → StandsFor S.Store self.old h
             → OnErr result (StandsFor S.Store self.new h) }
@@ -141,13 +145,19 @@ impl<S: Alter> Desk<S> {
         ensures unchanged { IfErr result (λ end. end ≢ End.Store
             → ChangesNothing S.Store self.old self.new) }
         // After the end 31 a stop leaves the register without the request, or with it where it is to be accepted.
-        ensures store { (h : List Request) → StandsFor S.Store self.old h → IsClean S.Store self.new
-            → IfErr result (λ end. end ≡ End.Store
+        ensures store { (h : List Request) → StandsFor S.Store self.old h → IsRequest request.now
+            → IsClean S.Store self.new → IfErr result (λ end. end ≡ End.Store
             → LeavesEither S.Store h (history h (Some request.now ∷ [])) self.new) }
         ensures tables { (t : Tables) → IsOver S.Store self.old t → IsClean S.Store self.new
             → IfErr result (λ end. end ≡ End.Store
             → LeavesWithChange S.Store t request.now.moment self.new) }
     {
+        if self.is_broken {
+            return Err(End::Broken);
+        }
+        if !request.command.has_text() {
+            return Ok(Answer::Refused(Refusal::BadLine));
+        }
         let key = self.named(&request.command)?;
         let view = View {
             latest: self.latest,
@@ -165,15 +175,13 @@ impl<S: Alter> Desk<S> {
 
     /// The key that the command names, if it names one that is there, in its state at the latest moment.
     fn named(&mut self, command: &Command) -> Result<Option<Held>, End>
+        requires { IsWhole self.old }
         ensures ends { Ends self.old self.new result }
         ensures reads { ChangesNothing S.Store self.old self.new }
         ensures right { IfOk result (λ key. IsRightKey key self.old.latest) }
         ensures named { (h : List Request) → StandsFor S.Store self.old h → IsClean S.Store self.new
             → IfOk result (λ key. key ≡ named_key h command.now) }
     {
-        if self.is_broken {
-            return Err(End::Broken);
-        }
         let Some(number) = command.key() else {
             return Ok(None);
         };

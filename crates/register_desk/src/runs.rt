@@ -1,9 +1,9 @@
 //! A run over request lines: each line is read, applied and answered before the next one is looked at.
 ghost use Rattle.std.specs.Prelude.{◌≡◌, ◌≢◌, ◌⊎◌, ◌+◌, ◌*◌, ◌≤◌, ◌<◌, ℕ, List, [], ◌∷◌, length};
-ghost use Rattle.std.specs.Prelude.{Some, None, Option, true, false, IfOk, IfErr, OnOk, OnErr};
+ghost use Rattle.std.specs.Prelude.{Some, None, Option, true, false, IfOk, IfErr, IfSome, OnOk, OnErr};
 ghost use Rattle.register_core.specs.declared.request.Request.{Request};
 ghost use Rattle.register_core.specs.declared.line.TheConstants.{MAX_LINE_LENGTH, MAX_REPLY_LENGTH};
-ghost use Rattle.register_core.specs.Request.{IsItem};
+ghost use Rattle.register_core.specs.Request.{IsItem, IsRequest};
 ghost use Rattle.streams.specs.Watched.{IsFaulted};
 ghost use Rattle.register_desk.specs.Input.{HasItems};
 ghost use Rattle.register_desk.specs.Leaving.{EndsBy, GoesOn, IsBroken, IsClean};
@@ -54,12 +54,14 @@ struct Stop {
 fn item_of(lines: &Lines<MAX_LINE_LENGTH>) -> Option<Request>
     ensures { (line : List ℕ) → lines.now.line_length ≡ length line
         → (length line ≤ MAX_LINE_LENGTH → lines.now.line ≡ line) → IsItem line result }
+    ensures in_range { IfSome result IsRequest }
 {
     read_request(lines.line()?)
 }
 
 /// Applies the item, and gives the line of its answer.
 fn answer_item<S: Alter>(desk: &mut Desk<S>, item: &Option<Request>) -> Result<ReplyLine, End>
+    requires { IfSome item.now IsRequest }
     ensures answers { IfOk result (λ line. AnswersItem S.Store desk.old desk.new item.now line) }
     ensures clean { OnOk result (WasClean S.Store desk.old desk.new) }
     ensures short { IfOk result (λ line. length line ≤ MAX_REPLY_LENGTH) }
@@ -81,6 +83,7 @@ fn answer_line<W: Write, S: Alter>(
     writer: &mut Watched<W>,
     desk: &mut Desk<S>,
 ) -> Result<usize, Stop>
+    requires { IfSome item.now IsRequest }
     ensures serves { IfOk result (λ count. ServesItem S.Store desk.old desk.new
         (W.contents writer.old.inner) (W.contents writer.new.inner) item.now count) }
     ensures short { IfOk result (λ count. count ≤ MAX_REPLY_LENGTH) }

@@ -15,6 +15,7 @@ use Rattle.sqlite_schema.specs.declared.schema.Index.{Index}
 use Rattle.sqlite_tied.specs.Compute.{everything}
 use Rattle.sql_steps.proofs.Inserting.{edit, puts}
 use Rattle.sql_steps.proofs.Statements.{cast_int, cast_null}
+use Rattle.register_core.proofs.Lawful.{all_more}
 use Rattle.register_core.specs.declared.key.Key.{Key}
 use Rattle.register_store.specs.declared.table.TableName.TheVariants.{Keys}
 use Rattle.register_store.specs.Tables.{keys, place_of, IsKey, key_cells, key_row}
@@ -34,10 +35,6 @@ insert_parts : (more : List Index) → (command_of (understood (schema_with more
 unfolding understood everything
 insert_parts more = (refl, (refl, refl))
 
-all_append : (P : Key → Type 0) (ks : List Key) (k : Key) → AllByRecursion P ks → P k → AllByRecursion P (ks ++ k ∷ [])
-all_append P [] k all own = (own, tt)
-all_append P (j ∷ ks) k all own = (all.0, all_append P ks k all.1 own)
-
 -- the values of the statement, by their numbers
 abbrev pub params : ℕ → Key → Cells
 params number k = Int (pos number) ∷ key_cells k
@@ -48,4 +45,4 @@ adds_key number k is old new count h t holds next =
     let wrote = puts keys (params number k) terms 13 insert_text (schema_with more) (place_of Keys) refl (insert_parts more).0 (insert_parts more).1 (keys_idle more []) old new count h holds.schema.is in
     let news : (edit keys (params number k) terms 13 (schema_with more) old holds.schema.is (place_of Keys)).news ≡ key_row (number, k) ∷ [] = simp (cast_int, cast_null) in
     let rows = ap (put_all (rows_of Keys old.now)) news ∙ ap (put_row (key_row (number, k))) (holds.shown Keys) ∙ put_next t.keys number k next in
-    holds_with Keys (t.keys ++ k ∷ []) t old.now new.now _ holds wrote (all_append IsKey t.keys k (holds.in_range Keys) is) rows
+    holds_with Keys (t.keys ++ k ∷ []) t old.now new.now _ holds wrote (all_more IsKey t.keys k (holds.in_range Keys) is) rows

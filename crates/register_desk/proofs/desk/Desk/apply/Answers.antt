@@ -20,39 +20,39 @@ accept-requires-clause-room g c =
     room_left mid.latest mid.keys c.in_ok-key.key c.args.request.now c.in-Ok.accept.change (search rules) c.in-Ok.ensures.accepted c.in-Ok.ensures.change
 
 pub returns-in_err-accept-in-Ok-clause-store : goal.returns-in_err-accept-in-Ok-clause-store
-returns-in_err-accept-in-Ok-clause-store g c h stands clean =
+returns-in_err-accept-in-Ok-clause-store g c h stands request clean =
     let mid = c.named.new.self in
     let early : IsClean g.S.Store mid = omega (arith, c.in_err-accept-in-Ok.ensures.written.stop.clean, clean) in
     let it = viewed g.S.Store mid h c.args.request.now c.in_ok-key.key (stands_still g.S.Store _ _ c.in_ok-key.ensures.reads h stands) (c.in_ok-key.ensures.named h stands) early in
     at_any_end _ c.from_residual-in_err-accept-in-Ok.result (λ end is.
-    leaves_one g.S.Store mid h c.args.request.now it.stands (c.in-Ok.ensures.verdict h it.view).1 c.in-Ok.accept.change c.in_ok-key.key it.named c.in-Ok.ensures.change (c.in-Ok.ensures.leads h it.view).1
+    leaves_one g.S.Store mid h c.args.request.now request it.stands (c.in-Ok.ensures.verdict h it.view).1 c.in-Ok.accept.change c.in_ok-key.key it.named c.in-Ok.ensures.change (c.in-Ok.ensures.leads h it.view).1
     c.accept.new.self _ c.in_ok-key.ensures.ends.1 c.in_err-accept-in-Ok.ensures.written clean)
 
 pub returns-in-Err-clause-answer : goal.returns-in-Err-clause-answer
-returns-in-Err-clause-answer g c h stands clean =
+returns-in-Err-clause-answer g c h stands request clean =
     let q = c.args.request.now in
     let it = viewed g.S.Store c.named.new.self h q c.in_ok-key.key (stands_still g.S.Store _ _ c.in_ok-key.ensures.reads h stands) (c.in_ok-key.ensures.named h stands) clean in
     ap (λ v. answer_by v (reply h q)) (sym (c.in-Err.ensures.verdict h it.view).0)
 
 pub returns-in-Err-clause-stands : goal.returns-in-Err-clause-stands
-returns-in-Err-clause-stands g c h stands clean =
+returns-in-Err-clause-stands g c h stands request clean =
     let q = c.args.request.now in
     let it = viewed g.S.Store c.named.new.self h q c.in_ok-key.key (stands_still g.S.Store _ _ c.in_ok-key.ensures.reads h stands) (c.in_ok-key.ensures.named h stands) clean in
     subst (StandsFor g.S.Store c.named.new.self) (ap (λ v. cond (is_none v) (h ++ q ∷ []) h) (sym (c.in-Err.ensures.verdict h it.view).0)) it.stands
 
 pub returns-clause-answer : goal.returns-clause-answer
-returns-clause-answer g c h stands clean =
+returns-clause-answer g c h stands request clean =
     let q = c.args.request.now in
     let early : IsClean g.S.Store c.named.new.self = omega (arith, c.in_ok-accept-in-Ok.ensures.written.stop.clean, clean) in
     let it = viewed g.S.Store c.named.new.self h q c.in_ok-key.key (stands_still g.S.Store _ _ c.in_ok-key.ensures.reads h stands) (c.in_ok-key.ensures.named h stands) early in
     ap (λ (r : Reply). Ok r) (c.in-Ok.ensures.leads h it.view).0 ∙ ap (λ v. answer_by v (reply h q)) (sym (c.in-Ok.ensures.verdict h it.view).1)
 
 pub returns-clause-stands : goal.returns-clause-stands
-returns-clause-stands g c h stands clean =
+returns-clause-stands g c h stands request clean =
     let mid = c.named.new.self in
     let early : IsClean g.S.Store mid = omega (arith, c.in_ok-accept-in-Ok.ensures.written.stop.clean, clean) in
     let it = viewed g.S.Store mid h c.args.request.now c.in_ok-key.key (stands_still g.S.Store _ _ c.in_ok-key.ensures.reads h stands) (c.in_ok-key.ensures.named h stands) early in
-    stands_after g.S.Store mid h c.args.request.now it.stands (c.in-Ok.ensures.verdict h it.view).1 c.in-Ok.accept.change c.in_ok-key.key it.named
+    stands_after g.S.Store mid h c.args.request.now request it.stands (c.in-Ok.ensures.verdict h it.view).1 c.in-Ok.accept.change c.in_ok-key.key it.named
     c.in-Ok.ensures.change (c.in-Ok.ensures.leads h it.view).1 c.accept.new.self (Ok c.in_ok-accept-in-Ok.field-0) c.in_ok-key.ensures.ends.1
     c.in_ok-accept-in-Ok.ensures.written g.met.S.Store.settled c.in_ok-accept-in-Ok.ensures.latest c.in_ok-accept-in-Ok.ensures.keys
 
@@ -77,7 +77,7 @@ pub returns-in_err-key-clause-err : goal.returns-in_err-key-clause-err
 returns-in_err-key-clause-err g c h stands = on_any_end _ c.from_residual.result (stands_still g.S.Store _ _ c.in_err-key.ensures.reads h stands)
 
 pub returns-in_err-key-clause-store : goal.returns-in_err-key-clause-store
-returns-in_err-key-clause-store g c h stands clean =
+returns-in_err-key-clause-store g c h stands request clean =
     of_residual _ c.from_residual.result c.in_err-key.field-0.0 c.from_residual.ensures.1 (λ is trees may.
     let it = leaves_seen g.S.Store _ _ (tables h) _ c.in_err-key.ensures.reads c.in_err-key.ensures.ends stands.sees clean is trees may in
     (it.0, inl it.1, it.2))
