@@ -4,8 +4,7 @@ use Rattle.std.specs.List.{AllByRecursion}
 use Rattle.std.proofs.lemmas.List.{append-nil}
 use Rattle.register_core.specs.declared.request.Request.{Request}
 use Rattle.register_core.specs.Request.{IsLineOf, IsItem}
-use Rattle.streams.specs.declared.lines.TheConstants.{LINE_FEED}
-use Rattle.streams.specs.Lines.{HasNoLineFeed}
+use Rattle.streams.specs.Lines.{line_feed, HasNoLineFeed}
 use Rattle.register_desk.specs.Input.{with_line_feeds, AreItems, HasItems}
 
 -- what is cut off at the first line feed
@@ -14,26 +13,26 @@ pub record SameCut (a b x y : List ℕ) : Type 0 where
   pub back : x ≡ y
 
 -- two lines that begin the same bytes are the same line
-pub first_line : (a b x y : List ℕ) → HasNoLineFeed a → HasNoLineFeed b → a ++ LINE_FEED ∷ x ≡ b ++ LINE_FEED ∷ y → SameCut a b x y
+pub first_line : (a b x y : List ℕ) → HasNoLineFeed a → HasNoLineFeed b → a ++ line_feed ∷ x ≡ b ++ line_feed ∷ y → SameCut a b x y
 first_line [] [] x y p q e = record { front = refl; back = cc }
-first_line [] (d ∷ b) x y p q e = let same : LINE_FEED ≡ d = cc in absurd (q.0 (sym same))
-first_line (c ∷ a) [] x y p q e = let same : c ≡ LINE_FEED = cc in absurd (p.0 same)
+first_line [] (d ∷ b) x y p q e = let same : line_feed ≡ d = cc in absurd (q.0 (sym same))
+first_line (c ∷ a) [] x y p q e = let same : c ≡ line_feed = cc in absurd (p.0 same)
 first_line (c ∷ a) (d ∷ b) x y p q e =
     let head : c ≡ d = cc in
-    let rest : a ++ LINE_FEED ∷ x ≡ b ++ LINE_FEED ∷ y = cc in
+    let rest : a ++ line_feed ∷ x ≡ b ++ line_feed ∷ y = cc in
     let more = first_line a b x y p.1 q.1 rest in
     record { front = ap (λ (n : ℕ). n ∷ a) head ∙ ap (λ (l : List ℕ). d ∷ l) more.front; back = more.back }
 
 -- bytes without a line feed do not begin with a line
-no_line : (a x rest : List ℕ) → HasNoLineFeed rest → a ++ LINE_FEED ∷ x ≡ rest → ⊥
+no_line : (a x rest : List ℕ) → HasNoLineFeed rest → a ++ line_feed ∷ x ≡ rest → ⊥
 no_line [] x [] p e = absurd cc
-no_line [] x (r ∷ rest) p e = let same : LINE_FEED ≡ r = cc in p.0 (sym same)
+no_line [] x (r ∷ rest) p e = let same : line_feed ≡ r = cc in p.0 (sym same)
 no_line (c ∷ a) x [] p e = absurd cc
-no_line (c ∷ a) x (r ∷ rest) p e = let same : a ++ LINE_FEED ∷ x ≡ rest = cc in no_line a x rest p.1 same
+no_line (c ∷ a) x (r ∷ rest) p e = let same : a ++ line_feed ∷ x ≡ rest = cc in no_line a x rest p.1 same
 
-regroup : (line more : List ℕ) (lines : List (List ℕ)) → with_line_feeds (line ∷ lines) ++ more ≡ line ++ LINE_FEED ∷ (with_line_feeds lines ++ more)
+regroup : (line more : List ℕ) (lines : List (List ℕ)) → with_line_feeds (line ∷ lines) ++ more ≡ line ++ line_feed ∷ (with_line_feeds lines ++ more)
 regroup line more lines =
-    append_assoc (line ++ LINE_FEED ∷ []) (with_line_feeds lines) more ∙ append_assoc line (LINE_FEED ∷ []) (with_line_feeds lines ++ more)
+    append_assoc (line ++ line_feed ∷ []) (with_line_feeds lines) more ∙ append_assoc line (line_feed ∷ []) (with_line_feeds lines ++ more)
 
 -- the input has these lines first, then more of them
 pub record Begins (all lines : List (List ℕ)) (x rest : List ℕ) : Type 0 where
@@ -108,10 +107,10 @@ pub all_more : {X : Type 0} (P : X → Type 0) (xs : List X) (x : X) → AllByRe
 all_more P [] x p q = (q, tt)
 all_more P (y ∷ xs) x p q = (p.0, all_more P xs x p.1 q)
 
-pub with_line_feeds_more : (lines : List (List ℕ)) (line : List ℕ) → with_line_feeds (lines ++ line ∷ []) ≡ with_line_feeds lines ++ (line ++ LINE_FEED ∷ [])
-with_line_feeds_more [] line = append-nil (line ++ LINE_FEED ∷ [])
+pub with_line_feeds_more : (lines : List (List ℕ)) (line : List ℕ) → with_line_feeds (lines ++ line ∷ []) ≡ with_line_feeds lines ++ (line ++ line_feed ∷ [])
+with_line_feeds_more [] line = append-nil (line ++ line_feed ∷ [])
 with_line_feeds_more (l ∷ lines) line =
-    ap (λ (bytes : List ℕ). (l ++ LINE_FEED ∷ []) ++ bytes) (with_line_feeds_more lines line) ∙ sym (append_assoc (l ++ LINE_FEED ∷ []) (with_line_feeds lines) (line ++ LINE_FEED ∷ []))
+    ap (λ (bytes : List ℕ). (l ++ line_feed ∷ []) ++ bytes) (with_line_feeds_more lines line) ∙ sym (append_assoc (l ++ line_feed ∷ []) (with_line_feeds lines) (line ++ line_feed ∷ []))
 
 -- an input has one list of items, and one rest
 pub same_input : OneRequest → (bytes : List ℕ) (items others : List (Option Request)) (rest other : List ℕ) → HasItems bytes items rest → HasItems bytes others other → (items ≡ others) × (rest ≡ other)
