@@ -5,7 +5,7 @@
 mod act;
 
 use act::{USAGE, act, report_end};
-use register_desk::End;
+use register_desk::{End, Watched};
 use std::env;
 use std::io::ErrorKind;
 use std::process::ExitCode;
@@ -15,7 +15,15 @@ fn main(rt: HostRuntime) -> ExitCode {
         // The first word is the program's own name.
         Ok(words) => {
             let words = words.count().saturating_sub(1);
-            act(rt.alloc(), words, rt.stdin(), rt.stdout(), &mut rt.stderr())
+            let mut reader = Watched::new(rt.stdin());
+            let mut writer = Watched::new(rt.stdout());
+            act(
+                rt.alloc(),
+                words,
+                &mut reader,
+                &mut writer,
+                &mut rt.stderr(),
+            )
         }
         Err(error) if error.kind() == ErrorKind::OutOfMemory => {
             report_end(End::Memory, &mut rt.stderr())

@@ -15,13 +15,12 @@ use Rattle.register_core.specs.declared.reply.Refusal.{Refusal}
 use Rattle.register_core.specs.declared.reply.Refusal.TheVariants.{BadLine}
 use Rattle.register_core.specs.Request.{IsItem}
 use Rattle.register_core.specs.Fold.{history, history_after, answers, answer_to}
-use Rattle.streams.specs.declared.lines.TheConstants.{LINE_FEED}
 use Rattle.register_desk.specs.declared.end.End.{End}
 use Rattle.register_desk.specs.declared.end.End.TheVariants.{Memory, Store, Broken, ReadFault, WriteFault}
 use Rattle.register_desk.specs.declared.runs.Finish.{Finish}
 use Rattle.register_desk.specs.declared.runs.Finish.TheVariants.{AtEnd, Ended}
 use Rattle.register_desk.specs.declared.desk.Desk.{Desk}
-use Rattle.streams.specs.Lines.{Cut, HasNoLineFeed, Takes}
+use Rattle.streams.specs.Lines.{line_feed, Cut, HasNoLineFeed, Takes}
 use Rattle.register_desk.specs.Input.{with_line_feeds, AreItems, HasItems}
 use Rattle.register_desk.specs.Register.{StandsFor, LeavesOneOf}
 use Rattle.register_desk.specs.Leaving.{GoesOn, IsBroken}
@@ -83,11 +82,11 @@ history_more : (h : List Request) (items : List (Option Request)) (item : Option
 history_more h items item = fold-append history_after h items (item ∷ [])
 
 took_more : (a b c : Option (List ℕ)) (lines : List (List ℕ)) (items : List (Option Request)) (line : List ℕ) (item : Option Request) →
-    Took a b lines items → HasNoLineFeed line → Consumes b c (line ++ LINE_FEED ∷ []) → IsItem line item → Took a c (lines ++ line ∷ []) (items ++ item ∷ [])
+    Took a b lines items → HasNoLineFeed line → Consumes b c (line ++ line_feed ∷ []) → IsItem line item → Took a c (lines ++ line ∷ []) (items ++ item ∷ [])
 took_more a b c lines items line item took unbroken consumed is = record {
   unbroken = all_more HasNoLineFeed lines line took.unbroken unbroken;
   each = are_items_more lines items line item took.each is;
-  consumed = subst (Consumes a c) (sym (with_line_feeds_more lines line)) (consumes_then a b c (with_line_feeds lines) (line ++ LINE_FEED ∷ []) took.consumed consumed);
+  consumed = subst (Consumes a c) (sym (with_line_feeds_more lines line)) (consumes_then a b c (with_line_feeds lines) (line ++ line_feed ∷ []) took.consumed consumed);
 }
 
 module _ {S : Type 0} (g : Ghosts S) where
@@ -127,7 +126,7 @@ module _ {S : Type 0} (g : Ghosts S) where
 
   -- one line more: its item was answered by its whole line and applied
   pub served_more : (a b c v w x : Option (List ℕ)) (kept mid now : Desk S g) (replies count : ℕ) (line : List ℕ) (item : Option Request) →
-      Served g a b v w kept mid replies → HasNoLineFeed line → Consumes b c (line ++ LINE_FEED ∷ []) → IsItem line item →
+      Served g a b v w kept mid replies → HasNoLineFeed line → Consumes b c (line ++ line_feed ∷ []) → IsItem line item →
       ServesItem g mid now w x item count → GoesOn mid now → Served g a c v x kept now (replies + 1)
   served_more a b c v w x kept mid now replies count line item served unbroken consumed is serves goes = record {
     lines = served.lines ++ line ∷ [];

@@ -10,7 +10,7 @@ use Rattle.register_core.specs.declared.reply.Refusal.{Refusal}
 use Rattle.register_core.specs.declared.reply.Refusal.TheVariants.{BadLine}
 use Rattle.register_core.specs.Reply.{reply_text}
 use Rattle.register_core.specs.Fold.{history, answers}
-use Rattle.streams.specs.declared.lines.TheConstants.{LINE_FEED}
+use Rattle.streams.specs.Lines.{line_feed}
 use Rattle.streams.specs.declared.watched.Watched.{Watched}
 use Rattle.streams.specs.Watched.{IsFaulted}
 use Rattle.register_desk.specs.declared.end.End.TheVariants.{Memory, Store, Broken, ReadFault, WriteFault}
@@ -66,7 +66,7 @@ pub record LeavesDesk {S : Type 0} {g : Ghosts S} (old new : Desk S g) (end : Fi
 
 -- the line of an answer, with its line feed
 abbrev pub answer_line : Result Reply Refusal → List ℕ
-answer_line answer = reply_text answer ++ LINE_FEED ∷ []
+answer_line answer = reply_text answer ++ line_feed ∷ []
 
 -- the lines of answers, one after the other
 abbrev pub answer_lines : List (Result Reply Refusal) → List ℕ

@@ -8,13 +8,12 @@ use Rattle.sqlite.specs.Held.{state}
 use Rattle.register_core.specs.declared.request.Request.{Request}
 use Rattle.register_core.specs.Request.{IsItem}
 use Rattle.register_core.specs.Fold.{history, history_after, answers, answer_to}
-use Rattle.streams.specs.declared.lines.TheConstants.{LINE_FEED}
 use Rattle.register_desk.specs.declared.end.End.{End}
 use Rattle.register_desk.specs.declared.end.End.TheVariants.{Memory, Store, Broken, ReadFault, WriteFault}
 use Rattle.register_desk.specs.declared.runs.Finish.{Finish}
 use Rattle.register_desk.specs.declared.runs.Finish.TheVariants.{AtEnd, Ended}
 use Rattle.register_desk.specs.declared.desk.Desk.{Desk}
-use Rattle.streams.specs.Lines.{HasNoLineFeed}
+use Rattle.streams.specs.Lines.{line_feed, HasNoLineFeed}
 use Rattle.register_desk.specs.Input.{with_line_feeds, AreItems}
 use Rattle.register_desk.specs.Leaving.{EndsBy, GoesOn}
 use Rattle.register_desk.specs.Register.{StandsFor, LeavesOneOf}
@@ -32,7 +31,7 @@ pub record Took (before after : Option (List ℕ)) (lines : List (List ℕ)) (it
 -- the next bytes to come are this line, which stands for this item
 pub record IsNextLine (before after : Option (List ℕ)) (line : List ℕ) (item : Option Request) : Type 0 where
   pub unbroken : HasNoLineFeed line
-  pub consumed : Consumes before after (line ++ LINE_FEED ∷ [])
+  pub consumed : Consumes before after (line ++ line_feed ∷ [])
   pub stands_for : IsItem line item
 
 module _ {S : Type 0} (g : Ghosts S) where

@@ -20,7 +20,7 @@ pub enum End {
 }
 
 impl End {
-    ghost use Rattle.register_desk.specs.End.{end_number};
+    ghost use Rattle.register_desk.specs.End.{end_number, exit_status};
 
     /// The end's number.
     pub fn number(self) -> u8
@@ -32,6 +32,16 @@ impl End {
             End::Broken => 32,
             End::ReadFault => 35,
             End::WriteFault => 36,
+        }
+    }
+
+    /// The exit status of a program that the end stops.
+    pub fn exit_status(self) -> u8
+        ensures { result ≡ exit_status self }
+    {
+        match self {
+            End::Memory | End::Store | End::Broken => 3,
+            End::ReadFault | End::WriteFault => 4,
         }
     }
 }

@@ -11,14 +11,14 @@ use Rattle.std.proofs.Math.Seq.{take-append-add}
 use Rattle.std.proofs.KnownBytes.{Consumes-nil, Consumes-trans}
 use Rattle.std.specs.Io.KnownBytes.{Consumes, prepend_known}
 use borrow.Rule.Slice.PartMut.{put_mid}
-use Rattle.streams.specs.Lines.{Cut, CutsLine, CutsRest, Extends, HasNoLineFeed, Takes, work_left}
-use Rattle.streams.specs.declared.lines.TheConstants.{LINE_FEED, MAX_PIECE_LENGTH}
+use Rattle.streams.specs.Lines.{line_feed, Cut, CutsLine, CutsRest, Extends, HasNoLineFeed, Takes, work_left}
+use Rattle.streams.specs.declared.lines.TheConstants.{MAX_PIECE_LENGTH}
 use Rattle.streams.specs.declared.watched.TheConstants.{MAX_READS}
 
 -- ---- line feeds
 
 abbrev is_line_feed : ℕ → Bool
-is_line_feed byte = byte == LINE_FEED
+is_line_feed byte = byte == line_feed
 
 -- none stands before the first
 HasNoLineFeed-before_first : (xs : List ℕ) → HasNoLineFeed (take (position_or_len is_line_feed xs) xs)
@@ -26,15 +26,15 @@ HasNoLineFeed-before_first [] = tt
 HasNoLineFeed-before_first (x ∷ xs) =
     let before = position_or_len is_line_feed xs in
     let more : suc before ≡ 1 + before = omega arith in
-    elim (eqb_tells x LINE_FEED) [
+    elim (eqb_tells x line_feed) [
       | inl (is, same) ↦ rw is tt
       | inr (is, other) ↦ rw is (subst (λ n. HasNoLineFeed (take n (x ∷ xs))) more
           (other, HasNoLineFeed-before_first xs))
     ]
 
 -- what stands round the first
-pub first_line_feed : (xs : List ℕ) (at : ℕ) → Some at ≡ position (λ byte. byte == LINE_FEED) xs
-    → (at < length xs) × HasNoLineFeed (take at xs) × (xs ≡ take at xs ++ LINE_FEED ∷ drop 1 (drop at xs))
+pub first_line_feed : (xs : List ℕ) (at : ℕ) → Some at ≡ position (λ byte. byte == line_feed) xs
+    → (at < length xs) × HasNoLineFeed (take at xs) × (xs ≡ take at xs ++ line_feed ∷ drop 1 (drop at xs))
 first_line_feed xs at e =
     let (within, hit, before) = position-Some is_line_feed xs at 0 (sym e) in
     let first = position_or_len is_line_feed xs in
@@ -44,10 +44,10 @@ first_line_feed xs at e =
       | inr above ↦ let none : Some at ≡ None = e ∙ sym
           (cond_above first (length xs) (Some first) None None above refl) in cc
     ] in
-    let byte : get_or xs at 0 ≡ LINE_FEED = eqb-true (get_or xs at 0) LINE_FEED hit in
+    let byte : get_or xs at 0 ≡ line_feed = eqb-true (get_or xs at 0) line_feed hit in
     let here = drop_more xs at 0 within in
     let later = drop-drop 1 at xs in
-    let rest : drop at xs ≡ LINE_FEED ∷ drop 1 (drop at xs) = cc in (
+    let rest : drop at xs ≡ line_feed ∷ drop 1 (drop at xs) = cc in (
       within,
       subst (λ n. HasNoLineFeed (take n xs)) (sym place) (HasNoLineFeed-before_first xs),
       sym
@@ -55,7 +55,7 @@ first_line_feed xs at e =
     )
 
 -- there is none
-pub no_line_feed : (xs : List ℕ) → None ≡ position (λ byte. byte == LINE_FEED) xs → HasNoLineFeed xs
+pub no_line_feed : (xs : List ℕ) → None ≡ position (λ byte. byte == line_feed) xs → HasNoLineFeed xs
 no_line_feed xs e =
     let first = position_or_len is_line_feed xs in
     elim (cases_lt first (length xs)) [
@@ -137,19 +137,19 @@ Extends-by_part old now new held written part count same within is_part is_line 
 
 -- the line so far and the bytes before a line feed, which is dropped
 pub cut_at_line_feed : {max_length : ℕ} (old mid new : Cut) (xs : List ℕ) (at : ℕ)
-    → Some at ≡ position (λ byte. byte == LINE_FEED) xs → xs ≡ old.unread
+    → Some at ≡ position (λ byte. byte == line_feed) xs → xs ≡ old.unread
     → mid.unread ≡ drop at old.unread → Extends max_length old mid (take at old.unread)
     → new.unread ≡ drop 1 mid.unread → new.line ≡ mid.line
     → new.line_length ≡ mid.line_length → new.taken ≡ mid.taken
-    → (part : List ℕ) × HasNoLineFeed part × (old.unread ≡ part ++ LINE_FEED ∷ new.unread)
+    → (part : List ℕ) × HasNoLineFeed part × (old.unread ≡ part ++ line_feed ∷ new.unread)
     × Extends max_length old new part
 cut_at_line_feed old mid new xs at found same rest moved skipped line line_length taken =
     let (within, unbroken, whole) = first_line_feed old.unread at
-    (subst (λ l. Some at ≡ position (λ byte. byte == LINE_FEED) l) same found) in
+    (subst (λ l. Some at ≡ position (λ byte. byte == line_feed) l) same found) in
     let left : drop 1 (drop at old.unread) ≡ new.unread = cc in (
       take at old.unread,
       unbroken,
-      subst (λ l. old.unread ≡ take at old.unread ++ LINE_FEED ∷ l) left whole,
+      subst (λ l. old.unread ≡ take at old.unread ++ line_feed ∷ l) left whole,
       record {
         counted = line_length ∙ moved.counted;
         kept = line ∙ moved.kept;
@@ -159,13 +159,13 @@ cut_at_line_feed old mid new xs at found same rest moved skipped line line_lengt
 
 -- all the unread bytes moved to the line
 pub cut_nowhere : {max_length : ℕ} (old new : Cut) (xs : List ℕ) (all : ℕ)
-    → None ≡ position (λ byte. byte == LINE_FEED) xs → xs ≡ old.unread → all ≡ length old.unread
+    → None ≡ position (λ byte. byte == line_feed) xs → xs ≡ old.unread → all ≡ length old.unread
     → new.unread ≡ drop all old.unread → Extends max_length old new (take all old.unread)
     → HasNoLineFeed old.unread × (new.unread ≡ []) × Extends max_length old new old.unread
 cut_nowhere {max_length} old new xs all none same long rest moved =
     let whole : take all old.unread ≡ old.unread = take_all all old.unread (omega arith) in
     let empty : drop all old.unread ≡ [] = drop_all all old.unread (omega arith) in (
-      no_line_feed old.unread (subst (λ l. None ≡ position (λ byte. byte == LINE_FEED) l) same none),
+      no_line_feed old.unread (subst (λ l. None ≡ position (λ byte. byte == line_feed) l) same none),
       rest
           ∙ empty,
       subst (Extends max_length old new) whole moved,
@@ -220,16 +220,16 @@ Extends-length old new so_far part counted more = more.counted ∙ ap (λ n. n +
 -- a line feed came
 pub CutsLine-at_line_feed : {max_length : ℕ} (before known : Option (List ℕ)) (old new : Cut) (so_far part : List ℕ)
     → Begun max_length before (prepend_known old.unread known) old so_far
-    → HasNoLineFeed part → old.unread ≡ part ++ LINE_FEED ∷ new.unread → Extends max_length old new part
+    → HasNoLineFeed part → old.unread ≡ part ++ line_feed ∷ new.unread → Extends max_length old new part
     → CutsLine max_length before (prepend_known new.unread known) new (so_far ++ part)
 CutsLine-at_line_feed {max_length} before known old new so_far part begun unbroken split more =
-    let line_feed : List ℕ = LINE_FEED ∷ [] in
-    let front : old.unread ≡ (part ++ line_feed) ++ new.unread = split ∙ sym (append_assoc part line_feed new.unread) in
-    let consumed = Consumes-trans before _ _ so_far (part ++ line_feed) begun.consumed
-    (Consumes-unread known old.unread (part ++ line_feed) new.unread front) in
+    let its_end : List ℕ = line_feed ∷ [] in
+    let front : old.unread ≡ (part ++ its_end) ++ new.unread = split ∙ sym (append_assoc part its_end new.unread) in
+    let consumed = Consumes-trans before _ _ so_far (part ++ its_end) begun.consumed
+    (Consumes-unread known old.unread (part ++ its_end) new.unread front) in
     record {
       unbroken = HasNoLineFeed-append so_far part begun.unbroken unbroken;
-      consumed = subst (Consumes before (prepend_known new.unread known)) (sym (append_assoc so_far part line_feed))
+      consumed = subst (Consumes before (prepend_known new.unread known)) (sym (append_assoc so_far part its_end))
           consumed;
       counted = Extends-length old new so_far part begun.counted more;
       kept = λ short. Extends-line max_length old new so_far part begun.kept more
@@ -268,10 +268,10 @@ pub Takes-none : (a : Option (List ℕ)) (old new : Cut) → new.taken ≡ old.t
 Takes-none a old new same = record { consumed = Consumes-nil a; counted = same ∙ sym (add-zero old.taken) }
 
 -- a line less is to come
-pub work_left-after_line : (turns : ℕ) (old new part : List ℕ) → old ≡ part ++ LINE_FEED ∷ new
+pub work_left-after_line : (turns : ℕ) (old new part : List ℕ) → old ≡ part ++ line_feed ∷ new
     → work_left turns new < work_left turns old
 work_left-after_line turns old new part split =
-    let long : length old ≡ length part + suc (length new) = ap length split ∙ length-append part (LINE_FEED ∷ new) in
+    let long : length old ≡ length part + suc (length new) = ap length split ∙ length-append part (line_feed ∷ new) in
     omega arith
 
 -- a turn more was taken

@@ -2,7 +2,7 @@
 use Rattle.std.specs.Prelude.{◌≡◌, ◌≢◌, ℕ, ◌+◌, ◌-◌, ◌*◌, ◌≤◌, List, [], ◌∷◌, ◌++◌, length, take, Option}
 use Rattle.std.specs.List.{AllByRecursion}
 use Rattle.std.specs.Io.KnownBytes.{Consumes}
-use Rattle.streams.specs.declared.lines.TheConstants.{LINE_FEED, MAX_PIECE_LENGTH}
+use Rattle.streams.specs.declared.lines.TheConstants.{MAX_PIECE_LENGTH}
 use Rattle.streams.specs.declared.watched.TheConstants.{MAX_READS}
 
 -- the bytes that were taken from the reader and not looked at, the first bytes of the line so far,
@@ -13,9 +13,13 @@ pub record Cut : Type 0 where
   pub line_length : ℕ
   pub taken : ℕ
 
+-- the byte that ends a line (US-ASCII's LF)
+abbrev pub line_feed : ℕ
+line_feed = 10
+
 -- no line ends here
 abbrev pub HasNoLineFeed : List ℕ → Type 0
-HasNoLineFeed bytes = AllByRecursion (λ byte. byte ≢ LINE_FEED) bytes
+HasNoLineFeed bytes = AllByRecursion (λ byte. byte ≢ line_feed) bytes
 
 -- the line so far grew by this part
 pub record Extends (max_length : ℕ) (old new : Cut) (part : List ℕ) : Type 0 where
@@ -27,7 +31,7 @@ pub record Extends (max_length : ℕ) (old new : Cut) (part : List ℕ) : Type 0
 pub record CutsLine (max_length : ℕ) (before after : Option (List ℕ)) (new : Cut)
     (line : List ℕ) : Type 0 where
   pub unbroken : HasNoLineFeed line
-  pub consumed : Consumes before after (line ++ LINE_FEED ∷ [])
+  pub consumed : Consumes before after (line ++ line_feed ∷ [])
   pub counted : new.line_length ≡ length line
   pub kept : length line ≤ max_length → new.line ≡ line
 

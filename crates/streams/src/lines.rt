@@ -7,7 +7,7 @@ ghost use Rattle.std.specs.Io.KnownBytes.{IsAtEnd, prepend_known};
 ghost use Rattle.streams.specs.declared.lines.TheConstants.{MAX_PIECE_LENGTH};
 ghost use Rattle.streams.specs.declared.watched.TheConstants.{MAX_READS};
 ghost use Rattle.streams.specs.Lines.{Cut, CutsLine, CutsRest, Extends, HasNoLineFeed, Takes};
-ghost use Rattle.streams.specs.Lines.{work_left};
+ghost use Rattle.streams.specs.Lines.{line_feed, work_left};
 ghost use Rattle.streams.specs.Watched.{IsFaulted};
 
 use crate::watched::{MAX_READS, ReadFault, Watched};
@@ -213,7 +213,7 @@ impl<const MAX_LENGTH: usize> Lines<MAX_LENGTH> {
     // there was one.
     fn take_to_line_feed(&mut self) -> bool
         ensures found { OnTrue result ((part : List ℕ) × HasNoLineFeed part
-            × (self.old.unread ≡ part ++ LINE_FEED ∷ self.new.unread)
+            × (self.old.unread ≡ part ++ line_feed ∷ self.new.unread)
             × Extends MAX_LENGTH self.old self.new part) }
         ensures none { OnFalse result (HasNoLineFeed self.old.unread
             × (self.new.unread ≡ []) × Extends MAX_LENGTH self.old self.new self.old.unread) }
@@ -235,7 +235,7 @@ impl<const MAX_LENGTH: usize> Lines<MAX_LENGTH> {
 
 // Where the first line feed stands.
 fn find_line_feed(bytes: &[u8]) -> Option<usize>
-    ensures { result ≡ position (λ byte. byte == LINE_FEED) bytes.now }
+    ensures { result ≡ position (λ byte. byte == line_feed) bytes.now }
 {
     bytes.iter().position(|byte| *byte == LINE_FEED)
 }

@@ -1,9 +1,10 @@
 //! The program's exit statuses, and what it names on standard error.
 use super::worked_rows::{FIRST_DAY, WORKED_ROWS, WorkedRow, input_of, output_of};
 use crate::act::{act, report_end, report_refusal};
-use register_desk::{End, MAX_IDLE_TURNS, MAX_READS, OpenRefusal};
+use register_desk::{End, MAX_IDLE_TURNS, MAX_READS, OpenRefusal, Watched};
 use register_faults::{BrokenAfter, Trouble, Troubled};
 use std::alloc::{AllocError, Global};
+use std::io::{Read, Write};
 use std::test::Fail;
 
 const ENDS: [(End, u8, &str); 5] = [
@@ -40,13 +41,25 @@ fn ends_and_refusals_are_named(rt: HostRuntime) {
     }
 }
 
+fn act_on<R: Read + Drop, W: Write + Drop>(
+    alloc: Global,
+    words: usize,
+    input: R,
+    output: W,
+    faults: &mut impl Write,
+) -> u8 {
+    let mut reader = Watched::new(input);
+    let mut writer = Watched::new(output);
+    act(alloc, words, &mut reader, &mut writer, faults)
+}
+
 /// Whether the program serves the row and ends with status 0, with nothing on standard error.
 fn is_served(alloc: Global, row: &WorkedRow) -> Result<bool, AllocError> {
     let input = input_of(alloc, row)?;
     let expected = output_of(alloc, row.lines)?;
     let mut output = Vec::new(alloc);
     let mut faults = Vec::new(alloc);
-    let status = act(alloc, 0, input.as_slice(), &mut output, &mut faults);
+    let status = act_on(alloc, 0, input.as_slice(), &mut output, &mut faults);
     Ok(status == 0 && output.as_slice() == expected.as_slice() && faults.is_empty())
 }
 
@@ -64,7 +77,7 @@ fn status_1_with_any_word(rt: HostRuntime) {
         let mut output = Vec::new(rt.alloc());
         let mut faults = Vec::new(rt.alloc());
         let input = b"100 ann 1 advance\n".as_slice();
-        let status = act(rt.alloc(), words, input, &mut output, &mut faults);
+        let status = act_on(rt.alloc(), words, input, &mut output, &mut faults);
         assert_eq!(rt; status, 1, "{words}");
         assert!(rt; output.is_empty() && faults.is_empty(), "{words}");
     }
@@ -77,7 +90,7 @@ fn status_4_after_a_failed_read(rt: HostRuntime) {
     let input = BrokenAfter(
         b"100 ann 1 register data-encryption bob 0 500 1000 payroll disks\n999 ann 2 advance\n",
     );
-    let status = act(rt.alloc(), 0, input, &mut output, &mut faults);
+    let status = act_on(rt.alloc(), 0, input, &mut output, &mut faults);
     assert_eq!(rt; status, 4);
     assert_eq!(rt;
         output.as_slice(),
@@ -96,7 +109,7 @@ fn is_faulted(alloc: Global, trouble: Trouble) -> Result<bool, AllocError> {
         trouble,
         good_turns: 2,
     };
-    let status = act(alloc, 0, input.as_slice(), writer, &mut faults);
+    let status = act_on(alloc, 0, input.as_slice(), writer, &mut faults);
     Ok(
         status == 4
             && output.as_slice() == b"ok 1 Active 100\n".as_slice()
@@ -120,7 +133,7 @@ fn status_4_where_no_fault_can_be_named(rt: HostRuntime) {
         trouble: Trouble::Fails,
         good_turns: 0,
     };
-    let status = act(rt.alloc(), 0, BrokenAfter(b""), &mut output, &mut faults);
+    let status = act_on(rt.alloc(), 0, BrokenAfter(b""), &mut output, &mut faults);
     assert_eq!(rt; status, 4);
     assert!(rt; output.is_empty() && faults.inner.is_empty());
 }
