@@ -52,7 +52,7 @@ struct Stop {
 
 /// What the line that was cut off last stands for. No line longer than the limit is one of a request.
 fn item_of(lines: &Lines<MAX_LINE_LENGTH>) -> Option<Request>
-    ensures { (line : List ℕ) → lines.now.line_length ≡ length line
+    ensures item { (line : List ℕ) → lines.now.line_length ≡ length line
         → (length line ≤ MAX_LINE_LENGTH → lines.now.line ≡ line) → IsItem line result }
     ensures in_range { IfSome result IsRequest }
 {

@@ -1,12 +1,12 @@
-//! What a desk shows, and the making of a register.
+//! What a desk shows, values that no line has, and the making of a register.
 use super::fresh_run::desk_after;
 use super::worked_rows::{DEFAULTS, FIRST_DAY, WorkedRow};
 use crate::act::create_in_memory;
-use lifecycle_core::{Process, State, Usage};
+use lifecycle_core::{Process, Reason, State, Usage};
 use period_core::KeyType;
-use register_core::{Name, Purpose};
-use register_desk::{Desk, OpenRefusal, Record};
-use sqlite::Connection;
+use register_core::{Command, Name, Purpose, Refusal, read_request};
+use register_desk::{Answer, Desk, OpenRefusal, Record};
+use sqlite::{Connection, MemStore};
 use std::alloc::Global;
 use std::test::Fail;
 
@@ -63,6 +63,48 @@ fn a_key_is_shown_whole(rt: HostRuntime) -> Result<(), Fail> {
     match desk.show(1)? {
         Some(record) => assert!(rt; is_key_of_defaults(&record)),
         None => assert!(rt; false, "no key 1"),
+    }
+    Ok(())
+}
+
+/// The answer to the owner's request with this command.
+fn answer_to(desk: &mut Desk<MemStore>, command: Command) -> Result<Option<Answer>, Fail> {
+    match read_request(b"200 bob 9 advance") {
+        Some(mut request) => {
+            request.command = command;
+            Ok(Some(desk.apply(&request)?))
+        }
+        None => Ok(None),
+    }
+}
+
+#[test]
+fn values_of_no_line_are_refused(rt: HostRuntime) -> Result<(), Fail> {
+    let mut desk = desk_after(rt.alloc(), &DEFAULTS)?;
+    let refused = Some(Answer::Refused(Refusal::BadLine));
+    let occurrence = Some(desk.latest());
+    let reason = Reason::Superseded;
+    let dated = Command::Revoke {
+        key: 1,
+        reason,
+        occurrence,
+    };
+    assert_eq!(rt; answer_to(&mut desk, dated)?, refused);
+    assert_eq!(rt;
+        answer_to(&mut desk, Command::Activate { key: 0 })?,
+        refused
+    );
+    assert_eq!(rt; desk.latest().seconds(), 100);
+    let undated = Command::Revoke {
+        key: 1,
+        reason,
+        occurrence: None,
+    };
+    match answer_to(&mut desk, undated)? {
+        Some(Answer::Accepted(reply)) => {
+            assert_eq!(rt; reply.state, Some(State::Deactivated));
+        }
+        _ => assert!(rt; false, "not accepted"),
     }
     Ok(())
 }

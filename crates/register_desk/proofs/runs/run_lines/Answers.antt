@@ -32,7 +32,7 @@ loop-lines-preserved g c =
     let invariant = c.loop-lines.invariant in
     let cut = c.in-Ok-Line.ensures.line c.in-Ok-Line.field-0-is in
     let less = c.in-Ok-Line.ensures.less c.in-Ok-Line.field-0-is in
-    let item = c.item_of.ensures cut.0 cut.1.counted cut.1.kept in
+    let item = c.item_of.ensures.item cut.0 cut.1.counted cut.1.kept in
     record {
       served = served_more g.S.Store _ _ _ _ _ _ c.args.desk.now c.loop-lines.desk c.answer_line.new.desk c.loop-lines.replies c.in-Ok.count cut.0 c.item_of.result
           invariant.served cut.1.unbroken cut.1.consumed item c.in-Ok.ensures.serves c.in-Ok.ensures.goes_on;
@@ -55,7 +55,7 @@ returns-clause-serves g c =
     elim c.match-next.branch [
       | in-Ok-Line+in-Err-answer_line w ↦
           let cut = w.in-Ok-Line.ensures.line w.in-Ok-Line.field-0-is in
-          let item = w.item_of.ensures cut.0 cut.1.counted cut.1.kept in
+          let item = w.item_of.ensures.item cut.0 cut.1.counted cut.1.kept in
           serves_same g.S.Store before old _ _ c.args.desk.now c.match-next.desk w.answer_line.new.desk c.loop-lines.replies c.match-next.end (Ended w.in-Err-answer_line.stop.end)
           w.end-is w.desk-is (ap (λ x. g.W.Write.contents x.inner) w.writer-is)
           (stopped_so g.S.Store before _ _ old _ _ c.args.desk.now c.loop-lines.desk w.answer_line.new.desk c.loop-lines.replies cut.0 w.item_of.result w.in-Err-answer_line.stop.end w.in-Err-answer_line.stop.written
