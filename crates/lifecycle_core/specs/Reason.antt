@@ -1,9 +1,9 @@
--- The reasons for which a key is revoked: KMIP 1.2 section 3.31, Revocation Reason.
+-- The reasons for which a key is revoked: KMIP 1.2, Revocation Reason.
 use Rattle.std.specs.Prelude.{ℕ, Bool, true, false}
 use Rattle.lifecycle_core.specs.declared.reason.Reason.{Reason}
 use Rattle.lifecycle_core.specs.declared.reason.Reason.TheVariants.{Unspecified, KeyCompromise, CaCompromise, AffiliationChanged, Superseded, CessationOfOperation, PrivilegeWithdrawn}
 
--- the value of a reason in KMIP 1.2: the Revocation Reason Code Enumeration of section 9.1.3.2
+-- the value of a reason in KMIP 1.2: its Revocation Reason Code Enumeration
 abbrev pub reason_code : Reason → ℕ
 reason_code Unspecified = 1
 reason_code KeyCompromise = 2

@@ -1,11 +1,11 @@
--- The states of a key, and the one that its dates give: KMIP 1.2 section 3.22, with the order of
+-- The states of a key, and the one that its dates give: KMIP 1.2, State, with the order of
 -- the lines of this register's own.
 use Rattle.std.specs.Prelude.{ℕ, Bool, false, not, ◌&&◌, nat_le, List, codes, Option, None, Some, is_some, if◌then◌else◌}
 use Rattle.lifecycle_core.specs.declared.state.State.{State}
 use Rattle.lifecycle_core.specs.declared.state.State.TheVariants.{PreActive, Active, Deactivated, Compromised, Destroyed, DestroyedCompromised}
 use Rattle.lifecycle_core.specs.declared.dates.Dates.{Dates}
 
--- the value of a state in KMIP 1.2 (the State Enumeration of section 9.1.3.2), and its name
+-- the value of a state in KMIP 1.2 (its State Enumeration), and its name
 abbrev pub state_row : State → ℕ × List ℕ
 state_row PreActive = (1, codes "Pre-Active")
 state_row Active = (2, codes "Active")

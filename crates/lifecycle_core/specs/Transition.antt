@@ -1,4 +1,4 @@
--- The transitions between the states of a key, and the paths that they make: KMIP 1.2 section 3.22.
+-- The transitions between the states of a key, and the paths that they make: KMIP 1.2, State.
 use Rattle.std.specs.Prelude.{◌≡◌, List, [], ◌∷◌, Contains, Option, None, Some}
 use Rattle.lifecycle_core.specs.declared.state.State.{State}
 use Rattle.lifecycle_core.specs.declared.state.State.TheVariants.{PreActive, Active, Deactivated, Compromised, Destroyed, DestroyedCompromised}

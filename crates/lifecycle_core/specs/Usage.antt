@@ -1,4 +1,4 @@
--- What a key may be used for in its states: KMIP 1.2 section 3.22.
+-- What a key may be used for in its states: KMIP 1.2, State.
 use Rattle.std.specs.Prelude.{ℕ, Bool, true, false, ◌&&◌, nat_lt, List, codes, Option, None, Some}
 use Rattle.lifecycle_core.specs.declared.state.State.{State}
 use Rattle.lifecycle_core.specs.declared.state.State.TheVariants.{Active, Deactivated, Compromised}

@@ -1,7 +1,6 @@
 //! The lifecycle of a key: its states and the transitions between them, its dates, the state that
 //! the dates give at a moment, what the key may be used for then, and the reasons of a revocation.
-//! The states, their transitions and the dates are those of the State attribute of OASIS KMIP 1.2,
-//! section 3.22.
+//! The states, their transitions and the dates are those of the State attribute of OASIS KMIP 1.2.
 //!
 //! ```
 //! let before = row.state;

@@ -1,7 +1,7 @@
 //! The reasons for which a key is revoked.
 ghost use Rattle.std.specs.Prelude.{◌≡◌};
 
-/// A revocation reason of KMIP 1.2, section 3.31.
+/// A revocation reason of KMIP 1.2 (its attribute Revocation Reason).
 #[derive(Clone, Copy, Debug, PartialEq, Eq, Hash)]
 pub enum Reason {
     Unspecified = 1,
@@ -17,8 +17,7 @@ impl Reason {
     ghost use Rattle.std.specs.Prelude.{◌<◌, ◌⊎◌, IfSome, IfNone};
     ghost use Rattle.lifecycle_core.specs.Reason.{reason_code, is_compromise};
 
-    /// The reason's value in the Revocation Reason Code Enumeration of KMIP 1.2 (section 9.1.3.2),
-    /// from 1 to 7.
+    /// The reason's value in the Revocation Reason Code Enumeration of KMIP 1.2, from 1 to 7.
     pub fn code(self) -> u8
         ensures { result ≡ reason_code self }
     {

@@ -1,7 +1,7 @@
 //! The states of a key.
 ghost use Rattle.std.specs.Prelude.{◌≡◌};
 
-/// A state of KMIP 1.2, section 3.22.
+/// A state of KMIP 1.2 (its attribute State).
 #[derive(Clone, Copy, Debug, PartialEq, Eq, Hash)]
 pub enum State {
     PreActive,
@@ -33,7 +33,7 @@ impl State {
         self.row().1
     }
 
-    /// The state's value in the State Enumeration of KMIP 1.2 (section 9.1.3.2), from 1 to 6.
+    /// The state's value in the State Enumeration of KMIP 1.2, from 1 to 6.
     pub fn code(self) -> u8
         ensures { result ≡ state_code self }
     {

@@ -1,11 +1,10 @@
--- Moments: KMIP 1.2 section 9.1.1.6, Date-Time, without the negative ones and with a last one of
--- this register's own.
+-- Moments: KMIP 1.2, Date-Time, without the negative ones and with a last one of this register's own.
 use Rattle.std.specs.Prelude.{ℕ, ◌≤◌}
 
--- a second that is a moment
 -- the second of the last moment, 9999-12-31T23:59:59Z
 abbrev pub last_second : ℕ
 last_second = 253_402_300_799
 
+-- a second that is a moment
 abbrev pub IsMoment : ℕ → Type 0
 IsMoment seconds = seconds ≤ last_second

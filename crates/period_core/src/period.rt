@@ -14,7 +14,7 @@ pub struct Period {
 }
 
 /// The longest usage periods of a type. The months are this register's own, chosen with the
-/// suggestions of SP 800-57 Part 1 (section 5.3.6) in view.
+/// cryptoperiods that SP 800-57 Part 1 suggests in view.
 pub fn period_of(kind: KeyType) -> Period
     ensures { result ≡ periods kind }
 {
