@@ -41,7 +41,7 @@ later t u d le past = record {
   occurrence = past.occurrence;
 }
 
--- dates that look at none of these keep them
+-- and so it is of other dates that keep these
 kept : (t : ℕ) (d new : Dates) → KeepsOthers d new → IsPast t d → IsPast t new
 kept t d new keeps past = record {
   initial = omega (arith, keeps.initial, past.initial);
