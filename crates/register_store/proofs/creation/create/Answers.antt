@@ -2,7 +2,7 @@ use Rattle.std.proofs.Common.{◌≡◌, true, Ok, Err, refl, sym, ap, subst, ar
 use Rattle.sqlite.specs.State.{HasCleanDisk}
 use Rattle.sqlite.specs.Held.{state}
 use Rattle.sql_steps.specs.Steps.{TransactsBy}
-use Rattle.sql_steps.proofs.Stepping.{commits, given_up_survives, transacts_as, fails_as}
+use Rattle.sql_steps.proofs.Stepping.{commits, given_up_survives, rolls_back, transacts_as, fails_as}
 use Rattle.register_store.specs.declared.error.CreateError.{CreateError}
 use Rattle.register_store.specs.declared.error.CreateError.TheVariants.{HasTables}
 use Rattle.register_store.specs.Creation.{FindsBy, FindsTable, MakesEmpty}
@@ -28,12 +28,22 @@ returns-clause-made g c =
     c.in_ok-commit.ensures.ok c.in_ok-commit.ensures.err c.in_ok-commit.ensures.survives) in
     search rules
 
+pub returns-in_err-make_where_none-clause-made : goal.returns-in_err-make_where_none-clause-made
+returns-in_err-make_where_none-clause-made g c =
+    let old = state g.S.Store c.args.connection.now in
+    let mid = state g.S.Store c.make_where_none.new.tx.conn.now in
+    let end = c.drop-tx.new.self.0 in
+    let same : end ≡ c.connection-1.given.0 = search rules steps 1000000 in
+    subst (λ h. TransactsBy MakesEmpty old (state g.S.Store h) c.from_residual.result) same
+    (rolls_back MakesEmpty old (λ _. MakesEmpty) mid (state g.S.Store end) (Err c.in_err-make_where_none.field-0.0) c.from_residual.result c.from_residual.ensures.0 (rw c.transaction-tx.ensures.begun at c.in_err-make_where_none.ensures.made) c.drop-tx.ensures.undone
+    c.drop-tx.ensures.survives)
+
 pub returns-in_err-make_where_none-clause-there : goal.returns-in_err-make_where_none-clause-there
 returns-in_err-make_where_none-clause-there g c is =
     let old = state g.S.Store c.args.connection.now in
     let mid = state g.S.Store c.make_where_none.new.tx.conn.now in
     let end = c.drop-tx.new.self.0 in
-    let same : end ≡ c.connection-1.given.0 = search rules in
+    let same : end ≡ c.connection-1.given.0 = search rules steps 1000000 in
     let cause : HasTables ≡ c.in_err-make_where_none.field-0.0 = rw is at c.from_residual.ensures.1 in
     let there : FindsTable (record old { in_transaction = true }) mid = rw c.transaction-tx.ensures.begun at (c.in_err-make_where_none.ensures.there (ap (λ (e : CreateError). Err e) (sym cause))) in
     let dropped = c.drop-tx.ensures.survives in

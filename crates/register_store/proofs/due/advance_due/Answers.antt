@@ -1,4 +1,4 @@
-use Rattle.std.proofs.Common.{◌≡◌, ℕ, suc, Ok, subst, arith, rules}
+use Rattle.std.proofs.Common.{◌≡◌, ℕ, suc, Ok, refl, subst, arith, rules}
 use Rattle.sqlite.specs.Held.{state}
 use Rattle.sql_steps.specs.Steps.{Change, StepsBy, Then}
 use Rattle.sql_steps.proofs.Stepping.{steps_as, steps_then}
@@ -25,6 +25,9 @@ one_more g c =
       steps_as (λ y. Then (First tt) (Next y)) (λ _. Makes Always (with_first_advanced at (suc so_far.0))) a d tt tt (λ old new both. next_advanced at so_far.0 number old new so_far.1 both)
           (steps_then First Next a (state g.S.Store c.loop-number.tx.conn.now) d tt (Ok tt) so_far.4 c.in_ok-advance_key.ensures.advanced),
     )
+
+pub loop-number-init : goal.loop-number-init
+loop-number-init g c = (0, refl, omega arith, refl, search rules)
 
 pub loop-number-preserved : goal.loop-number-preserved
 loop-number-preserved g c =

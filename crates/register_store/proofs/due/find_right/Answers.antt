@@ -9,3 +9,6 @@ returns-in-Some-clause-found g c =
     let number = c.args.number in
     steps_as (FindsKey number) (λ key. FindsKey number (Some key)) (state g.S.Store c.args.tx.now.conn.now) (state g.S.Store c.find_inside.new.tx.conn.now) c.in_ok-key.field-0 c.in-Some.key
     (λ old new finds. subst (λ found. FindsKey number found old new) c.in-Some.is finds) c.in_ok-key.ensures.found
+
+pub returns-in-Some-clause-right : goal.returns-in-Some-clause-right
+returns-in-Some-clause-right g c = c.is_right_at.ensures.0 cc

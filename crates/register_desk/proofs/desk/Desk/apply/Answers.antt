@@ -1,9 +1,9 @@
 use Rattle.std.proofs.Common.{◌≡◌, inl, [], ◌∷◌, ◌++◌, cond, Result, Ok, Err, sym, ap, subst, ◌∙◌, arith, rules}
-use Rattle.std.specs.Prelude.{IfErr, IsErrAnd, OnErr, is_none}
+use Rattle.std.specs.Prelude.{IfErr, IsErrAnd, MatchResult, OnErr, is_none}
 use Rattle.register_core.specs.declared.change.Change.TheVariants.{Nothing}
 use Rattle.register_core.specs.declared.reply.Reply.{Reply}
 use Rattle.register_core.specs.Verdict.{answer_by, reply}
-use Rattle.register_desk.specs.Leaving.{IsClean}
+use Rattle.register_desk.specs.Leaving.{EndsBy, IsClean}
 use Rattle.register_desk.specs.Register.{tables, StandsFor}
 use Rattle.register_desk.proofs.Readings.{leaves_seen, stands_still}
 use Rattle.register_desk.proofs.Standing.{leaves_change, leaves_one, room_left, stands_after, viewed}
@@ -90,3 +90,29 @@ returns-in_err-key-clause-tables g c t over clean =
           let it = leaves_seen g.S.Store _ _ t _ c.in_err-key.ensures.reads c.in_err-key.ensures.ends over.sees clean is trees may in
           (it.0, inl it.1, it.2),
     ))
+
+-- ---- what is left of the desk
+
+ends_of : {A E : Type 0} (P : A → Type 0) (Q : E → Type 0) (r : Result A E) (e : E) → IsErrAnd r (λ x. x ≡ e) → Q e → MatchResult r P Q
+ends_of P Q (Ok x) e failed holds = absurd failed
+ends_of P Q (Err x) e same holds = subst Q (sym same) holds
+
+pub returns-in_err-key-clause-ends : goal.returns-in_err-key-clause-ends
+returns-in_err-key-clause-ends g c = ends_of _ _ c.from_residual.result c.in_err-key.field-0.0 c.from_residual.ensures.1 c.in_err-key.ensures.ends
+
+pub returns-in_err-key-clause-unchanged : goal.returns-in_err-key-clause-unchanged
+returns-in_err-key-clause-unchanged g c = at_any_end _ c.from_residual.result (λ end other. c.in_err-key.ensures.reads)
+
+pub returns-in-Err-clause-ends : goal.returns-in-Err-clause-ends
+returns-in-Err-clause-ends g c = c.in_ok-key.ensures.ends
+
+pub returns-in-Err-clause-refused : goal.returns-in-Err-clause-refused
+returns-in-Err-clause-refused g c = c.in_ok-key.ensures.reads
+
+pub returns-in_err-accept-in-Ok-clause-ends : goal.returns-in_err-accept-in-Ok-clause-ends
+returns-in_err-accept-in-Ok-clause-ends g c =
+    ends_of _ _ c.from_residual-in_err-accept-in-Ok.result c.in_err-accept-in-Ok.field-0.0 c.from_residual-in_err-accept-in-Ok.ensures.1
+    (subst (EndsBy c.args.self.now c.accept.new.self) (sym c.in_err-accept-in-Ok.ensures.end) (c.in_ok-key.ensures.ends.0, c.in_err-accept-in-Ok.ensures.err.1))
+
+pub returns-clause-ends : goal.returns-clause-ends
+returns-clause-ends g c = (c.in_ok-key.ensures.ends.0, c.in_ok-accept-in-Ok.ensures.whole)
