@@ -1,4 +1,4 @@
-use Rattle.std.proofs.Common.{◌≡◌, inl, [], ◌∷◌, ◌++◌, cond, Result, Ok, Err, sym, ap, subst, ◌∙◌, arith, rules}
+use Rattle.std.proofs.Common.{◌≡◌, refl, inl, [], ◌∷◌, ◌++◌, cond, Result, Ok, Err, sym, ap, subst, ◌∙◌, arith, rules}
 use Rattle.std.specs.Prelude.{IfErr, IsErrAnd, MatchResult, OnErr, is_none}
 use Rattle.register_core.specs.declared.change.Change.TheVariants.{Nothing}
 use Rattle.register_core.specs.declared.reply.Reply.{Reply}
@@ -116,3 +116,8 @@ returns-in_err-accept-in-Ok-clause-ends g c =
 
 pub returns-clause-ends : goal.returns-clause-ends
 returns-clause-ends g c = (c.in_ok-key.ensures.ends.0, c.in_ok-accept-in-Ok.ensures.whole)
+
+-- ---- a value of no line
+
+pub returns-then-not-has_text-clause-no_request : goal.returns-then-not-has_text-clause-no_request
+returns-then-not-has_text-clause-no_request g c none = refl
