@@ -190,7 +190,7 @@ fn has_defaults(
         return false;
     };
     let dates = plain::dates(&[request], 1);
-    matches!(plain::verdict(alloc, &[], &request), Ok(None))
+    matches!(plain::judgement(alloc, &[], &request), Ok(None))
         && dates.protect_stop.map(Moment::seconds) == protect_stop
         && dates.deactivation.map(Moment::seconds) == deactivation
 }
@@ -295,7 +295,7 @@ fn plain_history(rt: HostRuntime) -> Result<(), Fail> {
         state: State::Compromised,
     };
     assert_eq!(rt;
-        plain::verdict(rt.alloc(), &history, &again)?,
+        plain::judgement(rt.alloc(), &history, &again)?,
         Some(compromised)
     );
     let answers = plain::answers(rt.alloc(), &history.map(Some))?;

@@ -18,7 +18,7 @@ use Rattle.register_core.specs.KeyName.{KeyName, key_name, is_key_name, is_at, n
 use Rattle.register_core.specs.History.{dates}
 use Rattle.register_core.specs.Custody.{all_custodians, custodians, all_approvals, approvals}
 use Rattle.register_core.specs.Fold.{IsLawful}
-use Rattle.register_core.specs.Verdict.{not_custodian, verdict}
+use Rattle.register_core.specs.Verdict.{not_custodian, judgement}
 use Rattle.register_core.specs.Subject.{named}
 use Rattle.register_core.specs.Decision.{custodians_by, approvals_by, CustodyLead}
 use Rattle.register_core.specs.Effect.{custody_change}
@@ -134,7 +134,7 @@ led h q n custody lead holds =
     subst (λ entries. OwnApprove entries (all_custodians (h ++ q ∷ []))) (sym lead.approvals_are)
     (subst (OwnApprove (approvals_by n custody (all_approvals h))) (sym lead.custodians_are) holds)
 
-all_own_next : (h : List Request) (q : Request) → IsLawful h → verdict h q ≡ None → AllOwn h → AllOwn (h ++ q ∷ [])
+all_own_next : (h : List Request) (q : Request) → IsLawful h → judgement h q ≡ None → AllOwn h → AllOwn (h ++ q ∷ [])
 all_own_next h q lawful accepted before = by (named q.command) refl
   where
     by : (n : Option ℕ) → named q.command ≡ n → AllOwn (h ++ q ∷ [])

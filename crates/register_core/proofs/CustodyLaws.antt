@@ -16,11 +16,12 @@ use Rattle.register_core.specs.History.{count, type, dates}
 use Rattle.register_core.specs.Subject.{named}
 use Rattle.register_core.specs.Effect.{given_dates, edited_dates, compromised, deactivated, dates_after, custody_change}
 use Rattle.register_core.specs.Custody.{all_custodians, all_approvals, approvals}
-use Rattle.register_core.specs.Verdict.{verdict}
+use Rattle.register_core.specs.Verdict.{judgement}
 use Rattle.register_core.specs.CustodyRefusal.{approvals_missing, min_approvals}
 use Rattle.register_core.specs.Fold.{IsLawful}
 use Rattle.register_core.specs.Laws.{IsAccepted, HasKey}
 use Rattle.register_core.specs.Decision.{approvals_by}
+use Rattle.register_core.proofs.Verdicts.{judged, accepted_by}
 use Rattle.register_core.proofs.Histories.{count_grows, dates_named, dates_other, dates_made}
 use Rattle.register_core.proofs.Dating.{filled_keeps, trimmed_keeps}
 use Rattle.register_core.proofs.Decisions.{standing}
@@ -37,7 +38,7 @@ NobodyAt h k = (names_at k (all_custodians h) ≡ []) × (names_at k (all_approv
 abbrev NobodyBeyond : List Request → Type 0
 NobodyBeyond h = (k : ℕ) → count h < k → NobodyAt h k
 
-nobody_next : (h : List Request) (q : Request) → IsLawful h → verdict h q ≡ None → NobodyBeyond h → NobodyBeyond (h ++ q ∷ [])
+nobody_next : (h : List Request) (q : Request) → IsLawful h → judgement h q ≡ None → NobodyBeyond h → NobodyBeyond (h ++ q ∷ [])
 nobody_next h q lawful accepted before k beyond =
     let grown = count_grows h q in
     let later : count h < k = omega (arith, beyond, grown) in
@@ -54,14 +55,14 @@ nobody_yet h lawful = lawful_holds NobodyBeyond nobody_next (λ k beyond. (refl,
 -- ---- destroyed keys
 
 -- a request that names no key, or another, leaves the approvals of key k as they were
-other_approvals : (h : List Request) (q : Request) (k : ℕ) → verdict h q ≡ None → IsOther h q k → approvals (h ++ q ∷ []) k ≡ approvals h k
+other_approvals : (h : List Request) (q : Request) (k : ℕ) → judgement h q ≡ None → IsOther h q k → approvals (h ++ q ∷ []) k ≡ approvals h k
 other_approvals h q k accepted other = ap sorted_names (custody_other h q k accepted other).approvals
 
 pub stay : (h : List Request) (q : Request) → IsAccepted h q → (k : ℕ) → HasKey h k → IsSome (dates h k).destroy → approvals (h ++ q ∷ []) k ≡ approvals h k
-stay h q is k has set = elim (which h q k is.accepted (omega (arith, has.1, count_grows h q))) [
+stay h q is k has set = elim (which h q k (judged h q is.accepted) (omega (arith, has.1, count_grows h q))) [
   | inl made ↦ absurd (let next = made.next in omega (arith, next, has.1))
   | inr (inl on) ↦ let date = some_date (dates h k).destroy set in approvals_stay h q k date.0 on date.1
-  | inr (inr other) ↦ other_approvals h q k is.accepted other
+  | inr (inr other) ↦ other_approvals h q k (judged h q is.accepted) other
 ]
   where
     some_date : (o : Option ℕ) → IsSome o → (x : ℕ) × (o ≡ Some x)
@@ -95,7 +96,7 @@ destroyed_enough h q k n on is =
 abbrev AllApproved : List Request → Type 0
 AllApproved h = (k : ℕ) → HasKey h k → IsSome (dates h k).destroy → min_approvals ≤ length (approvals h k)
 
-approved_next : (h : List Request) (q : Request) → IsLawful h → verdict h q ≡ None → AllApproved h → AllApproved (h ++ q ∷ [])
+approved_next : (h : List Request) (q : Request) → IsLawful h → judgement h q ≡ None → AllApproved h → AllApproved (h ++ q ∷ [])
 approved_next h q lawful accepted before k has set = elim (which h q k accepted has.1) [
   | inl made ↦
       let r = made.registration in
@@ -109,7 +110,7 @@ approved_next h q lawful accepted before k has set = elim (which h q k accepted 
     | inr same ↦
         let was : IsSome (dates h k).destroy = sym (ap is_some (ap (λ (d : Dates). d.destroy) (dates_named h q k on.names) ∙ same)) ∙ set in
         let enough = before k (on.low, on.high) was in
-        let stays = stay h q (record { lawful = lawful; accepted = accepted }) k (on.low, on.high) was in
+        let stays = stay h q (record { lawful = lawful; accepted = accepted_by h q accepted }) k (on.low, on.high) was in
         omega (arith, enough, ap length stays)
   ]
   | inr (inr other) ↦
@@ -120,4 +121,4 @@ approved_next h q lawful accepted before k has set = elim (which h q k accepted 
 
 pub enough : (h : List Request) (q : Request) → IsAccepted h q → AllApproved (h ++ q ∷ [])
 enough h q is =
-    approved_next h q is.lawful is.accepted (lawful_holds AllApproved approved_next (λ k has set. absurd (omega (arith, has.0, has.1))) h is.lawful)
+    approved_next h q is.lawful (judged h q is.accepted) (lawful_holds AllApproved approved_next (λ k has set. absurd (omega (arith, has.0, has.1))) h is.lawful)

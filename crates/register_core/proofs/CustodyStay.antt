@@ -18,7 +18,7 @@ use Rattle.register_core.specs.KeyName.{KeyName, key_name, is_key_name, is_at, n
 use Rattle.register_core.specs.Names.{sorted_names}
 use Rattle.register_core.specs.History.{count, dates}
 use Rattle.register_core.specs.Custody.{all_custodians, all_approvals, approvals}
-use Rattle.register_core.specs.Verdict.{is_for, verdict}
+use Rattle.register_core.specs.Verdict.{is_for, judgement}
 use Rattle.register_core.specs.Subject.{named_by, is_key, named}
 use Rattle.register_core.specs.Decision.{custodians_by, approvals_by}
 use Rattle.register_core.specs.Effect.{custody_change}
@@ -81,7 +81,7 @@ pub record CustodySame (h : List Request) (q : Request) (k : ℕ) : Type 0 where
   pub approvals : names_at k (all_approvals (h ++ q ∷ [])) ≡ names_at k (all_approvals h)
 
 -- a request that names no key, or another, leaves the custody of key k as they were
-pub custody_same : (h : List Request) (q : Request) (k : ℕ) → verdict h q ≡ None → ((n : ℕ) → named q.command ≡ Some n → nat_eq n k ≡ false) → CustodySame h q k
+pub custody_same : (h : List Request) (q : Request) (k : ℕ) → judgement h q ≡ None → ((n : ℕ) → named q.command ≡ Some n → nat_eq n k ≡ false) → CustodySame h q k
 custody_same h q k accepted others = by (named q.command) refl
   where
     by : (n : Option ℕ) → named q.command ≡ n → CustodySame h q k
@@ -97,10 +97,10 @@ custody_same h q k accepted others = by (named q.command) refl
         }
 
 -- one that makes key k, or leaves it alone, does neither
-pub custody_made : (h : List Request) (q : Request) (k : ℕ) → verdict h q ≡ None → IsMade h q k → CustodySame h q k
+pub custody_made : (h : List Request) (q : Request) (k : ℕ) → judgement h q ≡ None → IsMade h q k → CustodySame h q k
 custody_made h q k accepted made = custody_same h q k accepted (λ n names. absurd (let none : named q.command ≡ None = ap named_by made.makes in let e = sym names ∙ none in cc))
 
-pub custody_other : (h : List Request) (q : Request) (k : ℕ) → verdict h q ≡ None → IsOther h q k → CustodySame h q k
+pub custody_other : (h : List Request) (q : Request) (k : ℕ) → judgement h q ≡ None → IsOther h q k → CustodySame h q k
 custody_other h q k accepted other = custody_same h q k accepted (λ n names. sym (ap (is_key k) (key_named q.command (count h) n names)) ∙ other.other)
 
 -- ---- the approvals of a destroyed key

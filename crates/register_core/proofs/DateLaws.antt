@@ -6,9 +6,10 @@ use Rattle.period_core.specs.Fitting.{filled}
 use Rattle.register_core.specs.declared.request.Request.{Request}
 use Rattle.register_core.specs.History.{type, dates}
 use Rattle.register_core.specs.Effect.{given_dates, dates_after}
-use Rattle.register_core.specs.Verdict.{unfit, verdict}
+use Rattle.register_core.specs.Verdict.{unfit, judgement}
 use Rattle.register_core.specs.Fold.{IsLawful}
 use Rattle.register_core.specs.Laws.{IsAccepted, HasKey, MovesOnly}
+use Rattle.register_core.proofs.Verdicts.{judged}
 use Rattle.register_core.proofs.Histories.{count_grows, kind_other, dates_other, kind_named, dates_named, kind_made, dates_made}
 use Rattle.register_core.proofs.Subjects.{is_registration}
 use Rattle.register_core.proofs.Decisions.{standing}
@@ -37,7 +38,7 @@ on_steps h q k on sound = step (standing h k) q.moment k q.command on.names soun
 abbrev AllSound : List Request → Type 0
 AllSound h = (k : ℕ) → HasKey h k → IsSound (type h k) (dates h k)
 
-sound_next : (h : List Request) (q : Request) → IsLawful h → verdict h q ≡ None → AllSound h → AllSound (h ++ q ∷ [])
+sound_next : (h : List Request) (q : Request) → IsLawful h → judgement h q ≡ None → AllSound h → AllSound (h ++ q ∷ [])
 sound_next h q lawful accepted before k has = elim (which h q k accepted has.1) [
   | inl made ↦ made_sound h q k made
   | inr (inl on) ↦
@@ -50,10 +51,10 @@ pub all_sound : (h : List Request) → IsLawful h → AllSound h
 all_sound h lawful = lawful_holds AllSound sound_next (λ k has. absurd (omega (arith, has.0, has.1))) h lawful
 
 pub sound_after : (h : List Request) (q : Request) → IsAccepted h q → AllSound (h ++ q ∷ [])
-sound_after h q is = sound_next h q is.lawful is.accepted (all_sound h is.lawful)
+sound_after h q is = sound_next h q is.lawful (judged h q is.accepted) (all_sound h is.lawful)
 
 pub freeze : (h : List Request) (q : Request) → IsAccepted h q → (k : ℕ) → HasKey h k → MovesOnly (dates h k) q.moment (dates (h ++ q ∷ []) k)
-freeze h q is k has = elim (which h q k is.accepted (omega (arith, has.1, count_grows h q))) [
+freeze h q is k has = elim (which h q k (judged h q is.accepted) (omega (arith, has.1, count_grows h q))) [
   | inl made ↦ absurd (let next = made.next in omega (arith, next, has.1))
   | inr (inl on) ↦
       let steps = on_steps h q k on (all_sound h is.lawful k has) in

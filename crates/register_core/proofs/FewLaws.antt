@@ -15,7 +15,7 @@ use Rattle.register_core.specs.History.{latest, count, dates}
 use Rattle.register_core.specs.Subject.{made_by}
 use Rattle.register_core.specs.Effect.{custody_change}
 use Rattle.register_core.specs.Custody.{all_custodians, custodians}
-use Rattle.register_core.specs.Verdict.{max_keys, too_many, named_key, verdict}
+use Rattle.register_core.specs.Verdict.{max_keys, too_many, named_key, judgement}
 use Rattle.register_core.specs.CustodyRefusal.{max_custodians, too_many_custodians}
 use Rattle.register_core.specs.Decision.{custodians_by}
 use Rattle.register_core.specs.Fold.{IsLawful}
@@ -35,7 +35,7 @@ room : (keys : ℕ) (c : Command) → too_many keys c ≡ None → keys ≤ max_
 room keys (Registers kind owner activation protect_stop deactivation purpose) free few = omega (arith, leb-false _ _ (not_refused _ _ free))
 room keys c free few = omega (arith, few)
 
-keys_next : (h : List Request) (q : Request) → IsLawful h → verdict h q ≡ None → count h ≤ max_keys → count (h ++ q ∷ []) ≤ max_keys
+keys_next : (h : List Request) (q : Request) → IsLawful h → judgement h q ≡ None → count h ≤ max_keys → count (h ++ q ∷ []) ≤ max_keys
 keys_next h q lawful accepted few =
     let free = (passes (latest h) (count h) (named_key h q.command) q accepted).numbered in
     omega (arith, room (count h) q.command free few, count_grows h q)
@@ -100,7 +100,7 @@ few_after h q k c free few = few
 abbrev AllFew : List Request → Type 0
 AllFew h = (k : ℕ) → k ≤ count h → IsFew k (all_custodians h)
 
-custodians_next : (h : List Request) (q : Request) → IsLawful h → verdict h q ≡ None → AllFew h → AllFew (h ++ q ∷ [])
+custodians_next : (h : List Request) (q : Request) → IsLawful h → judgement h q ≡ None → AllFew h → AllFew (h ++ q ∷ [])
 custodians_next h q lawful accepted before k high = elim (which h q k accepted high) [
   | inl made ↦
       let same = (custody_made h q k accepted made).custodians in

@@ -1,10 +1,9 @@
 -- One item more behind a list of items.
 use Rattle.std.proofs.Common.{◌≡◌, ℕ, ◌+◌, ◌≤◌, ◌<◌, Bool, true, false, cond, List, [], ◌∷◌, ◌++◌, length, get_or, take, Option, None, Some, refl, sym, ap, ◌∙◌, arith}
-use Rattle.std.specs.Prelude.{is_none}
 use Rattle.std.proofs.lemmas.List.{length-append, take_more}
 use Rattle.std.proofs.lemmas.List.Sums.{fold-append}
 use Rattle.register_core.specs.declared.request.Request.{Request}
-use Rattle.register_core.specs.Verdict.{verdict}
+use Rattle.register_core.specs.Verdict.{verdict, is_accepted}
 use Rattle.register_core.specs.Fold.{history_after, history, answer_to, answers}
 
 next_front : (items : List (Option Request)) (i : ℕ) (item : Option Request) → i < length items → item ≡ get_or items i item → take (i + 1) items ≡ take i items ++ item ∷ []
@@ -25,7 +24,7 @@ answers_next h items i item lt is = ap (answers h) (next_front items i item lt i
 -- an item makes a history at most one request longer
 pub history_within : (h : List Request) (item : Option Request) → length (history_after h item) ≤ length h + 1
 history_within h None = omega arith
-history_within h (Some q) = within (is_none (verdict h q))
+history_within h (Some q) = within (is_accepted (verdict h q))
   where
     within : (b : Bool) → length (cond b (h ++ q ∷ []) h) ≤ length h + 1
     within true = omega (arith, length-append h (q ∷ []))

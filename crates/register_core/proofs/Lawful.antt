@@ -1,13 +1,12 @@
 -- What holds of the empty history and stays with each accepted request holds of every lawful history.
 use Rattle.std.proofs.Common.{◌≡◌, ◌+◌, ◌≤◌, Bool, true, false, cond, List, [], ◌∷◌, ◌++◌, length, map, Option, None, Some, refl, sym, ap, subst, ◌∙◌, append_assoc, arith, ◌⊎◌, inl, inr}
-use Rattle.std.specs.Prelude.{is_none}
 use Rattle.std.proofs.lemmas.List.{append-nil, length-append, map-append}
 use Rattle.std.proofs.lemmas.List.Sums.{fold-append}
 use Rattle.std.specs.List.{AllByRecursion}
 use Rattle.register_core.specs.declared.request.Request.{Request}
-use Rattle.register_core.specs.declared.reply.Refusal.{Refusal}
 use Rattle.register_core.specs.Request.{IsRequest}
-use Rattle.register_core.specs.Verdict.{verdict}
+use Rattle.register_core.specs.Verdict.{Verdict, Accepts, Refuses, verdict, judgement, is_accepted}
+use Rattle.register_core.proofs.Verdicts.{judged}
 use Rattle.register_core.specs.Fold.{history_after, history, IsLawful}
 use Rattle.register_core.proofs.Folds.{history_within}
 
@@ -32,7 +31,7 @@ either false = inr refl
 pub lawful_after : (h : List Request) (q : Request) → IsRequest q → IsLawful h → IsLawful (history_after h (Some q))
 lawful_after h q request lawful =
     let grown = lawful_grows h q lawful in
-    elim (either (is_none (verdict h q))) [
+    elim (either (is_accepted (verdict h q))) [
       | inl accepted ↦
           let same : history_after h (Some q) ≡ h ++ q ∷ [] = ap (λ (b : Bool). cond b (h ++ q ∷ []) h) accepted in
           subst IsLawful (sym same) (record { in_range = all_more IsRequest h q lawful.in_range request; accepted = grown ∙ same })
@@ -42,28 +41,28 @@ lawful_after h q request lawful =
     ]
 
 -- the history with an accepted request is lawful
-pub lawful_with : (h : List Request) (q : Request) → IsRequest q → IsLawful h → verdict h q ≡ None → IsLawful (h ++ q ∷ [])
+pub lawful_with : (h : List Request) (q : Request) → IsRequest q → IsLawful h → verdict h q ≡ Accepts → IsLawful (h ++ q ∷ [])
 lawful_with h q request lawful accepted =
-    subst IsLawful (ap (λ (refusal : Option Refusal). cond (is_none refusal) (h ++ q ∷ []) h) accepted) (lawful_after h q request lawful)
+    subst IsLawful (ap (λ (v : Verdict). cond (is_accepted v) (h ++ q ∷ []) h) accepted) (lawful_after h q request lawful)
 
 history_length : (later : List Request) (h : List Request) → length (history h (items later)) ≤ length h + length later
 history_length [] h = omega arith
 history_length (q ∷ later) h = omega (arith, history_length later (history_after h (Some q)), history_within h (Some q))
 
-none_from_test : (refusal : Option Refusal) → is_none refusal ≡ true → refusal ≡ None
-none_from_test None e = refl
-none_from_test (Some refusal) e = absurd cc
+from_test : (v : Verdict) → is_accepted v ≡ true → v ≡ Accepts
+from_test Accepts e = refl
+from_test (Refuses refusal) e = absurd cc
 
-module _ (P : List Request → Type 0) (step : (h : List Request) (q : Request) → IsLawful h → verdict h q ≡ None → P h → P (h ++ q ∷ [])) where
+module _ (P : List Request → Type 0) (step : (h : List Request) (q : Request) → IsLawful h → judgement h q ≡ None → P h → P (h ++ q ∷ [])) where
   lawful_from : (later h : List Request) → AllByRecursion IsRequest later → IsLawful h → P h → history h (items later) ≡ h ++ later → P (h ++ later)
   lawful_from [] h each lawful holds whole = subst P (sym (append-nil h)) holds
-  lawful_from (q ∷ later) h each lawful holds whole = by (is_none (verdict h q)) refl whole (lawful_from later (h ++ q ∷ []) each.1)
+  lawful_from (q ∷ later) h each lawful holds whole = by (is_accepted (verdict h q)) refl whole (lawful_from later (h ++ q ∷ []) each.1)
     where
-      by : (b : Bool) → is_none (verdict h q) ≡ b → history (cond b (h ++ q ∷ []) h) (items later) ≡ h ++ q ∷ later
+      by : (b : Bool) → is_accepted (verdict h q) ≡ b → history (cond b (h ++ q ∷ []) h) (items later) ≡ h ++ q ∷ later
           → (IsLawful (h ++ q ∷ []) → P (h ++ q ∷ []) → history (h ++ q ∷ []) (items later) ≡ (h ++ q ∷ []) ++ later → P ((h ++ q ∷ []) ++ later)) → P (h ++ q ∷ later)
       by true e rest next =
-          let accepted = none_from_test (verdict h q) e in
-          subst P (append_assoc h (q ∷ []) later) (next (lawful_with h q each.0 lawful accepted) (step h q lawful accepted holds) (rest ∙ sym (append_assoc h (q ∷ []) later)))
+          let accepted = from_test (verdict h q) e in
+          subst P (append_assoc h (q ∷ []) later) (next (lawful_with h q each.0 lawful accepted) (step h q lawful (judged h q accepted) holds) (rest ∙ sym (append_assoc h (q ∷ []) later)))
       by false e rest next =
           absurd (omega (arith, ap length rest, history_length later h, length-append h (q ∷ later)))
 

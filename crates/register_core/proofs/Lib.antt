@@ -12,6 +12,7 @@ pub mod Readers
 pub mod Lines
 pub mod Refusals
 pub mod Decisions
+pub mod Verdicts
 pub mod Lawful
 pub mod Ranges
 pub mod OnKey

@@ -10,7 +10,7 @@ use Rattle.register_core.specs.declared.view.Held.{Held}
 use Rattle.register_core.specs.History.{latest, count, dates}
 use Rattle.register_core.specs.Subject.{Registration, Subject, Makes, Names, NoKey, subject, named_by, key_by, count_by, key_of, is_key, named}
 use Rattle.register_core.specs.Custody.{held}
-use Rattle.register_core.specs.Verdict.{not_custodian, is_for, frozen, unfit, occurs_later, judge, named_key, verdict}
+use Rattle.register_core.specs.Verdict.{not_custodian, is_for, frozen, unfit, occurs_later, judge, named_key, judgement}
 use Rattle.register_core.specs.CustodyRefusal.{too_many_custodians, owner_custodian, approvals_missing}
 use Rattle.register_core.proofs.Histories.{count_grows}
 use Rattle.register_core.proofs.CustodyLeads.{not_refused, IsNew}
@@ -40,7 +40,7 @@ right_state false refusal e = absurd cc
 abbrev judged : List Request → Request → Option Held → Option Refusal
 judged h q key = judge (latest h) (count h) key q
 
-pub not_behind : (h : List Request) (q : Request) → verdict h q ≡ None → latest h ≤ q.moment
+pub not_behind : (h : List Request) (q : Request) → judgement h q ≡ None → latest h ≤ q.moment
 not_behind h q accepted =
     ltb-false _ _ (not_refused _ _ (passes (latest h) (count h) (named_key h q.command) q accepted).in_time)
 
@@ -64,7 +64,7 @@ on_there h q k names there accepted =
       new = new_names h q k passed.new_custodian passed.new_approval;
     }
 
-pub on_key : (h : List Request) (q : Request) (k : ℕ) → verdict h q ≡ None → named q.command ≡ Some k → IsOn h q k
+pub on_key : (h : List Request) (q : Request) (k : ℕ) → judgement h q ≡ None → named q.command ≡ Some k → IsOn h q k
 on_key h q k accepted names = by (is_there h k) refl (sym (ap (judged h q) shown) ∙ accepted)
   where
     shown : named_key h q.command ≡ held h k
@@ -98,7 +98,7 @@ Concerns h q k = IsMade h q k ⊎ IsOn h q k ⊎ IsOther h q k
 apart_from : (h : List Request) (q : Request) (s : Subject) (k : ℕ) → subject q.command ≡ s → is_key k (key_by (count h) s) ≡ false → k ≤ count h → IsOther h q k
 apart_from h q s k is other high = record { high = high; other = ap (λ (x : Subject). is_key k (key_by (count h) x)) is ∙ other }
 
-pub which : (h : List Request) (q : Request) (k : ℕ) → verdict h q ≡ None → k ≤ count (h ++ q ∷ []) → Concerns h q k
+pub which : (h : List Request) (q : Request) (k : ℕ) → judgement h q ≡ None → k ≤ count (h ++ q ∷ []) → Concerns h q k
 which h q k accepted high = by (subject q.command) refl
   where
     counted : (s : Subject) → subject q.command ≡ s → count (h ++ q ∷ []) ≡ count h + count_by s

@@ -13,7 +13,7 @@ use Rattle.register_core.specs.declared.request.Command.TheVariants.{Register as
 use Rattle.register_core.specs.History.{latest, type, dates}
 use Rattle.register_core.specs.Subject.{named}
 use Rattle.register_core.specs.Effect.{given_dates, edited_dates, compromised, deactivated, dates_after}
-use Rattle.register_core.specs.Verdict.{occurs_later, verdict}
+use Rattle.register_core.specs.Verdict.{occurs_later, judgement}
 use Rattle.register_core.specs.Fold.{IsLawful}
 use Rattle.register_core.specs.Laws.{HasKey}
 use Rattle.register_core.proofs.Histories.{latest_grows, dates_other, dates_named, dates_made}
@@ -88,7 +88,7 @@ past_after kind d t k c names early past = past
 abbrev AllPast : List Request → Type 0
 AllPast h = (k : ℕ) → HasKey h k → IsPast (latest h) (dates h k)
 
-past_next : (h : List Request) (q : Request) → IsLawful h → verdict h q ≡ None → AllPast h → AllPast (h ++ q ∷ [])
+past_next : (h : List Request) (q : Request) → IsLawful h → judgement h q ≡ None → AllPast h → AllPast (h ++ q ∷ [])
 past_next h q lawful accepted before k has =
     let moved : (d : Dates) → IsPast (latest h) d → IsPast q.moment d = λ d. later (latest h) q.moment d (not_behind h q accepted) in
     subst (λ (t : ℕ). IsPast t (dates (h ++ q ∷ []) k)) (sym (latest_grows h q)) (elim (which h q k accepted has.1) [

@@ -12,6 +12,7 @@ use Rattle.register_core.specs.declared.request.Request.{Request}
 use Rattle.register_core.specs.History.{latest, count, type, dates}
 use Rattle.register_core.specs.Effect.{given_dates}
 use Rattle.register_core.specs.Laws.{IsAccepted, HasKey, MovesOnly, state_of_key}
+use Rattle.register_core.proofs.Verdicts.{judged}
 use Rattle.register_core.proofs.Histories.{dates_other, dates_named, dates_made}
 use Rattle.register_core.proofs.OnKey.{not_behind, IsOn, IsMade, IsOther, which}
 use Rattle.register_core.proofs.Dating.{filled_keeps}
@@ -41,17 +42,17 @@ on_path h q k is on =
     let its = dates_named h q k on.names in
     let moves = subst (MovesOnly d q.moment) its (freeze h q is k (on.low, on.high)) in
     from_there h k _ on.high (then _ (Some (state_at d q.moment)) _
-    (time_leads d (latest h) q.moment (not_behind h q is.accepted))
+    (time_leads d (latest h) q.moment (not_behind h q (judged h q is.accepted)))
     (subst (λ (x : Dates). Leads (Some (state_at d q.moment)) (Some (state_at x q.moment))) (sym its) (path_named (type h k) d q.moment k q.command on.names on.fits_state moves)))
 
 other_path : (h : List Request) (q : Request) (k : ℕ) → IsAccepted h q → IsOther h q k → Leads (state_of_key h k) (Some (state_at (dates (h ++ q ∷ []) k) q.moment))
 other_path h q k is other =
     from_there h k _ other.high
     (subst (λ (x : Dates). Leads (Some (state_at (dates h k) (latest h))) (Some (state_at x q.moment))) (sym (dates_other h q k other.other))
-    (time_leads (dates h k) (latest h) q.moment (not_behind h q is.accepted)))
+    (time_leads (dates h k) (latest h) q.moment (not_behind h q (judged h q is.accepted))))
 
 pub path : (h : List Request) (q : Request) → IsAccepted h q → (k : ℕ) → HasKey (h ++ q ∷ []) k → Leads (state_of_key h k) (Some (state_at (dates (h ++ q ∷ []) k) q.moment))
-path h q is k has = elim (which h q k is.accepted has.1) [
+path h q is k has = elim (which h q k (judged h q is.accepted) has.1) [
   | inl made ↦ made_path h q k made
   | inr (inl on) ↦ on_path h q k is on
   | inr (inr other) ↦ other_path h q k is other

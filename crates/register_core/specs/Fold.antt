@@ -1,17 +1,18 @@
 -- What a list of items makes of a history, and what they are answered. An item is a request, or none for a line that is no request.
-use Rattle.std.specs.Prelude.{◌≡◌, List, [], ◌∷◌, ◌++◌, map, fold, Option, None, Some, Result, Err, is_none, if◌then◌else◌}
+use Rattle.std.specs.Prelude.{◌≡◌, List, [], ◌∷◌, ◌++◌, map, fold, Option, None, Some, Result, Err, if◌then◌else◌}
 use Rattle.std.specs.List.{AllByRecursion}
 use Rattle.register_core.specs.declared.request.Request.{Request}
 use Rattle.register_core.specs.declared.reply.Reply.{Reply}
 use Rattle.register_core.specs.declared.reply.Refusal.{Refusal}
 use Rattle.register_core.specs.declared.reply.Refusal.TheVariants.{BadLine}
 use Rattle.register_core.specs.Request.{IsRequest}
-use Rattle.register_core.specs.Verdict.{verdict, answer}
+use Rattle.register_core.specs.Answer.{outcome}
+use Rattle.register_core.specs.Verdict.{verdict, is_accepted, answer}
 
 -- the history after an item: with the request at its end where that is accepted, else as it was
 abbrev pub history_after : List Request → Option Request → List Request
 history_after h None = h
-history_after h (Some q) = if is_none (verdict h q) then h ++ q ∷ [] else h
+history_after h (Some q) = if is_accepted (verdict h q) then h ++ q ∷ [] else h
 
 -- the history after the items, from the left
 abbrev pub history : List Request → List (Option Request) → List Request
@@ -20,7 +21,7 @@ history h items = fold history_after h items
 -- what an item is answered
 abbrev pub answer_to : List Request → Option Request → Result Reply Refusal
 answer_to h None = Err BadLine
-answer_to h (Some q) = answer h q
+answer_to h (Some q) = outcome (answer h q)
 
 -- what the items are answered, one after the other
 abbrev pub answers : List Request → List (Option Request) → List (Result Reply Refusal)

@@ -9,12 +9,12 @@ use Rattle.register_core.specs.declared.request.Request.{Request}
 use Rattle.register_core.specs.Name.{is_among}
 use Rattle.register_core.specs.History.{latest, count, dates}
 use Rattle.register_core.specs.Fold.{IsLawful}
-use Rattle.register_core.specs.Verdict.{verdict}
+use Rattle.register_core.specs.Verdict.{Accepts, verdict}
 
 -- the request is accepted behind this history, which is lawful
 pub record IsAccepted (h : List Request) (q : Request) : Type 0 where
   pub lawful : IsLawful h
-  pub accepted : verdict h q ≡ None
+  pub accepted : verdict h q ≡ Accepts
 
 -- the history has a key of this number
 abbrev pub HasKey : List Request → ℕ → Type 0

@@ -5,6 +5,7 @@ pub mod KeyName
 pub mod Number
 pub mod Purpose
 pub mod Reply
+pub mod Answer
 pub mod Request
 pub mod CommandText
 pub mod Subject

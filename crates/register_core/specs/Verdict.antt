@@ -1,4 +1,4 @@
--- What a request is answered behind a history: the first refusal that holds, else the reply.
+-- What a request comes to behind a history: it is accepted, or refused by the first refusal that holds.
 use Rattle.std.specs.Prelude.{ℕ, ◌==◌, nat_lt, nat_le, Bool, true, false, not, ◌&&◌, ◌||◌, List, [], ◌∷◌, ◌++◌, Option, None, Some, is_some, Result, Ok, Err, unwrap_or, if◌then◌else◌}
 use Rattle.std.specs.Option.{option_map, option_and_then}
 use Rattle.std.specs.List.{list_any}
@@ -12,6 +12,8 @@ use Rattle.register_core.specs.declared.request.Command.{Command}
 use Rattle.register_core.specs.declared.request.Command.TheVariants.{Register, Activate, SetDates, Revoke, Assign, AddCustodian, RemoveCustodian, Approve, Withdraw, Destroy}
 use Rattle.register_core.specs.declared.request.Edit.{Edit}
 use Rattle.register_core.specs.declared.request.Edit.TheVariants.{Keep}
+use Rattle.register_core.specs.declared.answer.Answer.{Answer}
+use Rattle.register_core.specs.declared.answer.Answer.TheVariants.{Accepted, Refused}
 use Rattle.register_core.specs.declared.view.Held.{Held}
 use Rattle.register_core.specs.declared.view.View.{View}
 use Rattle.register_core.specs.declared.reply.Reply.{Reply}
@@ -161,14 +163,15 @@ judge last keys key q = first_that_holds (refusals last keys key q)
 abbrev pub named_key : List Request → Command → Option Held
 named_key h c = option_and_then (held h) (named c)
 
-abbrev pub verdict : List Request → Request → Option Refusal
-verdict h q = judge (latest h) (count h) (named_key h q.command) q
+-- the judgement of a request behind a history: the first refusal that holds, or none
+abbrev pub judgement : List Request → Request → Option Refusal
+judgement h q = judge (latest h) (count h) (named_key h q.command) q
 
 -- the refusal of a request where this is what the decision rests on
 abbrev pub judge_view : View → Request → Option Refusal
 judge_view view q = judge view.latest view.keys view.key q
 
--- ---- answers
+-- ---- replies
 
 -- what an accepted request is answered: its key, and that key's state after it
 abbrev pub reply : List Request → Request → Reply
@@ -180,9 +183,28 @@ reply h q =
       moment = q.moment;
     }
 
-abbrev pub answer_by : Option Refusal → Reply → Result Reply Refusal
-answer_by None accepted = Ok accepted
-answer_by (Some refusal) accepted = Err refusal
+-- ---- verdicts
 
-abbrev pub answer : List Request → Request → Result Reply Refusal
+-- what a request comes to behind a history
+pub data Verdict : Type 0 where
+  Accepts : Verdict
+  Refuses : Refusal → Verdict
+
+abbrev pub verdict_by : Option Refusal → Verdict
+verdict_by None = Accepts
+verdict_by (Some refusal) = Refuses refusal
+
+abbrev pub verdict : List Request → Request → Verdict
+verdict h q = verdict_by (judgement h q)
+
+abbrev pub is_accepted : Verdict → Bool
+is_accepted Accepts = true
+is_accepted (Refuses refusal) = false
+
+-- what a request is answered, where this is the reply if it is accepted
+abbrev pub answer_by : Verdict → Reply → Answer
+answer_by Accepts new = Accepted new
+answer_by (Refuses refusal) new = Refused refusal
+
+abbrev pub answer : List Request → Request → Answer
 answer h q = answer_by (verdict h q) (reply h q)

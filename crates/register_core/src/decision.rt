@@ -1,6 +1,6 @@
 //! What a request makes of the register, where the key that it names is known.
 ghost use Rattle.std.specs.Prelude.{◌≡◌, ◌≤◌, List, Some, IfOk, IfErr, None};
-ghost use Rattle.register_core.specs.Verdict.{max_keys, judge_view, verdict, reply};
+ghost use Rattle.register_core.specs.Verdict.{max_keys, judge_view, judgement, reply};
 ghost use Rattle.register_core.specs.Decision.{IsRightKey, IsViewOf, LeadsTo, held_change};
 ghost use Rattle.register_core.specs.Decision.{change_by, reply_to, reply_of_view};
 
@@ -88,9 +88,9 @@ pub fn decide(view: &View, request: &Request) -> Result<Accept, Refusal>
     ensures accepted { IfOk result (λ accept. judge_view view.now request.now ≡ None) }
     ensures change { IfOk result (λ accept. accept.change ≡ change_by view.now.key request.now) }
     ensures reply { IfOk result (λ accept. accept.reply ≡ reply_of_view view.now request.now) }
-    ensures verdict { (h : List Request) → IsViewOf view.now h request.now.command →
-        IfErr result (λ refusal. verdict h request.now ≡ Some refusal)
-        × IfOk result (λ accept. verdict h request.now ≡ None) }
+    ensures judgement { (h : List Request) → IsViewOf view.now h request.now.command →
+        IfErr result (λ refusal. judgement h request.now ≡ Some refusal)
+        × IfOk result (λ accept. judgement h request.now ≡ None) }
     ensures leads { (h : List Request) → IsViewOf view.now h request.now.command →
         IfOk result (λ accept.
         (accept.reply ≡ reply h request.now) × LeadsTo h request.now accept.change) }

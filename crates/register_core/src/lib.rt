@@ -8,6 +8,7 @@
 //! ```
 #![tactic(auto)]
 
+mod answer;
 mod change;
 mod command_format;
 mod custody_refusal;
@@ -31,6 +32,7 @@ mod text;
 mod verdict;
 mod view;
 
+pub use answer::Answer;
 pub use change::{Accept, Change, CustodyChange};
 pub use command_format::{CommandText, MAX_COMMAND_LENGTH, command_text, read_command};
 pub use decision::decide;

@@ -7,7 +7,7 @@ ghost use Rattle.register_core.specs.History.{latest, count, type, owner, dates}
 ghost use Rattle.register_core.specs.Subject.{key_of, made_by, is_key};
 ghost use Rattle.register_core.specs.Effect.{kind_after, owner_after, dates_after};
 ghost use Rattle.register_core.specs.Custody.{held};
-ghost use Rattle.register_core.specs.Verdict.{verdict, reply};
+ghost use Rattle.register_core.specs.Verdict.{judgement, reply};
 ghost use Rattle.register_core.specs.Decision.{IsViewOf};
 ghost use Rattle.register_core.specs.Fold.{history_after, answer_to, answers};
 
@@ -202,13 +202,13 @@ fn view(alloc: Global, history: &[Request], command: &Command) -> Result<View, A
 }
 
 /// The first refusal that holds behind a history, if any does.
-pub fn verdict(
+pub fn judgement(
     alloc: Global,
     history: &[Request],
     request: &Request,
 ) -> Result<Option<Refusal>, AllocError>
     requires { length history.now + 1 < 2 ^ 32 }
-    ensures { IfOk result (λ refused. refused ≡ verdict history.now request.now) }
+    ensures { IfOk result (λ refused. refused ≡ judgement history.now request.now) }
 {
     Ok(judge(&view(alloc, history, &request.command)?, request))
 }
@@ -247,7 +247,7 @@ fn answer_to(
     let Some(request) = item else {
         return Ok(Err(Refusal::BadLine));
     };
-    if let Some(refusal) = verdict(alloc, history, request)? {
+    if let Some(refusal) = judgement(alloc, history, request)? {
         return Ok(Err(refusal));
     }
     let keys = count(history);

@@ -24,6 +24,7 @@ use Rattle.register_core.specs.History.{latest, registrations, count, type, date
 use Rattle.register_core.specs.Laws.{IsAccepted, HasKey}
 use Rattle.register_core.specs.Subject.{Registration, Subject, Makes, Names, NoKey, subject, named, named_by, key_of as key_of_command, count_by, made_by, is_key}
 use Rattle.register_core.specs.Verdict.{named_key}
+use Rattle.register_core.proofs.Verdicts.{judged}
 use Rattle.register_core.proofs.DateLaws.{freeze}
 use Rattle.register_core.proofs.Decisions.{standing}
 use Rattle.register_core.proofs.OnKey.{on_key}
@@ -203,7 +204,7 @@ keys_by h q (Makes made) is accepted =
     ∙ ap (λ (k : Key). map (advanced q.moment) (tables h).keys ++ k ∷ []) (made_key h q made is)
 keys_by h q (Names k) is accepted =
     let names : named q.command ≡ Some k = ap named_by is in
-    let on = on_key h q k accepted.accepted names in
+    let on = on_key h q k (judged h q accepted.accepted) names in
     let key : named_key h q.command ≡ Some (standing h k) = ap (λ (n : Option ℕ). option_and_then (held h) n) names ∙ held_there h k on.low on.high in
     ap (numbered_keys (h ++ q ∷ [])) (append_nothing (registrations h)) ∙ named_keys h q k names accepted
     ∙ ap (λ (x : Option Held). changed_keys h q (change_of (Names k) x q)) (sym key)

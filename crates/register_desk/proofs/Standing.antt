@@ -20,7 +20,7 @@ use Rattle.register_core.specs.History.{latest, count}
 use Rattle.register_core.specs.Laws.{IsAccepted}
 use Rattle.register_core.specs.Subject.{Subject, Makes, Names, NoKey, subject, count_by, made_by}
 use Rattle.register_core.specs.Request.{IsRequest}
-use Rattle.register_core.specs.Verdict.{judge, max_keys, named_key, too_many, verdict}
+use Rattle.register_core.specs.Verdict.{Verdict, Accepts, judge, max_keys, named_key, too_many, verdict, is_accepted}
 use Rattle.register_core.proofs.Histories.{count_grows, latest_grows}
 use Rattle.register_core.proofs.Lawful.{lawful_after}
 use Rattle.register_core.proofs.Refusals.{passes}
@@ -67,13 +67,13 @@ room_left last keys key q change within accepted is =
     by (Names k) names = omega arith
     by NoKey none = omega arith
 
-module _ {S : Type 0} (g : store.Ghosts S) (old : Desk S g) (h : List Request) (q : Request) (request : IsRequest q) (stands : StandsFor g old h) (accepted : verdict h q ≡ None)
+module _ {S : Type 0} (g : store.Ghosts S) (old : Desk S g) (h : List Request) (q : Request) (request : IsRequest q) (stands : StandsFor g old h) (accepted : verdict h q ≡ Accepts)
     (change : Change) (key : Option Held) (key_is : key ≡ named_key h q.command) (change_is : change ≡ change_by key q) (leads : LeadsTo h q change) where
   abbrev grown : List Request
   grown = h ++ q ∷ []
 
   after_is : history_after h (Some q) ≡ grown
-  after_is = ap (λ (v : Option Refusal). cond (is_none v) grown h) accepted
+  after_is = ap (λ (v : Verdict). cond (is_accepted v) grown h) accepted
 
   abbrev Made : Database → Database → Type 0
   Made = tabled.Makes (HasKeys old.keys) (with_request old.keys q.moment change)
@@ -85,11 +85,11 @@ module _ {S : Type 0} (g : store.Ghosts S) (old : Desk S g) (h : List Request) (
   made_holds : (before after : Database) → Holds (tables h) before → Made before after → Holds (tables grown) after
   made_holds before after holds made =
       let keys : length (tables h).keys ≡ old.keys = keys_counted h ∙ sym stands.keys_are in
-      let is_accepted : IsAccepted h q = record { lawful = stands.lawful; accepted = accepted } in
+      let it : IsAccepted h q = record { lawful = stands.lawful; accepted = accepted } in
       let same : with_request old.keys q.moment change (tables h) ≡ tables grown =
       ap (λ (n : ℕ). with_request n q.moment change (tables h)) stands.keys_are
       ∙ ap (λ (c : Change). with_request (count h) q.moment c (tables h)) is_change
-      ∙ sym (tables_grow h q is_accepted (subst (LeadsTo h q) is_change leads)) in
+      ∙ sym (tables_grow h q it (subst (LeadsTo h q) is_change leads)) in
       subst (λ (t : Tables). Holds t after) same (made (tables h) holds keys)
 
   counted_after : made_count change ≡ made_by q.command

@@ -5,7 +5,6 @@ pub mod Step
 pub mod Shown
 pub mod Loading
 pub mod Opening
-pub mod Answer
 pub mod Input
 pub mod Run
 pub mod Serving

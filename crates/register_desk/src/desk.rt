@@ -2,14 +2,13 @@
 ghost use Rattle.std.specs.Prelude.{◌≡◌, ◌≤◌, false};
 ghost use Rattle.register_core.specs.Verdict.{max_keys};
 
-use crate::answer::Answer;
 use crate::commit::{commit_request, keys_after};
 use crate::end::End;
 use crate::opening::{OpenRefusal, Unopened};
 use crate::record::Record;
 use lifecycle_core::{Usage, usage_of};
 use moment_core::Moment;
-use register_core::{Change, Command, Held, Purpose, Refusal, Request, View, decide};
+use register_core::{Answer, Change, Command, Held, Purpose, Refusal, Request, View, decide};
 use register_store::{StoreError, create, find_row, load_key};
 use sqlite::{Alter, Connection};
 use std::alloc::Global;
@@ -45,7 +44,7 @@ impl<S: Alter> Desk<S> {
     ghost use Rattle.register_store.specs.Schema.{no_schema};
     ghost use Rattle.register_store.specs.Tables.{Tables};
     ghost use Rattle.register_store.specs.Making.{Makes, HasKeys};
-    ghost use Rattle.register_desk.specs.Answer.{answered, OnRefused};
+    ghost use Rattle.register_core.specs.Answer.{OnRefused};
     ghost use Rattle.register_desk.specs.Leaving.{IsWhole, IsBroken, IsClean, Ends, EndsBy};
     ghost use Rattle.register_desk.specs.Leaving.{ChangesNothing, KeepsCounts, LeavesEither};
     ghost use Rattle.register_desk.specs.Leaving.{LeavesWithChange, connection_of};
@@ -131,7 +130,7 @@ impl<S: Alter> Desk<S> {
         ensures clean { IsClean S.Store self.new → IsClean S.Store self.old }
         // The answer is the verdict over the history that the desk stands for.
         ensures answer { (h : List Request) → StandsFor S.Store self.old h → IsRequest request.now
-            → IsClean S.Store self.new → IfOk result (λ given. answered given ≡ answer h request.now) }
+            → IsClean S.Store self.new → IfOk result (λ given. given ≡ answer h request.now) }
         ensures no_request { has_text request.now.command ≡ false
             → IfOk result (λ given. given ≡ Answer.Refused Refusal.BadLine) }
         // The desk then stands for the history with the request at its end, if that was accepted.

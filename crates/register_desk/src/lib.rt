@@ -8,7 +8,6 @@
 //! ```
 #![tactic(auto)]
 
-mod answer;
 mod commit;
 mod desk;
 mod end;
@@ -17,10 +16,10 @@ mod opening;
 mod record;
 mod runs;
 
-pub use answer::Answer;
 pub use desk::Desk;
 pub use end::End;
 pub use opening::{OpenRefusal, Unopened};
 pub use record::Record;
+pub use register_core::Answer;
 pub use runs::{Finish, Outcome, run};
 pub use streams::{MAX_IDLE_TURNS, MAX_READS, ReadFault, Watched, WriteFault};

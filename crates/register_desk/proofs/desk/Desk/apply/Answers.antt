@@ -1,8 +1,9 @@
 use Rattle.std.proofs.Common.{◌≡◌, refl, inl, [], ◌∷◌, ◌++◌, cond, Result, Ok, Err, sym, ap, subst, ◌∙◌, arith, rules}
-use Rattle.std.specs.Prelude.{IfErr, IsErrAnd, MatchResult, OnErr, is_none}
+use Rattle.std.specs.Prelude.{IfErr, IsErrAnd, MatchResult, OnErr}
 use Rattle.register_core.specs.declared.change.Change.TheVariants.{Nothing}
-use Rattle.register_core.specs.declared.reply.Reply.{Reply}
-use Rattle.register_core.specs.Verdict.{answer_by, reply}
+use Rattle.register_core.specs.declared.answer.Answer.TheVariants.{Accepted}
+use Rattle.register_core.specs.Verdict.{answer_by, verdict_by, is_accepted, reply}
+use Rattle.register_core.proofs.Verdicts.{accepted_by}
 use Rattle.register_desk.specs.Leaving.{EndsBy, IsClean}
 use Rattle.register_desk.specs.Register.{tables, StandsFor}
 use Rattle.register_desk.proofs.Readings.{leaves_seen, stands_still}
@@ -25,34 +26,34 @@ returns-in_err-accept-in-Ok-clause-store g c h stands request clean =
     let early : IsClean g.S.Store mid = omega (arith, c.in_err-accept-in-Ok.ensures.written.stop.clean, clean) in
     let it = viewed g.S.Store mid h c.args.request.now c.in_ok-key.key (stands_still g.S.Store _ _ c.in_ok-key.ensures.reads h stands) (c.in_ok-key.ensures.named h stands) early in
     at_any_end _ c.from_residual-in_err-accept-in-Ok.result (λ end is.
-    leaves_one g.S.Store mid h c.args.request.now request it.stands (c.in-Ok.ensures.verdict h it.view).1 c.in-Ok.accept.change c.in_ok-key.key it.named c.in-Ok.ensures.change (c.in-Ok.ensures.leads h it.view).1
+    leaves_one g.S.Store mid h c.args.request.now request it.stands (accepted_by h c.args.request.now (c.in-Ok.ensures.judgement h it.view).1) c.in-Ok.accept.change c.in_ok-key.key it.named c.in-Ok.ensures.change (c.in-Ok.ensures.leads h it.view).1
     c.accept.new.self _ c.in_ok-key.ensures.ends.1 c.in_err-accept-in-Ok.ensures.written clean)
 
 pub returns-in-Err-clause-answer : goal.returns-in-Err-clause-answer
 returns-in-Err-clause-answer g c h stands request clean =
     let q = c.args.request.now in
     let it = viewed g.S.Store c.named.new.self h q c.in_ok-key.key (stands_still g.S.Store _ _ c.in_ok-key.ensures.reads h stands) (c.in_ok-key.ensures.named h stands) clean in
-    ap (λ v. answer_by v (reply h q)) (sym (c.in-Err.ensures.verdict h it.view).0)
+    ap (λ j. answer_by (verdict_by j) (reply h q)) (sym (c.in-Err.ensures.judgement h it.view).0)
 
 pub returns-in-Err-clause-stands : goal.returns-in-Err-clause-stands
 returns-in-Err-clause-stands g c h stands request clean =
     let q = c.args.request.now in
     let it = viewed g.S.Store c.named.new.self h q c.in_ok-key.key (stands_still g.S.Store _ _ c.in_ok-key.ensures.reads h stands) (c.in_ok-key.ensures.named h stands) clean in
-    subst (StandsFor g.S.Store c.named.new.self) (ap (λ v. cond (is_none v) (h ++ q ∷ []) h) (sym (c.in-Err.ensures.verdict h it.view).0)) it.stands
+    subst (StandsFor g.S.Store c.named.new.self) (ap (λ j. cond (is_accepted (verdict_by j)) (h ++ q ∷ []) h) (sym (c.in-Err.ensures.judgement h it.view).0)) it.stands
 
 pub returns-clause-answer : goal.returns-clause-answer
 returns-clause-answer g c h stands request clean =
     let q = c.args.request.now in
     let early : IsClean g.S.Store c.named.new.self = omega (arith, c.in_ok-accept-in-Ok.ensures.written.stop.clean, clean) in
     let it = viewed g.S.Store c.named.new.self h q c.in_ok-key.key (stands_still g.S.Store _ _ c.in_ok-key.ensures.reads h stands) (c.in_ok-key.ensures.named h stands) early in
-    ap (λ (r : Reply). Ok r) (c.in-Ok.ensures.leads h it.view).0 ∙ ap (λ v. answer_by v (reply h q)) (sym (c.in-Ok.ensures.verdict h it.view).1)
+    ap Accepted (c.in-Ok.ensures.leads h it.view).0 ∙ ap (λ j. answer_by (verdict_by j) (reply h q)) (sym (c.in-Ok.ensures.judgement h it.view).1)
 
 pub returns-clause-stands : goal.returns-clause-stands
 returns-clause-stands g c h stands request clean =
     let mid = c.named.new.self in
     let early : IsClean g.S.Store mid = omega (arith, c.in_ok-accept-in-Ok.ensures.written.stop.clean, clean) in
     let it = viewed g.S.Store mid h c.args.request.now c.in_ok-key.key (stands_still g.S.Store _ _ c.in_ok-key.ensures.reads h stands) (c.in_ok-key.ensures.named h stands) early in
-    stands_after g.S.Store mid h c.args.request.now request it.stands (c.in-Ok.ensures.verdict h it.view).1 c.in-Ok.accept.change c.in_ok-key.key it.named
+    stands_after g.S.Store mid h c.args.request.now request it.stands (accepted_by h c.args.request.now (c.in-Ok.ensures.judgement h it.view).1) c.in-Ok.accept.change c.in_ok-key.key it.named
     c.in-Ok.ensures.change (c.in-Ok.ensures.leads h it.view).1 c.accept.new.self (Ok c.in_ok-accept-in-Ok.field-0) c.in_ok-key.ensures.ends.1
     c.in_ok-accept-in-Ok.ensures.written g.met.S.Store.settled c.in_ok-accept-in-Ok.ensures.latest c.in_ok-accept-in-Ok.ensures.keys
 

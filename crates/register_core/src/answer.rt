@@ -1,5 +1,5 @@
 //! What a request is answered.
-use register_core::{Refusal, Reply};
+use crate::reply::{Refusal, Reply};
 
 /// What a request is answered.
 #[derive(Clone, Copy, Debug, PartialEq, Eq)]
@@ -10,11 +10,11 @@ pub enum Answer {
 
 impl Answer {
     ghost use Rattle.std.specs.Prelude.{◌≡◌};
-    ghost use Rattle.register_desk.specs.Answer.{answered};
+    ghost use Rattle.register_core.specs.Answer.{outcome};
 
     /// The reply or the refusal.
     pub fn outcome(&self) -> Result<Reply, Refusal>
-        ensures { result ≡ answered self.now }
+        ensures { result ≡ outcome self.now }
     {
         match self {
             Answer::Accepted(reply) => Ok(*reply),
