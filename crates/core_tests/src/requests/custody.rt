@@ -119,7 +119,7 @@ fn refusals_of_custody(rt: HostRuntime) -> Result<(), Fail> {
     Ok(())
 }
 
-/// Whether bob's key, or no key where none was made, has the line refused so.
+/// Whether the line is refused so on this view.
 fn is_refused(view: &View, line: &[u8], refusal: Refusal) -> bool
     requires within { view.now.keys ≤ max_keys }
     requires right { IsRightKey view.now.key view.now.latest }
