@@ -13,7 +13,7 @@ use register_core::{
     Command, Held, Name, Names, Purpose, Refusal, Reply, Request, View, command_text, given_dates,
     plain, read_command, read_request, reply_line,
 };
-use std::alloc::Global;
+use std::alloc::{AllocError, Global};
 use std::fmt;
 use std::test::Fail;
 
@@ -34,11 +34,6 @@ fn names_and_purposes_are_printed(rt: HostRuntime) {
     assert!(rt; is_printed(rt.alloc(), name, "\"ops-1@hsm.example\""));
     let purpose = Purpose::new("backups of Zürich".as_bytes());
     assert!(rt; is_printed(rt.alloc(), purpose, "\"backups of Zürich\""));
-}
-
-/// The request of the line.
-fn request(line: &str) -> Result<Request, Fail> {
-    Ok(read_request(line.as_bytes()).ok_or("a request")?)
 }
 
 /// Whether the line is read as alice's request 7 at 100 to register a key of bob's.
@@ -124,21 +119,30 @@ fn is_line_of(refusal: Refusal, line: &str) -> bool {
     reply_line(&Err(refusal)).as_bytes() == line.as_bytes()
 }
 
+fn is_line_of_latest(seconds: u64, line: &str) -> bool {
+    match Moment::new(seconds) {
+        Some(latest) => is_line_of(Refusal::MomentBehind { latest }, line),
+        None => false,
+    }
+}
+
+fn is_line_of_limit(seconds: u64, line: &str) -> bool {
+    match Moment::new(seconds) {
+        Some(limit) => is_line_of(Refusal::PeriodTooLong { limit }, line),
+        None => false,
+    }
+}
+
 #[test]
-fn lines_of_answers(rt: HostRuntime) -> Result<(), Fail> {
+fn lines_of_answers(rt: HostRuntime) {
     for (key, state, seconds, line) in &REPLIES {
         assert!(rt; is_line_of_reply(*key, *state, *seconds, line), "{line}");
     }
     for (refusal, line) in &REFUSALS {
         assert!(rt; is_line_of(*refusal, line), "{line}");
     }
-    let latest = Moment::new(1000).ok_or("a moment")?;
-    let behind = Refusal::MomentBehind { latest };
-    assert!(rt; is_line_of(behind, "refused 3 MomentBehind latest=1000\n"));
-    let limit = Moment::new(63072000).ok_or("a moment")?;
-    let long = Refusal::PeriodTooLong { limit };
-    assert!(rt; is_line_of(long, "refused 10 PeriodTooLong limit=63072000\n"));
-    Ok(())
+    assert!(rt; is_line_of_latest(1000, "refused 3 MomentBehind latest=1000\n"));
+    assert!(rt; is_line_of_limit(63072000, "refused 10 PeriodTooLong limit=63072000\n"));
 }
 
 /// The texts of commands on custodians, approvals and destruction.
@@ -262,43 +266,83 @@ fn commands_on_a_key(rt: HostRuntime) {
 
 const REGISTRATION: &str = "100 ann 1 register data-encryption ann 200 300 400 x";
 
+/// Whether a key of this registration is Deactivated at 250 by this revocation.
+fn is_deactivated(alloc: Global, registration: &str, revocation: &str) -> Result<bool, AllocError> {
+    let (Some(registered), Some(revoked)) = (
+        read_request(registration.as_bytes()),
+        read_request(revocation.as_bytes()),
+    ) else {
+        return Ok(false);
+    };
+    match plain::held(alloc, &[registered, revoked], 1)? {
+        Some(held) => Ok(
+            held.row.state == State::Deactivated
+                && held.row.dates.protect_stop == Moment::new(250)
+                && held.row.dates.deactivation == Moment::new(250),
+        ),
+        None => Ok(false),
+    }
+}
+
 /// A key that is revoked for another reason than a compromise is Deactivated, and its originator
 /// use ends with that.
 #[test]
 fn revoked_key(rt: HostRuntime) -> Result<(), Fail> {
-    let history = [request(REGISTRATION)?, request("250 ann 1 revoke 1 5 -")?];
-    let held = plain::held(rt.alloc(), &history, 1)?.ok_or("a key")?;
-    assert_eq!(rt; held.row.state, State::Deactivated);
-    assert_eq!(rt; held.row.dates.protect_stop, Moment::new(250));
-    assert_eq!(rt; held.row.dates.deactivation, Moment::new(250));
+    let revocation = "250 ann 1 revoke 1 5 -";
+    assert!(rt; is_deactivated(rt.alloc(), REGISTRATION, revocation)?);
     Ok(())
 }
 
-/// The plain program over three requests: a key is made, gets another owner, and is compromised.
+/// A key is made, gets another owner, and is compromised.
+fn history() -> Option<[Request; 3]> {
+    Some([
+        read_request(REGISTRATION.as_bytes())?,
+        read_request(b"150 ann 1 assign 1 bob")?,
+        read_request(b"250 eve 1 revoke 1 3 -")?,
+    ])
+}
+
+/// Whether the key is as that history leaves it.
+fn is_key_of_history(held: &Held) -> bool {
+    held.owner.text() == "bob"
+        && held.row.state == State::Compromised
+        && held.row.dates.compromise == Moment::new(250)
+        && held.row.dates.compromise_occurrence == Moment::new(100)
+}
+
+/// Whether the history makes key 1, as it should, and no key 2.
+fn makes_one_key(alloc: Global, history: &[Request; 3]) -> Result<bool, AllocError> {
+    if plain::held(alloc, history, 2)?.is_some() {
+        return Ok(false);
+    }
+    match plain::held(alloc, history, 1)? {
+        Some(held) => Ok(is_key_of_history(&held)),
+        None => Ok(false),
+    }
+}
+
+/// Whether the last request is refused when it comes again.
+fn is_refused_again(alloc: Global, history: &[Request; 3]) -> Result<bool, AllocError> {
+    let state = State::Compromised;
+    let judgement = plain::judgement(alloc, history, &history[2])?;
+    Ok(judgement == Some(Refusal::WrongState { state }))
+}
+
+/// Whether each request is accepted.
+fn are_accepted(alloc: Global, history: &[Request; 3]) -> Result<bool, AllocError> {
+    let items = [Some(history[0]), Some(history[1]), Some(history[2])];
+    let answers = plain::answers(alloc, &items)?;
+    Ok(answers.iter().all(|answer| answer.is_ok()))
+}
+
+/// The plain program over the three requests.
 #[test]
 fn plain_history(rt: HostRuntime) -> Result<(), Fail> {
-    let history = [
-        request(REGISTRATION)?,
-        request("150 ann 1 assign 1 bob")?,
-        request("250 eve 1 revoke 1 3 -")?,
-    ];
+    let history = history().ok_or("a history")?;
     assert_eq!(rt; plain::count(&history), 1);
     assert_eq!(rt; plain::latest(&history).seconds(), 250);
-    assert!(rt; plain::held(rt.alloc(), &history, 2)?.is_none());
-    let held = plain::held(rt.alloc(), &history, 1)?.ok_or("a key")?;
-    assert_eq!(rt; held.owner.text(), "bob");
-    assert_eq!(rt; held.row.state, State::Compromised);
-    assert_eq!(rt; held.row.dates.compromise, Moment::new(250));
-    assert_eq!(rt; held.row.dates.compromise_occurrence, Moment::new(100));
-    let again = request("250 eve 1 revoke 1 3 -")?;
-    let compromised = Refusal::WrongState {
-        state: State::Compromised,
-    };
-    assert_eq!(rt;
-        plain::judgement(rt.alloc(), &history, &again)?,
-        Some(compromised)
-    );
-    let answers = plain::answers(rt.alloc(), &history.map(Some))?;
-    assert!(rt; answers.iter().all(|answer| answer.is_ok()));
+    assert!(rt; makes_one_key(rt.alloc(), &history)?);
+    assert!(rt; is_refused_again(rt.alloc(), &history)?);
+    assert!(rt; are_accepted(rt.alloc(), &history)?);
     Ok(())
 }

@@ -1,5 +1,9 @@
 //! The refusals that rest on custodians and approvals, the others behind them, and what an accepted
 //! command changes.
+ghost use Rattle.std.specs.Prelude.{◌≤◌};
+ghost use Rattle.register_core.specs.Verdict.{max_keys};
+ghost use Rattle.register_core.specs.Decision.{IsRightKey};
+
 use super::keys::{answer_by, change_by, dates_in, outcome_by, view_in, view_with};
 use lifecycle_core::{Dates, State};
 use moment_core::Moment;
@@ -86,41 +90,76 @@ fn is_outcome(
     Ok(outcome_by(&view, &request) == Some(*expected))
 }
 
+/// The first of the lines that has another outcome.
+fn first_wrong(
+    alloc: Global,
+    custodians: &[&str],
+    approvals: &[&str],
+    lines: &[Asked],
+) -> Result<Option<usize>, Fail> {
+    for (index, asked) in lines.iter().enumerate() {
+        if !is_outcome(alloc, custodians, approvals, asked)? {
+            return Ok(Some(index));
+        }
+    }
+    Ok(None)
+}
+
 #[test]
 fn refusals_of_custody(rt: HostRuntime) -> Result<(), Fail> {
-    for asked in &OF_THREE {
-        let is = is_outcome(rt.alloc(), &["cat", "dan", "eve"], &["cat", "dan"], asked)?;
-        assert!(rt; is, "{asked:?}");
-    }
-    for asked in &OF_EIGHT {
-        assert!(rt; is_outcome(rt.alloc(), &EIGHT, &[], asked)?, "{asked:?}");
-    }
-    for asked in &OF_SEVEN {
-        assert!(rt;
-            is_outcome(rt.alloc(), &SEVEN, &["c1"], asked)?,
-            "{asked:?}"
-        );
-    }
+    let of_three = first_wrong(
+        rt.alloc(),
+        &["cat", "dan", "eve"],
+        &["cat", "dan"],
+        &OF_THREE,
+    )?;
+    assert_eq!(rt; of_three, None);
+    assert_eq!(rt; first_wrong(rt.alloc(), &EIGHT, &[], &OF_EIGHT)?, None);
+    assert_eq!(rt; first_wrong(rt.alloc(), &SEVEN, &["c1"], &OF_SEVEN)?, None);
     Ok(())
+}
+
+/// Whether the line is refused so on this view.
+fn is_refused(view: &View, line: &[u8], refusal: Refusal) -> bool
+    requires within { view.now.keys ≤ max_keys }
+    requires right { IsRightKey view.now.key view.now.latest }
+{
+    match read_request(line) {
+        Some(request) => answer_by(view, &request) == Err(refusal),
+        None => false,
+    }
+}
+
+const EARLY: &[u8] = b"599 zed 1 activate 1";
+
+const LATE: &[u8] = b"600 zed 1 activate 1";
+
+/// Whether the key has both refused: the early one as behind, the late one as not the owner's.
+fn refuses_with_a_key(alloc: Global, latest: Moment) -> Result<bool, Fail> {
+    let view = view_in(alloc, PRE)?;
+    Ok(
+        is_refused(&view, EARLY, Refusal::MomentBehind { latest })
+            && is_refused(&view, LATE, Refusal::NotOwner),
+    )
+}
+
+/// The same where there is no key.
+fn refuses_without_a_key(latest: Moment) -> bool {
+    let view = View {
+        latest,
+        keys: 0,
+        key: None,
+    };
+    is_refused(&view, EARLY, Refusal::MomentBehind { latest })
+        && is_refused(&view, LATE, Refusal::UnknownKey)
 }
 
 /// A moment below the latest comes before all else, and a key that is not there next.
 #[test]
 fn behind_and_unknown(rt: HostRuntime) -> Result<(), Fail> {
     let latest = Moment::new(600).ok_or("a moment")?;
-    let behind = Err(Refusal::MomentBehind { latest });
-    let view = view_in(rt.alloc(), PRE)?;
-    let early = read_request(b"599 zed 1 activate 1").ok_or("a request")?;
-    let late = read_request(b"600 zed 1 activate 1").ok_or("a request")?;
-    assert_eq!(rt; answer_by(&view, &early), behind);
-    assert_eq!(rt; answer_by(&view, &late), Err(Refusal::NotOwner));
-    let view = View {
-        latest,
-        keys: 0,
-        key: None,
-    };
-    assert_eq!(rt; answer_by(&view, &early), behind);
-    assert_eq!(rt; answer_by(&view, &late), Err(Refusal::UnknownKey));
+    assert!(rt; refuses_with_a_key(rt.alloc(), latest)?);
+    assert!(rt; refuses_without_a_key(latest));
     Ok(())
 }
 
@@ -215,21 +254,24 @@ fn dates_after(alloc: Global, state: State, line: &str) -> Result<Dates, Fail> {
     Ok(dates_of(change_by(&view, &request)).ok_or("dates")?)
 }
 
+/// Whether the key was destroyed and compromised then, in seconds.
+fn is_ended(dates: &Dates, destroy: u64, compromise: u64) -> bool {
+    dates.destroy == Moment::new(destroy) && dates.compromise == Moment::new(compromise)
+}
+
 /// A command takes effect at the moment of its request.
 #[test]
 fn dates_after_commands(rt: HostRuntime) -> Result<(), Fail> {
     let at = Moment::new(1000);
     let activated = dates_after(rt.alloc(), PRE, "1000 bob 1 activate 1")?;
-    assert_eq!(rt; activated.activation, at);
+    assert!(rt; activated.activation == at);
     let revoked = dates_after(rt.alloc(), ACTIVE, "1000 bob 1 revoke 1 5 -")?;
-    assert_eq!(rt; revoked.deactivation, at);
+    assert!(rt; revoked.deactivation == at);
     let compromised = dates_after(rt.alloc(), DESTROYED, "1000 zed 1 revoke 1 2 50")?;
-    assert_eq!(rt; compromised.destroy, Moment::new(500));
-    assert_eq!(rt; compromised.compromise, at);
-    assert_eq!(rt; compromised.compromise_occurrence, Moment::new(50));
+    assert!(rt; is_ended(&compromised, 500, 1000));
+    assert!(rt; compromised.compromise_occurrence == Moment::new(50));
     let destroyed = dates_after(rt.alloc(), COMPROMISED, "1000 bob 1 destroy 1")?;
-    assert_eq!(rt; destroyed.destroy, at);
-    assert_eq!(rt; destroyed.compromise, Moment::new(500));
+    assert!(rt; is_ended(&destroyed, 1000, 500));
     Ok(())
 }
 
@@ -241,13 +283,17 @@ fn is_owned(change: &Option<Change>, owner: &str) -> bool {
     }
 }
 
+/// Whether bob's key is this owner's after the line.
+fn is_owner_after(alloc: Global, line: &str, owner: &str) -> Result<bool, Fail> {
+    let view = view_in(alloc, PRE)?;
+    let request = read_request(line.as_bytes()).ok_or("a request")?;
+    Ok(is_owned(&change_by(&view, &request), owner))
+}
+
 /// A key is another's once it is assigned, and by no other command.
 #[test]
 fn owners_after_commands(rt: HostRuntime) -> Result<(), Fail> {
-    let view = view_in(rt.alloc(), PRE)?;
-    let assign = read_request(b"1000 bob 1 assign 1 gil").ok_or("a request")?;
-    assert!(rt; is_owned(&change_by(&view, &assign), "gil"));
-    let revoke = read_request(b"1000 zed 1 revoke 1 2 -").ok_or("a request")?;
-    assert!(rt; is_owned(&change_by(&view, &revoke), "bob"));
+    assert!(rt; is_owner_after(rt.alloc(), "1000 bob 1 assign 1 gil", "gil")?);
+    assert!(rt; is_owner_after(rt.alloc(), "1000 zed 1 revoke 1 2 -", "bob")?);
     Ok(())
 }

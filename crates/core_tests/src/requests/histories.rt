@@ -2,8 +2,8 @@
 use super::keys::names_of;
 use lifecycle_core::State;
 use moment_core::Moment;
-use register_core::{Held, Names, plain, read_request, reply_line};
-use std::alloc::Global;
+use register_core::{Held, Names, Refusal, Reply, Request, plain, read_request, reply_line};
+use std::alloc::{AllocError, Global};
 use std::process::Abort;
 use std::test::Fail;
 
@@ -35,29 +35,47 @@ const DESTROYED: [Row; 6] = [
 /// It is compromised before that.
 const COMPROMISED: [Row; 1] = [("105 zed 1 revoke 1 3 50", "ok 1 Compromised 105\n")];
 
-/// Compares the answers to the lines of [`APPROVED`] and to those that follow with the replies
-/// beside them. Key 1 as it stands behind those that are accepted.
-fn key_behind(rt: &impl Abort, alloc: Global, following: &[Row]) -> Result<Held, Fail> {
-    let mut rows = APPROVED.to_vec(alloc)?;
-    rows.extend_from_slice(following)?;
-    let mut items = Vec::new(alloc);
-    for (line, _) in &rows {
-        items.push(read_request(line.as_bytes()))?;
-    }
-    assert!(rt; items.len() < 100);
-    let answers = plain::answers(alloc, &items)?;
-    assert_eq!(rt; answers.len(), rows.len());
+/// The first row whose reply is another.
+fn first_wrong(answers: &[Result<Reply, Refusal>], rows: &[Row]) -> Option<usize> {
+    answers.iter().zip(rows).position(|(answer, (_, reply))| reply_line(answer).as_str() != *reply)
+}
+
+/// The requests that were accepted.
+fn accepted_of(
+    alloc: Global,
+    items: &[Option<Request>],
+    answers: &[Result<Reply, Refusal>],
+) -> Result<Vec<Request>, AllocError> {
     let mut accepted = Vec::new(alloc);
-    for (index, answer) in answers.iter().enumerate() {
-        assert!(rt; index < rows.len() && index < items.len());
-        let (_, reply) = rows[index];
-        assert!(rt; reply_line(answer).as_str() == reply, "line {index}");
-        if let (Ok(_), Some(request)) = (answer, &items[index]) {
+    for (item, answer) in items.iter().zip(answers) {
+        if let (Some(request), Ok(_)) = (item, answer) {
             accepted.push(*request)?;
         }
     }
+    Ok(accepted)
+}
+
+/// Compares the answers to the lines with the replies beside them. Key 1 as it stands behind those
+/// that are accepted.
+fn key_after(rt: &impl Abort, alloc: Global, rows: &[Row]) -> Result<Option<Held>, AllocError> {
+    let items: Vec<Option<Request>> = rows
+        .iter()
+        .map(|(line, _)| read_request(line.as_bytes()))
+        .collect(alloc)?;
+    assert!(rt; items.len() < 100);
+    let answers = plain::answers(alloc, &items)?;
+    assert_eq!(rt; answers.len(), rows.len());
+    assert_eq!(rt; first_wrong(&answers, rows), None);
+    let accepted = accepted_of(alloc, &items, &answers)?;
     assert!(rt; accepted.len() < 100);
-    Ok(plain::held(alloc, &accepted, 1)?.ok_or("a key")?)
+    plain::held(alloc, &accepted, 1)
+}
+
+/// The same of the lines of [`APPROVED`] and of those that follow.
+fn key_behind(rt: &impl Abort, alloc: Global, following: &[Row]) -> Result<Held, Fail> {
+    let mut rows = APPROVED.to_vec(alloc)?;
+    rows.extend_from_slice(following)?;
+    Ok(key_after(rt, alloc, &rows)?.ok_or("a key")?)
 }
 
 /// Whether the list is that of these names, in this order.

@@ -95,13 +95,20 @@ fn is_outcome(alloc: Global, line: &str, before: State, cell: Cell) -> Result<bo
     Ok(outcome_by(&view, &request) == Some(expected(cell, before)))
 }
 
+/// The first state in which the line has another outcome than that of its cell.
+fn first_wrong(alloc: Global, line: &str, cells: &[Cell; 6]) -> Result<Option<State>, Fail> {
+    for (before, cell) in STATES.iter().zip(cells) {
+        if !is_outcome(alloc, line, *before, *cell)? {
+            return Ok(Some(*before));
+        }
+    }
+    Ok(None)
+}
+
 #[test]
 fn commands_by_state_and_caller(rt: HostRuntime) -> Result<(), Fail> {
     for (line, cells) in &TABLE {
-        for (before, cell) in STATES.iter().zip(cells) {
-            let is = is_outcome(rt.alloc(), line, *before, *cell)?;
-            assert!(rt; is, "{line}, {before:?}");
-        }
+        assert_eq!(rt; first_wrong(rt.alloc(), line, cells)?, None, "{line}");
     }
     Ok(())
 }
@@ -161,6 +168,6 @@ fn advance_changes_nothing(rt: HostRuntime) -> Result<(), Fail> {
         key: None,
     };
     let request = read_request(b"1000 zed 1 advance").ok_or("a request")?;
-    assert_eq!(rt; change_by(&view, &request), Some(Change::Nothing));
+    assert!(rt; change_by(&view, &request) == Some(Change::Nothing));
     Ok(())
 }

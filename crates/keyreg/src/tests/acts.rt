@@ -1,5 +1,5 @@
 //! The program's exit statuses, and what it names on standard error.
-use super::worked_rows::{FIRST_DAY, WORKED_ROWS, WorkedRow, input_of, output_of};
+use super::worked_rows::{FIRST_DAY, WorkedRow, input_of, output_of};
 use crate::act::{act, report_end, report_refusal};
 use register_desk::{End, MAX_IDLE_TURNS, MAX_READS, OpenRefusal, Watched};
 use register_faults::{BrokenAfter, Trouble, Troubled};
@@ -54,21 +54,13 @@ fn act_on<R: Read + Drop, W: Write + Drop>(
 }
 
 /// Whether the program serves the row and ends with status 0, with nothing on standard error.
-fn is_served(alloc: Global, row: &WorkedRow) -> Result<bool, AllocError> {
+pub fn is_served(alloc: Global, row: &WorkedRow) -> Result<bool, AllocError> {
     let input = input_of(alloc, row)?;
     let expected = output_of(alloc, row.lines)?;
     let mut output = Vec::new(alloc);
     let mut faults = Vec::new(alloc);
     let status = act_on(alloc, 0, input.as_slice(), &mut output, &mut faults);
     Ok(status == 0 && output.as_slice() == expected.as_slice() && faults.is_empty())
-}
-
-#[test]
-fn status_0_at_the_end_of_the_input(rt: HostRuntime) -> Result<(), Fail> {
-    for row in &WORKED_ROWS {
-        assert!(rt; is_served(rt.alloc(), row)?, "{}", row.name);
-    }
-    Ok(())
 }
 
 #[test]
@@ -92,11 +84,8 @@ fn status_4_after_a_failed_read(rt: HostRuntime) {
     );
     let status = act_on(rt.alloc(), 0, input, &mut output, &mut faults);
     assert_eq!(rt; status, 4);
-    assert_eq!(rt;
-        output.as_slice(),
-        b"ok 1 Active 100\nok 0 - 999\n".as_slice()
-    );
-    assert_eq!(rt; faults.as_slice(), b"keyreg: ReadFault\n".as_slice());
+    assert!(rt; output.as_slice() == b"ok 1 Active 100\nok 0 - 999\n".as_slice());
+    assert!(rt; faults.as_slice() == b"keyreg: ReadFault\n".as_slice());
 }
 
 /// Whether the program ends with status 4 and names the fault, where the first reply goes well.

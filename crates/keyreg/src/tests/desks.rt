@@ -3,6 +3,7 @@ use super::fresh_run::desk_after;
 use super::worked_rows::{DEFAULTS, FIRST_DAY, WorkedRow};
 use crate::act::create_in_memory;
 use lifecycle_core::{Process, Reason, State, Usage};
+use moment_core::Moment;
 use period_core::KeyType;
 use register_core::{Command, Name, Purpose, Refusal, read_request};
 use register_desk::{Answer, Desk, OpenRefusal, Record};
@@ -29,21 +30,28 @@ const OUT_OF_USE: Usage = Usage {
     process: Process::Special,
 };
 
-/// The usage of key 1 after a row, which makes no key 3.
-const USAGES: [(WorkedRow, Usage); 2] = [(DEFAULTS, IN_USE), (FIRST_DAY, OUT_OF_USE)];
+/// Whether the key of this number is shown in this state, or as none.
+fn is_in_state(desk: &mut Desk<MemStore>, number: u32, state: Option<State>) -> Result<bool, Fail> {
+    match desk.show(number)? {
+        Some(record) => Ok(state == Some(record.row.state)),
+        None => Ok(state.is_none()),
+    }
+}
+
+/// Whether key 1 has this usage after a row, which makes no key 3.
+fn is_in_usage(alloc: Global, row: &WorkedRow, usage: Usage) -> Result<bool, Fail> {
+    let mut desk = desk_after(alloc, row)?;
+    Ok(desk.usage(1)? == Some(usage) && desk.usage(3)?.is_none())
+}
 
 #[test]
 fn keys_are_shown(rt: HostRuntime) -> Result<(), Fail> {
     let mut desk = desk_after(rt.alloc(), &FIRST_DAY)?;
     for (number, state) in &STATES {
-        let shown = desk.show(*number)?.map(|record| record.row.state);
-        assert!(rt; shown == *state, "{number}");
+        assert!(rt; is_in_state(&mut desk, *number, *state)?, "{number}");
     }
-    for (row, usage) in &USAGES {
-        let mut desk = desk_after(rt.alloc(), row)?;
-        assert!(rt; desk.usage(1)? == Some(*usage), "{}", row.name);
-        assert!(rt; desk.usage(3)?.is_none(), "{}", row.name);
-    }
+    assert!(rt; is_in_usage(rt.alloc(), &DEFAULTS, IN_USE)?);
+    assert!(rt; is_in_usage(rt.alloc(), &FIRST_DAY, OUT_OF_USE)?);
     Ok(())
 }
 
@@ -78,34 +86,36 @@ fn answer_to(desk: &mut Desk<MemStore>, command: Command) -> Result<Option<Answe
     }
 }
 
+/// Whether the owner's request with this command is refused as one that no line has.
+fn is_of_no_line(desk: &mut Desk<MemStore>, command: Command) -> Result<bool, Fail> {
+    Ok(answer_to(desk, command)? == Some(Answer::Refused(Refusal::BadLine)))
+}
+
+/// Whether the owner's request with this command deactivates the key.
+fn is_deactivating(desk: &mut Desk<MemStore>, command: Command) -> Result<bool, Fail> {
+    match answer_to(desk, command)? {
+        Some(Answer::Accepted(reply)) => Ok(reply.state == Some(State::Deactivated)),
+        _ => Ok(false),
+    }
+}
+
+/// A reason that is no compromise, with an occurrence or none.
+fn superseded(occurrence: Option<Moment>) -> Command {
+    Command::Revoke {
+        key: 1,
+        reason: Reason::Superseded,
+        occurrence,
+    }
+}
+
 #[test]
 fn values_of_no_line_are_refused(rt: HostRuntime) -> Result<(), Fail> {
     let mut desk = desk_after(rt.alloc(), &DEFAULTS)?;
-    let refused = Some(Answer::Refused(Refusal::BadLine));
-    let occurrence = Some(desk.latest());
-    let reason = Reason::Superseded;
-    let dated = Command::Revoke {
-        key: 1,
-        reason,
-        occurrence,
-    };
-    assert_eq!(rt; answer_to(&mut desk, dated)?, refused);
-    assert_eq!(rt;
-        answer_to(&mut desk, Command::Activate { key: 0 })?,
-        refused
-    );
+    let dated = superseded(Some(desk.latest()));
+    assert!(rt; is_of_no_line(&mut desk, dated)?);
+    assert!(rt; is_of_no_line(&mut desk, Command::Activate { key: 0 })?);
     assert_eq!(rt; desk.latest().seconds(), 100);
-    let undated = Command::Revoke {
-        key: 1,
-        reason,
-        occurrence: None,
-    };
-    match answer_to(&mut desk, undated)? {
-        Some(Answer::Accepted(reply)) => {
-            assert_eq!(rt; reply.state, Some(State::Deactivated));
-        }
-        _ => assert!(rt; false, "not accepted"),
-    }
+    assert!(rt; is_deactivating(&mut desk, superseded(None))?);
     Ok(())
 }
 
@@ -149,6 +159,20 @@ const TABLES: [(&str, &str, &str, &str); 4] = [
     ),
 ];
 
+/// A database in memory with the table and its row.
+fn database_with(alloc: Global, create: &str, insert: &str) -> Result<Connection<MemStore>, Fail> {
+    let mut connection = Connection::open_in_memory(alloc)?;
+    connection.execute(create, &[])?;
+    connection.execute(insert, &[])?;
+    Ok(connection)
+}
+
+/// Whether the row is there, and no other table.
+fn is_kept(connection: &mut Connection<MemStore>, kept: &str, other: &str) -> Result<bool, Fail> {
+    let note: String = connection.query_row(kept, &[])?.get(0)?;
+    Ok(note.as_str() == "a" && connection.query_row(other, &[]).is_err())
+}
+
 /// Whether no register is made where the table is, which keeps its row, and no table comes.
 fn is_refused(
     alloc: Global,
@@ -157,22 +181,16 @@ fn is_refused(
     kept: &str,
     other: &str,
 ) -> Result<bool, Fail> {
-    let mut connection = Connection::open_in_memory(alloc)?;
-    connection.execute(create, &[])?;
-    connection.execute(insert, &[])?;
+    let connection = database_with(alloc, create, insert)?;
     if !connection.is_autocommit() {
         return Ok(false);
     }
     match Desk::create(alloc, connection) {
         Ok(_) => Ok(false),
-        Err(mut unopened) => {
-            let note: String = unopened.connection.query_row(kept, &[])?.get(0)?;
-            Ok(
-                unopened.refusal == OpenRefusal::NotARegister
-                    && note.as_str() == "a"
-                    && unopened.connection.query_row(other, &[]).is_err(),
-            )
-        }
+        Err(mut unopened) => Ok(
+            unopened.refusal == OpenRefusal::NotARegister
+                && is_kept(&mut unopened.connection, kept, other)?,
+        ),
     }
 }
 
