@@ -29,7 +29,7 @@ pub struct Desk<S: Alter> {
 }
 
 impl<S: Alter> Desk<S> {
-    ghost use Rattle.std.specs.Prelude.{◌≡◌, ◌≢◌, ◌≤◌, ◌⊎◌, ◌+◌, List, [], ◌∷◌, Some, None, Err};
+    ghost use Rattle.std.specs.Prelude.{◌≡◌, ◌≢◌, ◌≤◌, ◌⊎◌, ◌+◌, List, [], ◌∷◌, Some, None, Ok, Err};
     ghost use Rattle.std.specs.Prelude.{IfOk, IfErr, OnOk, OnErr};
     ghost use Rattle.sqlite.specs.Held.{state};
     ghost use Rattle.register_core.specs.declared.request.Request.{Request};
@@ -131,8 +131,8 @@ impl<S: Alter> Desk<S> {
         // The answer is the verdict over the history that the desk stands for.
         ensures answer { (h : List Request) → StandsFor S.Store self.old h → IsRequest request.now
             → IsClean S.Store self.new → IfOk result (λ given. given ≡ answer h request.now) }
-        ensures no_request { has_text request.now.command ≡ false
-            → IfOk result (λ given. given ≡ Answer.Refused Refusal.BadLine) }
+        ensures no_request { has_text request.now.command ≡ false → IsWhole self.old
+            → result ≡ Ok (Answer.Refused Refusal.BadLine) }
         // The desk then stands for the history with the request at its end, if that was accepted.
         ensures stands { (h : List Request) → StandsFor S.Store self.old h → IsRequest request.now
             → IsClean S.Store self.new → OnOk result (StandsFor S.Store self.new (history h (Some request.now ∷ []))) }

@@ -121,4 +121,4 @@ returns-clause-ends g c = (c.in_ok-key.ensures.ends.0, c.in_ok-accept-in-Ok.ensu
 -- ---- a value of no line
 
 pub returns-then-not-has_text-clause-no_request : goal.returns-then-not-has_text-clause-no_request
-returns-then-not-has_text-clause-no_request g c none = refl
+returns-then-not-has_text-clause-no_request g c none whole = refl
