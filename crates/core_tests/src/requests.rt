@@ -107,8 +107,9 @@ fn is_line_of_reply(key: u32, state: Option<State>, seconds: u64, line: &str) ->
 
 /// Refusals that tell of no moment.
 #[rattlefmt::skip]
-const REFUSALS: [(Refusal, &str); 5] = [
+const REFUSALS: [(Refusal, &str); 6] = [
     (Refusal::BadLine, "refused 1 BadLine\n"),
+    (Refusal::RequestReused, "refused 2 RequestReused\n"),
     (Refusal::DateOrder, "refused 9 DateOrder\n"),
     (Refusal::DateRange, "refused 11 DateRange\n"),
     (Refusal::ApprovalsMissing { have: 1, need: 2 }, "refused 18 ApprovalsMissing have=1 need=2\n"),
@@ -297,7 +298,7 @@ fn revoked_key(rt: HostRuntime) -> Result<(), Fail> {
 fn history() -> Option<[Request; 3]> {
     Some([
         read_request(REGISTRATION.as_bytes())?,
-        read_request(b"150 ann 1 assign 1 bob")?,
+        read_request(b"150 ann 2 assign 1 bob")?,
         read_request(b"250 eve 1 revoke 1 3 -")?,
     ])
 }

@@ -5,5 +5,6 @@ mod desks;
 mod faults;
 mod fresh_run;
 mod long_lines;
+mod repeats;
 mod rows;
 mod worked_rows;

@@ -21,12 +21,12 @@ use Rattle.register_core.specs.CustodyRefusal.{approvals_missing, min_approvals}
 use Rattle.register_core.specs.Fold.{IsLawful}
 use Rattle.register_core.specs.Laws.{IsAccepted, HasKey}
 use Rattle.register_core.specs.Decision.{approvals_by}
-use Rattle.register_core.proofs.Verdicts.{judged, accepted_by}
+use Rattle.register_core.proofs.Verdicts.{judged}
 use Rattle.register_core.proofs.Histories.{count_grows, dates_named, dates_other, dates_made}
 use Rattle.register_core.proofs.Dating.{filled_keeps, trimmed_keeps}
 use Rattle.register_core.proofs.Decisions.{standing}
 use Rattle.register_core.proofs.CustodyLeads.{not_refused, custody_lead}
-use Rattle.register_core.proofs.Lawful.{lawful_holds}
+use Rattle.register_core.proofs.Lawful.{holds_of_each, lawful_holds}
 use Rattle.register_core.proofs.OnKey.{IsOn, IsOther, on_key, which}
 use Rattle.register_core.proofs.CustodyStay.{custody_same, custody_other, approvals_stay}
 
@@ -96,8 +96,8 @@ destroyed_enough h q k n on is =
 abbrev AllApproved : List Request → Type 0
 AllApproved h = (k : ℕ) → HasKey h k → IsSome (dates h k).destroy → min_approvals ≤ length (approvals h k)
 
-approved_next : (h : List Request) (q : Request) → IsLawful h → judgement h q ≡ None → AllApproved h → AllApproved (h ++ q ∷ [])
-approved_next h q lawful accepted before k has set = elim (which h q k accepted has.1) [
+approved_next : (h : List Request) (q : Request) → IsAccepted h q → AllApproved h → AllApproved (h ++ q ∷ [])
+approved_next h q is before k has set = elim (which h q k (judged h q is.accepted) has.1) [
   | inl made ↦
       let r = made.registration in
       let given : Dates = given_dates q.moment r.activation r.protect_stop r.deactivation in
@@ -110,15 +110,15 @@ approved_next h q lawful accepted before k has set = elim (which h q k accepted 
     | inr same ↦
         let was : IsSome (dates h k).destroy = sym (ap is_some (ap (λ (d : Dates). d.destroy) (dates_named h q k on.names) ∙ same)) ∙ set in
         let enough = before k (on.low, on.high) was in
-        let stays = stay h q (record { lawful = lawful; accepted = accepted_by h q accepted }) k (on.low, on.high) was in
+        let stays = stay h q is k (on.low, on.high) was in
         omega (arith, enough, ap length stays)
   ]
   | inr (inr other) ↦
       let was : IsSome (dates h k).destroy = sym (ap (λ (d : Dates). is_some d.destroy) (dates_other h q k other.other)) ∙ set in
       let enough = before k (has.0, other.high) was in
-      omega (arith, enough, ap length (other_approvals h q k accepted other))
+      omega (arith, enough, ap length (other_approvals h q k (judged h q is.accepted) other))
 ]
 
 pub enough : (h : List Request) (q : Request) → IsAccepted h q → AllApproved (h ++ q ∷ [])
 enough h q is =
-    approved_next h q is.lawful (judged h q is.accepted) (lawful_holds AllApproved approved_next (λ k has set. absurd (omega (arith, has.0, has.1))) h is.lawful)
+    approved_next h q is (holds_of_each AllApproved approved_next (λ k has set. absurd (omega (arith, has.0, has.1))) h is.lawful)

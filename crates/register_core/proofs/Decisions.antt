@@ -21,7 +21,8 @@ use Rattle.register_core.specs.Subject.{Registration, Subject, Makes, Names, NoK
 use Rattle.register_core.proofs.Subjects.{is_named}
 use Rattle.register_core.specs.Effect.{given_dates, dates_after, owner_after, row_at}
 use Rattle.register_core.specs.Custody.{custodians, approvals, held}
-use Rattle.register_core.specs.Verdict.{unknown, judge, named_key, reply}
+use Rattle.register_core.specs.KeptReply.{reply}
+use Rattle.register_core.specs.Verdict.{unknown, judge, named_key}
 use Rattle.register_core.specs.CustodyRefusal.{already_custodian, already_approved}
 use Rattle.register_core.specs.Decision.{held_change, registered_key, change_of, change_by, reply_to, IsViewOf, Stands, LeadsTo}
 use Rattle.register_core.proofs.Histories.{latest_grows, count_grows, key_named, kind_named, owner_named, dates_named, kind_made, owner_made, dates_made}

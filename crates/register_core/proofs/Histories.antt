@@ -150,7 +150,7 @@ dates_made h q r makes =
 
 -- ---- the front of a history, one request longer
 
-next_front : (h : List Request) (i : ℕ) (q : Request) → i < length h → q ≡ get_or h i q → take (i + 1) h ≡ take i h ++ q ∷ []
+pub next_front : (h : List Request) (i : ℕ) (q : Request) → i < length h → q ≡ get_or h i q → take (i + 1) h ≡ take i h ++ q ∷ []
 next_front h i q lt is = take_more h i q lt ∙ ap (λ (p : Request). take i h ++ p ∷ []) (sym is)
 
 pub count_next : (h : List Request) (i : ℕ) (q : Request) → i < length h → q ≡ get_or h i q → count (take (i + 1) h) ≡ count (take i h) + made_by q.command

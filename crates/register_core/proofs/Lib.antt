@@ -29,3 +29,4 @@ pub mod Approvers
 pub mod FewLaws
 pub mod ApartLaw
 pub mod PastLaws
+pub mod Kept

@@ -12,6 +12,7 @@ pub mod Subject
 pub mod Effect
 pub mod History
 pub mod Custody
+pub mod KeptReply
 pub mod CustodyRefusal
 pub mod Verdict
 pub mod Decision

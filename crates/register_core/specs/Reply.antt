@@ -4,10 +4,11 @@ use Rattle.lifecycle_core.specs.declared.state.State.{State}
 use Rattle.lifecycle_core.specs.State.{state_text}
 use Rattle.register_core.specs.declared.reply.Reply.{Reply}
 use Rattle.register_core.specs.declared.reply.Refusal.{Refusal}
-use Rattle.register_core.specs.declared.reply.Refusal.TheVariants.{BadLine, MomentBehind, UnknownKey, NotOwner, NotCustodian, WrongState, DateFrozen, DateOrder, PeriodTooLong, DateRange, AlreadyCustodian, NoSuchCustodian, TooManyCustodians, OwnerCustodian, AlreadyApproved, NoApproval, ApprovalsMissing, OccurrenceLater, Full}
+use Rattle.register_core.specs.declared.reply.Refusal.TheVariants.{BadLine, RequestReused, MomentBehind, UnknownKey, NotOwner, NotCustodian, WrongState, DateFrozen, DateOrder, PeriodTooLong, DateRange, AlreadyCustodian, NoSuchCustodian, TooManyCustodians, OwnerCustodian, AlreadyApproved, NoApproval, ApprovalsMissing, OccurrenceLater, Full}
 
 abbrev pub refusal_number : Refusal → ℕ
 refusal_number BadLine = 1
+refusal_number RequestReused = 2
 refusal_number (MomentBehind latest) = 3
 refusal_number UnknownKey = 4
 refusal_number NotOwner = 5
@@ -29,6 +30,7 @@ refusal_number Full = 20
 
 abbrev pub refusal_name : Refusal → List ℕ
 refusal_name BadLine = codes "BadLine"
+refusal_name RequestReused = codes "RequestReused"
 refusal_name (MomentBehind latest) = codes "MomentBehind"
 refusal_name UnknownKey = codes "UnknownKey"
 refusal_name NotOwner = codes "NotOwner"

@@ -24,9 +24,13 @@ abbrev pub IsDate : Option ℕ → Type 0
 IsDate None = Unit {0}
 IsDate (Some date) = IsMoment date
 
+-- the greatest number that a request can name a key by
+abbrev pub max_key_number : ℕ
+max_key_number = 4_294_967_295
+
 -- the number of a key in a request
 abbrev pub IsKeyNumber : ℕ → Type 0
-IsKeyNumber key = (1 ≤ key) × (key ≤ 4_294_967_295)
+IsKeyNumber key = (1 ≤ key) × (key ≤ max_key_number)
 
 -- an edit that sets a date sets it to a moment
 abbrev pub IsEdit : Edit → Type 0

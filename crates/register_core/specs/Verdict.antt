@@ -1,6 +1,6 @@
--- What a request comes to behind a history: it is accepted, or refused by the first refusal that holds.
-use Rattle.std.specs.Prelude.{ℕ, ◌==◌, nat_lt, nat_le, Bool, true, false, not, ◌&&◌, ◌||◌, List, [], ◌∷◌, ◌++◌, Option, None, Some, is_some, Result, Ok, Err, unwrap_or, if◌then◌else◌}
-use Rattle.std.specs.Option.{option_map, option_and_then}
+-- What a request comes to behind a history: it is accepted, it repeats one that was, or it is refused.
+use Rattle.std.specs.Prelude.{ℕ, ◌==◌, nat_lt, nat_le, Bool, true, false, not, ◌&&◌, ◌||◌, List, [], ◌∷◌, Option, None, Some, is_some, Result, Ok, Err, if◌then◌else◌}
+use Rattle.std.specs.Option.{option_and_then}
 use Rattle.std.specs.List.{list_any}
 use Rattle.std.specs.Str.{bytes_eq}
 use Rattle.lifecycle_core.specs.declared.state.State.{State}
@@ -13,22 +13,25 @@ use Rattle.register_core.specs.declared.request.Command.TheVariants.{Register, A
 use Rattle.register_core.specs.declared.request.Edit.{Edit}
 use Rattle.register_core.specs.declared.request.Edit.TheVariants.{Keep}
 use Rattle.register_core.specs.declared.answer.Answer.{Answer}
-use Rattle.register_core.specs.declared.answer.Answer.TheVariants.{Accepted, Refused}
+use Rattle.register_core.specs.declared.answer.Answer.TheVariants.{Accepted, Repeated, Refused}
 use Rattle.register_core.specs.declared.view.Held.{Held}
 use Rattle.register_core.specs.declared.view.View.{View}
+use Rattle.register_core.specs.declared.kept_reply.KeptReply.{KeptReply}
 use Rattle.register_core.specs.declared.reply.Reply.{Reply}
 use Rattle.register_core.specs.declared.reply.Refusal.{Refusal}
-use Rattle.register_core.specs.declared.reply.Refusal.TheVariants.{MomentBehind, UnknownKey, NotOwner, NotCustodian, WrongState, DateFrozen, DateOrder, PeriodTooLong, DateRange, OccurrenceLater, Full}
+use Rattle.register_core.specs.declared.reply.Refusal.TheVariants.{RequestReused, MomentBehind, UnknownKey, NotOwner, NotCustodian, WrongState, DateFrozen, DateOrder, PeriodTooLong, DateRange, OccurrenceLater, Full}
 use Rattle.lifecycle_core.specs.declared.dates.Dates.{Dates}
 use Rattle.period_core.specs.declared.filling.DateRefusal.{DateRefusal}
 use Rattle.period_core.specs.declared.filling.DateRefusal.TheVariants as dates
 use Rattle.period_core.specs.Fitting.{first_that_holds, fill_of, trim_of}
 use Rattle.register_core.specs.Name.{is_among}
-use Rattle.register_core.specs.History.{latest, count, dates as dates_of_key}
+use Rattle.register_core.specs.History.{latest, count}
+use Rattle.register_core.specs.KeptReply.{reply, kept, kept_under}
+use Rattle.register_core.specs.Request.{command_text}
 use Rattle.register_core.specs.Effect.{given_dates, edited_dates}
 use Rattle.register_core.specs.Custody.{held}
 use Rattle.register_core.specs.CustodyRefusal.{refused_custody}
-use Rattle.register_core.specs.Subject.{key_of, named}
+use Rattle.register_core.specs.Subject.{named}
 
 -- ---- the refusals, each where its condition holds
 
@@ -171,39 +174,44 @@ judgement h q = judge (latest h) (count h) (named_key h q.command) q
 abbrev pub judge_view : View → Request → Option Refusal
 judge_view view q = judge view.latest view.keys view.key q
 
--- ---- replies
-
--- what an accepted request is answered: its key, and that key's state after it
-abbrev pub reply : List Request → Request → Reply
-reply h q =
-    let key = key_of (count h) q.command in
-    record {
-      key = unwrap_or key 0;
-      state = option_map (λ k. state_at (dates_of_key (h ++ q ∷ []) k) q.moment) key;
-      moment = q.moment;
-    }
-
 -- ---- verdicts
 
 -- what a request comes to behind a history
 pub data Verdict : Type 0 where
   Accepts : Verdict
+  Repeats : Reply → Verdict
   Refuses : Refusal → Verdict
 
+-- what a judgement comes to
 abbrev pub verdict_by : Option Refusal → Verdict
 verdict_by None = Accepts
 verdict_by (Some refusal) = Refuses refusal
 
+-- the commands are equal: each has one text
+abbrev pub is_same_command : Command → Command → Bool
+is_same_command c d = bytes_eq (command_text c) (command_text d)
+
+-- what a command comes to whose caller and number are those of a request that was accepted
+abbrev pub repeated : KeptReply → Command → Verdict
+repeated before c = if is_same_command before.command c then Repeats before.reply else Refuses RequestReused
+
+-- the repeat test, which comes before the judgement: what is kept under the request's caller and number decides
+abbrev pub unless_kept : List KeptReply → Command → Verdict → Verdict
+unless_kept [] c judged = judged
+unless_kept (before ∷ more) c judged = repeated before c
+
 abbrev pub verdict : List Request → Request → Verdict
-verdict h q = verdict_by (judgement h q)
+verdict h q = unless_kept (kept_under q.caller q.number (kept h)) q.command (verdict_by (judgement h q))
 
 abbrev pub is_accepted : Verdict → Bool
 is_accepted Accepts = true
+is_accepted (Repeats first) = false
 is_accepted (Refuses refusal) = false
 
 -- what a request is answered, where this is the reply if it is accepted
 abbrev pub answer_by : Verdict → Reply → Answer
 answer_by Accepts new = Accepted new
+answer_by (Repeats first) new = Repeated first
 answer_by (Refuses refusal) new = Refused refusal
 
 abbrev pub answer : List Request → Request → Answer

@@ -1,6 +1,7 @@
 //! What a request makes of the register, where the key that it names is known.
 ghost use Rattle.std.specs.Prelude.{◌≡◌, ◌≤◌, List, Some, IfOk, IfErr, None};
-ghost use Rattle.register_core.specs.Verdict.{max_keys, judge_view, judgement, reply};
+ghost use Rattle.register_core.specs.KeptReply.{reply};
+ghost use Rattle.register_core.specs.Verdict.{max_keys, judge_view, judgement};
 ghost use Rattle.register_core.specs.Decision.{IsRightKey, IsViewOf, LeadsTo, held_change};
 ghost use Rattle.register_core.specs.Decision.{change_by, reply_to, reply_of_view};
 

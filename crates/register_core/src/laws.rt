@@ -1,19 +1,23 @@
 //! Laws about this crate's definitions. Each function does nothing: its contract is the law.
 ghost use Rattle.std.specs.Prelude.{◌≡◌, ◌<◌, ◌≤◌, ◌++◌, ℕ, List, [], ◌∷◌, length, true, false};
-ghost use Rattle.std.specs.Prelude.{Some, is_some, IsSome, IsTrue};
+ghost use Rattle.std.specs.Prelude.{Option, Some, is_some, IsSome, IsTrue};
+ghost use Rattle.std.specs.List.{AllByRecursion};
 ghost use Rattle.lifecycle_core.specs.State.{state_at};
 ghost use Rattle.lifecycle_core.specs.Transition.{Leads};
 ghost use Rattle.period_core.specs.Fitting.{Fits, is_not_after};
 ghost use Rattle.register_core.specs.declared.request.Request.{Request};
 ghost use Rattle.register_core.specs.declared.request.Command.{Command};
-ghost use Rattle.register_core.specs.Fold.{IsLawful};
+ghost use Rattle.register_core.specs.declared.reply.Refusal.TheVariants.{RequestReused};
+ghost use Rattle.register_core.specs.Fold.{IsLawful, history};
 ghost use Rattle.register_core.specs.History.{latest, count, type, dates, owner};
 ghost use Rattle.register_core.specs.Laws.{IsAccepted, HasKey, MovesOnly, AreDifferent};
-ghost use Rattle.register_core.specs.Laws.{state_of_key};
+ghost use Rattle.register_core.specs.KeptReply.{kept, reply};
+ghost use Rattle.register_core.specs.Laws.{IsKeptIn, sent_under, state_of_key};
 ghost use Rattle.register_core.specs.Name.{is_among};
 ghost use Rattle.register_core.specs.Custody.{custodians, approvals};
 ghost use Rattle.register_core.specs.Request.{IsLineOf};
-ghost use Rattle.register_core.specs.Verdict.{max_keys};
+ghost use Rattle.register_core.specs.Verdict.{max_keys, verdict, Repeats, Refuses};
+ghost use Rattle.register_core.specs.Verdict.{is_same_command};
 ghost use Rattle.register_core.specs.CustodyRefusal.{max_custodians};
 ghost use Rattle.register_core.specs.CommandText.{IsCommandText};
 
@@ -26,6 +30,31 @@ pub fn one_request()
 pub fn one_command()
     ensures { (bytes : List ℕ) (c d : Command) →
         IsCommandText bytes c → IsCommandText bytes d → c ≡ d }
+{}
+
+/// Of a lawful history's requests, no two have the same caller and number.
+pub fn requests_act_once()
+    ensures { (h : List Request) → IsLawful h → (caller : List ℕ) (number : ℕ) →
+        length (sent_under caller number h) ≤ 1 }
+{}
+
+/// An accepted request that comes again, whatever its moment and whatever came since, repeats its
+/// first reply; with another command its number is reused.
+pub fn repeats_give_the_first_reply()
+    ensures repeats { (h : List Request) (q : Request) → IsAccepted h q →
+        (later : List (Option Request)) (t : ℕ) →
+        verdict (history (h ++ q ∷ []) later) (record q { moment = t }) ≡ Repeats (reply h q) }
+    ensures reuses { (h : List Request) (q : Request) → IsAccepted h q →
+        (later : List (Option Request)) (t : ℕ) (c : Command) →
+        is_same_command q.command c ≡ false →
+        verdict (history (h ++ q ∷ []) later) (record q { moment = t; command = c })
+        ≡ Refuses RequestReused }
+{}
+
+/// What is kept of a lawful history's requests is in its ranges: each reply is to its command, of a
+/// key that is there and no later than the latest moment.
+pub fn kept_replies_are_in_range()
+    ensures { (h : List Request) → IsLawful h → AllByRecursion (IsKeptIn h) (kept h) }
 {}
 
 /// The dates of each key fit its type, after each request that is accepted.

@@ -7,13 +7,15 @@ ghost use Rattle.register_core.specs.History.{latest, count, type, owner, dates}
 ghost use Rattle.register_core.specs.Subject.{key_of, made_by, is_key};
 ghost use Rattle.register_core.specs.Effect.{kind_after, owner_after, dates_after};
 ghost use Rattle.register_core.specs.Custody.{held};
-ghost use Rattle.register_core.specs.Verdict.{judgement, reply};
+ghost use Rattle.register_core.specs.KeptReply.{reply};
+ghost use Rattle.register_core.specs.Verdict.{judgement};
 ghost use Rattle.register_core.specs.Decision.{IsViewOf};
 ghost use Rattle.register_core.specs.Fold.{history_after, answer_to, answers};
 
 use crate::effect::{dates_after, no_dates};
 use crate::name::Name;
 use crate::plain_custody::{approvals, custodians};
+use crate::plain_kept::first_kept;
 use crate::reply::{Refusal, Reply};
 use crate::request::{Command, Request};
 use crate::verdict::judge;
@@ -215,7 +217,7 @@ pub fn judgement(
 
 /// The reply to an accepted request, where this many keys were made before it, by the history with
 /// it at its end.
-fn reply_by(keys: u32, history: &[Request], request: &Request) -> Reply
+pub(crate) fn reply_by(keys: u32, history: &[Request], request: &Request) -> Reply
     requires small { length history.now + 1 < 2 ^ 32 }
     requires keys { keys + 1 < 2 ^ 32 }
     ensures { (before : List Request) → history.now ≡ before ++ request.now ∷ [] →
@@ -247,6 +249,9 @@ fn answer_to(
     let Some(request) = item else {
         return Ok(Err(Refusal::BadLine));
     };
+    if let Some(before) = first_kept(history, &request.caller, request.number) {
+        return Ok(before.answer_again(&request.command).outcome());
+    }
     if let Some(refusal) = judgement(alloc, history, request)? {
         return Ok(Err(refusal));
     }

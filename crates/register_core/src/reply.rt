@@ -16,11 +16,25 @@ pub struct Reply {
     pub moment: Moment,
 }
 
+impl Reply {
+    ghost use Rattle.std.specs.Prelude.{◌&&◌, nat_le};
+
+    /// Whether a register with this latest moment and this many keys may have given the reply: it
+    /// is no later, and of no other key.
+    pub fn is_within(&self, latest: Moment, keys: u32) -> bool
+        ensures { result ≡ (nat_le self.now.moment latest && nat_le self.now.key keys) }
+    {
+        self.moment <= latest && self.key <= keys
+    }
+}
+
 /// Why a request is refused. A refused request changes nothing.
 #[derive(Clone, Copy, Debug, PartialEq, Eq)]
 pub enum Refusal {
     /// 1: the line is no request.
     BadLine,
+    /// 2: the caller has an accepted request of this number with another command.
+    RequestReused,
     /// 3: the moment is below that of the latest accepted request.
     MomentBehind { latest: Moment },
     /// 4: no key has this number.
@@ -68,6 +82,7 @@ impl Refusal {
     {
         match self {
             Refusal::BadLine => 1,
+            Refusal::RequestReused => 2,
             Refusal::MomentBehind { .. } => 3,
             Refusal::UnknownKey => 4,
             Refusal::NotOwner => 5,
@@ -95,6 +110,7 @@ impl Refusal {
     {
         match self {
             Refusal::BadLine => "BadLine",
+            Refusal::RequestReused => "RequestReused",
             Refusal::MomentBehind { .. } => "MomentBehind",
             Refusal::UnknownKey => "UnknownKey",
             Refusal::NotOwner => "NotOwner",

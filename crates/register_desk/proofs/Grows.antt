@@ -14,6 +14,7 @@ use Rattle.period_core.specs.Fitting.{filled}
 use Rattle.register_core.specs.declared.change.Change.{Change}
 use Rattle.register_core.specs.declared.change.Change.TheVariants.{Made, Nothing}
 use Rattle.register_core.specs.declared.change.Change.TheVariants as change
+use Rattle.register_core.specs.declared.kept_reply.KeptReply.{KeptReply}
 use Rattle.register_core.specs.declared.key.Key.{Key}
 use Rattle.register_core.specs.declared.request.Request.{Request}
 use Rattle.register_core.specs.declared.view.Held.{Held}
@@ -23,10 +24,12 @@ use Rattle.register_core.specs.Effect.{dates_after, given_dates, owner_after, ro
 use Rattle.register_core.specs.History.{latest, registrations, count, type, dates, owner}
 use Rattle.register_core.specs.Laws.{IsAccepted, HasKey}
 use Rattle.register_core.specs.Subject.{Registration, Subject, Makes, Names, NoKey, subject, named, named_by, key_of as key_of_command, count_by, made_by, is_key}
+use Rattle.register_core.specs.KeptReply.{kept_of}
 use Rattle.register_core.specs.Verdict.{named_key}
 use Rattle.register_core.proofs.Verdicts.{judged}
 use Rattle.register_core.proofs.DateLaws.{freeze}
 use Rattle.register_core.proofs.Decisions.{standing}
+use Rattle.register_core.proofs.Kept.{kept_grows}
 use Rattle.register_core.proofs.OnKey.{on_key}
 use Rattle.register_core.proofs.Histories.{latest_grows, registrations_grow, count_grows, not_concerned, kind_other, owner_other, dates_other, kind_named, owner_named, dates_named, kind_made, owner_made, dates_made, key_named}
 use Rattle.register_store.specs.Change.{made_count, with_change}
@@ -235,16 +238,25 @@ custody_grows h q (Made key) leads = record { custodians_are = leads.1.custodian
 custody_grows h q (change.Held number by row custody) leads = record { custodians_are = leads.1.custodians_are; approvals_are = leads.1.approvals_are }
 custody_grows h q Nothing leads = record { custodians_are = leads.custodians_are; approvals_are = leads.approvals_are }
 
+-- no change is of what is kept
+requests_stay : (change : Change) (t : Tables) → (with_change change t).requests ≡ t.requests
+requests_stay (Made key) t = refl
+requests_stay (change.Held number by row custody) t = refl
+requests_stay Nothing t = refl
+
 pub tables_grow : (h : List Request) (q : Request) → IsAccepted h q → LeadsTo h q (change_by (named_key h q.command) q)
-    → tables (h ++ q ∷ []) ≡ with_request (count h) q.moment (change_by (named_key h q.command) q) (tables h)
+    → tables (h ++ q ∷ []) ≡ with_request (count h) (change_by (named_key h q.command) q) (kept_of h q) (tables h)
 tables_grow h q accepted leads =
     let custody = custody_grows h q (change_by (named_key h q.command) q) leads in
     let counted = count_grows h q ∙ ap (λ (n : ℕ). count h + n) (sym (change_counts (named_key h q.command) q)) in
+    let stay = requests_stay (change_by (named_key h q.command) q) (with_keys_advanced q.moment (tables h)) in
+    let requests = kept_grows h q ∙ ap (λ (l : List KeptReply). l ++ kept_of h q ∷ []) (sym stay) in
     λ i. record {
       counts = record { latest = latest_grows h q i; key_count = counted i };
       keys = keys_grow h q accepted i;
       custodians = custody.custodians_are i;
       approvals = custody.approvals_are i;
+      requests = requests i;
     }
 
 -- ---- what is found of a key

@@ -4,6 +4,8 @@ pub mod Grows
 pub mod Goings
 pub mod Standing
 pub mod Beginnings
+pub mod Keeping
+pub mod Passing
 pub mod Readings
 pub mod ServingLemmas
 pub mod Cutting

@@ -14,7 +14,7 @@ use Rattle.register_desk.specs.declared.end.End.{End}
 use Rattle.register_desk.specs.declared.end.End.TheVariants as ends
 use Rattle.register_desk.specs.Leaving.{IsWhole, IsBroken, IsClean, EndsBy, ChangesNothing, KeepsCounts}
 use Rattle.register_desk.specs.Loading.{KeepsAll}
-use Rattle.register_desk.specs.Register.{tables, StandsFor, Sees, Keeps, Leaves}
+use Rattle.register_desk.specs.Register.{tables, IsOver, StandsFor, Sees, Keeps, Leaves}
 
 module _ {S : Type 0} (g : store.Ghosts S) where
   -- what a desk stands for is a matter of its counts and of the tables that it sees
@@ -26,8 +26,26 @@ module _ {S : Type 0} (g : store.Ghosts S) where
     sees = nothing.rows (tables h) stands.sees;
   }
 
+  -- and so is being over tables
+  pub over_still : (old new : Desk S g) → ChangesNothing g old new → (t : Tables) → IsOver g old t → IsOver g new t
+  over_still old new nothing t over = record {
+    latest_is = nothing.counts.latest ∙ over.latest_is;
+    keys_are = nothing.counts.keys ∙ over.keys_are;
+    counted = over.counted ∙ sym nothing.counts.keys;
+    sees = nothing.rows t over.sees;
+  }
+
   pub nothing_done : (desk : Desk S g) → ChangesNothing g desk desk
   nothing_done desk = record { clean = λ clean. clean; counts = record { latest = refl; keys = refl }; rows = λ t sees. sees; stop = λ t sees whole clean. (sees whole clean).leaves }
+
+  -- one behind another
+  pub nothing_then : (old mid new : Desk S g) → ChangesNothing g old mid → (IsWhole old → IsWhole mid) → ChangesNothing g mid new → ChangesNothing g old new
+  nothing_then old mid new one whole two = record {
+    clean = λ clean. one.clean (two.clean clean);
+    counts = record { latest = two.counts.latest ∙ one.counts.latest; keys = two.counts.keys ∙ one.counts.keys };
+    rows = λ t sees. two.rows t (one.rows t sees);
+    stop = λ t sees was_whole clean. two.stop t (one.rows t sees) (whole was_whole) clean;
+  }
 
   -- a desk that breaks behind that
   pub then_broken : (old mid new : Desk S g) → ChangesNothing g old mid → KeepsAll mid new → IsBroken new → ChangesNothing g old new

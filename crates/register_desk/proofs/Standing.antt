@@ -1,7 +1,7 @@
 -- A desk that stands for a history stands after an accepted request for the history with it.
-use Rattle.std.proofs.Common.{◌≡◌, ◌≤◌, inl, inr, ℕ, ◌+◌, nat_le, Bool, true, false, cond, List, [], ◌∷◌, ◌++◌, length, Option, None, Some, Result, Ok, Err, IsTrue, sym, ap, subst, ◌∙◌, arith}
+use Rattle.std.proofs.Common.{◌≡◌, ◌≤◌, inl, inr, ℕ, ◌+◌, nat_le, Bool, true, false, cond, List, [], ◌∷◌, ◌++◌, length, Option, None, Some, Result, Ok, Err, IsTrue, refl, sym, ap, subst, ◌∙◌, arith}
 use Rattle.std.proofs.lemmas.Bool.{leb-false}
-use Rattle.std.specs.Prelude.{OnOk, is_none}
+use Rattle.std.specs.Prelude.{OnOk}
 use Rattle.sqlite_trees.specs.declared.store.Store as store
 use Rattle.sqlite.specs.Tree.{Trees}
 use Rattle.sqlite.specs.Effect.{Database}
@@ -10,30 +10,33 @@ use Rattle.sqlite.specs.Held.{state}
 use Rattle.sql_steps.specs.Steps.{TransactsBy}
 use Rattle.sql_steps.proofs.Stepping.{leaves_alone}
 use Rattle.register_core.specs.declared.change.Change.{Change}
-use Rattle.register_core.specs.declared.reply.Refusal.{Refusal}
+use Rattle.register_core.specs.declared.change.Change.TheVariants.{Nothing}
+use Rattle.register_core.specs.declared.kept_reply.KeptReply.{KeptReply}
+use Rattle.register_core.specs.declared.reply.Reply.{Reply}
 use Rattle.register_core.specs.declared.reply.Refusal.TheVariants.{Full}
 use Rattle.register_core.specs.declared.request.Request.{Request}
 use Rattle.register_core.specs.declared.view.Held.{Held}
 use Rattle.register_core.specs.Decision.{change_by, IsViewOf, LeadsTo}
 use Rattle.register_core.specs.Fold.{history_after}
 use Rattle.register_core.specs.History.{latest, count}
+use Rattle.register_core.specs.KeptReply.{reply, kept_with, kept_of, IsKeptReply}
 use Rattle.register_core.specs.Laws.{IsAccepted}
 use Rattle.register_core.specs.Subject.{Subject, Makes, Names, NoKey, subject, count_by, made_by}
 use Rattle.register_core.specs.Request.{IsRequest}
 use Rattle.register_core.specs.Verdict.{Verdict, Accepts, judge, max_keys, named_key, too_many, verdict, is_accepted}
 use Rattle.register_core.proofs.Histories.{count_grows, latest_grows}
-use Rattle.register_core.proofs.Lawful.{lawful_after}
+use Rattle.register_core.proofs.Kept.{kept_here}
+use Rattle.register_core.proofs.Lawful.{lawful_after, lawful_with}
 use Rattle.register_core.proofs.Refusals.{passes}
 use Rattle.register_core.proofs.Subjects.{is_registration, registers}
 use Rattle.register_store.specs.Change.{made_count}
 use Rattle.register_store.specs.Tables.{Tables}
 use Rattle.register_store.specs.Schema.{Holds}
-use Rattle.register_store.specs.Making.{HasKeys}
 use Rattle.register_store.specs.Making as tabled
 use Rattle.register_desk.specs.declared.desk.Desk.{Desk}
-use Rattle.register_desk.specs.Leaving.{IsClean, LeavesWithChange}
-use Rattle.register_desk.specs.Register.{tables, StandsFor, Sees, LeavesOneOf}
-use Rattle.register_desk.specs.Step.{with_request}
+use Rattle.register_desk.specs.Leaving.{IsClean, LeavesWithRequest}
+use Rattle.register_desk.specs.Register.{tables, StandsFor, Sees, Leaves, LeavesOneOf}
+use Rattle.register_desk.specs.Step.{CanTake, with_request}
 use Rattle.register_desk.proofs.Grows.{tables_grow, change_counts, keys_counted}
 
 -- the desk after the key was read: it stands for the history, and what a decision rests on is the history's view
@@ -68,7 +71,8 @@ room_left last keys key q change within accepted is =
     by NoKey none = omega arith
 
 module _ {S : Type 0} (g : store.Ghosts S) (old : Desk S g) (h : List Request) (q : Request) (request : IsRequest q) (stands : StandsFor g old h) (accepted : verdict h q ≡ Accepts)
-    (change : Change) (key : Option Held) (key_is : key ≡ named_key h q.command) (change_is : change ≡ change_by key q) (leads : LeadsTo h q change) where
+    (change : Change) (key : Option Held) (key_is : key ≡ named_key h q.command) (change_is : change ≡ change_by key q) (leads : LeadsTo h q change)
+    (given : Reply) (given_is : given ≡ reply h q) where
   abbrev grown : List Request
   grown = h ++ q ∷ []
 
@@ -76,7 +80,7 @@ module _ {S : Type 0} (g : store.Ghosts S) (old : Desk S g) (h : List Request) (
   after_is = ap (λ (v : Verdict). cond (is_accepted v) grown h) accepted
 
   abbrev Made : Database → Database → Type 0
-  Made = tabled.Makes (HasKeys old.keys) (with_request old.keys q.moment change)
+  Made = tabled.Makes (CanTake old.keys (kept_with q given)) (with_request old.keys change (kept_with q given))
 
   is_change : change ≡ change_by (named_key h q.command) q
   is_change = change_is ∙ ap (λ (k : Option Held). change_by k q) key_is
@@ -86,11 +90,14 @@ module _ {S : Type 0} (g : store.Ghosts S) (old : Desk S g) (h : List Request) (
   made_holds before after holds made =
       let keys : length (tables h).keys ≡ old.keys = keys_counted h ∙ sym stands.keys_are in
       let it : IsAccepted h q = record { lawful = stands.lawful; accepted = accepted } in
-      let same : with_request old.keys q.moment change (tables h) ≡ tables grown =
-      ap (λ (n : ℕ). with_request n q.moment change (tables h)) stands.keys_are
-      ∙ ap (λ (c : Change). with_request (count h) q.moment c (tables h)) is_change
+      let kept_is : kept_with q given ≡ kept_of h q = ap (kept_with q) given_is in
+      let in_range : IsKeptReply (kept_with q given) = subst IsKeptReply (sym kept_is) (kept_here h q it request (lawful_with h q request stands.lawful accepted)).in_range in
+      let same : with_request old.keys change (kept_with q given) (tables h) ≡ tables grown =
+      ap (λ (n : ℕ). with_request n change (kept_with q given) (tables h)) stands.keys_are
+      ∙ ap (λ (k : KeptReply). with_request (count h) change k (tables h)) kept_is
+      ∙ ap (λ (c : Change). with_request (count h) c (kept_of h q) (tables h)) is_change
       ∙ sym (tables_grow h q it (subst (LeadsTo h q) is_change leads)) in
-      subst (λ (t : Tables). Holds t after) same (made (tables h) holds keys)
+      subst (λ (t : Tables). Holds t after) same (made (tables h) holds (keys, in_range))
 
   counted_after : made_count change ≡ made_by q.command
   counted_after = ap made_count change_is ∙ change_counts key q
@@ -112,11 +119,11 @@ module _ {S : Type 0} (g : store.Ghosts S) (old : Desk S g) (h : List Request) (
 
   pub stands_after : {A E : Type 0} (new : Desk S g) (r : Result A E) → old.is_broken ≡ false → TransactsBy Made (state g old.connection) (state g new.connection) r
       → ((s : S) (db : Trees) → IsTrue (g.view s).is_open → g.recovers s db → db ≡ (g.view s).committed)
-      → OnOk r (new.latest ≡ q.moment) → OnOk r (new.keys ≡ old.keys + made_count change) → OnOk r (StandsFor g new (history_after h (Some q)))
+      → OnOk r (new.latest ≡ given.moment) → OnOk r (new.keys ≡ old.keys + made_count change) → OnOk r (StandsFor g new (history_after h (Some q)))
   stands_after new (Err e) whole written settled moment counted = tt
   stands_after new (Ok x) whole written settled moment counted = record {
     lawful = lawful_after h q request stands.lawful;
-    latest_is = moment ∙ sym (latest_grows h q) ∙ ap latest (sym after_is);
+    latest_is = moment ∙ ap (λ (r : Reply). r.moment) given_is ∙ sym (latest_grows h q) ∙ ap latest (sym after_is);
     keys_are = counted ∙ ap (λ (n : ℕ). n + made_count change) stands.keys_are ∙ ap (λ (n : ℕ). count h + n) counted_after ∙ sym (count_grows h q) ∙ ap count (sym after_is);
     sees = λ still clean.
         let clean_before : HasCleanDisk (state g old.connection) = omega (arith, written.stop.clean) in
@@ -132,16 +139,31 @@ module _ {S : Type 0} (g : store.Ghosts S) (old : Desk S g) (h : List Request) (
         };
   }
 
+-- where a stop leaves the tables, nothing is left of the request
+pub leaves_before : {S : Type 0} (g : store.Ghosts S) (new : Desk S g) (t : Tables) (q : Request) → Leaves t (state g new.connection) → LeavesWithRequest g t q new
+leaves_before g new t q before = record {
+  change = Nothing;
+  reply = record { key = 0; state = None; moment = q.moment };
+  at = refl;
+  leaves = λ trees may. let it = before trees may in (it.0, inl it.1, it.2);
+}
+
 -- whatever tables the desk is over, a stop leaves them or what the change makes of them
-pub leaves_change : {S A E : Type 0} (g : store.Ghosts S) (old new : Desk S g) (t : Tables) (at : ℕ) (change : Change) (r : Result A E) → old.is_broken ≡ false → Sees g t old → length t.keys ≡ old.keys
-    → TransactsBy (tabled.Makes (HasKeys old.keys) (with_request old.keys at change)) (state g old.connection) (state g new.connection) r → IsClean g new → LeavesWithChange g t at new
-leaves_change g old new t at change r whole sees counted written clean = (
-  change,
-  λ trees may.
+pub leaves_request : {S A E : Type 0} (g : store.Ghosts S) (old new : Desk S g) (t : Tables) (q : Request) (change : Change) (given : Reply) (r : Result A E) → old.is_broken ≡ false → Sees g t old
+    → length t.keys ≡ old.keys → IsKeptReply (kept_with q given) → given.moment ≡ q.moment
+    → TransactsBy (tabled.Makes (CanTake old.keys (kept_with q given)) (with_request old.keys change (kept_with q given))) (state g old.connection) (state g new.connection) r → IsClean g new
+    → LeavesWithRequest g t q new
+leaves_request g old new t q change given r whole sees counted in_range at written clean = record {
+  change = change;
+  reply = given;
+  at = at;
+  leaves = λ trees may.
       let early : HasCleanDisk (state g old.connection) = omega (arith, written.stop.clean) in
       let kept = sees whole early in
       elim (written.stop.crash clean trees may) [
         | inl before ↦ let it = kept.leaves trees before in (it.0, inl it.1, it.2)
-        | inr after ↦ (after.0, inr (subst (λ (n : ℕ). Holds (with_request n at change t) after.0) (sym counted) (after.1 t kept.holds counted)), after.2)
-      ],
-)
+        | inr after ↦
+            let holds = after.1 t kept.holds (counted, in_range) in
+            (after.0, inr (subst (λ (n : ℕ). Holds (with_request n change (kept_with q given) t) after.0) (sym counted) holds), after.2)
+      ];
+}

@@ -1,10 +1,12 @@
 -- What the calls of a desk leave.
-use Rattle.std.specs.Prelude.{◌≡◌, ℕ, true, false, List, length, Result, MatchResult}
+use Rattle.std.specs.Prelude.{◌≡◌, true, false, List, length, Result, MatchResult}
 use Rattle.sqlite_trees.specs.declared.store.Store.{Ghosts}
 use Rattle.sqlite.specs.State.{HasCleanDisk}
 use Rattle.sqlite.specs.Held.{Held as Connection, state}
 use Rattle.register_core.specs.declared.change.Change.{Change}
+use Rattle.register_core.specs.declared.reply.Reply.{Reply}
 use Rattle.register_core.specs.declared.request.Request.{Request}
+use Rattle.register_core.specs.KeptReply.{kept_with}
 use Rattle.register_store.specs.Tables.{Tables}
 use Rattle.register_desk.specs.declared.desk.Desk.{Desk}
 use Rattle.register_desk.specs.declared.end.End.{End}
@@ -53,9 +55,12 @@ IsClean g desk = HasCleanDisk (state g desk.connection)
 abbrev pub LeavesEither : {S : Type 0} → (g : Ghosts S) → List Request → List Request → Desk S g → Type 0
 LeavesEither g h other desk = LeavesOneOf h other (state g desk.connection)
 
--- a stop leaves these tables, or what some change that was accepted at this moment makes of them
-abbrev pub LeavesWithChange : {S : Type 0} → (g : Ghosts S) → Tables → ℕ → Desk S g → Type 0
-LeavesWithChange g t at desk = (change : Change) × LeavesEitherOf t (with_request (length t.keys) at change t) (state g desk.connection)
+-- a stop leaves these tables, or what some change makes of them with which the request was accepted, at its moment
+pub record LeavesWithRequest {S : Type 0} (g : Ghosts S) (t : Tables) (q : Request) (desk : Desk S g) : Type 0 where
+  pub change : Change
+  pub reply : Reply
+  pub at : reply.moment ≡ q.moment
+  pub leaves : LeavesEitherOf t (with_request (length t.keys) change (kept_with q reply) t) (state g desk.connection)
 
 -- the latest moment and the number of keys are as they were
 pub record KeepsCounts {S : Type 0} {g : Ghosts S} (old new : Desk S g) : Type 0 where

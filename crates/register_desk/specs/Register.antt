@@ -10,6 +10,7 @@ use Rattle.lifecycle_core.specs.State.{state_at}
 use Rattle.register_core.specs.declared.request.Request.{Request}
 use Rattle.register_core.specs.History.{latest, registrations, count, type, dates, owner}
 use Rattle.register_core.specs.Custody.{all_custodians, all_approvals}
+use Rattle.register_core.specs.KeptReply.{kept}
 use Rattle.register_core.specs.Subject.{Registration}
 use Rattle.register_core.specs.Fold.{IsLawful}
 use Rattle.register_core.specs.declared.key.Key.{Key}
@@ -32,6 +33,7 @@ tables h = record {
   keys = map (λ key. key_of h key.0 key.1) (enumerate_from 1 (registrations h));
   custodians = all_custodians h;
   approvals = all_approvals h;
+  requests = kept h;
 }
 
 -- a stop leaves these tables: each content that may be found after it is that of a database that holds them

@@ -8,8 +8,11 @@ use crate::opening::{OpenRefusal, Unopened};
 use crate::record::Record;
 use lifecycle_core::{Usage, usage_of};
 use moment_core::Moment;
-use register_core::{Answer, Change, Command, Held, Purpose, Refusal, Request, View, decide};
-use register_store::{StoreError, create, find_row, load_key};
+use register_core::{
+    Accept, Answer, Command, Held, KeptReply, Name, Purpose, Refusal, Request, RequestNumber, View,
+    decide,
+};
+use register_store::{StoreError, create, find_request, find_row, load_key};
 use sqlite::{Alter, Connection};
 use std::alloc::Global;
 
@@ -35,6 +38,7 @@ impl<S: Alter> Desk<S> {
     ghost use Rattle.register_core.specs.declared.request.Request.{Request};
     ghost use Rattle.register_core.specs.Request.{IsRequest, has_text};
     ghost use Rattle.register_core.specs.History.{latest, count};
+    ghost use Rattle.register_core.specs.KeptReply.{kept_with};
     ghost use Rattle.register_core.specs.Verdict.{answer, named_key};
     ghost use Rattle.register_core.specs.Decision.{IsRightKey};
     ghost use Rattle.register_core.specs.Fold.{history};
@@ -43,16 +47,16 @@ impl<S: Alter> Desk<S> {
     ghost use Rattle.register_store.specs.Creation.{Finds};
     ghost use Rattle.register_store.specs.Schema.{no_schema};
     ghost use Rattle.register_store.specs.Tables.{Tables};
-    ghost use Rattle.register_store.specs.Making.{Makes, HasKeys};
-    ghost use Rattle.register_core.specs.Answer.{OnRefused};
+    ghost use Rattle.register_store.specs.Making.{Makes};
+    ghost use Rattle.register_core.specs.Answer.{UnlessAccepted};
     ghost use Rattle.register_desk.specs.Leaving.{IsWhole, IsBroken, IsClean, Ends, EndsBy};
     ghost use Rattle.register_desk.specs.Leaving.{ChangesNothing, KeepsCounts, LeavesEither};
-    ghost use Rattle.register_desk.specs.Leaving.{LeavesWithChange, connection_of};
+    ghost use Rattle.register_desk.specs.Leaving.{LeavesWithRequest, connection_of};
     ghost use Rattle.register_desk.specs.Opening.{CreatesNothing};
     ghost use Rattle.register_desk.specs.Register.{IsOver, StandsFor};
     ghost use Rattle.register_desk.specs.Shown.{shown, usage};
-    ghost use Rattle.register_desk.specs.Step.{with_request};
-    ghost use Rattle.register_desk.specs.Loading.{KeepsAll, loaded};
+    ghost use Rattle.register_desk.specs.Step.{CanTake, with_request};
+    ghost use Rattle.register_desk.specs.Loading.{KeepsAll, IsKeptUnder, IsNew, loaded};
 
     /// Makes an empty register in the database, which has none yet.
     ///
@@ -118,8 +122,9 @@ impl<S: Alter> Desk<S> {
         self.keys
     }
 
-    /// Applies a request: it is accepted, and then acts and is kept, or refused, and then changes nothing. A value that
-    /// is no line's request, as an occurrence with a reason that is no compromise, is [`Refusal::BadLine`].
+    /// Applies a request: it is accepted, and then acts and is kept, or refused, and then changes nothing. A request that
+    /// comes again, whatever its moment, repeats its first reply and changes nothing. A value that is no line's request,
+    /// as an occurrence with a reason that is no compromise, is [`Refusal::BadLine`].
     ///
     /// # Errors
     /// [`End::Store`] where the database refused, which breaks the desk: the register is as before or has the whole
@@ -135,21 +140,22 @@ impl<S: Alter> Desk<S> {
             → result ≡ Ok (Answer.Refused Refusal.BadLine) }
         // The desk then stands for the history with the request at its end, if that was accepted.
         ensures stands { (h : List Request) → StandsFor S.Store self.old h → IsRequest request.now
-            → IsClean S.Store self.new → OnOk result (StandsFor S.Store self.new (history h (Some request.now ∷ []))) }
+            → IsClean S.Store self.new
+            → OnOk result (StandsFor S.Store self.new (history h (Some request.now ∷ []))) }
         ensures err { (h : List Request) → StandsFor S.Store self.old h
             → OnErr result (StandsFor S.Store self.new h) }
-        // A refusal changes nothing, nor does an end other than 31, whatever the tables hold.
-        ensures refused { IfOk result (λ given.
-            OnRefused given (ChangesNothing S.Store self.old self.new)) }
+        // A repeat and a refusal change nothing, nor does an end other than 31, whatever the tables hold.
+        ensures nothing { IfOk result (λ given.
+            UnlessAccepted given (ChangesNothing S.Store self.old self.new)) }
         ensures unchanged { IfErr result (λ end. end ≢ End.Store
             → ChangesNothing S.Store self.old self.new) }
         // After the end 31 a stop leaves the register without the request, or with it where it is to be accepted.
         ensures store { (h : List Request) → StandsFor S.Store self.old h → IsRequest request.now
             → IsClean S.Store self.new → IfErr result (λ end. end ≡ End.Store
             → LeavesEither S.Store h (history h (Some request.now ∷ [])) self.new) }
-        ensures tables { (t : Tables) → IsOver S.Store self.old t → IsClean S.Store self.new
-            → IfErr result (λ end. end ≡ End.Store
-            → LeavesWithChange S.Store t request.now.moment self.new) }
+        ensures tables { (t : Tables) → IsOver S.Store self.old t → IsRequest request.now
+            → IsClean S.Store self.new → IfErr result (λ end. end ≡ End.Store
+            → LeavesWithRequest S.Store t request.now self.new) }
     {
         if self.is_broken {
             return Err(End::Broken);
@@ -157,6 +163,64 @@ impl<S: Alter> Desk<S> {
         if !request.command.has_text() {
             return Ok(Answer::Refused(Refusal::BadLine));
         }
+        match self.find_kept(&request.caller, request.number)? {
+            Some(before) => Ok(before.answer_again(&request.command)),
+            None => self.apply_new(request),
+        }
+    }
+
+    /// What is kept under the caller and the number, if anything is.
+    fn find_kept(&mut self, caller: &Name, number: RequestNumber) -> Result<Option<KeptReply>, End>
+        requires { IsWhole self.old }
+        ensures ends { Ends self.old self.new result }
+        ensures reads { ChangesNothing S.Store self.old self.new }
+        ensures kept { (h : List Request) → StandsFor S.Store self.old h → IsClean S.Store self.new
+            → IfOk result (IsKeptUnder h caller.now number) }
+    {
+        match self.load_kept(caller, number)? {
+            Some(kept) if kept.reply.is_within(self.latest, self.keys) => Ok(Some(kept)),
+            Some(_) => Err(self.end_by(StoreError::NoRegister)),
+            None => Ok(None),
+        }
+    }
+
+    /// What is kept under the caller and the number as it stands in the tables.
+    fn load_kept(&mut self, caller: &Name, number: RequestNumber) -> Result<Option<KeptReply>, End>
+        requires { IsWhole self.old }
+        ensures ends { Ends self.old self.new result }
+        ensures reads { ChangesNothing S.Store self.old self.new }
+        ensures kept { (h : List Request) → StandsFor S.Store self.old h → IsClean S.Store self.new
+            → IfOk result (IsKeptUnder h caller.now number) }
+    {
+        match find_request(&mut self.connection, caller, number) {
+            Ok(found) => Ok(found),
+            Err(error) => Err(self.end_by(error)),
+        }
+    }
+
+    /// Applies a request that does not come again.
+    fn apply_new(&mut self, request: &Request) -> Result<Answer, End>
+        requires { IsWhole self.old }
+        ensures ends { Ends self.old self.new result }
+        ensures clean { IsClean S.Store self.new → IsClean S.Store self.old }
+        ensures answer { (h : List Request) → StandsFor S.Store self.old h → IsNew h request.now
+            → IsClean S.Store self.new → IfOk result (λ given. given ≡ answer h request.now) }
+        ensures stands { (h : List Request) → StandsFor S.Store self.old h → IsNew h request.now
+            → IsRequest request.now → IsClean S.Store self.new
+            → OnOk result (StandsFor S.Store self.new (history h (Some request.now ∷ []))) }
+        ensures err { (h : List Request) → StandsFor S.Store self.old h
+            → OnErr result (StandsFor S.Store self.new h) }
+        ensures nothing { IfOk result (λ given.
+            UnlessAccepted given (ChangesNothing S.Store self.old self.new)) }
+        ensures unchanged { IfErr result (λ end. end ≢ End.Store
+            → ChangesNothing S.Store self.old self.new) }
+        ensures store { (h : List Request) → StandsFor S.Store self.old h → IsNew h request.now
+            → IsRequest request.now → IsClean S.Store self.new → IfErr result (λ end. end ≡ End.Store
+            → LeavesEither S.Store h (history h (Some request.now ∷ [])) self.new) }
+        ensures tables { (t : Tables) → IsOver S.Store self.old t → IsRequest request.now
+            → IsClean S.Store self.new → IfErr result (λ end. end ≡ End.Store
+            → LeavesWithRequest S.Store t request.now self.new) }
+    {
         let key = self.named(&request.command)?;
         let view = View {
             latest: self.latest,
@@ -166,7 +230,7 @@ impl<S: Alter> Desk<S> {
         match decide(&view, request) {
             Err(refusal) => Ok(Answer::Refused(refusal)),
             Ok(accept) => {
-                self.accept(request.moment, &accept.change)?;
+                self.accept(request, &accept)?;
                 Ok(Answer::Accepted(accept.reply))
             }
         }
@@ -191,24 +255,28 @@ impl<S: Alter> Desk<S> {
         }
     }
 
-    /// Makes the change of an accepted request.
-    fn accept(&mut self, at: Moment, change: &Change) -> Result<(), End>
+    /// Makes the change of an accepted request, and keeps the request with its reply.
+    fn accept(&mut self, request: &Request, accept: &Accept) -> Result<(), End>
         requires whole { IsWhole self.old }
-        requires later { self.old.latest ≤ at }
-        requires room { self.old.keys + made_count change.now ≤ max_keys }
-        ensures written { Transacts S.Store (Makes (HasKeys self.old.keys)
-            (with_request self.old.keys at change.now))
+        requires later { self.old.latest ≤ accept.now.reply.moment }
+        requires room { self.old.keys + made_count accept.now.change ≤ max_keys }
+        ensures written { let kept = kept_with request.now accept.now.reply in
+            Transacts S.Store (Makes (CanTake self.old.keys kept)
+            (with_request self.old.keys accept.now.change kept))
             self.old.connection self.new.connection result }
-        ensures latest { OnOk result (self.new.latest ≡ at) }
-        ensures keys { OnOk result (self.new.keys ≡ self.old.keys + made_count change.now) }
+        ensures latest { OnOk result (self.new.latest ≡ accept.now.reply.moment) }
+        ensures keys { OnOk result
+            (self.new.keys ≡ self.old.keys + made_count accept.now.change) }
         ensures whole { OnOk result (IsWhole self.new) }
         ensures end { IfErr result (λ end. end ≡ End.Store) }
         ensures err { OnErr result (KeepsCounts self.old self.new × IsBroken self.new) }
     {
-        match commit_request(&mut self.connection, self.keys, self.latest, at, change) {
+        let change = &accept.change;
+        let kept = KeptReply::new(request, accept.reply);
+        match commit_request(&mut self.connection, self.keys, self.latest, change, &kept) {
             Ok(()) => {
                 self.keys = keys_after(self.keys, change);
-                self.latest = at;
+                self.latest = kept.reply.moment;
                 Ok(())
             }
             Err(_) => {

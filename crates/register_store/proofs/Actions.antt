@@ -9,7 +9,7 @@ use Rattle.sqlite_schema.specs.declared.schema.Index.{Index}
 use Rattle.sqlite_schema.specs.declared.schema.Keys.TheVariants.{Enforced}
 use Rattle.sqlite_value.specs.Keys.{joined, plain}
 use Rattle.sql_steps.proofs.Cascading.{orphans, some_lose}
-use Rattle.register_store.specs.declared.table.TableName.TheVariants.{Meta, Keys, Custodian, Approval}
+use Rattle.register_store.specs.declared.table.TableName.TheVariants.{Meta, Keys, Custodian, Approval, Request}
 use Rattle.register_store.specs.Tables.{custodian, approval, to_custodian, tree_of}
 use Rattle.register_store.specs.Schema.{schema_with}
 
@@ -32,6 +32,11 @@ module _ (more : List Index) where
   pub approval_added_idle : (news : List Row) → works (schema_with more) Enforced 0 (tree_of Approval) [] news ≡ []
   unfolding same_name joined
   approval_added_idle news = elim (cases_Bool (length news == 0)) [ inl empty ↦ rw empty | inr full ↦ rw full ]
+
+  -- nothing refers to requests
+  pub request_idle : (news : List Row) → works (schema_with more) Enforced 0 (tree_of Request) [] news ≡ []
+  unfolding same_name joined
+  request_idle news = elim (cases_Bool (length news == 0)) [ inl empty ↦ rw empty | inr full ↦ rw full ]
 
   -- nothing refers to approvals
   pub approval_idle : (depth : ℕ) (olds : List Row) → works (schema_with more) Enforced depth (tree_of Approval) olds [] ≡ []

@@ -1,5 +1,5 @@
 -- What the statements that make the tables do.
-use Rattle.std.proofs.Common.{◌≡◌, ℕ, pos, List, [], ◌∷◌, codes, Ok, refl, sym, ap, subst, ◌∙◌, arith}
+use Rattle.std.proofs.Common.{◌≡◌, ℕ, pos, List, [], ◌∷◌, length, codes, Ok, refl, sym, ap, subst, ◌∙◌, arith}
 use Rattle.sqlite.specs.declared.types.Value.TheVariants.{Null, Int}
 use Rattle.sqlite.specs.Command.TheVariants.{Insert}
 use Rattle.sqlite.specs.Edit.{put_all}
@@ -16,7 +16,7 @@ use Rattle.sql_steps.proofs.Inserting.{edit, puts}
 use Rattle.sql_steps.proofs.Statements.{cast_int, cast_null}
 use Rattle.register_store.specs.declared.table.TableName.{TableName}
 use Rattle.register_store.specs.declared.table.TableName.TheVariants.{Meta}
-use Rattle.register_store.specs.Tables.{meta, table_of, place_of, tree_of, create_text, Shows, content, counts_row, no_rows}
+use Rattle.register_store.specs.Tables.{all_tables, meta, table_of, place_of, tree_of, create_text, Shows, content, counts_row, no_rows}
 use Rattle.register_store.specs.Schema.{schema_with, rows_of}
 use Rattle.register_store.specs.Creation.{MakesEmpty, MakesTable, MakesFirst, AddsMeta}
 use Rattle.register_store.proofs.Actions.{meta_idle}
@@ -62,5 +62,5 @@ adds_meta old new count h first =
 
 -- ---- the whole
 
-pub makes_empty : (old new : Database) → Then (MakesFirst 4) AddsMeta old new → MakesEmpty old new
+pub makes_empty : (old new : Database) → Then (MakesFirst (length all_tables)) AddsMeta old new → MakesEmpty old new
 makes_empty old new both has = both.2 (both.1 has)

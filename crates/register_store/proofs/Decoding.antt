@@ -1,4 +1,4 @@
--- The cells of a key determine it.
+-- The cells of a key, and of what is kept of a request, determine it.
 use Rattle.std.proofs.Common.{◌≡◌, ◌==◌, if◌then◌else◌, ℕ, pos, List, Option, None, Some, refl, sym, ap, ◌∙◌, arith}
 use Rattle.sqlite.specs.declared.types.Value.{Value}
 use Rattle.sqlite.specs.declared.types.Value.TheVariants.{Int, Text as Words}
@@ -10,10 +10,12 @@ use Rattle.lifecycle_core.specs.State.{state_code}
 use Rattle.period_core.specs.declared.key_type.KeyType.{KeyType}
 use Rattle.period_core.specs.declared.key_type.KeyType.TheVariants.{DataEncryption, Authentication, KeyWrapping, PrivateSignature, PrivateAuthentication, PrivateTransport, Master}
 use Rattle.period_core.specs.KeyType.{key_type_code}
-use Rattle.register_core.specs.Request.{IsDate}
+use Rattle.register_core.proofs.Lines.{same_command}
+use Rattle.register_core.specs.Request.{IsDate, command_text}
+use Rattle.register_core.specs.declared.kept_reply.KeptReply.{KeptReply}
 use Rattle.register_core.specs.declared.key.Key.{Key}
-use Rattle.register_store.specs.Tables.{IsKey, date_cell, key_cells}
-use Rattle.register_store.specs.Reading.{ShowsDates, ShowsKey}
+use Rattle.register_store.specs.Tables.{IsKey, date_cell, key_cells, state_cell}
+use Rattle.register_store.specs.Reading.{HasCellsOf, ShowsDates, ShowsKey}
 
 -- ---- a code has one meaning
 
@@ -61,6 +63,22 @@ same_kind a b e = sym (kind_back a) ∙ ap kind_of e ∙ kind_back b
 same_state : (a b : State) → state_code a ≡ state_code b → a ≡ b
 same_state a b e = sym (state_back a) ∙ ap state_in e ∙ state_back b
 
+reply_state_in : ℕ → Option State
+reply_state_in n = if n == 0 then None else Some (state_in n)
+
+reply_state_back : (state : Option State) → reply_state_in (state_cell state) ≡ state
+unfolding reply_state_in state_in
+reply_state_back None = refl
+reply_state_back (Some PreActive) = refl
+reply_state_back (Some Active) = refl
+reply_state_back (Some Deactivated) = refl
+reply_state_back (Some Compromised) = refl
+reply_state_back (Some Destroyed) = refl
+reply_state_back (Some DestroyedCompromised) = refl
+
+same_reply_state : (a b : Option State) → state_cell a ≡ state_cell b → a ≡ b
+same_reply_state a b e = sym (reply_state_back a) ∙ ap reply_state_in e ∙ reply_state_back b
+
 same_date : (a b : Option ℕ) → IsDate a → IsDate b → date_cell a ≡ date_cell b → a ≡ b
 same_date None None x y e = refl
 same_date None (Some b) x y e = absurd (omega arith)
@@ -78,7 +96,7 @@ same_words v s t x y = cc
 cell_date : (v : Value) (a b : Option ℕ) → (v ≡ Int (pos (date_cell a))) × IsDate a → v ≡ Int (pos (date_cell b)) → IsDate b → a ≡ b
 cell_date v a b x y is = same_date a b x.1 is (same_number v _ _ x.0 y)
 
--- ---- the whole row
+-- ---- the whole row of a key
 
 module _ (row : Cells) (k : Key) (is : IsKey k) (shows : row ≡ key_cells k) where
   at : (i : ℕ) → column row i ≡ column (key_cells k) i
@@ -106,3 +124,18 @@ module _ (row : Cells) (k : Key) (is : IsKey k) (shows : row ≡ key_cells k) wh
       state = same_state _ _ (same_number _ _ _ h.state (at 3)) i;
     };
   }
+
+-- ---- the whole row of a request
+
+-- a row has the cells of one alone
+pub same_request : (caller : List ℕ) (number : ℕ) (row : Cells) (a b : KeptReply) → HasCellsOf caller number row a → HasCellsOf caller number row b → a ≡ b
+same_request caller number row a b x y i = record {
+  caller = (x.caller ∙ sym y.caller) i;
+  number = (x.number ∙ sym y.number) i;
+  command = same_command (command_text a.command) a.command b.command (x.command.1, refl) (y.command.1, same_words _ _ _ x.command.0 y.command.0) i;
+  reply = record {
+    key = same_number _ _ _ x.key y.key i;
+    state = same_reply_state _ _ (same_number _ _ _ x.state y.state) i;
+    moment = same_number _ _ _ x.moment y.moment i;
+  };
+}

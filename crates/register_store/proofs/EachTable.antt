@@ -1,6 +1,5 @@
 -- What is proved of each table by its name. No other file of proofs has a row for each.
 use Rattle.std.proofs.Common.{◌≡◌, ◌<◌, inl, inr, List, [], length, Ok, false, refl, arith}
-use Rattle.std.proofs.lemmas.List.Sorted.{IsPermutation-refl}
 use Rattle.sqlite.specs.Change.{created}
 use Rattle.sqlite.specs.Command.TheVariants.{CreateTable}
 use Rattle.sqlite.specs.Compile.{table_defined_by}
@@ -12,12 +11,10 @@ use Rattle.sqlite_rules.specs.Lists.{Has}
 use Rattle.sqlite_schema.specs.declared.schema.Index.{Index}
 use Rattle.sqlite_tied.specs.Compute.{everything}
 use Rattle.register_store.specs.declared.table.TableName.{TableName}
-use Rattle.register_store.specs.declared.table.TableName.TheVariants.{Meta, Keys, Custodian, Approval}
-use Rattle.register_store.specs.Tables.{Tables, Content, ShowsNames, Shows, IsInRange, content, with_content, no_rows, all_tables, table_of, place_of, tree_of, create_text}
+use Rattle.register_store.specs.declared.table.TableName.TheVariants.{Meta, Keys, Custodian, Approval, Request}
+use Rattle.register_store.specs.Tables.{Tables, Content, Shows, IsInRange, content, with_content, no_rows, all_tables, table_of, place_of, tree_of, create_text, name_cells, request_cells}
 use Rattle.register_store.specs.Schema.{schema_after, schema_with}
-
-no_names : ShowsNames [] []
-no_names = record { cells = IsPermutation-refl []; ordered = tt; counted = tt }
+use Rattle.register_store.proofs.EntryRows.{shows_none}
 
 -- a table stands in the schema, its rows stand in its tree, and in an empty register it has none, but for meta's one
 pub record Each (name : TableName) : Type 0 where
@@ -30,8 +27,9 @@ pub record Each (name : TableName) : Type 0 where
 pub each : (name : TableName) → Each name
 each Meta = record { listed = λ more. inl refl; tree_is = refl; placed = omega arith; in_range = omega arith; empty = λ apart. absurd (apart refl) }
 each Keys = record { listed = λ more. inr (inl refl); tree_is = refl; placed = omega arith; in_range = tt; empty = λ apart. refl }
-each Custodian = record { listed = λ more. inr (inr (inl refl)); tree_is = refl; placed = omega arith; in_range = tt; empty = λ apart. no_names }
-each Approval = record { listed = λ more. inr (inr (inr (inl refl))); tree_is = refl; placed = omega arith; in_range = tt; empty = λ apart. no_names }
+each Custodian = record { listed = λ more. inr (inr (inl refl)); tree_is = refl; placed = omega arith; in_range = tt; empty = λ apart. shows_none name_cells }
+each Approval = record { listed = λ more. inr (inr (inr (inl refl))); tree_is = refl; placed = omega arith; in_range = tt; empty = λ apart. shows_none name_cells }
+each Request = record { listed = λ more. inr (inr (inr (inr (inl refl)))); tree_is = refl; placed = omega arith; in_range = tt; empty = λ apart. shows_none request_cells }
 
 -- what holds of the content that one table is given, and of another's that is kept, holds of either
 pub content_with : (P : (n : TableName) → Content n → Type 0) (name other : TableName) (c : Content name) (t : Tables) → P name c
@@ -40,6 +38,7 @@ content_with P Meta Meta c t own kept = own
 content_with P Keys Keys c t own kept = own
 content_with P Custodian Custodian c t own kept = own
 content_with P Approval Approval c t own kept = own
+content_with P Request Request c t own kept = own
 content_with P name other c t own kept = kept (λ same. absurd (omega arith))
 
 -- ---- the text that makes it
@@ -63,3 +62,4 @@ create_is Meta = record { is = refl; whole = refl; plain = (refl, refl); defined
 create_is Keys = record { is = refl; whole = refl; plain = (refl, refl); defined = refl; same = refl; uncounted = refl }
 create_is Custodian = record { is = refl; whole = refl; plain = (refl, refl); defined = refl; same = refl; uncounted = refl }
 create_is Approval = record { is = refl; whole = refl; plain = (refl, refl); defined = refl; same = refl; uncounted = refl }
+create_is Request = record { is = refl; whole = refl; plain = (refl, refl); defined = refl; same = refl; uncounted = refl }

@@ -1,8 +1,11 @@
 pub mod Decoding
 pub mod Texts
 pub mod Readings
+pub mod RowFound
 pub mod KeyFound
+pub mod RequestFound
 pub mod Actions
+pub mod EntryRows
 pub mod EachTable
 pub mod Frame
 pub mod Creating
@@ -10,8 +13,9 @@ pub mod Numbers
 pub mod KeyRow
 pub mod KeyChange
 pub mod CountsRow
-pub mod NameRows
+pub mod EntryAdded
 pub mod NameTests
+pub mod RequestAdded
 pub mod NameAdded
 pub mod NameRemoved
 pub mod NamesFound

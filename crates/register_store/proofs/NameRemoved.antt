@@ -13,6 +13,7 @@ use Rattle.sqlite.proofs.Callers.{IsPlain, command_of}
 use Rattle.sqlite_rules.proofs.ListLemmas.{all_has, some_has}
 use Rattle.sqlite_rules.specs.Action.{loses}
 use Rattle.sqlite_rules.specs.Lists.{Has}
+use Rattle.sqlite_trees.proofs.ListLemmas.{all-filter}
 use Rattle.sqlite_schema.specs.Names.{same_name}
 use Rattle.sqlite_schema.specs.Rules.{agree, has_null, is_held, parent_key, passes, Keeps}
 use Rattle.sqlite_schema.specs.declared.schema.Constraint.TheVariants.{ForeignKey}
@@ -33,14 +34,14 @@ use Rattle.register_store.specs.declared.table.TableName.TheVariants.{Custodian,
 use Rattle.register_store.specs.declared.custody.RoleChange.{RoleChange}
 use Rattle.register_store.specs.declared.custody.RoleChange.TheVariants.{Given, Taken}
 use Rattle.register_store.specs.Roles.{change_text, with_role_changed}
-use Rattle.register_store.specs.Tables.{custodian, approval, to_custodian, place_of, tree_of, Tables, ShowsNames, Shows, IsInRange, content, name_cells}
+use Rattle.register_store.specs.Tables.{custodian, approval, to_custodian, place_of, tree_of, Tables, ShowsEntries, Shows, IsNamed, IsInRange, content, name_cells}
 use Rattle.register_store.specs.Schema.{schema_with, Holds, rows_of}
 use Rattle.register_store.specs.Making.{Makes, Always, without_custodian, without_approval, without_approvals, without_name}
 use Rattle.register_store.proofs.Actions.{approval_idle, custodian_drops}
 use Rattle.register_store.proofs.EachTable.{each, content_with}
 use Rattle.register_store.proofs.Frame.{holds_with, rows_kept}
 use Rattle.register_store.proofs.NameAdded.{adds_name}
-use Rattle.register_store.proofs.NameRows.{entry_of, names_left, shows_filtered}
+use Rattle.register_store.proofs.EntryRows.{entry_of, shows_filtered}
 use Rattle.register_store.proofs.NameTests.{at_key, at_name, places, key_past, key_is, name_past, name_is, same_cells, agree_same, loses_name}
 
 -- the text takes rows that pass out of the table at this place
@@ -62,8 +63,8 @@ module _ (sql : List ℕ) (params : Cells) (at : List Term) (parts : IsDelete sq
       let more = holds.schema.more in
       let shown = holds.shown Approval in
       let wrote = removes approval params at sql (schema_with more) (place_of Approval) refl (parts more).0 (parts more).1 (approval_idle more 0) (λ db. refl) old new count h holds.schema.is shown.ordered shown.counted in
-      let rows = shows_filtered (λ r. not (is_picked params (tree_of Approval) at ids_shown r)) (λ entry. not (q entry)) (λ r. ap not (past r)) (λ entry. ap not (each entry)) t.approvals (rows_of Approval old.now) shown in
-      holds_with Approval (left t).approvals t old.now new.now _ holds wrote (names_left (λ entry. not (q entry)) t.approvals (holds.in_range Approval)) rows
+      let rows = shows_filtered name_cells (λ r. not (is_picked params (tree_of Approval) at ids_shown r)) (λ entry. not (q entry)) (λ r. ap not (past r)) (λ entry. ap not (each entry)) t.approvals (rows_of Approval old.now) shown in
+      holds_with Approval (left t).approvals t old.now new.now _ holds wrote (all-filter IsNamed (λ entry. not (q entry)) t.approvals (holds.in_range Approval)) rows
 
 approval_parts : IsDelete (change_text (Taken role.Approver)) Approval at_name
 unfolding understood everything
@@ -106,14 +107,14 @@ stands false false none e = absurd (cc)
 approver : (db : Database) (t : Tables) → Holds t db → (r : Cells) → Has (rows_of Approval db) r → (x : Cells) × Has (rows_of Custodian db) x × (drop 1 r ≡ drop 1 x)
 approver db t holds r h =
     let more = holds.schema.more in
-    let a = entry_of t.approvals (rows_of Approval db) (holds.shown Approval) r h in
+    let a = entry_of name_cells t.approvals (rows_of Approval db) (holds.shown Approval) r h in
     let rules = subst (λ (s : Schema). Keeps ForeignKey s db.trees) holds.schema.is (holds.sound.obeys.rules ForeignKey) in
     let followed = all_has (λ (table : Table). AllByRecursion (λ row. passes ForeignKey (schema_with more) db.trees table row ≡ true) (db.trees table.tree)) (schema_with more).tables approval rules ((each Approval).listed more) in
     let passing = all_has (λ row. passes ForeignKey (schema_with more) db.trees approval row ≡ true) (rows_of Approval db) r followed h in
     let full : has_null places r ≡ false = null_past r ∙ ap (λ cells. has_null places (Null ∷ cells)) a.1 in
     let held = stands _ _ full (subst (λ key. ((has_null places r || is_held db.trees places r key) && true) ≡ true) (parent_is more) passing) in
     let x = some_has (λ parent. agree plain places parent places r) (rows_of Custodian db) held in
-    let b = entry_of t.custodians (rows_of Custodian db) (holds.shown Custodian) x.0 x.1 in
+    let b = entry_of name_cells t.custodians (rows_of Custodian db) (holds.shown Custodian) x.0 x.1 in
     (x.0, x.1, sym (same_cells x.0 r b.0 a.0 b.1 a.1 x.2))
 
 module _ (key : ℕ) (name : List ℕ) where
@@ -134,18 +135,18 @@ module _ (key : ℕ) (name : List ℕ) where
         → (x : Cells) × Has (rows_of Custodian db) x × (passing x ≡ true) × (loses plain places (x, []) ≡ true) × (agree plain places r places x ≡ true)
     from_custodian r h is =
         let x = approver db t holds r h in
-        let a = entry_of t.approvals (rows_of Approval db) (holds.shown Approval) r h in
+        let a = entry_of name_cells t.approvals (rows_of Approval db) (holds.shown Approval) r h in
         let of_x = sym x.2 ∙ a.1 in
         (x.0, x.1, sym (same_test r x.0 x.2) ∙ is, loses_name x.0 a.0 of_x, agree_same r x.0 a.0 a.1 of_x)
 
     of_custodian : (r x : Cells) → Has (rows_of Approval db) r → Has (rows_of Custodian db) x → passing x ≡ true → agree plain places r places x ≡ true → passing r ≡ true
     of_custodian r x h k is agrees =
-        let a = entry_of t.approvals (rows_of Approval db) (holds.shown Approval) r h in
-        let b = entry_of t.custodians (rows_of Custodian db) (holds.shown Custodian) x k in
+        let a = entry_of name_cells t.approvals (rows_of Approval db) (holds.shown Approval) r h in
+        let b = entry_of name_cells t.custodians (rows_of Custodian db) (holds.shown Custodian) x k in
         same_test r x (same_cells r x a.0 b.0 a.1 b.1 agrees) ∙ is
 
-  without : (entries : List KeyName) (rows : List Cells) → ShowsNames entries rows → ShowsNames (without_name key name entries) (filter (λ r. not (passing r)) rows)
-  without entries rows shows = shows_filtered (λ r. not (passing r)) (λ entry. not (is_key_name key name entry)) (λ r. ap not (past r)) (λ entry. ap not (name_is (tree_of Custodian) ids_shown key name entry)) entries rows shows
+  without : (entries : List KeyName) (rows : List Cells) → ShowsEntries name_cells entries rows → ShowsEntries name_cells (without_name key name entries) (filter (λ r. not (passing r)) rows)
+  without entries rows shows = shows_filtered name_cells (λ r. not (passing r)) (λ entry. not (is_key_name key name entry)) (λ r. ap not (past r)) (λ entry. ap not (name_is (tree_of Custodian) ids_shown key name entry)) entries rows shows
 
   removes_custodian : (old new : State) (count : ℕ) → Executes (change_text (Taken role.Custodian)) params old new (Ok count) → Makes Always (without_custodian key name) old.now new.now
   removes_custodian old new count h t holds always =
@@ -162,12 +163,12 @@ module _ (key : ℕ) (name : List ℕ) where
       record {
         schema = record { more = more; is = did.kept.schema_is };
         sound = did.kept.sound;
-        in_range = λ n. content_with IsInRange Approval n approving fewer (names_left (λ entry. not (is_key_name key name entry)) t.approvals (holds.in_range Approval))
-            (λ _. content_with IsInRange Custodian n left t (names_left (λ entry. not (is_key_name key name entry)) t.custodians (holds.in_range Custodian)) (λ _. holds.in_range n));
+        in_range = λ n. content_with IsInRange Approval n approving fewer (all-filter IsNamed (λ entry. not (is_key_name key name entry)) t.approvals (holds.in_range Approval))
+            (λ _. content_with IsInRange Custodian n left t (all-filter IsNamed (λ entry. not (is_key_name key name entry)) t.custodians (holds.in_range Custodian)) (λ _. holds.in_range n));
         shown = λ n. content_with (λ m held. Shows m held (rows_of m new.now)) Approval n approving fewer
-            (subst (ShowsNames approving) (sym did.children_are) (without t.approvals (rows_of Approval old.now) approvals))
+            (subst (ShowsEntries name_cells approving) (sym did.children_are) (without t.approvals (rows_of Approval old.now) approvals))
             (λ no_approval. content_with (λ m held. Shows m held (rows_of m new.now)) Custodian n left t
-            (subst (ShowsNames left) (sym did.parents_are) (without t.custodians (rows_of Custodian old.now) custodians))
+            (subst (ShowsEntries name_cells left) (sym did.parents_are) (without t.custodians (rows_of Custodian old.now) custodians))
             (λ no_custodian. subst (Shows n (content n t)) (sym (other n (λ written. elim written [ inl e ↦ no_custodian e | inr e ↦ no_approval e ]))) (holds.shown n)));
       }
 

@@ -1,26 +1,21 @@
 -- What the searches for the names of a key's custodians and approvals find.
-use Rattle.std.proofs.Common.{◌≡◌, ◌≢◌, ℕ, pos, List, [], ◌∷◌, map, filter, drop, codes, Bool, false, Result, Ok, Err, IfOk, IfErr, refl, sym, ap, subst, ◌∙◌}
+use Rattle.std.proofs.Common.{◌≡◌, ◌≢◌, ℕ, pos, List, [], ◌∷◌, map, filter, drop, codes, Result, Ok, Err, IfOk, IfErr, refl, sym, ap, subst, ◌∙◌}
 use Rattle.std.proofs.lemmas.List.Sorted.{IsPermutation-map, IsPermutation-sym, IsPermutation-trans}
 use Rattle.std.specs.List.Sorted.{IsPermutation}
 use Rattle.sqlite.specs.declared.error.Error.{Error}
 use Rattle.sqlite.specs.declared.types.Value.{Value}
 use Rattle.sqlite.specs.declared.types.Value.TheVariants.{Null, Int, Text as Words}
-use Rattle.sqlite.specs.Command.TheVariants.{Select}
-use Rattle.sqlite.specs.Listing.{understood, reads_listing}
+use Rattle.sqlite.specs.Listing.{understood}
 use Rattle.sqlite.specs.Order.{Row as Cells, column}
-use Rattle.sqlite.specs.Program.{overlay}
 use Rattle.sqlite.specs.State.{State, HasCleanDisk, Shown, IsUnchanged, Survives, CommitsShowing}
-use Rattle.sqlite.specs.Term.{Term, col}
-use Rattle.sqlite.specs.Tree.{Trees}
-use Rattle.sqlite.proofs.Callers.{IsPlain, command_of}
-use Rattle.sqlite_schema.specs.declared.schema.Index.{Index}
+use Rattle.sqlite.specs.Term.{Term, col, eval_all}
 use Rattle.sqlite_tied.specs.Compute.{everything}
 use Rattle.sqlite_rules.proofs.ListLemmas.{all_has}
-use Rattle.sqlite_trees.proofs.ListLemmas.{map-map}
+use Rattle.sqlite_trees.proofs.ListLemmas.{all-filter, map-map}
 use Rattle.sql_steps.proofs.SameRows.{has_map, map_has}
 use Rattle.sql_steps.proofs.Updates.{has_permutation}
 use Rattle.sql_steps.proofs.Queries.{gives_all, only_reads}
-use Rattle.sql_steps.proofs.Statements.{plain_query, picked, is_picked}
+use Rattle.sql_steps.proofs.Statements.{picked}
 use Rattle.register_core.specs.KeyName.{KeyName, is_at, names_at}
 use Rattle.register_core.specs.Name.{IsName}
 use Rattle.register_core.specs.Names.{sorted_names}
@@ -31,11 +26,11 @@ use Rattle.register_store.specs.declared.custody.Role.TheVariants as role
 use Rattle.register_store.specs.declared.table.TableName.TheVariants.{Custodian, Approval}
 use Rattle.register_store.specs.Roles.{names_of, select_text}
 use Rattle.register_store.specs.Reading.{AreNamesOf, HasNoName, ReadsBy}
-use Rattle.register_store.specs.Tables.{tree_of, Tables, AreNames, ShowsNames, name_cells}
+use Rattle.register_store.specs.Tables.{tree_of, Tables, AreNames, IsNamed, ShowsEntries, name_cells}
 use Rattle.register_store.specs.Schema.{schema_with, Holds}
-use Rattle.register_store.proofs.NameRows.{cells_filtered, names_left}
+use Rattle.register_store.proofs.EntryRows.{picks_entries}
 use Rattle.register_store.proofs.NameTests.{at_key, key_past, key_is}
-use Rattle.register_store.proofs.Readings.{fails_refused, fails_unchanged, reads_by}
+use Rattle.register_store.proofs.Readings.{IsSearch, fails_refused, fails_unchanged, reads_by}
 
 -- ---- names in cells
 
@@ -66,37 +61,28 @@ abbrev pub name_column : List (List ℕ)
 name_column = codes "name" ∷ []
 
 -- the text asks for the names at a key in a table
-pub record IsSearch (sql : List ℕ) (tree : ℕ) : Type 0 where
-  pub is : (more : List Index) → command_of (understood (schema_with more) sql) ≡ Select (record { lets = []; body = plain_query tree at_key name_shown }) name_column
-  pub plain : (more : List Index) → IsPlain (understood (schema_with more) sql)
-  pub unlisted : (more : List Index) → reads_listing (schema_with more) sql ≡ false
-  pub low : (db : Trees) → overlay db [] tree ≡ db tree
+abbrev pub IsNameSearch : List ℕ → ℕ → Type 0
+IsNameSearch sql tree = IsSearch sql tree at_key name_shown name_column
 
-module _ (sql : List ℕ) (tree : ℕ) (search_is : IsSearch sql tree) (key : ℕ) where
+shown_past : (params r : Cells) → eval_all name_shown (params ∷ r ∷ []) ≡ eval_all name_shown (params ∷ (Null ∷ drop 1 r) ∷ [])
+shown_past params [] = refl
+shown_past params (v ∷ vs) = refl
+
+module _ (sql : List ℕ) (tree : ℕ) (search_is : IsNameSearch sql tree) (key : ℕ) where
   abbrev pub params : Cells
   params = Int (pos key) ∷ []
 
-  abbrev passing : Cells → Bool
-  passing = is_picked params tree at_key name_shown
-
-  -- the cell of the name, past the rowid
-  second : (rows : List Cells) → map (λ (r : Cells). column r 2) rows ≡ map (λ (cells : Cells). column cells 1) (map (drop 1) rows)
-  second [] = refl
-  second ([] ∷ rows) = ap (λ others. Null ∷ others) (second rows)
-  second ((v ∷ vs) ∷ rows) = ap (λ others. column vs 1 ∷ others) (second rows)
-
   -- the names at the key
-  found_names : (entries : List KeyName) (rows : List Cells) → ShowsNames entries rows → IsPermutation (map (λ row. column row 0) (picked params tree at_key name_shown rows)) (map Words (names_at key entries))
+  found_names : (entries : List KeyName) (rows : List Cells) → ShowsEntries name_cells entries rows → IsPermutation (map (λ row. column row 0) (picked params tree at_key name_shown rows)) (map Words (names_at key entries))
   found_names entries rows shows =
-      let left : map (λ row. column row 0) (picked params tree at_key name_shown rows) ≡ map (λ (cells : Cells). column cells 1) (map (drop 1) (filter passing rows)) =
-      map-map _ _ (filter passing rows) ∙ second (filter passing rows) in
-      let right : map (λ (cells : Cells). column cells 1) (map name_cells (filter (is_at key) entries)) ≡ map Words (names_at key entries) =
-      map-map _ name_cells (filter (is_at key) entries) ∙ sym (map-map Words (λ (entry : KeyName). entry.name) (filter (is_at key) entries)) in
-      subst (λ l. IsPermutation l (map Words (names_at key entries))) (sym left)
-      (subst (IsPermutation (map (λ (cells : Cells). column cells 1) (map (drop 1) (filter passing rows)))) right
-      (IsPermutation-map (λ (cells : Cells). column cells 1) _ _ (cells_filtered passing (is_at key) (key_past tree name_shown key) (key_is tree name_shown key) entries rows shows.cells)))
+      let among = filter (is_at key) entries in
+      let right : map (λ (row : Cells). column row 0) (map (λ (entry : KeyName). Words entry.name ∷ []) among) ≡ map Words (names_at key entries) =
+      map-map _ _ among ∙ sym (map-map Words (λ (entry : KeyName). entry.name) among) in
+      subst (IsPermutation (map (λ row. column row 0) (picked params tree at_key name_shown rows))) right
+      (IsPermutation-map (λ (row : Cells). column row 0) _ _
+      (picks_entries name_cells params tree at_key name_shown (is_at key) (key_past tree name_shown key) (key_is tree name_shown key) (shown_past params) entries rows shows))
 
-  module _ (entries_of : Tables → List KeyName) (shown : (t : Tables) (old : State) → Holds t old.now → ShowsNames (entries_of t) (old.now.trees tree))
+  module _ (entries_of : Tables → List KeyName) (shown : (t : Tables) (old : State) → Holds t old.now → ShowsEntries name_cells (entries_of t) (old.now.trees tree))
       (in_range : (t : Tables) (old : State) → Holds t old.now → AreNames (entries_of t)) (old new : State)
       (survives : Survives old new (CommitsShowing sql params old)) where
     abbrev Found : Tables → List (List ℕ) → Type 0
@@ -130,7 +116,7 @@ module _ (sql : List ℕ) (tree : ℕ) (search_is : IsSearch sql tree) (key : �
         let there = has_permutation _ (map Words names) (column none.0 0) (shown_names t holds rows asked) (has_map (λ row. column row 0) rows none.0 none.1) in
         let word = map_has Words names (column none.0 0) there in
         let entry = map_has (λ (entry : KeyName). entry.name) (filter (is_at key) (entries_of t)) word.0 word.1 in
-        let is = all_has (λ (entry : KeyName). IsName entry.name) (filter (is_at key) (entries_of t)) entry.0 (names_left (is_at key) (entries_of t) (in_range t old holds)) entry.1 in
+        let is = all_has IsNamed (filter (is_at key) (entries_of t)) entry.0 (all-filter IsNamed (is_at key) (entries_of t) (in_range t old holds)) entry.1 in
         none.2 word.0 (subst IsName (sym entry.2) is) word.2
 
     registered_so : (t : Tables) → Holds t old.now → (rows : List Cells) (q : Result (List (List ℕ)) StoreError) → IfErr q (λ error. error ≡ NoRegister → HasNoName rows) → Shown sql params old new rows
@@ -155,7 +141,7 @@ abbrev pub tree_at : Role → ℕ
 tree_at role.Custodian = tree_of Custodian
 tree_at role.Approver = tree_of Approval
 
-pub select_is : (role : Role) → IsSearch (select_text role) (tree_at role)
+pub select_is : (role : Role) → IsNameSearch (select_text role) (tree_at role)
 unfolding understood everything
 select_is role.Custodian = record { is = λ more. refl; plain = λ more. (refl, refl); unlisted = λ more. refl; low = λ db. refl }
 select_is role.Approver = record { is = λ more. refl; plain = λ more. (refl, refl); unlisted = λ more. refl; low = λ db. refl }
@@ -164,6 +150,6 @@ pub names_ranged : (role : Role) (t : Tables) (old : State) → Holds t old.now 
 names_ranged role.Custodian t old holds = holds.in_range Custodian
 names_ranged role.Approver t old holds = holds.in_range Approval
 
-pub names_shown : (role : Role) (t : Tables) (old : State) → Holds t old.now → ShowsNames (names_of role t) (old.now.trees (tree_at role))
+pub names_shown : (role : Role) (t : Tables) (old : State) → Holds t old.now → ShowsEntries name_cells (names_of role t) (old.now.trees (tree_at role))
 names_shown role.Custodian t old holds = holds.shown Custodian
 names_shown role.Approver t old holds = holds.shown Approval

@@ -1,18 +1,14 @@
 -- What the text of the search for a key means, computed.
-use Rattle.std.proofs.Common.{◌≡◌, ℕ, List, [], ◌∷◌, codes, false, refl}
+use Rattle.std.proofs.Common.{ℕ, List, [], ◌∷◌, codes, refl}
 use Rattle.sqlite.specs.Term.{Term, col, op2}
 use Rattle.sqlite.specs.Collation.TheVariants.{Binary}
 use Rattle.sqlite_sql.specs.declared.ops.BinaryOp.TheVariants.{Compare}
 use Rattle.sqlite_sql.specs.declared.ops.CompareOp.TheVariants.{Eq}
-use Rattle.sqlite.specs.Command.TheVariants.{Select}
 use Rattle.sqlite_tied.specs.Compute.{everything}
-use Rattle.sqlite.specs.Listing.{understood, reads_listing}
-use Rattle.sqlite.proofs.Callers.{IsPlain, command_of}
-use Rattle.sql_steps.proofs.Statements.{plain_query}
-use Rattle.sqlite_schema.specs.declared.schema.Index.{Index}
+use Rattle.sqlite.specs.Listing.{understood}
 use Rattle.register_store.specs.declared.table.TableName.TheVariants.{Keys}
 use Rattle.register_store.specs.Tables.{tree_of}
-use Rattle.register_store.specs.Schema.{schema_with}
+use Rattle.register_store.proofs.Readings.{IsSearch}
 
 abbrev pub find_text : List ℕ
 find_text = codes "SELECT kind, owner, purpose, state, initial, activation, protect_stop, deactivation, destroyed, compromised, occurrence FROM keys WHERE number = ?1"
@@ -28,14 +24,6 @@ cells_shown = col 1 2 ∷ col 1 3 ∷ col 1 4 ∷ col 1 5 ∷ col 1 6 ∷ col 1 
 abbrev pub find_names : List (List ℕ)
 find_names = codes "kind" ∷ codes "owner" ∷ codes "purpose" ∷ codes "state" ∷ codes "initial" ∷ codes "activation" ∷ codes "protect_stop" ∷ codes "deactivation" ∷ codes "destroyed" ∷ codes "compromised" ∷ codes "occurrence" ∷ []
 
-pub find_is : (more : List Index) → command_of (understood (schema_with more) find_text) ≡ Select (record { lets = []; body = plain_query (tree_of Keys) has_number cells_shown }) find_names
+pub find_is : IsSearch find_text (tree_of Keys) has_number cells_shown find_names
 unfolding understood everything
-find_is more = refl
-
-pub find_plain : (more : List Index) → IsPlain (understood (schema_with more) find_text)
-unfolding understood everything
-find_plain more = (refl, refl)
-
-pub find_unlisted : (more : List Index) → reads_listing (schema_with more) find_text ≡ false
-unfolding understood everything
-find_unlisted more = refl
+find_is = record { is = λ more. refl; plain = λ more. (refl, refl); unlisted = λ more. refl; low = λ db. refl }

@@ -4,6 +4,7 @@ use Rattle.sqlite.specs.Effect.{Database}
 use Rattle.lifecycle_core.specs.declared.row.Row.{Row}
 use Rattle.lifecycle_core.specs.declared.state.State.{State}
 use Rattle.lifecycle_core.specs.State.{state_at}
+use Rattle.register_core.specs.declared.kept_reply.KeptReply.{KeptReply}
 use Rattle.register_core.specs.declared.key.Key.{Key}
 use Rattle.register_core.specs.KeyName.{KeyName, is_key_name, is_at}
 use Rattle.register_store.specs.Tables.{Tables, numbered}
@@ -33,6 +34,14 @@ with_key k t = record t { keys = t.keys ++ k ∷ [] }
 
 abbrev pub with_counts : ℕ → ℕ → Tables → Tables
 with_counts latest key_count t = record t { counts = record { latest = latest; key_count = key_count } }
+
+-- one more request
+abbrev pub with_kept : KeptReply → Tables → Tables
+with_kept kept t = record t { requests = t.requests ++ kept ∷ [] }
+
+-- the same, with the moment of its reply as the latest, and the number of keys after it
+abbrev pub with_recorded : KeptReply → ℕ → Tables → Tables
+with_recorded kept key_count t = record t { counts = record { latest = kept.reply.moment; key_count = key_count }; requests = t.requests ++ kept ∷ [] }
 
 -- what f makes of a key, where the number is its own
 abbrev pub where_number : ℕ → (Key → Key) → ℕ × Key → Key

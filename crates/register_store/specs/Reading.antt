@@ -1,5 +1,5 @@
 -- What is read of a register in a database.
-use Rattle.std.specs.Prelude.{◌≡◌, ◌≢◌, ℕ, pos, List, map, Option, None, Some, Result, Ok, Err, IfOk, IfErr, IsPermutation}
+use Rattle.std.specs.Prelude.{◌≡◌, ◌≢◌, ℕ, pos, true, List, [], map, Option, None, Some, Result, Ok, Err, IfOk, IfErr, IsPermutation}
 use Rattle.std.specs.Option.{option_map}
 use Rattle.sqlite.specs.declared.types.Value.TheVariants.{Int, Text as Words}
 use Rattle.sqlite.specs.Order.{Row, column}
@@ -13,17 +13,19 @@ use Rattle.sqlite_trees.specs.declared.store.Store.{Ghosts}
 use Rattle.lifecycle_core.specs.declared.dates.Dates.{Dates}
 use Rattle.lifecycle_core.specs.State.{state_code}
 use Rattle.period_core.specs.KeyType.{key_type_code}
+use Rattle.register_core.specs.declared.kept_reply.KeptReply.{KeptReply}
 use Rattle.register_core.specs.declared.key.Key.{Key}
 use Rattle.register_core.specs.declared.view.Held.{Held}
+use Rattle.register_core.specs.KeptReply.{is_whole, kept_under}
 use Rattle.register_core.specs.KeyName.{names_at}
 use Rattle.register_core.specs.Name.{IsName}
 use Rattle.register_core.specs.Names.{sorted_names}
-use Rattle.register_core.specs.Request.{IsDate}
+use Rattle.register_core.specs.Request.{IsCommand, IsDate, command_text}
 use Rattle.register_store.specs.declared.custody.Role.{Role}
 use Rattle.register_store.specs.declared.error.StoreError.{StoreError}
 use Rattle.register_store.specs.declared.error.StoreError.TheVariants.{Memory, NoRegister}
 use Rattle.register_store.specs.Roles.{names_of}
-use Rattle.register_store.specs.Tables.{Tables, date_cell, IsKey}
+use Rattle.register_store.specs.Tables.{Tables, date_cell, state_cell}
 use Rattle.register_store.specs.Schema.{Holds}
 use Rattle.register_store.specs.Making.{key_at}
 
@@ -51,6 +53,15 @@ loaded number t k = (
 
 abbrev pub HasKey : ℕ → Tables → Option (Held × List ℕ) → Type 0
 HasKey number t found = found ≡ option_map (loaded number t) (key_at t.keys number)
+
+-- one of them, or none where there is none
+abbrev pub IsOneOf : {A : Type 0} → List A → Option A → Type 0
+IsOneOf xs None = xs ≡ []
+IsOneOf xs (Some x) = Has xs x
+
+-- what is kept of the caller's request under this number
+abbrev pub HasRequest : List ℕ → ℕ → Tables → Option KeptReply → Type 0
+HasRequest caller number t found = IsOneOf (kept_under caller number t.requests) found
 
 -- ---- what a call that reads does
 
@@ -94,15 +105,29 @@ pub record ShowsKey (row : Row) (k : Key) : Type 0 where
   pub state : column row 3 ≡ Int (pos (state_code k.row.state))
   pub dates : ShowsDates row k.row.dates
 
--- the key that the row shows, or none where there is no row
-abbrev pub IsRowOf : Result Row Error → Option Key → Type 0
-IsRowOf (Ok row) found = (key : Key) × (found ≡ Some key) × ShowsKey row key
-IsRowOf (Err error) found = (error ≡ QueryReturnedNoRows) × (found ≡ None)
+-- the row of the search for a caller's number has the cells of this, with a command in its range
+pub record HasCellsOf (whose : List ℕ) (which : ℕ) (row : Row) (k : KeptReply) : Type 0 where
+  pub caller : k.caller ≡ whose
+  pub number : k.number ≡ which
+  pub command : (column row 0 ≡ Words (command_text k.command)) × IsCommand k.command
+  pub key : column row 1 ≡ Int (pos k.reply.key)
+  pub state : column row 2 ≡ Int (pos (state_cell k.reply.state))
+  pub moment : column row 3 ≡ Int (pos k.reply.moment)
 
--- the row shows no key
-abbrev pub IsNoKey : Result Row Error → Type 0
-IsNoKey (Ok row) = (k : Key) → IsKey k → ShowsKey row k → ⊥
-IsNoKey (Err error) = ⊥
+-- and shows it where it is whole
+pub record ShowsRequest (whose : List ℕ) (which : ℕ) (row : Row) (k : KeptReply) : Type 0 where
+  pub cells : HasCellsOf whose which row k
+  pub whole : is_whole k ≡ true
+
+-- what the row shows, or none where there is no row
+abbrev pub IsRowOf : {A : Type 0} → (Row → A → Type 0) → Result Row Error → Option A → Type 0
+IsRowOf {A} ShowsOne (Ok row) found = (x : A) × (found ≡ Some x) × ShowsOne row x
+IsRowOf ShowsOne (Err error) found = (error ≡ QueryReturnedNoRows) × (found ≡ None)
+
+-- the row shows none that is in its range
+abbrev pub ShowsNone : {A : Type 0} → (A → Type 0) → (Row → A → Type 0) → Result Row Error → Type 0
+ShowsNone {A} IsOne ShowsOne (Ok row) = (x : A) → IsOne x → ShowsOne row x → ⊥
+ShowsNone IsOne ShowsOne (Err error) = ⊥
 
 -- the first column of one of the rows shows no name
 abbrev pub HasNoName : List Row → Type 0

@@ -12,16 +12,19 @@ use Rattle.sqlite_schema.specs.declared.schema.Reference.{Reference}
 use Rattle.sqlite_trees.specs.View.{is_int}
 use Rattle.moment_core.specs.Moment.{IsMoment}
 use Rattle.lifecycle_core.specs.declared.dates.Dates.{Dates}
+use Rattle.lifecycle_core.specs.declared.state.State.{State}
 use Rattle.lifecycle_core.specs.State.{state_code}
 use Rattle.period_core.specs.KeyType.{key_type_code}
+use Rattle.register_core.specs.declared.kept_reply.KeptReply.{KeptReply}
 use Rattle.register_core.specs.declared.key.Key.{Key}
+use Rattle.register_core.specs.KeptReply.{IsKeptReply}
 use Rattle.register_core.specs.KeyName.{KeyName}
 use Rattle.register_core.specs.Name.{IsName}
 use Rattle.register_core.specs.Purpose.{IsPurpose}
-use Rattle.register_core.specs.Request.{IsDate}
+use Rattle.register_core.specs.Request.{IsDate, command_text}
 use Rattle.register_store.specs.declared.table.TableName.{TableName}
-use Rattle.register_store.specs.declared.table.TableName.TheVariants.{Meta, Keys, Custodian, Approval}
-use Rattle.register_store.specs.TableForms.{number_column, text_column, key_column, keyed, paired}
+use Rattle.register_store.specs.declared.table.TableName.TheVariants.{Meta, Keys, Custodian, Approval, Request}
+use Rattle.register_store.specs.TableForms.{number_column, text_column, key_column, keyed, indexed, paired}
 
 -- ---- what they hold
 
@@ -30,16 +33,18 @@ pub record Counts : Type 0 where
   pub latest : ℕ
   pub key_count : ℕ
 
--- What the tables hold: the keys by number, from 1, and the names at keys in no order of meaning.
+-- What the tables hold: the keys by number, from 1, the names at keys in no order of meaning, and what is kept of each
+-- accepted request, in none either.
 pub record Tables : Type 0 where
   pub counts : Counts
   pub keys : List Key
   pub custodians : List KeyName
   pub approvals : List KeyName
+  pub requests : List KeptReply
 
 -- the tables of an empty register
 abbrev pub no_rows : Tables
-no_rows = record { counts = record { latest = 0; key_count = 0 }; keys = []; custodians = []; approvals = [] }
+no_rows = record { counts = record { latest = 0; key_count = 0 }; keys = []; custodians = []; approvals = []; requests = [] }
 
 -- ---- one table by its name
 
@@ -48,12 +53,14 @@ Content Meta = Counts
 Content Keys = List Key
 Content Custodian = List KeyName
 Content Approval = List KeyName
+Content Request = List KeptReply
 
 abbrev pub content : (name : TableName) → Tables → Content name
 content Meta t = t.counts
 content Keys t = t.keys
 content Custodian t = t.custodians
 content Approval t = t.approvals
+content Request t = t.requests
 
 -- the tables with another content of this one
 abbrev pub with_content : (name : TableName) → Content name → Tables → Tables
@@ -61,12 +68,13 @@ with_content Meta counts t = record t { counts = counts }
 with_content Keys keys t = record t { keys = keys }
 with_content Custodian custodians t = record t { custodians = custodians }
 with_content Approval approvals t = record t { approvals = approvals }
+with_content Request requests t = record t { requests = requests }
 
 -- ---- where the tables stand
 
 -- the tables in the order in which they are made
 abbrev pub all_tables : List TableName
-all_tables = Meta ∷ Keys ∷ Custodian ∷ Approval ∷ []
+all_tables = Meta ∷ Keys ∷ Custodian ∷ Approval ∷ Request ∷ []
 
 -- the place of a table among them
 abbrev pub place_of : TableName → ℕ
@@ -74,6 +82,7 @@ place_of Meta = 0
 place_of Keys = 1
 place_of Custodian = 2
 place_of Approval = 3
+place_of Request = 4
 
 -- the tree with a table's rows; trees are numbered as tables and their indexes are made
 abbrev pub tree_of : TableName → ℕ
@@ -81,6 +90,7 @@ tree_of Meta = 0
 tree_of Keys = 1
 tree_of Custodian = 2
 tree_of Approval = 4
+tree_of Request = 6
 
 -- ---- how they are made
 
@@ -107,30 +117,39 @@ custodian = paired (codes "custodian") (tree_of Custodian) to_keys
 abbrev pub approval : Table
 approval = paired (codes "approval") (tree_of Approval) to_custodian
 
+-- a caller's number stands once, and refers to nothing
+abbrev pub request : Table
+request = indexed (codes "request") (tree_of Request)
+    (text_column (codes "caller") ∷ number_column (codes "number") ∷ text_column (codes "command")
+    ∷ number_column (codes "key_no") ∷ number_column (codes "state") ∷ number_column (codes "moment") ∷ []) []
+
 abbrev pub table_of : TableName → Table
 table_of Meta = meta
 table_of Keys = keys
 table_of Custodian = custodian
 table_of Approval = approval
+table_of Request = request
 
 -- The index of a primary key that is no INTEGER PRIMARY KEY is made with its table, and has the tree behind the table's.
 abbrev pub key_index : TableName → Index
 key_index name = automatic (table_of name) 0 (table_of name).primary (tree_of name + 1)
 
 abbrev pub key_indexes : List Index
-key_indexes = key_index Custodian ∷ key_index Approval ∷ []
+key_indexes = key_index Custodian ∷ key_index Approval ∷ key_index Request ∷ []
 
 abbrev pub create_text : TableName → List ℕ
 create_text Meta = codes "CREATE TABLE meta (id INTEGER PRIMARY KEY, version INTEGER NOT NULL, latest INTEGER NOT NULL, key_count INTEGER NOT NULL) STRICT"
 create_text Keys = codes "CREATE TABLE keys (number INTEGER PRIMARY KEY, kind INTEGER NOT NULL, owner TEXT NOT NULL, purpose TEXT NOT NULL, state INTEGER NOT NULL, initial INTEGER NOT NULL, activation INTEGER NOT NULL, protect_stop INTEGER NOT NULL, deactivation INTEGER NOT NULL, destroyed INTEGER NOT NULL, compromised INTEGER NOT NULL, occurrence INTEGER NOT NULL) STRICT"
 create_text Custodian = codes "CREATE TABLE custodian (key_no INTEGER NOT NULL REFERENCES keys(number), name TEXT NOT NULL, PRIMARY KEY (key_no, name)) STRICT"
 create_text Approval = codes "CREATE TABLE approval (key_no INTEGER NOT NULL, name TEXT NOT NULL, PRIMARY KEY (key_no, name), FOREIGN KEY (key_no, name) REFERENCES custodian(key_no, name) ON DELETE CASCADE) STRICT"
+create_text Request = codes "CREATE TABLE request (caller TEXT NOT NULL, number INTEGER NOT NULL, command TEXT NOT NULL, key_no INTEGER NOT NULL, state INTEGER NOT NULL, moment INTEGER NOT NULL, PRIMARY KEY (caller, number)) STRICT"
 
 abbrev pub count_text : TableName → List ℕ
 count_text Meta = codes "SELECT count(*) FROM meta"
 count_text Keys = codes "SELECT count(*) FROM keys"
 count_text Custodian = codes "SELECT count(*) FROM custodian"
 count_text Approval = codes "SELECT count(*) FROM approval"
+count_text Request = codes "SELECT count(*) FROM request"
 
 -- ---- cells. A row begins with its rowid; the cell of an INTEGER PRIMARY KEY shows that, and is kept as NULL.
 
@@ -167,10 +186,21 @@ numbered keys = enumerate_from 1 keys
 abbrev pub name_cells : KeyName → Cells
 name_cells at_key = Int (pos at_key.key) ∷ Words at_key.name ∷ []
 
--- Past their rowids the rows are those of the names, in any order. The rowids are whole numbers that rise, as in each
+-- the state in a reply, 0 for none
+abbrev pub state_cell : Option State → ℕ
+state_cell None = 0
+state_cell (Some state) = state_code state
+
+-- what is kept of a request; Advance, which is about no key, has key 0
+abbrev pub request_cells : KeptReply → Cells
+request_cells k =
+    Words k.caller ∷ Int (pos k.number) ∷ Words (command_text k.command)
+    ∷ Int (pos k.reply.key) ∷ Int (pos (state_cell k.reply.state)) ∷ Int (pos k.reply.moment) ∷ []
+
+-- Past their rowids the rows are those of the entries, in any order. The rowids are whole numbers that rise, as in each
 -- table.
-pub record ShowsNames (names : List KeyName) (rows : List Cells) : Type 0 where
-  pub cells : IsPermutation (map (drop 1) rows) (map name_cells names)
+pub record ShowsEntries {A : Type 0} (cells_of : A → Cells) (entries : List A) (rows : List Cells) : Type 0 where
+  pub cells : IsPermutation (map (drop 1) rows) (map cells_of entries)
   pub ordered : IsTable rows
   pub counted : AllByRecursion (λ row. IsTrue (is_int (rowid row))) rows
 
@@ -179,8 +209,9 @@ pub record ShowsNames (names : List KeyName) (rows : List Cells) : Type 0 where
 abbrev pub Shows : (name : TableName) → Content name → List Cells → Type 0
 Shows Meta counts rows = rows ≡ counts_row counts ∷ []
 Shows Keys keys rows = rows ≡ map key_row (numbered keys)
-Shows Custodian names rows = ShowsNames names rows
-Shows Approval names rows = ShowsNames names rows
+Shows Custodian names rows = ShowsEntries name_cells names rows
+Shows Approval names rows = ShowsEntries name_cells names rows
+Shows Request requests rows = ShowsEntries request_cells requests rows
 
 -- ---- ranges
 
@@ -198,11 +229,15 @@ pub record IsKey (k : Key) : Type 0 where
   pub purpose : IsPurpose k.purpose
   pub dates : AreDates k.row.dates
 
+abbrev pub IsNamed : KeyName → Type 0
+IsNamed at_key = IsName at_key.name
+
 abbrev pub AreNames : List KeyName → Type 0
-AreNames names = AllByRecursion (λ at_key. IsName at_key.name) names
+AreNames names = AllByRecursion IsNamed names
 
 abbrev pub IsInRange : (name : TableName) → Content name → Type 0
 IsInRange Meta counts = IsMoment counts.latest
 IsInRange Keys keys = AllByRecursion IsKey keys
 IsInRange Custodian names = AreNames names
 IsInRange Approval names = AreNames names
+IsInRange Request requests = AllByRecursion IsKeptReply requests

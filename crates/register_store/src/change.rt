@@ -2,17 +2,15 @@
 ghost use Rattle.std.specs.Prelude.{◌≡◌, ◌<◌, ◌≤◌, ◌+◌};
 ghost use Rattle.register_core.specs.Verdict.{max_keys};
 ghost use Rattle.sql_steps.specs.Steps.{Steps};
-ghost use Rattle.register_store.specs.Making.{Makes, Always, HasKeys, with_counts};
+ghost use Rattle.register_store.specs.Making.{Makes, Always, HasKeys};
 ghost use Rattle.register_store.specs.Change.{with_custody, with_change};
 
-use crate::cell::MomentCell;
 use crate::custody::RoleChange::{Given, Taken};
 use crate::custody::{Role, change_role, end_approvals};
 use crate::error::StoreError;
 use crate::key_row::{add_key, update_key};
-use moment_core::Moment;
 use register_core::{Change, CustodyChange};
-use sqlite::{Alter, Transaction, params};
+use sqlite::{Alter, Transaction};
 
 /// Writes what becomes of the custody of the key with this number.
 fn write_custody<S: Alter>(
@@ -71,24 +69,4 @@ pub fn write_change<S: Alter>(
         }
         Change::Nothing => Ok(()),
     }
-}
-
-/// Writes what is kept of the request that is accepted: the latest moment and the number of keys after it.
-///
-/// # Errors
-/// [`StoreError::Database`] where the database refused.
-pub fn record_request<S: Alter>(
-    tx: &mut Transaction<'_, S>,
-    latest: Moment,
-    key_count: u32,
-) -> Result<(), StoreError>
-    ensures same_reference { tx.new.conn.ghost_name ≡ tx.old.conn.ghost_name }
-    ensures recorded { Steps S.Store (λ _. Makes Always (with_counts latest key_count))
-        tx.old.conn.now tx.new.conn.now result }
-{
-    tx.execute(
-        "UPDATE meta SET latest = ?1, key_count = ?2 WHERE id = 1",
-        params![MomentCell(latest), key_count],
-    )?;
-    Ok(())
 }

@@ -7,8 +7,8 @@ ghost use Rattle.register_core.specs.declared.key.Key.{Key};
 ghost use Rattle.register_store.specs.Tables.{AreDates, IsKey};
 ghost use Rattle.register_store.specs.Making.{Makes, Always, with_key, with_key_at, held_by};
 ghost use Rattle.register_store.specs.Making.{in_state};
-ghost use Rattle.register_store.specs.Reading.{FindsKey, HasRow, IsNoKey, IsRowOf, Reads};
-ghost use Rattle.register_store.specs.Reading.{ShowsDates, ShowsKey};
+ghost use Rattle.register_store.specs.Reading.{FindsKey, HasRow, IsRowOf, Reads};
+ghost use Rattle.register_store.specs.Reading.{ShowsDates, ShowsKey, ShowsNone};
 
 use crate::cell::{
     DateCell, MomentCell, date_in, kind_in, moment_in, name_in, purpose_in, state_in,
@@ -56,9 +56,10 @@ fn key_in(row: &sqlite::Row) -> Option<Key>
 
 /// The key of the answer to the search for one, `None` where there is no row.
 fn key_of(answer: Result<sqlite::Row, Error>) -> Result<Option<Key>, StoreError>
-    ensures row { IfOk result (IsRowOf answer) }
+    ensures row { IfOk result (IsRowOf ShowsKey answer) }
     ensures failed { IfErr result (λ error. error ≢ StoreError.Memory) }
-    ensures unregistered { IfErr result (λ error. error ≡ StoreError.NoRegister → IsNoKey answer) }
+    ensures unregistered { IfErr result (λ error. error ≡ StoreError.NoRegister
+        → ShowsNone IsKey ShowsKey answer) }
 {
     match answer {
         Ok(row) => match key_in(&row) {

@@ -6,7 +6,7 @@
 //! let mut tx = connection.transaction();
 //! advance_due(&mut tx, keys, latest, now)?;
 //! write_change(&mut tx, keys, &change)?;
-//! record_request(&mut tx, now, keys)?;
+//! record_request(&mut tx, &kept, keys)?;
 //! tx.commit()?;
 //! ```
 #![tactic(auto)]
@@ -19,11 +19,13 @@ mod due;
 mod error;
 mod key_row;
 mod load;
+mod request_row;
 mod table;
 
-pub use change::{record_request, write_change};
+pub use change::write_change;
 pub use creation::create;
 pub use due::advance_due;
 pub use error::{CreateError, StoreError};
 pub use key_row::find_row;
 pub use load::load_key;
+pub use request_row::{find_request, record_request};

@@ -132,7 +132,7 @@ fn a_register_is_made_once(rt: HostRuntime) -> Result<(), Fail> {
 /// For each table of a register: one of its name that is none of ours, its row, what reads that
 /// row, and what counts another table.
 #[rattlefmt::skip]
-const TABLES: [(&str, &str, &str, &str); 4] = [
+const TABLES: [(&str, &str, &str, &str); 5] = [
     (
         "CREATE TABLE meta (note TEXT) STRICT",
         "INSERT INTO meta (note) VALUES ('a')",
@@ -155,6 +155,12 @@ const TABLES: [(&str, &str, &str, &str); 4] = [
         "CREATE TABLE approval (note TEXT) STRICT",
         "INSERT INTO approval (note) VALUES ('a')",
         "SELECT note FROM approval",
+        "SELECT count(*) FROM keys",
+    ),
+    (
+        "CREATE TABLE request (note TEXT) STRICT",
+        "INSERT INTO request (note) VALUES ('a')",
+        "SELECT note FROM request",
         "SELECT count(*) FROM keys",
     ),
 ];

@@ -23,7 +23,7 @@ fn outcome_of(row: &WorkedRow, input: &[u8], output: &[u8]) -> Outcome {
 }
 
 /// The lines of the answers.
-fn lines_of(alloc: Global, answers: &[Result<Reply, Refusal>]) -> Result<Vec<u8>, AllocError> {
+pub fn lines_of(alloc: Global, answers: &[Result<Reply, Refusal>]) -> Result<Vec<u8>, AllocError> {
     let mut lines = Vec::new(alloc);
     for answer in answers {
         lines.extend_from_slice(reply_line(answer).as_bytes())?;
@@ -31,7 +31,13 @@ fn lines_of(alloc: Global, answers: &[Result<Reply, Refusal>]) -> Result<Vec<u8>
     Ok(lines)
 }
 
-/// The requests that were accepted.
+/// Whether one of the requests has the caller and the number of this one.
+fn has_number_of(history: &[Request], request: &Request) -> bool {
+    history.iter().any(|other| other.caller == request.caller && other.number == request.number)
+}
+
+/// The requests that were accepted: of each caller and number the first that was answered with a
+/// reply.
 fn history_of(
     alloc: Global,
     items: &[Option<Request>],
@@ -40,7 +46,9 @@ fn history_of(
     let mut history = Vec::new(alloc);
     for (item, answer) in items.iter().zip(answers) {
         if let (Some(request), Ok(_)) = (item, answer) {
-            history.push(*request)?;
+            if !has_number_of(&history, request) {
+                history.push(*request)?;
+            }
         }
     }
     Ok(history)

@@ -60,7 +60,7 @@ pub const DEFAULTS: WorkedRow = WorkedRow {
 
 /// Each worked row.
 #[rattlefmt::skip]
-pub const WORKED_ROWS: [WorkedRow; 31] = [
+pub const WORKED_ROWS: [WorkedRow; 36] = [
     FIRST_DAY,
     WorkedRow {
         name: "nothing",
@@ -94,6 +94,72 @@ pub const WORKED_ROWS: [WorkedRow; 31] = [
         shown: None,
     },
     DEFAULTS,
+    WorkedRow {
+        name: "repeated with an earlier moment",
+        lines: &[
+            ("100 ann 1 register data-encryption bob 0 - - payroll disks", "ok 1 Active 100"),
+            ("50 ann 1 register data-encryption bob 0 - - payroll disks", "ok 1 Active 100"),
+        ],
+        rest: "",
+        shown: Some(Shown {
+            state: State::Active,
+            dates: [Some(0), Some(63_072_000), Some(157_766_400), None, None, None],
+            custodians: "",
+            approvals: "",
+        }),
+    },
+    WorkedRow {
+        name: "number used again",
+        lines: &[
+            ("100 ann 1 register data-encryption bob 0 - - payroll disks", "ok 1 Active 100"),
+            ("100 ann 1 register data-encryption bob 0 - - other", "refused 2 RequestReused"),
+            ("99 ann 1 advance", "refused 2 RequestReused"),
+            ("100 bob 1 advance", "ok 0 - 100"),
+        ],
+        rest: "",
+        shown: None,
+    },
+    WorkedRow {
+        name: "number of a refused request",
+        lines: &[
+            ("100 ann 1 register data-encryption bob 0 - - payroll disks", "ok 1 Active 100"),
+            ("99 ann 2 advance", "refused 3 MomentBehind latest=100"),
+            ("101 ann 2 assign 1 ann", "refused 5 NotOwner"),
+            ("101 ann 2 advance", "ok 0 - 101"),
+            ("99 ann 2 advance", "ok 0 - 101"),
+        ],
+        rest: "",
+        shown: None,
+    },
+    WorkedRow {
+        name: "to the day of the deactivation",
+        lines: &[
+            ("100 ann 1 register data-encryption bob 0 - - payroll disks", "ok 1 Active 100"),
+            ("157766399 ann 3 advance", "ok 0 - 157766399"),
+        ],
+        rest: "",
+        shown: Some(Shown {
+            state: State::Active,
+            dates: [Some(0), Some(63_072_000), Some(157_766_400), None, None, None],
+            custodians: "",
+            approvals: "",
+        }),
+    },
+    WorkedRow {
+        name: "on the day of the deactivation",
+        lines: &[
+            ("100 ann 1 register data-encryption bob 0 - - payroll disks", "ok 1 Active 100"),
+            ("157766399 ann 3 advance", "ok 0 - 157766399"),
+            ("157766400 ann 4 advance", "ok 0 - 157766400"),
+        ],
+        rest: "",
+        shown: Some(Shown {
+            state: State::Deactivated,
+            dates: [Some(0), Some(63_072_000), Some(157_766_400), None, None, None],
+            custodians: "",
+            approvals: "",
+        }),
+    },
     WorkedRow {
         name: "leap day",
         lines: &[

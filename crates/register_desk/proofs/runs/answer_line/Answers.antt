@@ -1,4 +1,3 @@
-use Rattle.std.proofs.Common.{rules}
 use Rattle.register_desk.proofs.runs.answer_line.Goals as goal
 
 pub returns-in-Ok-write_flushed-clause-bounded : goal.returns-in-Ok-write_flushed-clause-bounded

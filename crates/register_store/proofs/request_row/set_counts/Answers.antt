@@ -2,10 +2,10 @@ use Rattle.sqlite.specs.Held.{state}
 use Rattle.sql_steps.proofs.Stepping.{runs}
 use Rattle.register_store.specs.Making.{Makes, Always, with_counts}
 use Rattle.register_store.proofs.CountsRow.{counts_text, params, records}
-use Rattle.register_store.proofs.change.record_request.Goals as goal
+use Rattle.register_store.proofs.request_row.set_counts.Goals as goal
 
-pub returns-clause-recorded : goal.returns-clause-recorded
-returns-clause-recorded g c =
+pub returns-clause-set : goal.returns-clause-set
+returns-clause-set g c =
     let old = state g.S.Store c.args.tx.now.conn.now in
     let new = state g.S.Store c.execute.new.self.conn.now in
     let latest = c.args.latest in

@@ -1,0 +1,65 @@
+//! What is kept of an accepted request, so that it acts once.
+use crate::answer::Answer;
+use crate::command_format::command_text;
+use crate::name::Name;
+use crate::number::RequestNumber;
+use crate::reply::{Refusal, Reply};
+use crate::request::{Command, Request};
+
+/// What is kept of an accepted request: who made it under which number, its command, and its reply.
+#[derive(Clone, Copy, Debug, PartialEq, Eq)]
+pub struct KeptReply {
+    pub caller: Name,
+    pub number: RequestNumber,
+    pub command: Command,
+    pub reply: Reply,
+}
+
+impl KeptReply {
+    ghost use Rattle.std.specs.Prelude.{◌≡◌};
+    ghost use Rattle.register_core.specs.KeptReply.{is_whole, kept_with};
+    ghost use Rattle.register_core.specs.declared.reply.Reply.{Reply};
+    ghost use Rattle.register_core.specs.Verdict.{answer_by, is_same_command, repeated};
+
+    /// What is kept of the request with this reply.
+    pub fn new(request: &Request, reply: Reply) -> KeptReply
+        ensures { result ≡ kept_with request.now reply }
+    {
+        KeptReply {
+            caller: request.caller,
+            number: request.number,
+            command: request.command,
+            reply,
+        }
+    }
+
+    /// Whether the reply has a key and a state exactly where the command is about a key: only
+    /// `Advance` is about none.
+    pub fn is_whole(&self) -> bool
+        ensures { result ≡ is_whole self.now }
+    {
+        match self.command {
+            Command::Advance => self.reply.key == 0 && self.reply.state.is_none(),
+            _ => self.reply.key > 0 && self.reply.state.is_some(),
+        }
+    }
+
+    /// Whether this is the command of the request: each command has one text.
+    fn has_command(&self, command: &Command) -> bool
+        ensures { result ≡ is_same_command self.now.command command.now }
+    {
+        command_text(&self.command).as_bytes() == command_text(command).as_bytes()
+    }
+
+    /// What a request with this command is answered that has the caller and the number of this one:
+    /// the first reply where the commands are the same, and else [`Refusal::RequestReused`].
+    pub fn answer_again(&self, command: &Command) -> Answer
+        ensures { (new : Reply) → result ≡ answer_by (repeated self.now command.now) new }
+    {
+        if self.has_command(command) {
+            Answer::Repeated(self.reply)
+        } else {
+            Answer::Refused(Refusal::RequestReused)
+        }
+    }
+}

@@ -1,0 +1,96 @@
+-- What the search for one row finds, whatever table it asks.
+use Rattle.std.proofs.Common.{◌≡◌, ◌≢◌, inl, ℕ, List, [], ◌∷◌, map, Option, Some, None, Result, Ok, Err, IfOk, IfErr, refl, sym, ap, subst, ◌∙◌}
+use Rattle.std.proofs.lemmas.List.Sorted.{IsPermutation-sym, IsPermutation-trans}
+use Rattle.std.specs.List.Sorted.{IsPermutation}
+use Rattle.sqlite.specs.declared.error.Error.{Error}
+use Rattle.sqlite.specs.declared.error.Error.TheVariants.{QueryReturnedNoRows}
+use Rattle.sqlite.specs.Effect.{Database}
+use Rattle.sqlite.specs.Order.{Row as Cells}
+use Rattle.sqlite.specs.State.{State, HasCleanDisk, QueriesRow, QueriesRowInside, IsUnchanged, Survives, CommitsShowing}
+use Rattle.sqlite.specs.Term.{Term}
+use Rattle.sqlite_rules.specs.Lists.{Has}
+use Rattle.sql_steps.specs.Steps.{StepsBy}
+use Rattle.sql_steps.proofs.Asking.{asks_row, asks_none, asks_fails}
+use Rattle.sql_steps.proofs.Queries.{gives_one, gives_none, one_only_reads, none_only_reads}
+use Rattle.sql_steps.proofs.SameRows.{map_has}
+use Rattle.sql_steps.proofs.Statements.{picked}
+use Rattle.sql_steps.proofs.Updates.{has_permutation}
+use Rattle.register_store.specs.declared.error.StoreError.{StoreError}
+use Rattle.register_store.specs.declared.error.StoreError.TheVariants.{Memory, NoRegister}
+use Rattle.register_store.specs.Tables.{Tables}
+use Rattle.register_store.specs.Schema.{Holds}
+use Rattle.register_store.specs.Reading.{IsOneOf, IsRowOf, ReadsBy, ShowsNone}
+use Rattle.register_store.proofs.Readings.{IsSearch, fails_refused, reads_by}
+
+-- no element is the image of none
+none_mapped : {A B : Type 0} (f : A → B) (xs : List A) → IsPermutation [] (map f xs) → xs ≡ []
+none_mapped f [] same = refl
+none_mapped f (x ∷ xs) same = absurd (has_permutation (map f (x ∷ xs)) [] (f x) (IsPermutation-sym [] (map f (x ∷ xs)) same) (inl refl))
+
+-- The text picks of the tables the cells of what matches, in any order. Each that matches is in its range, and is the only one that its cells show.
+module _ {X : Type 0} (IsOne : X → Type 0) (ShowsOne : Cells → X → Type 0) (cells : X → Cells) (sql : List ℕ) (tree : ℕ) (passes shown : List Term) (names : List (List ℕ))
+    (search_is : IsSearch sql tree passes shown names) (params : Cells) (matching : Tables → List X)
+    (picks : (t : Tables) (old : State) → Holds t old.now → IsPermutation (picked params tree passes shown (old.now.trees tree)) (map cells (matching t)))
+    (each : (t : Tables) (old : State) → Holds t old.now → (x : X) → Has (matching t) x → IsOne x × ShowsOne (cells x) x)
+    (same : (x y : X) → IsOne x → ShowsOne (cells x) x → ShowsOne (cells x) y → y ≡ x)
+    (Found : Tables → Option X → Type 0) (finds : (t : Tables) (found : Option X) → IsOneOf (matching t) found → Found t found) where
+  module _ (old new : State) (t : Tables) (holds : Holds t old.now) where
+    -- the row that the query gives
+    row_is : (row : Cells) → QueriesRow sql params old new (Ok row) → (x : X) × Has (matching t) x × (row ≡ cells x) × IsUnchanged old new
+    row_is row h =
+        let more = holds.schema.more in
+        let one = gives_one sql params old new _ holds.schema.is tree passes shown names (search_is.is more) (search_is.plain more) (search_is.unlisted more) (search_is.low old.now.trees) row h in
+        let all = IsPermutation-trans _ _ _ (IsPermutation-sym _ _ one.1) (picks t old holds) in
+        let came = map_has cells (matching t) row (has_permutation (row ∷ one.0) (map cells (matching t)) row all (inl refl)) in
+        let unchanged = one_only_reads sql params old new _ holds.schema.is tree passes shown names (search_is.is more) (search_is.plain more) (search_is.unlisted more) (search_is.low old.now.trees) row h in
+        (came.0, came.1, came.2, unchanged)
+
+    -- no row
+    none_is : QueriesRow sql params old new (Err QueryReturnedNoRows) → (matching t ≡ []) × IsUnchanged old new
+    none_is h =
+        let more = holds.schema.more in
+        let none = gives_none sql params old new _ holds.schema.is tree passes shown names (search_is.is more) (search_is.plain more) (search_is.unlisted more) (search_is.low old.now.trees) h in
+        let unchanged = none_only_reads sql params old new _ holds.schema.is tree passes shown names (search_is.is more) (search_is.plain more) (search_is.unlisted more) (search_is.low old.now.trees) h in
+        (none_mapped cells (matching t) (subst (λ rows. IsPermutation rows (map cells (matching t))) none (picks t old holds)), unchanged)
+
+    -- what is read of the answer is found in the tables
+    found_so : (r : Result Cells Error) (q : Result (Option X) StoreError) → IfOk q (IsRowOf ShowsOne r) → QueriesRow sql params old new r → IfOk q (λ found. Found t found × IsUnchanged old new)
+    found_so r (Err e) reads asked = tt
+    found_so (Ok row) (Ok found) reads asked =
+        let got = row_is row asked in
+        let own = each t old holds got.0 got.1 in
+        let its : reads.0 ≡ got.0 = same got.0 reads.0 own.0 own.1 (subst (λ r. ShowsOne r reads.0) got.2 reads.2) in
+        (subst (Found t) (sym (reads.1 ∙ ap Some its)) (finds t (Some got.0) got.1), got.3)
+    found_so (Err e) (Ok found) reads asked =
+        let none = none_is (subst (λ x. QueriesRow sql params old new (Err x)) reads.0 asked) in
+        (subst (Found t) (sym reads.1) (finds t None none.0), none.1)
+
+    -- no row of the tables is taken for one that no register holds
+    registered_so : (r : Result Cells Error) (q : Result (Option X) StoreError) → IfErr q (λ error. error ≡ NoRegister → ShowsNone IsOne ShowsOne r) → QueriesRow sql params old new r → IfErr q (λ error. error ≢ NoRegister)
+    registered_so r (Ok found) none asked = tt
+    registered_so (Ok row) (Err e) none asked =
+        let got = row_is row asked in
+        let own = each t old holds got.0 got.1 in
+        λ is. none is got.0 own.0 (subst (λ r. ShowsOne r got.0) (sym got.2) own.1)
+    registered_so (Err f) (Err e) none asked = none
+
+  -- outside a transaction
+  pub row_read : (old new : State) (r : Result Cells Error) (q : Result (Option X) StoreError) → IfOk q (IsRowOf ShowsOne r) → IfErr q (λ error. error ≢ Memory)
+      → IfErr q (λ error. error ≡ NoRegister → ShowsNone IsOne ShowsOne r) → (HasCleanDisk new → QueriesRow sql params old new r) → Survives old new (CommitsShowing sql params old) → ReadsBy Found old new q
+  row_read old new r q reads failed none asked survives = reads_by sql params search_is.plain old new survives Found q
+      (λ clean t holds. found_so old new t holds r q reads (asked clean)) (λ clean t holds. fails_refused q old new failed (registered_so old new t holds r q none (asked clean)))
+
+  -- what is found inside a transaction, and changes nothing
+  abbrev FindsInside : Option X → Database → Database → Type 0
+  FindsInside found old new = (t : Tables) → Holds t old → (new ≡ old) × Found t found
+
+  -- there it is a step, whatever the database holds
+  pub row_loads : (old new : State) (r : Result Cells Error) (q : Result (Option X) StoreError) → IfOk q (IsRowOf ShowsOne r)
+      → (HasCleanDisk new → QueriesRowInside sql params old new r) → Survives old new (λ _. ⊥) → StepsBy FindsInside old new q
+  row_loads old new r (Err e) reads asked survives = asks_fails old new FindsInside sql params r (Err e) refl asked survives
+  row_loads old new (Ok row) (Ok found) reads asked survives =
+      asks_row old new FindsInside found sql params row
+      (λ it t holds. let so = found_so old new t holds (Ok row) (Ok found) reads it in (so.1.0.now_is, so.0)) asked survives
+  row_loads old new (Err e) (Ok found) reads asked survives =
+      asks_none old new FindsInside found sql params e reads.0
+      (λ it t holds. let so = found_so old new t holds (Err QueryReturnedNoRows) (Ok found) (refl, reads.1) it in (so.1.0.now_is, so.0)) asked survives
