@@ -5,6 +5,7 @@ mod desks;
 mod faults;
 mod fresh_run;
 mod long_lines;
+mod openings;
 mod repeats;
 mod rows;
 mod worked_rows;

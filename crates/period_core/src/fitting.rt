@@ -1,6 +1,6 @@
 //! Which dates fit a type of key, and what a date becomes that is not given, rule by rule.
-ghost use Rattle.std.specs.Prelude.{◌≡◌, ◌||◌, ◌&&◌, is_some, is_none};
-ghost use Rattle.period_core.specs.Fitting.{is_not_after, are_in_order, originator_limit};
+ghost use Rattle.std.specs.Prelude.{◌≡◌, ◌↔◌, ◌||◌, ◌&&◌, is_some, is_none, IsTrue};
+ghost use Rattle.period_core.specs.Fitting.{Fits, is_not_after, are_in_order, originator_limit};
 ghost use Rattle.period_core.specs.Fitting.{recipient_limit, earlier, cut, with_protect_stop};
 ghost use Rattle.period_core.specs.Fitting.{with_deactivation, filled, trimmed};
 
@@ -10,7 +10,7 @@ use lifecycle_core::Dates;
 use moment_core::Moment;
 
 /// Whether the first date is not after the second, where both are set.
-pub(crate) fn is_not_after(first: Option<Moment>, second: Option<Moment>) -> bool
+pub fn is_not_after(first: Option<Moment>, second: Option<Moment>) -> bool
     ensures { result ≡ is_not_after first second }
 {
     match (first, second) {
@@ -46,6 +46,15 @@ pub(crate) fn recipient_limit(kind: KeyType, dates: &Dates) -> Option<Moment>
         Some(protect_stop) => protect_stop.plus_months(period_of(kind).recipient),
         None => None,
     }
+}
+
+/// Whether the dates fit the type: they are in order, and neither usage period is longer than the type's.
+pub fn fits(kind: KeyType, dates: &Dates) -> bool
+    ensures { IsTrue result ↔ Fits kind dates.now }
+{
+    are_in_order(dates)
+        && is_not_after(dates.protect_stop, originator_limit(kind, dates))
+        && is_not_after(dates.deactivation, recipient_limit(kind, dates))
 }
 
 /// The earlier of two dates; one that has no value counts as later than every moment.

@@ -114,7 +114,7 @@ custodians_next h q lawful accepted before k high = elim (which h q k accepted h
       omega (arith, before k other.high, ap length same)
 ]
 
-at_most : (h : List Request) → IsLawful h → (k : ℕ) → IsFew k (all_custodians h)
+pub at_most : (h : List Request) → IsLawful h → (k : ℕ) → IsFew k (all_custodians h)
 at_most h lawful k = elim (cases_lt (count h) k) [
   | inl beyond ↦ omega (arith, ap length (nobody_yet h lawful k beyond).0)
   | inr high ↦ lawful_holds AllFew custodians_next (λ k high. omega arith) h lawful k high

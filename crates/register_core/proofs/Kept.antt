@@ -29,7 +29,7 @@ use Rattle.register_core.specs.KeptReply.{reply, kept_with, kept_of, kept_from, 
 use Rattle.register_core.specs.Laws.{IsAccepted, IsKeptIn, sent_under}
 use Rattle.register_core.specs.Request.{IsRequest, IsKeyNumber, max_key_number, command_text}
 use Rattle.register_core.specs.Subject.{Subject, Makes, Names, NoKey, subject, named, named_by, key_by, count_by}
-use Rattle.register_core.specs.Verdict.{Repeats, Refuses, max_keys, judge, judge_view, verdict, is_accepted, is_same_command, repeated}
+use Rattle.register_core.specs.Verdict.{Accepts, Repeats, Refuses, max_keys, judge, judge_view, verdict, is_accepted, is_same_command, repeated}
 use Rattle.register_core.proofs.CustodyLeads.{not_refused}
 use Rattle.register_core.proofs.Decisions.{unknown_named}
 use Rattle.register_core.proofs.FewLaws.{few_keys}
@@ -138,6 +138,14 @@ none_yet caller number h i q lt is none other =
     ∙ under_grows caller number (take i h) q
     ∙ ap (λ (l : List KeptReply). l ++ kept_under caller number (kept_of (take i h) q ∷ [])) none
     ∙ ap (λ (b : Bool). cond b (kept_of (take i h) q ∷ []) []) (other (take i h))
+
+-- so a request that is accepted behind some repeats its reply behind those with it, and whatever later ones
+pub repeats_behind : (h : List Request) (q : Request) (later : List Request) → verdict h q ≡ Accepts → verdict ((h ++ q ∷ []) ++ later) q ≡ Repeats (reply h q)
+repeats_behind h q later accepted =
+    let own : is_under q.caller q.number (kept_of h q) ≡ true = rw ((bytes_eq-Decides q.caller q.caller).1 refl, (Decides-eqb q.number q.number).1 refl) in
+    let same : is_same_command q.command q.command ≡ true = (bytes_eq-Decides (command_text q.command) (command_text q.command)).1 refl in
+    verdict_again ((h ++ q ∷ []) ++ later) q (kept_of h q) _ (first_at q.caller q.number h q later (is_new h q accepted) own)
+    ∙ ap (λ (b : Bool). cond b (Repeats (reply h q)) (Refuses RequestReused)) same
 
 -- so it is of an accepted request, whatever comes later
 first_under : (h : List Request) (q : Request) → IsAccepted h q → (items : List (Option Request))

@@ -192,7 +192,7 @@ abbrev numbered_keys : List Request → List Registration → List Key
 numbered_keys h made = map (λ (key : ℕ × Registration). key_of h key.0 key.1) (enumerate_from 1 made)
 
 -- key k of a history is held so
-held_there : (h : List Request) (k : ℕ) → 1 ≤ k → k ≤ count h → held h k ≡ Some (standing h k)
+pub held_there : (h : List Request) (k : ℕ) → 1 ≤ k → k ≤ count h → held h k ≡ Some (standing h k)
 held_there h k low high =
     ap (λ (b : Bool). cond (b && nat_le k (count h)) (Some (standing h k)) None) (le-leb 1 k low)
     ∙ ap (λ (b : Bool). cond b (Some (standing h k)) None) (le-leb k (count h) high)
@@ -280,11 +280,11 @@ held_past h k past = ap (λ (b : Bool). cond (nat_le 1 k && b) (Some (standing h
     none false = refl
 
 -- a key of the tables is the one that the history holds, with its purpose
-record IsFound (h : List Request) (k : ℕ) (key : Key) : Type 0 where
-  is_held : held h k ≡ Some (standing h k)
-  is : key ≡ assembled (type h k) (owner h k) (purpose h k) (dates h k) (latest h)
+pub record IsFound (h : List Request) (k : ℕ) (key : Key) : Type 0 where
+  pub is_held : held h k ≡ Some (standing h k)
+  pub is : key ≡ assembled (type h k) (owner h k) (purpose h k) (dates h k) (latest h)
 
-found_key : (h : List Request) (k : ℕ) → ((key : Key) × (key_at (tables h).keys k ≡ Some key) × IsFound h k key) ⊎ ((key_at (tables h).keys k ≡ None) × (held h k ≡ None))
+pub found_key : (h : List Request) (k : ℕ) → ((key : Key) × (key_at (tables h).keys k ≡ Some key) × IsFound h k key) ⊎ ((key_at (tables h).keys k ≡ None) × (held h k ≡ None))
 found_key h zero = inr (refl, refl)
 found_key h (suc i) = elim (place_of (registrations h) i) [
   | inl there ↦

@@ -5,6 +5,8 @@ pub mod Goings
 pub mod Standing
 pub mod Beginnings
 pub mod Keeping
+pub mod Lives
+pub mod Opened
 pub mod Passing
 pub mod Readings
 pub mod ServingLemmas

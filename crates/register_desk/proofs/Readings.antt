@@ -1,7 +1,7 @@
 -- Calls of a desk that only read, and calls that do nothing.
 use Rattle.std.proofs.Common.{◌≡◌, ◌≢◌, List, Result, Ok, Err, inl, inr, refl, sym, subst, ◌∙◌}
 use Rattle.sqlite_trees.specs.declared.store.Store as store
-use Rattle.sqlite.specs.State.{HasCleanDisk, IsUnchanged}
+use Rattle.sqlite.specs.State.{State, HasCleanDisk, IsUnchanged, Survives}
 use Rattle.sqlite.specs.Held.{Held, state}
 use Rattle.register_core.specs.declared.request.Request.{Request}
 use Rattle.register_store.specs.declared.error.StoreError.{StoreError}
@@ -15,6 +15,20 @@ use Rattle.register_desk.specs.declared.end.End.TheVariants as ends
 use Rattle.register_desk.specs.Leaving.{IsWhole, IsBroken, IsClean, EndsBy, ChangesNothing, KeepsCounts}
 use Rattle.register_desk.specs.Loading.{KeepsAll}
 use Rattle.register_desk.specs.Register.{tables, IsOver, StandsFor, Sees, Keeps, Leaves}
+
+-- what kept tables keeps them where nothing was changed
+pub kept_still : (t : Tables) (before after : State) → Keeps t before → IsUnchanged before after → Survives before after (λ _. ⊥) → HasCleanDisk after → Keeps t after
+kept_still t before after kept unchanged survives clean =
+    let shows = unchanged.0 in
+    record {
+      is_open = shows.is_open;
+      holds = subst (Holds t) (sym shows.now_is) kept.holds;
+      committed = shows.committed_is ∙ kept.committed ∙ sym shows.now_is;
+      leaves = λ trees may. elim (survives.crash clean trees may) [
+        | inl left ↦ kept.leaves trees left
+        | inr none ↦ absurd none
+      ];
+    }
 
 module _ {S : Type 0} (g : store.Ghosts S) where
   -- what a desk stands for is a matter of its counts and of the tables that it sees
@@ -80,13 +94,7 @@ module _ {S : Type 0} (g : store.Ghosts S) where
     keeps_still : (t : Tables) → Sees g t old → IsClean g new → IsUnchanged (state g old.connection) (state g after) → Keeps t (state g new.connection)
     keeps_still t sees clean unchanged =
         let kept = kept_before t sees clean in
-        let shows = unchanged.0 in
-        let now : Keeps t (state g after) = record {
-          is_open = shows.is_open;
-          holds = subst (Holds t) (sym shows.now_is) kept.holds;
-          committed = shows.committed_is ∙ kept.committed ∙ sym shows.now_is;
-          leaves = subst (λ c. Leaves t (state g c)) same (leaves_still t sees clean);
-        } in
+        let now = kept_still t (state g old.connection) (state g after) kept unchanged (reads.survives (early clean) t kept.holds) (early clean) in
         subst (λ c. Keeps t (state g c)) (sym same) now
 
     only_read : (IsWhole new → (t : Tables) → Sees g t old → IsClean g new → IsUnchanged (state g old.connection) (state g after)) → ChangesNothing g old new

@@ -7,4 +7,5 @@ pub mod Loading
 pub mod Opening
 pub mod Input
 pub mod Run
+pub mod Lives
 pub mod Serving

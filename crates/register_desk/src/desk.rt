@@ -12,7 +12,7 @@ use register_core::{
     Accept, Answer, Command, Held, KeptReply, Name, Purpose, Refusal, Request, RequestNumber, View,
     decide,
 };
-use register_store::{StoreError, create, find_request, find_row, load_key};
+use register_store::{StoreError, check, create, find_request, find_row, load_key};
 use sqlite::{Alter, Connection};
 use std::alloc::Global;
 
@@ -35,13 +35,14 @@ impl<S: Alter> Desk<S> {
     ghost use Rattle.std.specs.Prelude.{◌≡◌, ◌≢◌, ◌≤◌, ◌⊎◌, ◌+◌, List, [], ◌∷◌, Some, None, Ok, Err};
     ghost use Rattle.std.specs.Prelude.{IfOk, IfErr, OnOk, OnErr};
     ghost use Rattle.sqlite.specs.Held.{state};
+    ghost use Rattle.sqlite.specs.State.{HasCleanDisk, Survives};
     ghost use Rattle.register_core.specs.declared.request.Request.{Request};
     ghost use Rattle.register_core.specs.Request.{IsRequest, has_text};
     ghost use Rattle.register_core.specs.History.{latest, count};
     ghost use Rattle.register_core.specs.KeptReply.{kept_with};
     ghost use Rattle.register_core.specs.Verdict.{answer, named_key};
     ghost use Rattle.register_core.specs.Decision.{IsRightKey};
-    ghost use Rattle.register_core.specs.Fold.{history};
+    ghost use Rattle.register_core.specs.Fold.{IsLawful, history};
     ghost use Rattle.sql_steps.specs.Steps.{Transacts};
     ghost use Rattle.register_store.specs.Change.{made_count};
     ghost use Rattle.register_store.specs.Creation.{Finds};
@@ -52,8 +53,9 @@ impl<S: Alter> Desk<S> {
     ghost use Rattle.register_desk.specs.Leaving.{IsWhole, IsBroken, IsClean, Ends, EndsBy};
     ghost use Rattle.register_desk.specs.Leaving.{ChangesNothing, KeepsCounts, LeavesEither};
     ghost use Rattle.register_desk.specs.Leaving.{LeavesWithRequest, connection_of};
-    ghost use Rattle.register_desk.specs.Opening.{CreatesNothing};
-    ghost use Rattle.register_desk.specs.Register.{IsOver, StandsFor};
+    ghost use Rattle.register_desk.specs.Opening.{CreatesNothing, IsReasonOf, OpensOver};
+    ghost use Rattle.register_desk.specs.Opening.{RefusesNoTable};
+    ghost use Rattle.register_desk.specs.Register.{IsOver, Keeps, StandsFor, tables};
     ghost use Rattle.register_desk.specs.Shown.{shown, usage};
     ghost use Rattle.register_desk.specs.Step.{CanTake, with_request};
     ghost use Rattle.register_desk.specs.Loading.{KeepsAll, IsKeptUnder, IsNew, loaded};
@@ -83,6 +85,51 @@ impl<S: Alter> Desk<S> {
                 connection,
                 latest: Moment::new(0).unwrap(),
                 keys: 0,
+                is_broken: false,
+            }),
+            Err(error) => Err(Unopened {
+                refusal: OpenRefusal::from(error),
+                connection,
+            }),
+        }
+    }
+
+    /// Opens the register that the database has, once its tables have met the tests of opening. It changes nothing.
+    ///
+    /// # Errors
+    /// [`OpenRefusal::NotARegister`] where a test fails, or a query of a table has no meaning in the database;
+    /// [`OpenRefusal::NewerVersion`] where its version is above this program's, and nothing further was looked at;
+    /// [`OpenRefusal::Memory`] where memory gave out in a test; [`OpenRefusal::Store`] where the database refused.
+    pub fn open(alloc: Global, mut connection: Connection<S>) -> Result<Desk<S>, Unopened<S>>
+        requires { connection.in_transaction ≡ false }
+        // Whatever is in the database: what our own queries show of it meets the tests, or has a fault.
+        ensures passed { IfOk result (λ desk. IsClean S.Store desk
+            → OpensOver S.Store (state S.Store connection) desk) }
+        ensures refused { IfErr result (λ unopened. HasCleanDisk (state S.Store unopened.connection)
+            → IsReasonOf (state S.Store connection) (state S.Store unopened.connection)
+            unopened.refusal) }
+        // The register of a history is not refused for its tables, and the desk stands for the history.
+        ensures stands { (h : List Request) → IsLawful h
+            → Keeps (tables h) (state S.Store connection)
+            → IfOk result (λ desk. IsClean S.Store desk → StandsFor S.Store desk h) }
+        ensures blames_none { (h : List Request) → IsLawful h
+            → Keeps (tables h) (state S.Store connection)
+            → IfErr result (λ unopened. HasCleanDisk (state S.Store unopened.connection)
+            → RefusesNoTable unopened.refusal) }
+        ensures whole { IfOk result IsWhole }
+        ensures idle { IfErr result (λ unopened. unopened.connection.in_transaction ≡ false) }
+        // A stop leaves what it left before.
+        ensures stop { IfOk result (λ desk.
+            Survives (state S.Store connection) (state S.Store desk.connection) (λ _. ⊥)) }
+        ensures stop_refused { IfErr result (λ unopened.
+            Survives (state S.Store connection) (state S.Store unopened.connection) (λ _. ⊥)) }
+    {
+        match check(alloc, &mut connection) {
+            Ok(found) => Ok(Desk {
+                alloc,
+                connection,
+                latest: found.latest,
+                keys: found.keys,
                 is_broken: false,
             }),
             Err(error) => Err(Unopened {

@@ -87,10 +87,10 @@ same_date (Some a) (Some b) x y e = ap Some e
 
 -- ---- a cell has one value
 
-same_number : (v : Value) (m n : ℕ) → v ≡ Int (pos m) → v ≡ Int (pos n) → m ≡ n
+pub same_number : (v : Value) (m n : ℕ) → v ≡ Int (pos m) → v ≡ Int (pos n) → m ≡ n
 same_number v m n x y = cc
 
-same_words : (v : Value) (s t : List ℕ) → v ≡ Words s → v ≡ Words t → s ≡ t
+pub same_words : (v : Value) (s t : List ℕ) → v ≡ Words s → v ≡ Words t → s ≡ t
 same_words v s t x y = cc
 
 cell_date : (v : Value) (a b : Option ℕ) → (v ≡ Int (pos (date_cell a))) × IsDate a → v ≡ Int (pos (date_cell b)) → IsDate b → a ≡ b
@@ -122,6 +122,33 @@ module _ (row : Cells) (k : Key) (is : IsKey k) (shows : row ≡ key_cells k) wh
     row = record {
       dates = same_dates key.row.dates h.dates i;
       state = same_state _ _ (same_number _ _ _ h.state (at 3)) i;
+    };
+  }
+
+-- a row shows one key alone
+module _ (row : Cells) where
+  cell_dates : (v : Value) (a b : Option ℕ) → (v ≡ Int (pos (date_cell a))) × IsDate a → (v ≡ Int (pos (date_cell b))) × IsDate b → a ≡ b
+  cell_dates v a b x y = cell_date v a b x y.0 y.1
+
+  one_dates : (d e : Dates) → ShowsDates row d → ShowsDates row e → d ≡ e
+  one_dates d e h k i = record {
+    initial = same_number _ _ _ h.initial k.initial i;
+    activation = cell_dates _ _ _ h.activation k.activation i;
+    protect_stop = cell_dates _ _ _ h.protect_stop k.protect_stop i;
+    deactivation = cell_dates _ _ _ h.deactivation k.deactivation i;
+    destroy = cell_dates _ _ _ h.destroy k.destroy i;
+    compromise = cell_dates _ _ _ h.compromise k.compromise i;
+    compromise_occurrence = cell_dates _ _ _ h.compromise_occurrence k.compromise_occurrence i;
+  }
+
+  pub one_key : (a b : Key) → ShowsKey row a → ShowsKey row b → a ≡ b
+  one_key a b h k i = record {
+    kind = same_kind _ _ (same_number _ _ _ h.kind k.kind) i;
+    owner = same_words _ _ _ h.owner k.owner i;
+    purpose = same_words _ _ _ h.purpose k.purpose i;
+    row = record {
+      dates = one_dates _ _ h.dates k.dates i;
+      state = same_state _ _ (same_number _ _ _ h.state k.state) i;
     };
   }
 

@@ -20,3 +20,16 @@ pub mod NameAdded
 pub mod NameRemoved
 pub mod NamesFound
 pub mod Advancing
+pub mod AllMet
+pub mod Ordered
+pub mod Asked
+pub mod RowsFailed
+pub mod MetaTested
+pub mod KeysTested
+pub mod EachTested
+pub mod EntriesShown
+pub mod RequestsTested
+pub mod NameLists
+pub mod CustodiansTested
+pub mod ApprovalsTested
+pub mod Checked

@@ -7,3 +7,6 @@ pub mod Roles
 pub mod Reading
 pub mod Change
 pub mod Due
+pub mod Tests
+pub mod Checking
+pub mod Taking

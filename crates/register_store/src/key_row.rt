@@ -40,7 +40,7 @@ fn dates_in(row: &sqlite::Row) -> Option<Dates>
 }
 
 /// The key whose cells these are.
-fn key_in(row: &sqlite::Row) -> Option<Key>
+pub(crate) fn key_in(row: &sqlite::Row) -> Option<Key>
     ensures { MatchOption result ((k : Key) → IsKey k → ¬ ShowsKey row.now k) (ShowsKey row.now) }
 {
     Some(Key {

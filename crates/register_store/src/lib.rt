@@ -13,19 +13,27 @@
 
 mod cell;
 mod change;
+mod checking;
 mod creation;
 mod custody;
+mod custody_test;
 mod due;
 mod error;
+mod found;
 mod key_row;
+mod key_test;
 mod load;
+mod meta_test;
 mod request_row;
+mod request_test;
 mod table;
 
 pub use change::write_change;
+pub use checking::check;
 pub use creation::create;
 pub use due::advance_due;
-pub use error::{CreateError, StoreError};
+pub use error::{CheckError, CreateError, StoreError};
+pub use found::Found;
 pub use key_row::find_row;
 pub use load::load_key;
 pub use request_row::{find_request, record_request};

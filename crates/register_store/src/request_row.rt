@@ -18,7 +18,7 @@ use register_core::{KeptReply, Name, Reply, RequestNumber, command_text};
 use sqlite::{Alter, Connection, Error, Row, Transaction, params};
 
 /// What is kept of the caller's request under this number, with its command and its reply in these cells.
-fn request_in(row: &Row, caller: &Name, number: RequestNumber) -> Option<KeptReply>
+pub(crate) fn request_in(row: &Row, caller: &Name, number: RequestNumber) -> Option<KeptReply>
     ensures { MatchOption result
         ((k : KeptReply) → IsKeptReply k → ¬ ShowsRequest caller.now number row.now k)
         (ShowsRequest caller.now number row.now) }

@@ -1,0 +1,156 @@
+-- What the query of a table shows where the database is a register's, and so that no test of its tables fails.
+use Rattle.std.proofs.Common.{◌≡◌, inl, inr, ℕ, List, [], ◌∷◌, ◌++◌, codes, false, Result, Ok, Err, IfOk, IfErr, sym, ap, subst, ◌∙◌, refl}
+use Rattle.std.specs.List.Sorted.{IsPermutation}
+use Rattle.sqlite.specs.Command.TheVariants.{Select}
+use Rattle.sqlite.specs.Effect.{Database}
+use Rattle.sqlite.specs.Listing.{understood, reads_listing}
+use Rattle.sqlite.specs.Order.{Row}
+use Rattle.sqlite.specs.Program.{overlay}
+use Rattle.sqlite.specs.Query.{Query, IsSureAnswer}
+use Rattle.sqlite.specs.State.{State, HasCleanDisk, Begins, Shown, Survives}
+use Rattle.sqlite.specs.Term.{Term, col}
+use Rattle.sqlite.proofs.Callers.{IsPlain, command_of, begins_as, reads_as}
+use Rattle.sqlite_schema.specs.declared.schema.Index.{Index}
+use Rattle.sqlite_tied.specs.Compute.{everything}
+use Rattle.sql_steps.proofs.Statements.{plain_query}
+use Rattle.row_tests.specs.Showing.{HasNoMeaning, ShowsAll, ShowsFirst}
+use Rattle.register_store.specs.declared.error.CheckError.{CheckError}
+use Rattle.register_store.specs.declared.error.CheckError.TheVariants.{NotARegister, NewerVersion, Memory, Database as Refused}
+use Rattle.register_store.specs.declared.table.TableName.{TableName}
+use Rattle.register_store.specs.declared.table.TableName.TheVariants.{Meta, Keys, Custodian, Approval, Request}
+use Rattle.register_store.specs.Checking.{BlamesNone, FailsTest, HasNewer, IsReasonAt, ShowsRows, TestsBy, check_text}
+use Rattle.register_store.specs.Schema.{Holds, schema_with}
+use Rattle.register_store.specs.Tables.{Content, Tables, content, tree_of, with_content}
+use Rattle.register_store.specs.Tests.{MeetsTest, MeetsTests}
+use Rattle.register_store.proofs.Ordered.{ordered_query}
+
+-- ---- what the texts mean
+
+abbrev pub shown_of_table : TableName → List Term
+shown_of_table Meta = col 1 0 ∷ col 1 2 ∷ col 1 3 ∷ col 1 4 ∷ []
+shown_of_table Keys = col 1 2 ∷ col 1 3 ∷ col 1 4 ∷ col 1 5 ∷ col 1 6 ∷ col 1 7 ∷ col 1 8 ∷ col 1 9 ∷ col 1 10 ∷ col 1 11 ∷ col 1 12 ∷ col 1 0 ∷ []
+shown_of_table Custodian = col 1 1 ∷ col 1 2 ∷ []
+shown_of_table Approval = col 1 1 ∷ col 1 2 ∷ []
+shown_of_table Request = col 1 3 ∷ col 1 4 ∷ col 1 5 ∷ col 1 6 ∷ col 1 1 ∷ col 1 2 ∷ []
+
+abbrev pub names_of_table : TableName → List (List ℕ)
+names_of_table Meta = codes "id" ∷ codes "version" ∷ codes "latest" ∷ codes "key_count" ∷ []
+names_of_table Keys = codes "kind" ∷ codes "owner" ∷ codes "purpose" ∷ codes "state" ∷ codes "initial" ∷ codes "activation" ∷ codes "protect_stop" ∷ codes "deactivation" ∷ codes "destroyed" ∷ codes "compromised" ∷ codes "occurrence" ∷ codes "number" ∷ []
+names_of_table Custodian = codes "key_no" ∷ codes "name" ∷ []
+names_of_table Approval = codes "key_no" ∷ codes "name" ∷ []
+names_of_table Request = codes "command" ∷ codes "key_no" ∷ codes "state" ∷ codes "moment" ∷ codes "caller" ∷ codes "number" ∷ []
+
+abbrev pub asked : TableName → Query
+asked Meta = ordered_query (tree_of Meta) (shown_of_table Meta)
+asked Keys = ordered_query (tree_of Keys) (shown_of_table Keys)
+asked Custodian = plain_query (tree_of Custodian) [] (shown_of_table Custodian)
+asked Approval = plain_query (tree_of Approval) [] (shown_of_table Approval)
+asked Request = plain_query (tree_of Request) [] (shown_of_table Request)
+
+pub record IsAsked (name : TableName) (more : List Index) : Type 0 where
+  pub is : command_of (understood (schema_with more) (check_text name)) ≡ Select (record { lets = []; body = asked name }) (names_of_table name)
+  pub plain : IsPlain (understood (schema_with more) (check_text name))
+  pub unlisted : reads_listing (schema_with more) (check_text name) ≡ false
+
+pub asked_is : (name : TableName) (more : List Index) → IsAsked name more
+unfolding understood everything
+asked_is Meta more = record { is = refl; plain = (refl, refl); unlisted = refl }
+asked_is Keys more = record { is = refl; plain = (refl, refl); unlisted = refl }
+asked_is Custodian more = record { is = refl; plain = (refl, refl); unlisted = refl }
+asked_is Approval more = record { is = refl; plain = (refl, refl); unlisted = refl }
+asked_is Request more = record { is = refl; plain = (refl, refl); unlisted = refl }
+
+-- ---- what is shown of a register's table
+
+-- the rows of an answer to the query of a table
+abbrev pub AnswersTo : TableName → Database → List Row → Type 0
+AnswersTo name db rows = IsSureAnswer (asked name) (overlay db.trees []) [] rows
+
+-- a table's content, but for the order of entries
+abbrev pub IsLike : (name : TableName) → Content name → Content name → Type 0
+IsLike Meta c d = c ≡ d
+IsLike Keys c d = c ≡ d
+IsLike Custodian c d = IsPermutation d c
+IsLike Approval c d = IsPermutation d c
+IsLike Request c d = IsPermutation d c
+
+-- the rows of an answer show the table's content, which meets the test where the table does
+pub record ShowsOwn (name : TableName) (t : Tables) (rows : List Row) : Type 0 where
+  pub c : Content name
+  pub shows : ShowsRows name rows c
+  pub like : IsLike name c (content name t)
+  pub meets : MeetsTest name t → MeetsTest name (with_content name c t)
+
+module _ (name : TableName) (t : Tables) where
+  meaning_of : (old new : State) → Holds t old.now → HasNoMeaning (check_text name) old new → ⊥
+  meaning_of old new holds none = absurd (meant (understood (schema_with more) (check_text name)) (asked_is name more).plain (sym (ap (λ s. understood s (check_text name)) holds.schema.is) ∙ none.meaning))
+    where
+      more : List Index
+      more = holds.schema.more
+
+      meant : (r : _) → IsPlain r → ¬ (r ≡ Err none.fault)
+      meant (Ok c) plain e = cc
+      meant (Err f) plain e = plain
+
+  shown_answers : (old new : State) (rows : List Row) → Holds t old.now → Shown (check_text name) [] old new rows → AnswersTo name old.now rows
+  shown_answers old new rows holds shown =
+      let it = asked_is name holds.schema.more in
+      (reads_as (check_text name) [] old new (schema_with holds.schema.more) holds.schema.is _ it.is it.plain it.unlisted rows shown).answer
+
+  begun_answers : (s : State) (rows : List Row) → Holds t s.now → Begins (check_text name) [] s rows → (tail : List Row) × AnswersTo name s.now (rows ++ tail)
+  begun_answers s rows holds begins =
+      let it = asked_is name holds.schema.more in
+      let first = begins_as (check_text name) [] s s (schema_with holds.schema.more) holds.schema.is _ it.is it.plain it.unlisted rows begins in
+      (first.1.0, first.1.1)
+
+  module _ (own : (db : Database) (rows : List Row) → Holds t db → AnswersTo name db rows → ShowsOwn name t rows) where
+    -- all rows that are shown
+    pub shown_own : {P : List Row → Type 0} (old new : State) → Holds t old.now → (all : ShowsAll (check_text name) P old new) → ShowsOwn name t all.rows
+    shown_own old new holds all = own old.now all.rows holds (shown_answers old new all.rows holds all.shown)
+
+    -- the first rows
+    pub begun_own : {P : List Row → Type 0} (old new : State) → Holds t old.now → (some : ShowsFirst (check_text name) P old new) → (tail : List Row) × ShowsOwn name t (some.rows ++ tail)
+    begun_own old new holds some =
+        let here = subst (Holds t) (sym some.same.0.now_is) holds in
+        let begun = begun_answers new some.rows here some.shown in
+        (begun.0, own new.now (some.rows ++ begun.0) here begun.1)
+
+    -- the test of a register's table does not fail
+    pub fails_not : (old new : State) → Holds t old.now → MeetsTest name t → FailsTest name t old new → ⊥
+    fails_not old new holds meets (inl none) = meaning_of old new holds none
+    fails_not old new holds meets (inr (inl some)) =
+        let it = begun_own old new holds some in
+        some.holds it.0 it.1.c it.1.shows (it.1.meets meets)
+    fails_not old new holds meets (inr (inr all)) =
+        let it = shown_own old new holds all in
+        all.holds it.c it.shows (it.meets meets)
+
+    module _ (newer_not : (found : ℕ) (old new : State) → Holds t old.now → HasNewer found old new → ⊥) where
+      pub blames_none : {T : Type 0} (old new : State) (q : Result T CheckError) → Holds t old.now → MeetsTests t → IfErr q (IsReasonAt name t old new) → IfErr q BlamesNone
+      blames_none old new (Ok x) holds meets why = tt
+      blames_none old new (Err NotARegister) holds meets why = fails_not old new holds (meets name) why.0
+      blames_none old new (Err (NewerVersion found)) holds meets why = newer_not found old new holds why
+      blames_none old new (Err Memory) holds meets why = tt
+      blames_none old new (Err (Refused error)) holds meets why = tt
+
+      module _ {T : Type 0} (Says : Content name → T → Type 0) (respects : (c d : Content name) (x : T) → IsLike name c d → Says c x → Says d x)
+          (one : (rows : List Row) (c d : Content name) → ShowsRows name rows c → ShowsRows name rows d → c ≡ d) where
+        abbrev IsPassed : State → State → T → Type 0
+        IsPassed old new found = (c : Content name) × ShowsAll (check_text name) (λ rows. ShowsRows name rows c) old new × MeetsTest name (with_content name c t) × Says c found
+
+        told : (old new : State) (q : Result T CheckError) → Holds t old.now → IfOk q (IsPassed old new) → IfOk q (Says (content name t))
+        told old new (Err e) holds passed = tt
+        told old new (Ok x) holds passed =
+            let it = shown_own old new holds passed.1 in
+            let same = one passed.1.rows passed.0 it.c passed.1.holds it.shows in
+            respects it.c (content name t) x it.like (subst (λ c. Says c x) same passed.3)
+
+        pub tests_by : (old new : State) (q : Result T CheckError) → (HasCleanDisk new → IfOk q (IsPassed old new)) → (HasCleanDisk new → IfErr q (IsReasonAt name t old new)) → Survives old new (λ _. ⊥)
+            → TestsBy name t Says old new q
+        tests_by old new q passed refused survives = record {
+          passed = passed;
+          refused = refused;
+          told = λ clean holds meets. told old new q holds (passed clean);
+          blames_none = λ clean holds meets. blames_none old new q holds meets (refused clean);
+          survives = survives;
+        }

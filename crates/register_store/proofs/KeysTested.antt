@@ -1,0 +1,228 @@
+-- The test of the table of keys.
+use Rattle.std.proofs.Common.{◌≡◌, ◌≢◌, ◌==◌, ◌≤◌, ◌<◌, ◌+◌, Bool, true, false, inr, ℕ, suc, Result, Ok, Err, List, [], ◌∷◌, ◌++◌, length, length-append, map, sym, ap, subst, ◌∙◌, refl, arith}
+use Rattle.std.proofs.lemmas.Bool.{eq-eqb, eqb-true}
+use Rattle.std.proofs.lemmas.List.{map-append}
+use Rattle.std.specs.List.{AllByRecursion, enumerate_from}
+use Rattle.std.specs.Global.{Vec}
+use Rattle.sqlite.specs.Effect.{Database as Db}
+use Rattle.sqlite.specs.Order.{Row}
+use Rattle.sqlite.specs.Program.{overlay}
+use Rattle.sqlite.specs.State.{State, HasCleanDisk, IsUnchanged, Survives}
+use Rattle.sqlite.specs.Tree.{IsTable}
+use Rattle.sqlite_resolve.specs.Compile.{first}
+use Rattle.sqlite_tied.specs.Compute.{everything}
+use Rattle.row_tests.specs.declared.error.RowsError.{RowsError}
+use Rattle.row_tests.specs.declared.error.RowsError.TheVariants.{NoMeaning, Refused, Memory}
+use Rattle.row_tests.specs.Each.{ShowEach}
+use Rattle.row_tests.specs.Showing.{HasNoMeaning, IsQuery, ShowsAll, ShowsFirst}
+use Rattle.row_tests.proofs.Each.{all_front, all_last, all_more, show_front, show_length, show_more, show_same, show_split}
+use Rattle.row_tests.proofs.Selects.{IsSelect, select_plain}
+use Rattle.register_core.specs.declared.key.Key.{Key}
+use Rattle.register_store.specs.declared.found.Found.{Found}
+use Rattle.register_store.specs.declared.error.CheckError.{CheckError}
+use Rattle.register_store.specs.declared.error.CheckError.TheVariants.{NotARegister}
+use Rattle.register_store.specs.declared.table.TableName.TheVariants.{Keys}
+use Rattle.register_store.specs.Checking.{IsOdd, IsReasonAt, ShowsNumbered, ShowsRows, TestsBy, check_error, check_text, counts_of}
+use Rattle.register_store.specs.Schema.{Holds, rows_of}
+use Rattle.register_store.specs.Tables.{Counts, IsKey, Tables, key_row, numbered, tree_of}
+use Rattle.register_store.specs.Taking.{AreCounted, AreOwners, HasKeys, RefusesKeys, owners_where}
+use Rattle.register_store.specs.Tests.{IsSoundAt, owners_of}
+use Rattle.register_store.proofs.Asked.{AnswersTo, ShowsOwn, shown_of_table, tests_by}
+use Rattle.register_store.proofs.Decoding.{one_key, same_number}
+use Rattle.register_store.proofs.MetaTested.{newer_not}
+use Rattle.register_store.proofs.Numbers.{enumerate_append, is_table}
+use Rattle.register_store.proofs.Ordered.{in_order, shown_of}
+use Rattle.register_store.proofs.RowsFailed.{reason_of}
+
+keys_select : IsSelect (check_text Keys)
+unfolding everything first
+keys_select = (_, _, refl, refl, refl)
+
+pub keys_query : IsQuery (check_text Keys)
+keys_query = select_plain (check_text Keys) keys_select
+
+-- ---- numbered keys
+
+length_numbered : (n : ℕ) (keys : List Key) → length (enumerate_from n keys) ≡ length keys
+length_numbered n [] = refl
+length_numbered n (k ∷ keys) = ap suc (length_numbered (n + 1) keys)
+
+keys_back : (n : ℕ) (keys : List Key) → map (λ (x : ℕ × Key). x.1) (enumerate_from n keys) ≡ keys
+keys_back n [] = refl
+keys_back n (k ∷ keys) = ap (λ l. k ∷ l) (keys_back (n + 1) keys)
+
+-- the first of the numbered keys are the first keys, numbered
+numbered_front : (n : ℕ) (keys : List Key) (front back : List (ℕ × Key)) → enumerate_from n keys ≡ front ++ back → (these : List Key) × (others : List Key) × (keys ≡ these ++ others) × (front ≡ enumerate_from n these)
+numbered_front n keys [] back e = ([], keys, refl, refl)
+numbered_front n [] (x ∷ front) back e = absurd (cc)
+numbered_front n (k ∷ keys) (x ∷ front) back e =
+    let it = numbered_front (n + 1) keys front back (cc) in
+    let head : x ≡ (n, k) = cc in
+    (k ∷ it.0, it.1, ap (λ l. k ∷ l) it.2, λ i. head i ∷ it.3 i)
+
+-- a list that is not empty has a last
+ends : (n : ℕ) (keys : List Key) → length keys ≡ suc n → (these : List Key) × (last : Key) × (keys ≡ these ++ last ∷ []) × (length these ≡ n)
+ends n [] e = absurd (omega arith)
+ends n (k ∷ []) e = ([], k, refl, omega arith)
+ends n (k ∷ j ∷ keys) e = let it = ends (length keys) (j ∷ keys) refl in (k ∷ it.0, it.1, ap (λ l. k ∷ l) it.2, omega (arith, it.3))
+
+-- ---- one row after the other
+
+module _ (found : Found) (count : ℕ) (owners : List (List ℕ)) (rows : List Row) (row : Row) (taken : HasKeys found count owners rows) where
+  rows_are : length rows ≡ count
+  rows_are = show_length ShowsNumbered rows (numbered taken.keys) taken.are.shown ∙ length_numbered 1 taken.keys ∙ sym taken.counted
+
+  more_are : (keys : List Key) → AreCounted found (rows ++ row ∷ []) keys → length keys ≡ suc count
+  more_are keys are =
+      let shown = show_length ShowsNumbered (rows ++ row ∷ []) (numbered keys) are.shown in
+      omega (arith, shown, length_numbered 1 keys, length-append rows (row ∷ []), rows_are)
+
+  -- one row more than are counted
+  pub keys_full : found.keys ≤ count → RefusesKeys found (rows ++ row ∷ [])
+  keys_full full keys are = let within = are.within in omega (arith, more_are keys are, within, full)
+
+  -- a row that is not that of the next key
+  pub keys_odd : ((k : Key) → ShowsNumbered row (count + 1, k) → ¬ IsSoundAt found.latest k) → RefusesKeys found (rows ++ row ∷ [])
+  keys_odd odd keys are =
+      let it = ends count keys (more_are keys are) in
+      let all : numbered keys ≡ numbered it.0 ++ (1 + length it.0, it.1) ∷ [] = ap numbered it.2 ∙ enumerate_append 1 it.0 it.1 in
+      let last = (show_split ShowsNumbered rows row (numbered it.0) (1 + length it.0, it.1) (subst (ShowEach ShowsNumbered (rows ++ row ∷ [])) all are.shown)).1 in
+      let next : 1 + length it.0 ≡ count + 1 = omega (arith, it.3) in
+      odd it.1 (subst (λ n. ShowsNumbered row (n, it.1)) next last) (all_last (IsSoundAt found.latest) it.0 it.1 (subst (AllByRecursion (IsSoundAt found.latest)) it.2 are.sound))
+
+  -- the row of the next key
+  pub keys_more : count < found.keys → (k : Key) → ShowsNumbered row (count + 1, k) → IsSoundAt found.latest k → (more : List (List ℕ)) → more ≡ owners ++ k.owner ∷ [] → HasKeys found (count + 1) more (rows ++ row ∷ [])
+  keys_more room k shows sound more is =
+      let counted = taken.counted in
+      let next : count + 1 ≡ 1 + length taken.keys = omega (arith, counted) in
+      let long = length-append taken.keys (k ∷ []) in
+      record {
+        keys = taken.keys ++ k ∷ [];
+        are = record {
+          shown = subst (ShowEach ShowsNumbered (rows ++ row ∷ [])) (sym (enumerate_append 1 taken.keys k))
+              (show_more ShowsNumbered rows (numbered taken.keys) row (1 + length taken.keys, k) taken.are.shown (subst (λ n. ShowsNumbered row (n, k)) next shows));
+          sound = all_more (IsSoundAt found.latest) taken.keys k taken.are.sound sound;
+          within = omega (arith, long, counted, room);
+        };
+        counted = omega (arith, long, counted);
+        owners_are = is ∙ ap (λ l. l ++ k.owner ∷ []) taken.owners_are ∙ sym (map-append (λ (k : Key). k.owner) taken.keys (k ∷ []));
+      }
+
+-- ---- a register's own rows
+
+own_shown : (n : ℕ) (keys : List Key) → AllByRecursion IsKey keys → ShowEach ShowsNumbered (map (shown_of (tree_of Keys) (shown_of_table Keys)) (map key_row (enumerate_from n keys))) (enumerate_from n keys)
+own_shown n [] all = tt
+own_shown n (k ∷ keys) all = (record { cells = own k all.0; number = refl; in_range = all.0 }, own_shown (n + 1) keys all.1)
+  where
+    own : (k : Key) → IsKey k → Rattle.register_store.specs.Reading.ShowsKey (shown_of (tree_of Keys) (shown_of_table Keys) (key_row (n, k))) k
+    own k is = record {
+      kind = refl;
+      owner = refl;
+      purpose = refl;
+      state = refl;
+      dates = record {
+        initial = refl;
+        activation = (refl, is.dates.activation);
+        protect_stop = (refl, is.dates.protect_stop);
+        deactivation = (refl, is.dates.deactivation);
+        destroy = (refl, is.dates.destroy);
+        compromise = (refl, is.dates.compromise);
+        compromise_occurrence = (refl, is.dates.compromise_occurrence);
+      };
+    }
+
+pub own_keys : (t : Tables) (db : Db) (rows : List Row) → Holds t db → AnswersTo Keys db rows → ShowsOwn Keys t rows
+own_keys t db rows holds sure =
+    let table : IsTable (rows_of Keys db) = subst IsTable (sym (holds.shown Keys)) (is_table t.keys) in
+    let is = in_order (tree_of Keys) (shown_of_table Keys) (overlay db.trees []) rows table sure ∙ ap (map (shown_of (tree_of Keys) (shown_of_table Keys))) (holds.shown Keys) in
+    record {
+      c = t.keys;
+      shows = subst (λ rs. ShowEach ShowsNumbered rs (numbered t.keys)) (sym is) (own_shown 1 t.keys (holds.in_range Keys));
+      like = refl;
+      meets = λ meets. meets;
+    }
+
+one_numbered : (row : Row) (a b : ℕ × Key) → ShowsNumbered row a → ShowsNumbered row b → a ≡ b
+one_numbered row a b x y = λ i. (same_number _ _ _ x.number y.number i, one_key row a.1 b.1 x.cells y.cells i)
+
+pub one_keys : (rows : List Row) (c d : List Key) → ShowsRows Keys rows c → ShowsRows Keys rows d → c ≡ d
+one_keys rows c d x y = sym (keys_back 1 c) ∙ ap (map (λ (x : ℕ × Key). x.1)) (show_same ShowsNumbered one_numbered rows (numbered c) (numbered d) x y) ∙ keys_back 1 d
+
+-- ---- what was read
+
+-- no row yet
+pub keys_begin : (found : Found) (owners : List (List ℕ)) → owners ≡ [] → HasKeys found 0 owners []
+keys_begin found owners none = record { keys = []; are = record { shown = tt; sound = tt; within = omega arith }; counted = refl; owners_are = none }
+
+module _ (t : Tables) (found : Found) (counts : counts_of found ≡ t.counts) (old new : State) (survives : Survives old new (λ _. ⊥)) where
+  latest_is : found.latest ≡ t.counts.latest
+  latest_is = ap (λ (c : Counts). c.latest) counts
+
+  key_count_is : found.keys ≡ t.counts.key_count
+  key_count_is = ap (λ (c : Counts). c.key_count) counts
+
+  -- rows that do not pass do not begin rows that do
+  odd_on : (rows : List Row) → RefusesKeys found rows → (tail : List Row) → IsOdd Keys t (rows ++ tail)
+  odd_on rows refuses tail keys shows meets =
+      let front = show_front ShowsNumbered rows tail (numbered keys) shows in
+      let it = numbered_front 1 keys front.0 front.1 front.2 in
+      let counted = meets.counted in
+      refuses it.0 (record {
+        shown = subst (ShowEach ShowsNumbered rows) it.3 front.3;
+        sound = all_front (IsSoundAt found.latest) it.0 it.1 (subst (AllByRecursion (IsSoundAt found.latest)) it.2 (subst (λ l. AllByRecursion (IsSoundAt l) keys) (sym latest_is) meets.sound));
+        within = omega (arith, ap length it.2, length-append it.0 it.1, counted, key_count_is);
+      })
+
+  abbrev Tested : Result (Vec (List ℕ)) CheckError → Type 0
+  Tested q = TestsBy Keys t AreOwners old new q
+
+  -- all of them
+  pub keys_read : (count : ℕ) (owners : Vec (List ℕ)) → (HasCleanDisk new → ShowsAll (check_text Keys) (HasKeys found count owners.items) old new) → (HasCleanDisk new → count ≡ found.keys) → Tested (Ok owners)
+  keys_read count owners all is = tests_by Keys t (own_keys t) (newer_not t) AreOwners (λ c d x like says. says ∙ ap owners_of like) one_keys old new (Ok owners)
+      (λ clean.
+      let it = all clean in
+      let keys = it.holds.keys in
+      let counted = it.holds.counted in (
+        keys,
+        record { rows = it.rows; shown = it.shown; holds = it.holds.are.shown; same = it.same },
+        record { counted = sym counted ∙ is clean ∙ key_count_is; sound = subst (λ l. AllByRecursion (IsSoundAt l) keys) latest_is it.holds.are.sound },
+        it.holds.owners_are,
+      ))
+      (λ clean. tt) survives
+
+  -- fewer than are counted
+  pub keys_fewer : (count : ℕ) (owners : List (List ℕ)) → (HasCleanDisk new → ShowsAll (check_text Keys) (HasKeys found count owners) old new) → (HasCleanDisk new → count ≢ found.keys) → Tested (Err NotARegister)
+  keys_fewer count owners all off = tests_by Keys t (own_keys t) (newer_not t) AreOwners (λ c d x like says. says ∙ ap owners_of like) one_keys old new (Err NotARegister) (λ clean. tt)
+      (λ clean.
+      let it = all clean in (
+        inr (inr (record {
+          rows = it.rows;
+          shown = it.shown;
+          holds = λ keys shows meets. off clean (it.holds.counted ∙ ap length (one_keys it.rows it.holds.keys keys it.holds.are.shown shows) ∙ meets.counted ∙ sym key_count_is);
+          same = it.same;
+        })),
+        it.same,
+      ))
+      survives
+
+  -- an error of the reader
+  pub keys_fail : (error : RowsError) (q : Result (Vec (List ℕ)) CheckError) → Rattle.std.specs.Prelude.IsErrAnd q (λ e. e ≡ check_error error) → (HasCleanDisk new → error ≡ NoMeaning → HasNoMeaning (check_text Keys) old new)
+      → (HasCleanDisk new → error ≡ Refused → ShowsFirst (check_text Keys) (RefusesKeys found) old new) → (HasCleanDisk new → error ≡ Memory → IsUnchanged old new) → Tested q
+  keys_fail error (Ok x) is meaning refused memory = absurd is
+  keys_fail error (Err e) is meaning refused memory = tests_by Keys t (own_keys t) (newer_not t) AreOwners (λ c d x like says. says ∙ ap owners_of like) one_keys old new (Err e) (λ clean. tt)
+      (λ clean. subst (IsReasonAt Keys t old new) (sym is) (reason_of Keys t old new (RefusesKeys found) error (meaning clean) (refused clean) (memory clean) (λ _. odd_on))) survives
+
+  -- what is given of them
+  module _ (seen : Found) (count : ℕ) (owners : Vec (List ℕ)) (all : HasCleanDisk new → ShowsAll (check_text Keys) (λ rows. (seen ≡ found) × HasKeys found count owners.items rows) old new) where
+    taken : HasCleanDisk new → ShowsAll (check_text Keys) (HasKeys found count owners.items) old new
+    taken clean = let it = all clean in record { rows = it.rows; shown = it.shown; holds = it.holds.1; same = it.same }
+
+    seen_is : HasCleanDisk new → seen.keys ≡ found.keys
+    seen_is clean = let it = all clean in ap (λ (f : Found). f.keys) it.holds.0
+
+    given_by : (enough : Bool) → (count == seen.keys) ≡ enough → Tested (owners_where enough owners)
+    given_by true is = keys_read count owners taken (λ clean. eqb-true count seen.keys is ∙ seen_is clean)
+    given_by false is = keys_fewer count owners.items taken (λ clean same. absurd (let e = sym is ∙ eq-eqb count seen.keys (same ∙ sym (seen_is clean)) in cc))
+
+    pub keys_given : (q : Result (Vec (List ℕ)) CheckError) → q ≡ owners_where (count == seen.keys) owners → Tested q
+    keys_given q is = subst Tested (sym is) (given_by (count == seen.keys) refl)

@@ -1,0 +1,3 @@
+pub mod Selects
+pub mod RowByRow
+pub mod Each
