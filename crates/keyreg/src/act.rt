@@ -1,30 +1,59 @@
 //! What the program does, over the streams that it is given.
-ghost use Rattle.std.specs.Prelude.{◌≡◌, ◌<◌, ℕ, List, [], Option, Some, false, IfOk};
+ghost use Rattle.std.specs.Prelude.{◌≡◌, ◌≤◌, ℕ, List, [], Option, Some, false, length, IfOk};
 ghost use Rattle.sqlite.specs.Steps.{over_memory};
 ghost use Rattle.register_core.specs.declared.request.Request.{Request};
 ghost use Rattle.register_desk.specs.Input.{HasItems};
 ghost use Rattle.register_desk.specs.Register.{StandsFor};
 ghost use Rattle.register_desk.specs.End.{exit_status};
-ghost use Rattle.keyreg.specs.Act.{unopened_status, usage_status, Acts};
+ghost use Rattle.keyreg.specs.Act.{unopened_status, status_of, Acts};
 
+use crate::register_file::{Life, create_file, run_file};
+use crate::words::{Task, read_words};
+use clap::error::ErrorKind;
 use register_desk::{Desk, End, Finish, OpenRefusal, Watched, run};
-use sqlite::{Connection, MemStore};
+use sqlite::{Connection, FileStore, MemStore, Wary};
+use sqlite_disk::Disk;
 use std::alloc::Global;
 use std::io::{Read, Write};
 
-/// The exit status where there is any word.
-pub const USAGE: u8 = 1;
+/// The exit status where the words are no command, ask for help, or have a bad value.
+const USAGE: u8 = 1;
 
-/// The exit status where the register cannot be made.
+/// The exit status where the register cannot be made or opened.
 const UNOPENED: u8 = 2;
+
+/// Names a bad value among the words on `faults`, and gives its exit status.
+pub fn report_bad_value(faults: &mut impl Write) -> u8 {
+    // Nobody is left to hear of a fault in reporting one.
+    let _ = writeln!(faults, "keyreg: BadValue");
+    USAGE
+}
+
+/// Writes `clap`'s account of the words to `faults`, and gives its exit status.
+fn report_words(error: &clap::Error, faults: &mut impl Write) -> u8 {
+    if error.kind() == ErrorKind::OutOfMemory {
+        return report_end(End::Memory, faults);
+    }
+    let _ = write!(faults, "{error}");
+    USAGE
+}
 
 /// Names the end on `faults`, and gives its exit status.
 pub fn report_end(end: End, faults: &mut impl Write) -> u8
     ensures { result ≡ exit_status end }
 {
-    // Nobody is left to hear of a fault in reporting one.
     let _ = writeln!(faults, "keyreg: {end}");
     end.exit_status()
+}
+
+/// Names what ended a run on `faults`, if anything did before the end of its input, and gives its exit status.
+fn report_finish(finish: Finish, faults: &mut impl Write) -> u8
+    ensures { result ≡ status_of finish }
+{
+    match finish {
+        Finish::AtEnd { .. } => 0,
+        Finish::Ended(end) => report_end(end, faults),
+    }
 }
 
 /// Names the refusal on `faults`, and gives its exit status.
@@ -49,33 +78,85 @@ pub fn create_in_memory(alloc: Global) -> Result<Desk<MemStore>, OpenRefusal>
     }
 }
 
-/// Runs over the request lines of `reader`, over a new register in memory. Gives the exit status: 0 at the end of the
-/// input, 1 where there is any word, 2 where the register could not be made, 3 after an end of the register and 4 after
-/// a fault of a stream; for 2 to 4 it names the cause on `faults`.
-pub fn act<R: Read, W: Write>(
+/// Runs over the request lines of `reader`, over a new register in memory.
+fn act_in_memory<R: Read, W: Write>(
     alloc: Global,
-    words: usize,
     reader: &mut Watched<R>,
     writer: &mut Watched<W>,
     faults: &mut impl Write,
 ) -> u8
     requires reader { reader.old.failed ≡ false }
     requires writer { writer.old.failed ≡ false }
-    ensures usage { 0 < words → (result ≡ usage_status) × (writer.new ≡ writer.old) }
-    // Where the reader's bytes are known, what is written and the status are those of a run over them.
-    ensures acts { (bytes : List ℕ) (items : List (Option Request)) (rest : List ℕ) → words ≡ 0 →
+    ensures { (bytes : List ℕ) (items : List (Option Request)) (rest : List ℕ) →
         R.remaining reader.old.inner ≡ Some bytes → HasItems bytes items rest →
         Acts items rest result (W.contents writer.old.inner) (W.contents writer.new.inner) }
 {
-    if words > 0 {
-        return USAGE;
+    match create_in_memory(alloc) {
+        Ok(mut desk) => report_finish(run(reader, writer, &mut desk).end, faults),
+        Err(refusal) => report_refusal(refusal, faults),
     }
-    let mut desk = match create_in_memory(alloc) {
-        Ok(desk) => desk,
-        Err(refusal) => return report_refusal(refusal, faults),
-    };
-    match run(reader, writer, &mut desk).end {
-        Finish::AtEnd { .. } => 0,
-        Finish::Ended(end) => report_end(end, faults),
+}
+
+/// Copies the log into the database file. What cannot be copied stays in the log, where the next opening finds it.
+fn copy_log<D: Disk>(mut store: FileStore<D>) -> FileStore<D> {
+    let _ = store.checkpoint();
+    store
+}
+
+/// Makes an empty register in the file.
+fn init(rt: &HostRuntime, file: &str, faults: &mut impl Write) -> u8 {
+    match create_file(rt, file, Wary) {
+        Ok(desk) => {
+            copy_log(desk.into_connection().into_store());
+            0
+        }
+        Err(refusal) => report_refusal(refusal, faults),
+    }
+}
+
+/// Runs over the request lines of `reader`, over the register in the file.
+fn act_in_file<R: Read, W: Write>(
+    rt: &HostRuntime,
+    file: &str,
+    reader: &mut Watched<R>,
+    writer: &mut Watched<W>,
+    faults: &mut impl Write,
+) -> u8
+    requires reader { reader.old.failed ≡ false }
+    requires writer { writer.old.failed ≡ false }
+{
+    match run_file(rt, file, Wary, reader, writer) {
+        Ok(Life { outcome, store }) => {
+            copy_log(store);
+            report_finish(outcome.end, faults)
+        }
+        Err(refusal) => report_refusal(refusal, faults),
+    }
+}
+
+/// Does what the words ask for, of which the first is the program's own name: with no more words, a run over the request
+/// lines of `reader`, over a new register in memory. Gives the exit status: 0 where all went well, 1 where the words are
+/// no command or ask for help, 2 where the register could not be made or opened, 3 after an end of the register or want
+/// of memory for the words, and 4 after a fault of a stream. What it has to say of these it writes to `faults`.
+pub fn act<R: Read, W: Write>(
+    rt: &HostRuntime,
+    words: &[String],
+    reader: &mut Watched<R>,
+    writer: &mut Watched<W>,
+    faults: &mut impl Write,
+) -> u8
+    requires reader { reader.old.failed ≡ false }
+    requires writer { writer.old.failed ≡ false }
+    // With no words but its name, what is written and the status are those of a run from the empty history, where the
+    // reader's bytes are known.
+    ensures acts { (bytes : List ℕ) (items : List (Option Request)) (rest : List ℕ) → length words.now ≤ 1 →
+        R.remaining reader.old.inner ≡ Some bytes → HasItems bytes items rest →
+        Acts items rest result (W.contents writer.old.inner) (W.contents writer.new.inner) }
+{
+    match read_words(rt.alloc(), words) {
+        Ok(Task::RunInMemory) => act_in_memory(rt.alloc(), reader, writer, faults),
+        Ok(Task::Init { file }) => init(rt, file, faults),
+        Ok(Task::Run { file }) => act_in_file(rt, file, reader, writer, faults),
+        Err(error) => report_words(&error, faults),
     }
 }

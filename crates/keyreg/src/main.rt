@@ -1,25 +1,30 @@
 //! The register's program: it reads request lines from standard input and writes their reply lines
-//! to standard output, over a new register in memory.
+//! to standard output, over the register in a file, or over a new one in memory.
 #![tactic(auto)]
 
 mod act;
+mod register_file;
+mod words;
 
-use act::{USAGE, act, report_end};
+use act::{act, report_bad_value, report_end};
 use register_desk::{End, Watched};
 use std::env;
-use std::io::ErrorKind;
+use std::io::{self, ErrorKind};
 use std::process::ExitCode;
 
+fn all_words(rt: &HostRuntime) -> io::Result<Vec<String>> {
+    let words = env::args(rt)?.collect(rt.alloc())?;
+    Ok(words)
+}
+
 fn main(rt: HostRuntime) -> ExitCode {
-    let status = match env::args(&rt) {
-        // The first word is the program's own name.
+    let status = match all_words(&rt) {
         Ok(words) => {
-            let words = words.count().saturating_sub(1);
             let mut reader = Watched::new(rt.stdin());
             let mut writer = Watched::new(rt.stdout());
             act(
-                rt.alloc(),
-                words,
+                &rt,
+                words.as_slice(),
                 &mut reader,
                 &mut writer,
                 &mut rt.stderr(),
@@ -28,8 +33,8 @@ fn main(rt: HostRuntime) -> ExitCode {
         Err(error) if error.kind() == ErrorKind::OutOfMemory => {
             report_end(End::Memory, &mut rt.stderr())
         }
-        // A word that is no text is a word.
-        Err(_) => USAGE,
+        // A word that is no text.
+        Err(_) => report_bad_value(&mut rt.stderr()),
     };
     ExitCode::from(status)
 }

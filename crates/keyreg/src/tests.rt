@@ -3,6 +3,7 @@
 mod acts;
 mod desks;
 mod faults;
+mod files;
 mod fresh_run;
 mod long_lines;
 mod openings;

@@ -7,6 +7,7 @@ pub mod Beginnings
 pub mod Keeping
 pub mod Lives
 pub mod Opened
+pub mod Found
 pub mod Passing
 pub mod Readings
 pub mod ServingLemmas

@@ -1,11 +1,13 @@
 -- The tables of a lawful history meet the tests of opening.
-use Rattle.std.proofs.Common.{◌≡◌, ◌≤◌, ◌⊎◌, inl, inr, ℕ, zero, suc, ◌+◌, Bool, true, false, ◌||◌, cond, List, [], ◌∷◌, ◌++◌, length, map, filter, slice_get, Some, refl, sym, ap, subst, ◌∙◌, arith}
+use Rattle.std.proofs.Common.{IsTrue, ◌≡◌, ◌≤◌, ◌⊎◌, inl, inr, ℕ, zero, suc, ◌+◌, Bool, true, false, ◌||◌, cond, List, [], ◌∷◌, ◌++◌, length, map, filter, slice_get, Some, refl, sym, ap, subst, ◌∙◌, arith}
 use Rattle.std.specs.List.{AllByRecursion, enumerate_from, list_any}
 use Rattle.std.proofs.lemmas.Slice.Eq.{bytes_eq-Decides}
 use Rattle.std.proofs.lemmas.Bool.{cases_lt}
 use Rattle.std.proofs.lemmas.Bool.Decides.{Decides-eqb}
-use Rattle.sqlite.specs.Held.{state}
-use Rattle.sqlite.specs.State.{State, IsUnchanged, Survives}
+use Rattle.sqlite.specs.Effect.{Database}
+use Rattle.sqlite.specs.Held.{Held, state}
+use Rattle.sqlite.specs.State.{State, IsUnchanged}
+use Rattle.sqlite.specs.Tree.{Trees}
 use Rattle.sqlite_trees.specs.declared.store.Store as store
 use Rattle.sqlite_rules.specs.Lists.{Has}
 use Rattle.register_core.specs.declared.key.Key.{Key}
@@ -33,13 +35,14 @@ use Rattle.register_core.proofs.PastLaws.{all_past}
 use Rattle.register_store.specs.Checking.{BlamesNone, IsReason}
 use Rattle.register_store.specs.declared.error.CheckError.{CheckError}
 use Rattle.register_store.specs.declared.error.CheckError.TheVariants as checks
+use Rattle.register_store.specs.Schema.{Holds}
+use Rattle.register_store.specs.Tables.{Tables}
 use Rattle.register_store.specs.Tests.{IsSoundAt, MayBeCustodian, IsCustodian, IsReplyOf, MeetsTests, owner_at, owners_of}
 use Rattle.register_store.proofs.AllMet.{all_met}
 use Rattle.register_desk.specs.declared.desk.Desk.{Desk}
 use Rattle.register_desk.specs.declared.opening.OpenRefusal.{OpenRefusal}
 use Rattle.register_desk.specs.Opening.{IsReasonOf, RefusesNoTable, check_refusal}
-use Rattle.register_desk.specs.Register.{key_of, tables, Keeps, StandsFor}
-use Rattle.register_desk.proofs.Readings.{kept_still}
+use Rattle.register_desk.specs.Register.{key_of, tables, HasCommitted, Keeps, StandsFor}
 use Rattle.register_desk.proofs.Grows.{keys_counted, found_key, held_there}
 
 -- ---- keys
@@ -165,14 +168,30 @@ meet_tests h lawful = all_met (tables h) (record {
 -- ---- a desk that opens
 
 module _ {S : Type 0} (g : store.Ghosts S) where
-  -- what kept the tables keeps them where nothing was changed
-  pub opened_stands : (before : State) (desk : Desk S g) (h : List Request) → IsLawful h → Keeps (tables h) before → IsUnchanged before (state g desk.connection) → Survives before (state g desk.connection) (λ _. ⊥)
+  -- while a store is open, a stop leaves what it committed
+  abbrev pub Settles : Type 0
+  Settles = (s : S) (db : Trees) → IsTrue (g.view s).is_open → g.recovers s db → db ≡ (g.view s).committed
+
+  keeps : Settles → (connection : Held S) (t : Tables) → HasCommitted t (state g connection) → Keeps t (state g connection)
+  keeps settled connection t shown = record {
+    is_open = shown.is_open;
+    holds = shown.holds;
+    committed = shown.committed;
+    leaves = λ trees may. ((state g connection).now, shown.holds, settled connection.store trees shown.is_open may ∙ ap (λ (db : Database). db.trees) shown.committed);
+  }
+
+  -- tables that were committed stand where nothing was changed
+  pub opened_stands : Settles → (before : State) (desk : Desk S g) (h : List Request) → IsLawful h → HasCommitted (tables h) before → IsUnchanged before (state g desk.connection)
       → desk.latest ≡ latest h → desk.keys ≡ count h → StandsFor g desk h
-  opened_stands before desk h lawful keeps same survives latest_is keys_are = record {
+  opened_stands settled before desk h lawful shown same latest_is keys_are = record {
     lawful = lawful;
     latest_is = latest_is;
     keys_are = keys_are;
-    sees = λ whole clean. kept_still (tables h) before (state g desk.connection) keeps same survives clean;
+    sees = λ whole clean. keeps settled desk.connection (tables h) (record {
+      is_open = same.0.is_open;
+      holds = subst (Holds (tables h)) (sym same.0.now_is) shown.holds;
+      committed = same.0.committed_is ∙ shown.committed ∙ sym same.0.now_is;
+    });
   }
 
 -- ---- refusals

@@ -8,4 +8,5 @@ pub mod Opening
 pub mod Input
 pub mod Run
 pub mod Lives
+pub mod Files
 pub mod Serving

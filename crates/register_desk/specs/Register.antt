@@ -49,6 +49,12 @@ abbrev pub LeavesOneOf : List Request → List Request → State → Type 0
 LeavesOneOf h g s = LeavesEitherOf (tables h) (tables g) s
 
 -- the connection is open and sees these tables, which are committed
+pub record HasCommitted (t : Tables) (s : State) : Type 0 where
+  pub is_open : IsTrue s.is_open
+  pub holds : Holds t s.now
+  pub committed : s.committed ≡ s.now
+
+-- and a stop leaves them
 pub record Keeps (t : Tables) (s : State) : Type 0 where
   pub is_open : IsTrue s.is_open
   pub holds : Holds t s.now

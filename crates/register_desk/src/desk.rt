@@ -55,7 +55,7 @@ impl<S: Alter> Desk<S> {
     ghost use Rattle.register_desk.specs.Leaving.{LeavesWithRequest, connection_of};
     ghost use Rattle.register_desk.specs.Opening.{CreatesNothing, IsReasonOf, OpensOver};
     ghost use Rattle.register_desk.specs.Opening.{RefusesNoTable};
-    ghost use Rattle.register_desk.specs.Register.{IsOver, Keeps, StandsFor, tables};
+    ghost use Rattle.register_desk.specs.Register.{IsOver, HasCommitted, StandsFor, tables};
     ghost use Rattle.register_desk.specs.Shown.{shown, usage};
     ghost use Rattle.register_desk.specs.Step.{CanTake, with_request};
     ghost use Rattle.register_desk.specs.Loading.{KeepsAll, IsKeptUnder, IsNew, loaded};
@@ -110,10 +110,10 @@ impl<S: Alter> Desk<S> {
             unopened.refusal) }
         // The register of a history is not refused for its tables, and the desk stands for the history.
         ensures stands { (h : List Request) → IsLawful h
-            → Keeps (tables h) (state S.Store connection)
+            → HasCommitted (tables h) (state S.Store connection)
             → IfOk result (λ desk. IsClean S.Store desk → StandsFor S.Store desk h) }
         ensures blames_none { (h : List Request) → IsLawful h
-            → Keeps (tables h) (state S.Store connection)
+            → HasCommitted (tables h) (state S.Store connection)
             → IfErr result (λ unopened. HasCleanDisk (state S.Store unopened.connection)
             → RefusesNoTable unopened.refusal) }
         ensures whole { IfOk result IsWhole }

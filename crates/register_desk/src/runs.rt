@@ -6,10 +6,10 @@ ghost use Rattle.register_core.specs.declared.line.TheConstants.{MAX_LINE_LENGTH
 ghost use Rattle.register_core.specs.Request.{IsItem, IsRequest};
 ghost use Rattle.streams.specs.Watched.{IsFaulted};
 ghost use Rattle.register_desk.specs.Input.{HasItems};
-ghost use Rattle.register_desk.specs.Leaving.{EndsBy, GoesOn, IsBroken, IsClean};
+ghost use Rattle.register_desk.specs.Leaving.{EndsBy, GoesOn, IsBroken, IsClean, IsWhole};
 ghost use Rattle.register_desk.specs.Register.{StandsFor};
-ghost use Rattle.register_desk.specs.Run.{LeavesDesk, LeavesReader, LeavesWriter, RunsBroken};
-ghost use Rattle.register_desk.specs.Run.{RunsOver, StandsForSome};
+ghost use Rattle.register_desk.specs.Run.{LeavesDesk, LeavesNext, LeavesReader, LeavesWriter};
+ghost use Rattle.register_desk.specs.Run.{RunsBroken, RunsOver, StandsForSome};
 ghost use Rattle.register_desk.specs.Serving.{AnswersItem, IsQuiet, WasClean, ServesItem};
 ghost use Rattle.register_desk.specs.Serving.{StopsItem, LeavesItem, ServesTo, StopsBy};
 
@@ -173,6 +173,11 @@ pub fn run<R: Read, W: Write, S: Alter>(
         R.remaining reader.old.inner ≡ Some bytes → HasItems bytes items rest →
         RunsOver S.Store h items rest result.end result.replies
         (W.contents writer.old.inner) (W.contents writer.new.inner) desk.new }
+    // However it ends, a stop leaves the history of the items that were answered, or of one item more.
+    ensures leaves { (h : List Request) (bytes : List ℕ) (items : List (Option Request)) (rest : List ℕ) →
+        StandsFor S.Store desk.old h → IsWhole desk.old → IsClean S.Store desk.new →
+        R.remaining reader.old.inner ≡ Some bytes → HasItems bytes items rest →
+        LeavesNext S.Store h items result.replies desk.new }
     // Whatever the reader tells of its bytes, the desk stands for the history of some items.
     ensures some { (h : List Request) → StandsFor S.Store desk.old h → IsClean S.Store desk.new →
         StandsForSome S.Store h result.replies result.end desk.new }
@@ -184,6 +189,7 @@ pub fn run<R: Read, W: Write, S: Alter>(
     ensures reader { LeavesReader R.remaining reader.old reader.new result }
     ensures writer { LeavesWriter W.contents writer.old writer.new result }
     ensures desk { LeavesDesk desk.old desk.new result.end }
+    ensures clean { IsClean S.Store desk.new → IsClean S.Store desk.old }
 {
     reader.begin();
     writer.begin();

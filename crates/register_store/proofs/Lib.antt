@@ -33,3 +33,4 @@ pub mod NameLists
 pub mod CustodiansTested
 pub mod ApprovalsTested
 pub mod Checked
+pub mod Reopened

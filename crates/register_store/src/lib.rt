@@ -29,7 +29,7 @@ mod request_test;
 mod table;
 
 pub use change::write_change;
-pub use checking::check;
+pub use checking::{check, version};
 pub use creation::create;
 pub use due::advance_due;
 pub use error::{CheckError, CreateError, StoreError};

@@ -56,7 +56,7 @@ fn keys_are_shown(rt: HostRuntime) -> Result<(), Fail> {
 }
 
 /// Whether the key is that of *defaults*, in what the worked rows do not compare.
-fn is_key_of_defaults(record: &Record) -> bool {
+pub fn is_key_of_defaults(record: &Record) -> bool {
     let (owner, purpose) = (Some(record.owner), Some(record.purpose));
     record.number == 1
         && record.kind == KeyType::DataEncryption

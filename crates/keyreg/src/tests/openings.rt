@@ -7,7 +7,7 @@ use std::alloc::Global;
 use std::test::Fail;
 
 /// Wrong edits of the register of *defaults*: each breaks one of the tests of opening.
-const WRONG_EDITS: [&str; 14] = [
+pub const WRONG_EDITS: [&str; 14] = [
     "UPDATE meta SET key_count = 2",
     "UPDATE meta SET latest = 253402300800",
     "UPDATE meta SET version = 0",
@@ -88,7 +88,7 @@ fn run_over(desk: &mut Desk<MemStore>, lines: &[u8], output: &mut Vec<u8>) -> Ou
 
 /// A hundred lines with which the owner gives the key to itself, and their reply lines; this many
 /// hundreds were before them.
-fn hundred_lines(alloc: Global, before: u8) -> Result<(String, String), Fail> {
+pub fn hundred_lines(alloc: Global, before: u8) -> Result<(String, String), Fail> {
     let mut lines = String::new(alloc);
     let mut replies = String::new(alloc);
     for place in 1..=100u64 {

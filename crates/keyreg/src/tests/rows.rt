@@ -131,17 +131,17 @@ fn is_shown(alloc: Global, row: &WorkedRow, shown: &Shown) -> Result<bool, Fail>
 
 /// What goes wrong with the row, if anything does: a run over it, the program over it, or what is
 /// shown of key 1 behind it.
-fn fault_of(alloc: Global, row: &WorkedRow) -> Result<Option<&'static str>, Fail> {
-    if !is_run(alloc, row)? {
+fn fault_of(rt: &HostRuntime, row: &WorkedRow) -> Result<Option<&'static str>, Fail> {
+    if !is_run(rt.alloc(), row)? {
         return Ok(Some("run"));
     }
-    if !is_served(alloc, row)? {
+    if !is_served(rt, row)? {
         return Ok(Some("status 0"));
     }
     let Some(shown) = &row.shown else {
         return Ok(None);
     };
-    if is_shown(alloc, row, shown)? {
+    if is_shown(rt.alloc(), row, shown)? {
         Ok(None)
     } else {
         Ok(Some("shown"))
@@ -153,7 +153,7 @@ fn fault_of(alloc: Global, row: &WorkedRow) -> Result<Option<&'static str>, Fail
 #[test]
 fn worked_rows(rt: HostRuntime) -> Result<(), Fail> {
     for row in &WORKED_ROWS {
-        assert_eq!(rt; fault_of(rt.alloc(), row)?, None, "{}", row.name);
+        assert_eq!(rt; fault_of(&rt, row)?, None, "{}", row.name);
     }
     Ok(())
 }

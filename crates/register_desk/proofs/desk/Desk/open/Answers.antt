@@ -16,15 +16,15 @@ returns-in-Ok-clause-passed g c clean =
     }
 
 pub returns-in-Ok-clause-stands : goal.returns-in-Ok-clause-stands
-returns-in-Ok-clause-stands g c h lawful keeps clean =
+returns-in-Ok-clause-stands g c h lawful shown clean =
     let before = state g.S.Store c.args.connection in
     let checks = c.in-Ok.ensures.checks in
-    let counts = checks.counted clean (tables h) keeps.holds (meet_tests h lawful) in
-    opened_stands g.S.Store before _ h lawful keeps (checks.passed clean).1.same checks.survives (ap (λ (counts : Counts). counts.latest) counts) (ap (λ (counts : Counts). counts.key_count) counts)
+    let counts = checks.counted clean (tables h) shown.holds (meet_tests h lawful) in
+    opened_stands g.S.Store g.met.S.Store.settled before _ h lawful shown (checks.passed clean).1.same (ap (λ (counts : Counts). counts.latest) counts) (ap (λ (counts : Counts). counts.key_count) counts)
 
 pub returns-in-Err-clause-refused : goal.returns-in-Err-clause-refused
 returns-in-Err-clause-refused g c clean = names_reason _ _ c.in-Err.error _ c.from.ensures (c.in-Err.ensures.checks.refused clean)
 
 pub returns-in-Err-clause-blames_none : goal.returns-in-Err-clause-blames_none
-returns-in-Err-clause-blames_none g c h lawful keeps clean =
-    refuses_no_table c.in-Err.error _ c.from.ensures (c.in-Err.ensures.checks.blames_none clean (tables h) keeps.holds (meet_tests h lawful))
+returns-in-Err-clause-blames_none g c h lawful shown clean =
+    refuses_no_table c.in-Err.error _ c.from.ensures (c.in-Err.ensures.checks.blames_none clean (tables h) shown.holds (meet_tests h lawful))

@@ -1,0 +1,107 @@
+#!/usr/bin/env python3
+"""How long a register takes to open, and its greatest resident memory, beside the bare opening of the same file.
+
+    bench/opening.py [KEYS..]
+
+Each register has so many keys, each with the request that made it, written by SQLite's own library from the formats
+of docs/SPECIFICATION.md. The bare opening is the program below, which is built in a folder for temporary files where it
+is not there yet. Build the register's own program first: ./keyreg </dev/null
+"""
+import os
+import sqlite3
+import subprocess
+import sys
+import tempfile
+import time
+
+HERE = os.path.dirname(os.path.abspath(__file__))
+sys.path.insert(0, os.path.join(HERE, "..", "checks"))
+from registers import PROGRAM, TABLES, UNSET, expect  # noqa: E402
+
+BUILT = os.path.join(tempfile.gettempdir(), "keyreg_bench")
+BARE = os.path.join(BUILT, "crates", "bare_open", "out", "bare_open")
+BARE_SOURCE = """\
+//! Opens a database file as the kit's `sqlite` does, and nothing more: what an opening of the same
+//! file by `keyreg` is measured against.
+#![tactic(auto)]
+
+use sqlite::{Connection, Wary};
+use std::env;
+use std::process::ExitCode;
+
+fn main(rt: HostRuntime) -> ExitCode {
+    let Ok(mut words) = env::args(&rt) else {
+        return ExitCode::from(1);
+    };
+    let (Some(_), Some(file)) = (words.next(), words.next()) else {
+        return ExitCode::from(1);
+    };
+    match Connection::open_from(&rt, file.as_str(), false, Wary) {
+        Ok(_) => ExitCode::from(0),
+        Err(_) => ExitCode::from(2),
+    }
+}
+"""
+
+# A master key's usage period is twelve months, of both parties.
+YEAR = 365 * 86400
+
+
+def build_bare():
+    crate = os.path.join(BUILT, "crates", "bare_open")
+    os.makedirs(os.path.join(crate, "src"), exist_ok=True)
+    with open(os.path.join(BUILT, "crates.txt"), "w", encoding="utf-8") as file:
+        file.write("bare_open: sqlite\n")
+    with open(os.path.join(crate, "src", "main.rt"), "w", encoding="utf-8") as file:
+        file.write(BARE_SOURCE)
+    subprocess.run(["rt", "run"], cwd=crate, stdin=subprocess.DEVNULL, capture_output=True, check=False)
+    expect(os.path.exists(BARE), "bare_open was not built")
+
+
+def write(file, keys):
+    connection = sqlite3.connect(file)
+    connection.executescript("PRAGMA synchronous = OFF; PRAGMA journal_mode = OFF;" + TABLES)
+    connection.execute("INSERT INTO meta VALUES (1, 1, 100, ?)", (keys,))
+    connection.executemany(
+        "INSERT INTO keys VALUES (?, 7, 'office', ?, 2, 100, 0, ?, ?, ?, ?, ?)",
+        ((k, f"backup volume {k}", YEAR, YEAR, UNSET, UNSET, UNSET) for k in range(1, keys + 1)),
+    )
+    connection.executemany(
+        "INSERT INTO request VALUES ('ann', ?, ?, ?, 2, 100)",
+        ((k, f"register master office 0 - - backup volume {k}", k) for k in range(1, keys + 1)),
+    )
+    connection.commit()
+    connection.close()
+
+
+def measured(words, wanted):
+    """Wall and processor seconds, and the greatest resident memory in MB, of a program on no input."""
+    begun = time.monotonic()
+    child = os.fork()
+    if child == 0:
+        os.dup2(os.open(os.devnull, os.O_RDONLY), 0)
+        os.execv(words[0], words)
+    _, status, used = os.wait4(child, 0)
+    wall = time.monotonic() - begun
+    expect(os.waitstatus_to_exitcode(status) == wanted, f"{words}: status {status}")
+    return wall, used.ru_utime + used.ru_stime, used.ru_maxrss / 1024
+
+
+def main():
+    if not os.path.exists(BARE):
+        build_bare()
+    sizes = [int(word) for word in sys.argv[1:]] or [1_000, 100_000, 1_000_000]
+    print("| keys | file, MB | bare: wall s | processor s | MB | keyreg: wall s | processor s | MB | ratio of processor |")
+    print("|---|---|---|---|---|---|---|---|---|")
+    for keys in sizes:
+        with tempfile.TemporaryDirectory() as folder:
+            file = os.path.join(folder, "office.keyreg")
+            write(file, keys)
+            size = os.path.getsize(file) / 1e6
+            bare = measured([BARE, file], 0)
+            ours = measured([PROGRAM, "run", "--file", file], 0)
+            cells = [f"{keys}", f"{size:.1f}", *(f"{x:.2f}" for x in (*bare, *ours)), f"{ours[1] / bare[1]:.2f}"]
+            print("| " + " | ".join(cells) + " |", flush=True)
+
+
+main()

@@ -1,0 +1,80 @@
+"""What the checks over files share: the program (the one that KEYREG names, if set), runs of it, and the tables of
+docs/SPECIFICATION.md."""
+import os
+import subprocess
+import sys
+
+PROGRAM = os.environ.get("KEYREG") or os.path.join(os.path.dirname(os.path.abspath(__file__)), "..", "crates", "keyreg", "out", "keyreg")
+
+# A date that is not set.
+UNSET = 253402300800
+
+TABLES = """
+CREATE TABLE meta (id INTEGER PRIMARY KEY, version INTEGER NOT NULL, latest INTEGER NOT NULL,
+    key_count INTEGER NOT NULL) STRICT;
+CREATE TABLE keys (number INTEGER PRIMARY KEY, kind INTEGER NOT NULL, owner TEXT NOT NULL, purpose TEXT NOT NULL,
+    state INTEGER NOT NULL, initial INTEGER NOT NULL, activation INTEGER NOT NULL, protect_stop INTEGER NOT NULL,
+    deactivation INTEGER NOT NULL, destroyed INTEGER NOT NULL, compromised INTEGER NOT NULL,
+    occurrence INTEGER NOT NULL) STRICT;
+CREATE TABLE custodian (key_no INTEGER NOT NULL REFERENCES keys(number), name TEXT NOT NULL,
+    PRIMARY KEY (key_no, name)) STRICT;
+CREATE TABLE approval (key_no INTEGER NOT NULL, name TEXT NOT NULL, PRIMARY KEY (key_no, name),
+    FOREIGN KEY (key_no, name) REFERENCES custodian(key_no, name) ON DELETE CASCADE) STRICT;
+CREATE TABLE request (caller TEXT NOT NULL, number INTEGER NOT NULL, command TEXT NOT NULL,
+    key_no INTEGER NOT NULL, state INTEGER NOT NULL, moment INTEGER NOT NULL,
+    PRIMARY KEY (caller, number)) STRICT;
+"""
+
+# The worked row "approved anew by one who was removed": each line with its reply.
+APPROVED_ANEW = [
+    ("100 ann 1 register master bob - - - spare", "ok 1 Pre-Active 100"),
+    ("101 bob 1 add-custodian 1 cat", "ok 1 Pre-Active 101"),
+    ("102 bob 2 add-custodian 1 dan", "ok 1 Pre-Active 102"),
+    ("103 cat 1 approve 1", "ok 1 Pre-Active 103"),
+    ("104 dan 1 approve 1", "ok 1 Pre-Active 104"),
+    ("105 bob 3 remove-custodian 1 dan", "ok 1 Pre-Active 105"),
+    ("106 bob 4 destroy 1", "refused 18 ApprovalsMissing have=1 need=2"),
+    ("106 bob 4 add-custodian 1 dan", "ok 1 Pre-Active 106"),
+    ("107 dan 2 approve 1", "ok 1 Pre-Active 107"),
+    ("108 bob 5 destroy 1", "ok 1 Destroyed 108"),
+    ("109 zed 1 revoke 1 2 -", "ok 1 Destroyed-Compromised 109"),
+]
+
+# Its rows, by the formats: type 7 is master, state 1 Pre-Active, 5 Destroyed, 6 Destroyed-Compromised; a compromise
+# without an occurrence gets the Initial Date.
+APPROVED_ANEW_ROWS = {
+    "meta": [(1, 1, 109, 1)],
+    "keys": [(1, 7, "bob", "spare", 6, 100, UNSET, UNSET, UNSET, 108, 109, 100)],
+    "custodian": [(1, "cat"), (1, "dan")],
+    "approval": [(1, "cat"), (1, "dan")],
+    "request": [
+        ("ann", 1, "register master bob - - - spare", 1, 1, 100),
+        ("bob", 1, "add-custodian 1 cat", 1, 1, 101),
+        ("bob", 2, "add-custodian 1 dan", 1, 1, 102),
+        ("bob", 3, "remove-custodian 1 dan", 1, 1, 105),
+        ("bob", 4, "add-custodian 1 dan", 1, 1, 106),
+        ("bob", 5, "destroy 1", 1, 5, 108),
+        ("cat", 1, "approve 1", 1, 1, 103),
+        ("dan", 1, "approve 1", 1, 1, 104),
+        ("dan", 2, "approve 1", 1, 1, 107),
+        ("zed", 1, "revoke 1 2 -", 1, 6, 109),
+    ],
+}
+
+
+def expect(holds, told):
+    if not holds:
+        sys.exit(f"FAILED: {told}")
+
+
+def keyreg(words, lines=()):
+    """Runs the program over the lines, and gives what it writes, line by line, where it ends with status 0."""
+    given = "".join(line + "\n" for line in lines)
+    done = subprocess.run([PROGRAM, *words], input=given, capture_output=True, text=True, check=False)
+    expect(done.returncode == 0, f"{words}: status {done.returncode}, {done.stderr.strip()}")
+    return done.stdout.splitlines()
+
+
+def all_rows(connection):
+    """The rows of each table, in order."""
+    return {name: sorted(connection.execute(f"SELECT * FROM {name}")) for name in APPROVED_ANEW_ROWS}

@@ -1,0 +1,21 @@
+-- A life of a register in files: it is opened, runs over an input, and may be stopped.
+use Rattle.std.specs.Prelude.{◌+◌, ℕ, List, Option, take}
+use Rattle.sqlite_disk.specs.declared.Disk.{Ghosts}
+use Rattle.sqlite_store.specs.declared.store.FileStore.{FileStore}
+use Rattle.sqlite_store.specs.FileStore.{state}
+use Rattle.sqlite.specs.Files.{over_files}
+use Rattle.sqlite.specs.Recovery.{Image}
+use Rattle.register_core.specs.declared.request.Request.{Request}
+use Rattle.register_core.specs.Fold.{history}
+use Rattle.register_desk.specs.declared.desk.Desk.{Desk}
+use Rattle.register_desk.specs.declared.runs.Outcome.{Outcome}
+use Rattle.register_desk.specs.Files.{HoldsOneOf}
+use Rattle.register_desk.specs.Run.{RunsOver}
+
+-- A run over these items from the history h wrote what it has to, and whatever a stop leaves in the files holds the
+-- register of the history of the items that were answered, or of one item more.
+pub record LivesOver {D : Type 0} {g : Ghosts D} (h : List Request) (items : List (Option Request)) (rest : List ℕ) (outcome : Outcome) (old new : Option (List ℕ)) (store : FileStore D g) : Type 0 where
+  pub desk : Desk (FileStore D g) over_files
+  pub over : RunsOver over_files h items rest outcome.end outcome.replies old new desk
+  pub leaves : (left : Image) → (state store).may_leave left
+      → HoldsOneOf (history h (take outcome.replies items)) (history h (take (outcome.replies + 1) items)) left
