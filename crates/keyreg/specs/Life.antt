@@ -12,10 +12,13 @@ use Rattle.register_desk.specs.declared.runs.Outcome.{Outcome}
 use Rattle.register_desk.specs.Files.{HoldsOneOf}
 use Rattle.register_desk.specs.Run.{RunsOver}
 
+-- whatever a stop leaves in the files holds the register of one of these histories
+abbrev pub LeavesInFiles : {D : Type 0} {g : Ghosts D} → List Request → List Request → FileStore D g → Type 0
+LeavesInFiles h other store = (left : Image) → (state store).may_leave left → HoldsOneOf h other left
+
 -- A run over these items from the history h wrote what it has to, and whatever a stop leaves in the files holds the
 -- register of the history of the items that were answered, or of one item more.
 pub record LivesOver {D : Type 0} {g : Ghosts D} (h : List Request) (items : List (Option Request)) (rest : List ℕ) (outcome : Outcome) (old new : Option (List ℕ)) (store : FileStore D g) : Type 0 where
   pub desk : Desk (FileStore D g) over_files
   pub over : RunsOver over_files h items rest outcome.end outcome.replies old new desk
-  pub leaves : (left : Image) → (state store).may_leave left
-      → HoldsOneOf (history h (take outcome.replies items)) (history h (take (outcome.replies + 1) items)) left
+  pub leaves : LeavesInFiles (history h (take outcome.replies items)) (history h (take (outcome.replies + 1) items)) store

@@ -7,7 +7,7 @@ ghost use Rattle.register_desk.specs.Register.{StandsFor};
 ghost use Rattle.register_desk.specs.End.{exit_status};
 ghost use Rattle.keyreg.specs.Act.{unopened_status, status_of, Acts};
 
-use crate::register_file::{Life, create_file, run_file};
+use crate::register_file::{Life, init_file, run_file};
 use crate::words::{Task, read_words};
 use clap::error::ErrorKind;
 use register_desk::{Desk, End, Finish, OpenRefusal, Watched, run};
@@ -105,9 +105,9 @@ fn copy_log<D: Disk>(mut store: FileStore<D>) -> FileStore<D> {
 
 /// Makes an empty register in the file.
 fn init(rt: &HostRuntime, file: &str, faults: &mut impl Write) -> u8 {
-    match create_file(rt, file, Wary) {
-        Ok(desk) => {
-            copy_log(desk.into_connection().into_store());
+    match init_file(rt, file, Wary) {
+        Ok(store) => {
+            copy_log(store);
             0
         }
         Err(refusal) => report_refusal(refusal, faults),

@@ -1,5 +1,5 @@
 //! The register in a file: the database file, and its log beside it.
-ghost use Rattle.std.specs.Prelude.{◌≡◌, ℕ, List, Option, Some, false, IfOk, IfErr};
+ghost use Rattle.std.specs.Prelude.{◌≡◌, ℕ, List, [], Option, Some, false, IfOk, IfErr};
 ghost use Rattle.sqlite.specs.Files.{file_state, over_files};
 ghost use Rattle.sqlite.specs.State.{HasCleanDisk};
 ghost use Rattle.sqlite.specs.WalFiles.{image_at};
@@ -7,12 +7,12 @@ ghost use Rattle.sqlite_store.specs.FileStore.{view};
 ghost use Rattle.sqlite_trees.specs.View.{IsClean as IsCleanStore};
 ghost use Rattle.register_core.specs.declared.request.Request.{Request};
 ghost use Rattle.register_core.specs.Fold.{IsLawful};
-ghost use Rattle.register_desk.specs.Files.{HoldsRegister};
+ghost use Rattle.register_desk.specs.Files.{HoldsRegister, ShowsNothing};
 ghost use Rattle.register_desk.specs.Input.{HasItems};
 ghost use Rattle.register_desk.specs.Leaving.{IsClean, IsWhole};
 ghost use Rattle.register_desk.specs.Opening.{RefusesNoTable};
 ghost use Rattle.register_desk.specs.Register.{HasCommitted, StandsFor, tables};
-ghost use Rattle.keyreg.specs.Life.{LivesOver};
+ghost use Rattle.keyreg.specs.Life.{LeavesInFiles, LivesOver};
 
 use register_desk::{Desk, OpenRefusal, Outcome, Watched, run};
 use sqlite::{Connection, Error, ErrorCode, FileFrom, FileStore, Start};
@@ -37,6 +37,10 @@ fn connect<S: Start>(
     ensures shows { (h : List Request) → HoldsRegister h (image_at S.Start)
         → IfOk result (λ connection. HasCleanDisk (file_state connection)
         → HasCommitted (tables h) (file_state connection)) }
+    // Where the database file has no byte, it shows an empty database.
+    ensures empty { (image_at S.Start).db ≡ []
+        → IfOk result (λ connection. HasCleanDisk (file_state connection)
+        → ShowsNothing (file_state connection)) }
     ensures idle { IfOk result (λ connection. connection.in_transaction ≡ false) }
     ensures blames_none { IfErr result RefusesNoTable }
 {
@@ -47,21 +51,23 @@ fn connect<S: Start>(
     }
 }
 
-/// Makes an empty register in the file, which is made where there is none.
+/// Makes an empty register in the file, which is made where there is none. Gives the files as it left them.
 ///
 /// # Errors
 /// [`OpenRefusal::NotARegister`] where the file has a table of a register; [`OpenRefusal::Store`] where the file cannot
 /// be opened, or the database refused; [`OpenRefusal::Memory`] where memory gave out.
-pub fn create_file<S: Start>(
+pub fn init_file<S: Start>(
     rt: &HostRuntime,
     file: &str,
     start: S,
-) -> Result<Desk<FileStore<FileFrom<S>>>, OpenRefusal>
-    ensures { IfOk result IsWhole }
+) -> Result<FileStore<FileFrom<S>>, OpenRefusal>
+    // Where the file was empty, whatever a stop leaves in the files holds the register of no request.
+    ensures leaves { (image_at S.Start).db ≡ []
+        → IfOk result (λ store. IsCleanStore (view store) → LeavesInFiles [] [] store) }
 {
     let connection = connect(rt, file, start)?;
     match Desk::create(rt.alloc(), connection) {
-        Ok(desk) => Ok(desk),
+        Ok(desk) => Ok(desk.into_connection().into_store()),
         Err(unopened) => Err(unopened.refusal),
     }
 }

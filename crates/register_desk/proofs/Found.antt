@@ -1,5 +1,6 @@
 -- Files that hold a register, as an opening finds them, and as a run leaves them.
-use Rattle.std.proofs.Common.{◌⊎◌, inl, inr, ℕ, ◌+◌, List, Option, IsTrue, refl, sym, ap, subst, ◌∙◌, take}
+use Rattle.std.proofs.Common.{◌≡◌, ◌⊎◌, inl, inr, ℕ, ◌+◌, List, [], ◌∷◌, length, Option, IsTrue, arith, refl, sym, ap, subst, ◌∙◌, take}
+use Rattle.std.specs.List.{AllZip}
 use Rattle.std.proofs.Math.Logic.{∥∥₁_map}
 use Rattle.sqlite_disk.specs.declared.Disk as disk
 use Rattle.sqlite_store.specs.declared.store.FileStore.{FileStore}
@@ -9,18 +10,22 @@ use Rattle.sqlite_trees.specs.declared.store.Store as store
 use Rattle.sqlite.specs.Recovery.{Image}
 use Rattle.sqlite.specs.Tree.{Trees}
 use Rattle.sqlite.specs.Effect.{Database}
-use Rattle.sqlite.specs.Held.{Held, AreDatabases}
+use Rattle.sqlite.specs.Held.{Held, AreDatabases, state}
+use Rattle.sqlite.specs.Schema.{Schema}
+use Rattle.sqlite_catalog.specs.Listing.{Lists, IsTableRow, IsIndexRow, IsViewRow}
+use Rattle.sqlite_trees.specs.Objects.{catalog_tree}
 use Rattle.sqlite.specs.Files.{HoldsDatabase, IsOpened, file_state}
 use Rattle.sqlite.specs.Start.{FindsIn}
 use Rattle.sqlite.proofs.Theorems.{opens_again}
 use Rattle.register_core.specs.declared.request.Request.{Request}
 use Rattle.register_core.specs.Fold.{history}
+use Rattle.register_store.specs.Schema.{no_schema}
 use Rattle.register_store.proofs.Reopened.{holds_again}
 use Rattle.register_desk.specs.declared.desk.Desk.{Desk}
 use Rattle.register_desk.specs.declared.end.End.TheVariants.{Memory, Store, Broken, ReadFault, WriteFault}
 use Rattle.register_desk.specs.declared.runs.Finish.{Finish}
 use Rattle.register_desk.specs.declared.runs.Finish.TheVariants.{AtEnd, Ended}
-use Rattle.register_desk.specs.Files.{HoldsRegister, HoldsOneOf}
+use Rattle.register_desk.specs.Files.{HoldsRegister, HoldsOneOf, ShowsNothing}
 use Rattle.register_desk.specs.Leaving.{IsWhole, IsClean}
 use Rattle.register_desk.specs.Register.{tables, HasCommitted, LeavesOneOf, StandsFor}
 use Rattle.register_desk.specs.Run.{LeavesDesk, LeavesNext, RunsOver}
@@ -39,6 +44,32 @@ finds_register h image c holds opened found =
       committed = sym opened.0.clean;
     }
 
+-- a list of objects that is empty lists the empty schema
+none_of : {X Y : Type 0} (P : X → Y → Type 0) (ys : List Y) → AllZip P [] ys → ys ≡ []
+none_of P [] none = refl
+none_of P (y ∷ ys) some = absurd some
+
+lists_nothing : (schema : Schema) → Lists [] schema → schema ≡ no_schema
+lists_nothing schema lists =
+    let tables = none_of IsTableRow schema.tables lists.listed.tables in
+    let indexes = none_of (IsIndexRow schema.tables) schema.indexes lists.listed.indexes in
+    let views = none_of IsViewRow schema.views lists.listed.views in
+    ap (λ ts. record { tables = ts; indexes = schema.indexes; views = schema.views }) tables
+    ∙ ap (λ is. record { tables = []; indexes = is; views = schema.views }) indexes
+    ∙ ap (λ vs. record { tables = []; indexes = []; views = vs }) views
+
+-- where the database file has no byte, the database is empty
+pub finds_nothing : {D : Type 0} {g : disk.Ghosts D} (image : Image) (c : Held (FileStore D g)) → image.db ≡ [] → IsOpened c → FindsIn image (file_state c)
+    → ShowsNothing (file_state c)
+finds_nothing image c none opened found =
+    let empty : (file_state c).committed.trees catalog_tree ≡ [] = elim found.reads [
+      | inl adopted ↦ absurd (omega (arith, ap length none, adopted.3.found.present))
+      | inr nothing ↦ nothing.1.1
+    ] in
+    let live = opened.1 opened.0.is_open in
+    let now : (file_state c).now.trees catalog_tree ≡ [] = ap (λ (db : Database). db.trees catalog_tree) opened.0.clean ∙ empty in
+    lists_nothing (file_state c).now.schema (subst (λ objects. Lists objects (file_state c).now.schema) now live.0.lists)
+
 -- ---- what a stop leaves in files
 
 pub leaves_in_files : {D : Type 0} {g : disk.Ghosts D} (h other : List Request) (c : Held (FileStore D g)) → LeavesOneOf h other (file_state c)
@@ -54,6 +85,10 @@ leaves_in_files h other c leaves it numbered sound outcomes left may = ∥∥₁
           | inl before ↦ inl record { db = one.0; tables_are = before; found = holds }
           | inr behind ↦ inr record { db = one.0; tables_are = behind; found = holds }
         ]
+
+-- what a desk stands for is what a stop leaves, and nothing else
+pub leaves_alone : {S : Type 0} (g : store.Ghosts S) (h : List Request) (desk : Desk S g) → StandsFor g desk h → IsWhole desk → IsClean g desk → LeavesOneOf h h (state g desk.connection)
+leaves_alone g h desk stands whole clean trees may = let left = (stands.sees whole clean).leaves trees may in (left.0, inl left.1, left.2)
 
 -- ---- what a run leaves
 

@@ -71,6 +71,8 @@ impl<S: Alter> Desk<S> {
         ensures stands { (state S.Store connection).now.schema ≡ no_schema
             → IfOk result (λ desk. StandsFor S.Store desk []) }
         ensures whole { IfOk result IsWhole }
+        ensures clean { IfOk result (λ desk. IsClean S.Store desk
+            → HasCleanDisk (state S.Store connection)) }
         ensures idle { IfErr result (λ unopened. unopened.connection.in_transaction ≡ false) }
         ensures refused { IfErr result (λ unopened. (unopened.refusal ≡ OpenRefusal.Store)
             ⊎ (unopened.refusal ≡ OpenRefusal.NotARegister)) }
