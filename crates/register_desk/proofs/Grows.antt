@@ -4,9 +4,10 @@ use Rattle.std.proofs.lemmas.Bool.{le-leb, lt-leb}
 use Rattle.std.proofs.lemmas.Bool.Decides.{eqb_tells}
 use Rattle.std.proofs.lemmas.List.{map-append, length-map}
 use Rattle.std.proofs.lemmas.List.FromFn.{length-enumerate_from}
-use Rattle.std.specs.List.{enumerate_from}
+use Rattle.std.specs.List.{AllByRecursion, enumerate_from}
 use Rattle.std.specs.Option.{option_map, option_and_then}
 use Rattle.lifecycle_core.specs.declared.dates.Dates.{Dates}
+use Rattle.lifecycle_core.specs.Row.{IsRightAt}
 use Rattle.lifecycle_core.specs.State.{state_at}
 use Rattle.lifecycle_core.specs.Usage.{usage_at}
 use Rattle.period_core.specs.declared.key_type.KeyType.{KeyType}
@@ -35,7 +36,7 @@ use Rattle.register_core.proofs.Histories.{latest_grows, registrations_grow, cou
 use Rattle.register_store.specs.Change.{made_count, with_change}
 use Rattle.register_store.specs.Reading.{loaded as tables_loaded}
 use Rattle.register_store.specs.Tables.{Tables, numbered}
-use Rattle.register_store.specs.Making.{advanced, held_by, key_at, where_number, with_keys_advanced}
+use Rattle.register_store.specs.Making.{AreRightAt, advanced, held_by, key_at, where_number, with_keys_advanced}
 use Rattle.register_desk.specs.Register.{key_of, tables}
 use Rattle.register_desk.specs.Loading.{loaded}
 use Rattle.register_desk.specs.Shown.{purpose, purpose_in, usage}
@@ -78,6 +79,14 @@ unplaced n [] = refl
 unplaced n (y ∷ ys) = ap (λ l. y ∷ l) (unplaced (n + 1) ys)
 
 -- ---- keys
+
+right_from : (h : List Request) (n : ℕ) (made : List Registration) → AllByRecursion (λ (k : Key). IsRightAt k.row (latest h)) (map (λ key. key_of h key.0 key.1) (enumerate_from n made))
+right_from h n [] = tt
+right_from h n (r ∷ made) = (refl, right_from h (n + 1) made)
+
+-- each key is in the state that its dates give
+pub all_right : (h : List Request) → AreRightAt (latest h) (tables h)
+all_right h = right_from h 1 (registrations h)
 
 pub keys_counted : (h : List Request) → length (tables h).keys ≡ count h
 keys_counted h = length-map (enumerate_from 1 (registrations h)) (λ (key : ℕ × Registration). key_of h key.0 key.1) ∙ length-enumerate_from 1 (registrations h)

@@ -1,5 +1,5 @@
 -- Calls of a desk that only read, and calls that do nothing.
-use Rattle.std.proofs.Common.{◌≡◌, ◌≢◌, List, Result, Ok, Err, inl, inr, refl, sym, subst, ◌∙◌}
+use Rattle.std.proofs.Common.{◌≡◌, ℕ, ◌≢◌, List, Result, Ok, Err, inl, inr, refl, sym, subst, ◌∙◌}
 use Rattle.sqlite_trees.specs.declared.store.Store as store
 use Rattle.sqlite.specs.State.{State, HasCleanDisk, IsUnchanged, Survives}
 use Rattle.sqlite.specs.Held.{Held, state}
@@ -14,6 +14,7 @@ use Rattle.register_desk.specs.declared.end.End.{End}
 use Rattle.register_desk.specs.declared.end.End.TheVariants as ends
 use Rattle.register_desk.specs.Leaving.{IsWhole, IsBroken, IsClean, EndsBy, ChangesNothing, KeepsCounts}
 use Rattle.register_desk.specs.Loading.{KeepsAll}
+use Rattle.register_store.specs.Making.{AreRightAt}
 use Rattle.register_desk.specs.Register.{tables, IsOver, StandsFor, Sees, Keeps, Leaves}
 
 -- what kept tables keeps them where nothing was changed
@@ -46,6 +47,7 @@ module _ {S : Type 0} (g : store.Ghosts S) where
     latest_is = nothing.counts.latest ∙ over.latest_is;
     keys_are = nothing.counts.keys ∙ over.keys_are;
     counted = over.counted ∙ sym nothing.counts.keys;
+    right = subst (λ (latest : ℕ). AreRightAt latest t) (sym nothing.counts.latest) over.right;
     sees = nothing.rows t over.sees;
   }
 

@@ -33,11 +33,12 @@ use Rattle.register_store.specs.Change.{made_count}
 use Rattle.register_store.specs.Tables.{Tables}
 use Rattle.register_store.specs.Schema.{Holds}
 use Rattle.register_store.specs.Making as tabled
+use Rattle.register_store.specs.Making.{AreRightAt}
 use Rattle.register_desk.specs.declared.desk.Desk.{Desk}
 use Rattle.register_desk.specs.Leaving.{IsClean, LeavesWithRequest}
 use Rattle.register_desk.specs.Register.{tables, StandsFor, Sees, Leaves, LeavesOneOf}
 use Rattle.register_desk.specs.Step.{CanTake, with_request}
-use Rattle.register_desk.proofs.Grows.{tables_grow, change_counts, keys_counted}
+use Rattle.register_desk.proofs.Grows.{all_right, tables_grow, change_counts, keys_counted}
 
 -- the desk after the key was read: it stands for the history, and what a decision rests on is the history's view
 pub record Viewed {S : Type 0} (g : store.Ghosts S) (desk : Desk S g) (h : List Request) (q : Request) (key : Option Held) : Type 0 where
@@ -80,7 +81,7 @@ module _ {S : Type 0} (g : store.Ghosts S) (old : Desk S g) (h : List Request) (
   after_is = ap (λ (v : Verdict). cond (is_accepted v) grown h) accepted
 
   abbrev Made : Database → Database → Type 0
-  Made = tabled.Makes (CanTake old.keys (kept_with q given)) (with_request old.keys change (kept_with q given))
+  Made = tabled.Makes (CanTake old.keys old.latest (kept_with q given)) (with_request old.keys change (kept_with q given))
 
   is_change : change ≡ change_by (named_key h q.command) q
   is_change = change_is ∙ ap (λ (k : Option Held). change_by k q) key_is
@@ -89,6 +90,7 @@ module _ {S : Type 0} (g : store.Ghosts S) (old : Desk S g) (h : List Request) (
   made_holds : (before after : Database) → Holds (tables h) before → Made before after → Holds (tables grown) after
   made_holds before after holds made =
       let keys : length (tables h).keys ≡ old.keys = keys_counted h ∙ sym stands.keys_are in
+      let right : AreRightAt old.latest (tables h) = subst (λ (t : ℕ). AreRightAt t (tables h)) (sym stands.latest_is) (all_right h) in
       let it : IsAccepted h q = record { lawful = stands.lawful; accepted = accepted } in
       let kept_is : kept_with q given ≡ kept_of h q = ap (kept_with q) given_is in
       let in_range : IsKeptReply (kept_with q given) = subst IsKeptReply (sym kept_is) (kept_here h q it request (lawful_with h q request stands.lawful accepted)).in_range in
@@ -97,7 +99,7 @@ module _ {S : Type 0} (g : store.Ghosts S) (old : Desk S g) (h : List Request) (
       ∙ ap (λ (k : KeptReply). with_request (count h) change k (tables h)) kept_is
       ∙ ap (λ (c : Change). with_request (count h) c (kept_of h q) (tables h)) is_change
       ∙ sym (tables_grow h q it (subst (LeadsTo h q) is_change leads)) in
-      subst (λ (t : Tables). Holds t after) same (made (tables h) holds (keys, in_range))
+      subst (λ (t : Tables). Holds t after) same (made (tables h) holds (record { counted = keys; right = right; in_range = in_range }))
 
   counted_after : made_count change ≡ made_by q.command
   counted_after = ap made_count change_is ∙ change_counts key q
@@ -150,10 +152,10 @@ leaves_before g new t q before = record {
 
 -- whatever tables the desk is over, a stop leaves them or what the change makes of them
 pub leaves_request : {S A E : Type 0} (g : store.Ghosts S) (old new : Desk S g) (t : Tables) (q : Request) (change : Change) (given : Reply) (r : Result A E) → old.is_broken ≡ false → Sees g t old
-    → length t.keys ≡ old.keys → IsKeptReply (kept_with q given) → given.moment ≡ q.moment
-    → TransactsBy (tabled.Makes (CanTake old.keys (kept_with q given)) (with_request old.keys change (kept_with q given))) (state g old.connection) (state g new.connection) r → IsClean g new
+    → length t.keys ≡ old.keys → AreRightAt old.latest t → IsKeptReply (kept_with q given) → given.moment ≡ q.moment
+    → TransactsBy (tabled.Makes (CanTake old.keys old.latest (kept_with q given)) (with_request old.keys change (kept_with q given))) (state g old.connection) (state g new.connection) r → IsClean g new
     → LeavesWithRequest g t q new
-leaves_request g old new t q change given r whole sees counted in_range at written clean = record {
+leaves_request g old new t q change given r whole sees counted right in_range at written clean = record {
   change = change;
   reply = given;
   at = at;
@@ -163,7 +165,7 @@ leaves_request g old new t q change given r whole sees counted in_range at writt
       elim (written.stop.crash clean trees may) [
         | inl before ↦ let it = kept.leaves trees before in (it.0, inl it.1, it.2)
         | inr after ↦
-            let holds = after.1 t kept.holds (counted, in_range) in
+            let holds = after.1 t kept.holds (record { counted = counted; right = right; in_range = in_range }) in
             (after.0, inr (subst (λ (n : ℕ). Holds (with_request n change (kept_with q given) t) after.0) (sym counted) holds), after.2)
       ];
 }

@@ -16,6 +16,7 @@ use Rattle.register_core.specs.Fold.{IsLawful}
 use Rattle.register_core.specs.declared.key.Key.{Key}
 use Rattle.register_store.specs.Tables.{Tables}
 use Rattle.register_store.specs.Schema.{Holds}
+use Rattle.register_store.specs.Making.{AreRightAt}
 use Rattle.register_desk.specs.declared.desk.Desk.{Desk}
 
 -- what is kept of key k, which this registration made: its state is the one that its dates give at the latest moment
@@ -65,11 +66,13 @@ pub record Keeps (t : Tables) (s : State) : Type 0 where
 abbrev pub Sees : {S : Type 0} → (g : Ghosts S) → Tables → Desk S g → Type 0
 Sees g t desk = desk.is_broken ≡ false → HasCleanDisk (state g desk.connection) → Keeps t (state g desk.connection)
 
--- the desk sees these tables, whatever history they are of if any, and knows what they count
+-- the desk sees these tables, whatever history they are of if any, and knows what they count; each key is in the state
+-- that its dates give, as the tests of opening have it
 pub record IsOver {S : Type 0} (g : Ghosts S) (desk : Desk S g) (t : Tables) : Type 0 where
   pub latest_is : desk.latest ≡ t.counts.latest
   pub keys_are : desk.keys ≡ t.counts.key_count
   pub counted : length t.keys ≡ desk.keys
+  pub right : AreRightAt desk.latest t
   pub sees : Sees g t desk
 
 -- The desk is that of this history: it sees the history's tables.

@@ -35,10 +35,10 @@ fn write_request<S: Alter>(
     requires later { latest ≤ kept.now.reply.moment }
     ensures same_reference { tx.new.conn.ghost_name ≡ tx.old.conn.ghost_name }
     ensures written { Steps S.Store
-        (λ _. Makes (CanTake keys kept.now) (with_request keys change.now kept.now))
+        (λ _. Makes (CanTake keys latest kept.now) (with_request keys change.now kept.now))
         tx.old.conn.now tx.new.conn.now result }
 {
-    advance_due(tx, keys, latest, kept.reply.moment)?;
+    advance_due(tx, latest, kept.reply.moment)?;
     write_change(tx, keys, change)?;
     record_request(tx, kept, keys_after(keys, change))
 }
@@ -56,7 +56,7 @@ pub(crate) fn commit_request<S: Alter>(
     requires later { latest ≤ kept.now.reply.moment }
     ensures idle { connection.new.in_transaction ≡ false }
     ensures written { Transacts S.Store
-        (Makes (CanTake keys kept.now) (with_request keys change.now kept.now))
+        (Makes (CanTake keys latest kept.now) (with_request keys change.now kept.now))
         connection.old connection.new result }
 {
     let mut tx = connection.transaction();

@@ -310,7 +310,7 @@ impl<S: Alter> Desk<S> {
         requires later { self.old.latest ≤ accept.now.reply.moment }
         requires room { self.old.keys + made_count accept.now.change ≤ max_keys }
         ensures written { let kept = kept_with request.now accept.now.reply in
-            Transacts S.Store (Makes (CanTake self.old.keys kept)
+            Transacts S.Store (Makes (CanTake self.old.keys self.old.latest kept)
             (with_request self.old.keys accept.now.change kept))
             self.old.connection self.new.connection result }
         ensures latest { OnOk result (self.new.latest ≡ accept.now.reply.moment) }

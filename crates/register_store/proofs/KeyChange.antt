@@ -1,4 +1,4 @@
--- What an UPDATE of the key with a number does.
+-- What an UPDATE of keys does: of the one with a number, or of any others.
 use Rattle.std.proofs.Common.{◌≡◌, ◌==◌, ℕ, ◌+◌, pos, List, [], ◌∷◌, codes, map, Bool, cond, Ok, true, false, refl, sym, ap, subst, ◌∙◌}
 use Rattle.std.proofs.Math.Bool.{and-true}
 use Rattle.std.specs.List.{AllByRecursion, enumerate_from}
@@ -29,91 +29,77 @@ use Rattle.register_core.specs.Name.{IsName}
 use Rattle.register_store.specs.declared.table.TableName.TheVariants.{Keys}
 use Rattle.register_store.specs.Tables.{keys, place_of, tree_of, AreDates, IsKey, date_cell, key_row, numbered}
 use Rattle.register_store.specs.Schema.{schema_with, rows_of}
-use Rattle.register_store.specs.Making.{Makes, Always, held_by, in_state, where_number, with_key_at}
+use Rattle.register_store.specs.Making.{Makes, Always, held_by, with_key_at}
 use Rattle.register_store.proofs.Actions.{keys_idle}
 use Rattle.register_store.proofs.Frame.{holds_with}
 use Rattle.register_store.proofs.Numbers.{is_table}
 
--- the rowid is the one that is given first
-abbrev passes : List Term
-passes = op2 (Compare Eq Binary) (col 1 0) (col 0 0) ∷ []
-
-abbrev IsUpdate : List ℕ → List Term → Type 0
-IsUpdate sql shown = (more : List Index)
+-- the text gives the rows that pass other cells
+abbrev pub IsUpdate : List ℕ → List Term → List Term → Type 0
+IsUpdate sql passes shown = (more : List Index)
     → (command_of (understood (schema_with more) sql) ≡ Update (place_of Keys) (record { lets = []; body = plain_query (tree_of Keys) passes (col 1 0 ∷ shown) })) × IsPlain (understood (schema_with more) sql)
 
-module _ (sql : List ℕ) (shown : List Term) (parts : IsUpdate sql shown) (number : ℕ) (given : Cells) (f : Key → Key) (keeps : (k : Key) → IsKey k → IsKey (f k)) where
-  abbrev params : Cells
-  params = Int (pos number) ∷ given
+-- what f makes of a key, where it is for it
+abbrev pub changed_where : (ℕ × Key → Bool) → (Key → Key) → ℕ × Key → Key
+changed_where is_for f p = cond (is_for p) (f p.1) p.1
 
+module _ (sql : List ℕ) (passes shown : List Term) (parts : IsUpdate sql passes shown) (params : Cells) (is_for : ℕ × Key → Bool) (f : Key → Key) (keeps : (k : Key) → IsKey k → IsKey (f k)) where
   abbrev set : ℕ × Key → ℕ × Key
   set p = (p.0, f p.1)
 
   abbrev changed : ℕ × Key → ℕ × Key
   changed = changing.changed key_row (λ p. pos p.0) (λ _. refl) keys params passes shown set
 
-  -- what the statement makes of a row
-  abbrev image_of : ℕ × Key → Cells
+  -- what the statement makes of a row, and whether it does
+  abbrev pub image_of : ℕ × Key → Cells
   image_of p = typed.g key_row (λ p. pos p.0) (λ _. refl) keys params passes shown set (key_row p)
 
-  test_is : (p : ℕ × Key) → typed.test key_row (λ p. pos p.0) (λ _. refl) keys params passes shown set p ≡ (p.0 == number)
-  test_is p = rw (equal_numbers p.0 number) (and-true (p.0 == number))
+  abbrev pub passes_row : ℕ × Key → Bool
+  passes_row = typed.test key_row (λ p. pos p.0) (λ _. refl) keys params passes shown set
 
   one : (n : ℕ) (k : Key) (b : Bool) → key_row (cond b (set (n, k)) (n, k)) ≡ key_row (n, cond b (f k) k)
   one n k true = refl
   one n k false = refl
 
-  each : (n : ℕ) (ks : List Key) → map key_row (map changed (enumerate_from n ks)) ≡ map key_row (enumerate_from n (map (where_number number f) (enumerate_from n ks)))
-  each n [] = refl
-  each n (k ∷ ks) =
-      ap (λ b. key_row (cond b (set (n, k)) (n, k)) ∷ map key_row (map changed (enumerate_from (n + 1) ks))) (test_is (n, k))
-      ∙ ap (λ row. row ∷ map key_row (map changed (enumerate_from (n + 1) ks))) (one n k (n == number))
-      ∙ ap (λ rows. key_row (n, where_number number f (n, k)) ∷ rows) (each (n + 1) ks)
-
-  in_range : (n : ℕ) (ks : List Key) → AllByRecursion IsKey ks → AllByRecursion IsKey (map (where_number number f) (enumerate_from n ks))
+  in_range : (n : ℕ) (ks : List Key) → AllByRecursion IsKey ks → AllByRecursion IsKey (map (changed_where is_for f) (enumerate_from n ks))
   in_range n [] all = tt
-  in_range n (k ∷ ks) all = (stays (n == number), in_range (n + 1) ks all.1)
+  in_range n (k ∷ ks) all = (stays (is_for (n, k)), in_range (n + 1) ks all.1)
     where
       stays : (b : Bool) → IsKey (cond b (f k) k)
       stays true = keeps k all.0
       stays false = all.0
 
-  changes_key : ((p : ℕ × Key) → image_of p ≡ key_row (set p)) → (old new : View) (count : ℕ) → Executes sql params old new (Ok count) → Makes Always (with_key_at number f) old.now new.now
-  changes_key image old new count h t holds always =
-      let more = holds.schema.more in
-      let ordered : IsTable (rows_of Keys old.now) = subst IsTable (sym (holds.shown Keys)) (is_table t.keys) in
-      let wrote = changing.changes key_row (λ p. pos p.0) (λ _. refl) keys params passes shown set sql (schema_with more) (place_of Keys) refl
-      (parts more).0 (parts more).1 (keys_idle more) (λ db. refl) image (λ p. refl) old new count h holds.schema.is (numbered t.keys) (holds.shown Keys) ordered in
-      holds_with Keys (map (where_number number f) (numbered t.keys)) t old.now new.now _ holds wrote (in_range 1 t.keys (holds.in_range Keys)) (each 1 t.keys)
+  module _ (is : (p : ℕ × Key) → passes_row p ≡ is_for p) where
+    each : (n : ℕ) (ks : List Key) → map key_row (map changed (enumerate_from n ks)) ≡ map key_row (enumerate_from n (map (changed_where is_for f) (enumerate_from n ks)))
+    each n [] = refl
+    each n (k ∷ ks) =
+        ap (λ b. key_row (cond b (set (n, k)) (n, k)) ∷ map key_row (map changed (enumerate_from (n + 1) ks))) (is (n, k))
+        ∙ ap (λ row. row ∷ map key_row (map changed (enumerate_from (n + 1) ks))) (one n k (is_for (n, k)))
+        ∙ ap (λ rows. key_row (n, changed_where is_for f (n, k)) ∷ rows) (each (n + 1) ks)
 
--- ---- the state alone
-
-abbrev pub state_text : List ℕ
-state_text = codes "UPDATE keys SET state = ?2 WHERE number = ?1"
-
-abbrev state_shown : List Term
-state_shown = col 1 0 ∷ lit Null ∷ col 1 2 ∷ col 1 3 ∷ col 1 4 ∷ col 0 1 ∷ col 1 6 ∷ col 1 7 ∷ col 1 8 ∷ col 1 9 ∷ col 1 10 ∷ col 1 11 ∷ col 1 12 ∷ []
-
-state_parts : IsUpdate state_text state_shown
-unfolding understood everything
-state_parts more = (refl, (refl, refl))
-
-abbrev pub state_params : ℕ → State → Cells
-state_params number state = Int (pos number) ∷ Int (pos (state_code state)) ∷ []
-
-pub sets_state : (number : ℕ) (state : State) (old new : View) (count : ℕ) → Executes state_text (state_params number state) old new (Ok count) → Makes Always (with_key_at number (in_state state)) old.now new.now
-sets_state number state = changes_key state_text state_shown state_parts number (Int (pos (state_code state)) ∷ []) (in_state state) (λ k is. record { owner = is.owner; purpose = is.purpose; dates = is.dates })
-    (λ p. simp (cast_int, cast_null))
+    -- each key that passes is changed, and no other
+    pub changes_keys : ((p : ℕ × Key) → image_of p ≡ key_row (set p)) → (old new : View) (count : ℕ) → Executes sql params old new (Ok count)
+        → Makes Always (λ t. record t { keys = map (changed_where is_for f) (numbered t.keys) }) old.now new.now
+    changes_keys image old new count h t holds always =
+        let more = holds.schema.more in
+        let ordered : IsTable (rows_of Keys old.now) = subst IsTable (sym (holds.shown Keys)) (is_table t.keys) in
+        let wrote = changing.changes key_row (λ p. pos p.0) (λ _. refl) keys params passes shown set sql (schema_with more) (place_of Keys) refl
+        (parts more).0 (parts more).1 (keys_idle more) (λ db. refl) image (λ p. refl) old new count h holds.schema.is (numbered t.keys) (holds.shown Keys) ordered in
+        holds_with Keys (map (changed_where is_for f) (numbered t.keys)) t old.now new.now _ holds wrote (in_range 1 t.keys (holds.in_range Keys)) (each 1 t.keys)
 
 -- ---- what an accepted request can change
 
 abbrev pub key_text : List ℕ
 key_text = codes "UPDATE keys SET owner = ?2, state = ?3, activation = ?4, protect_stop = ?5, deactivation = ?6, destroyed = ?7, compromised = ?8, occurrence = ?9 WHERE number = ?1"
 
+-- the rowid is the one that is given first
+abbrev has_number : List Term
+has_number = op2 (Compare Eq Binary) (col 1 0) (col 0 0) ∷ []
+
 abbrev key_shown : List Term
 key_shown = col 1 0 ∷ lit Null ∷ col 1 2 ∷ col 0 1 ∷ col 1 4 ∷ col 0 2 ∷ col 1 6 ∷ col 0 3 ∷ col 0 4 ∷ col 0 5 ∷ col 0 6 ∷ col 0 7 ∷ col 0 8 ∷ []
 
-key_parts : IsUpdate key_text key_shown
+key_parts : IsUpdate key_text has_number key_shown
 unfolding understood everything
 key_parts more = (refl, (refl, refl))
 
@@ -133,8 +119,5 @@ stays_key owner row name dates k is = record { owner = name; purpose = is.purpos
 pub updates_key : (number : ℕ) (owner : List ℕ) (row : Row) → IsName owner → AreLaterDates row.dates → (old new : View) (count : ℕ) → Executes key_text (key_params number owner row) old new (Ok count)
     → Makes Always (with_key_at number (held_by owner row)) old.now new.now
 updates_key number owner row name dates =
-    let d = row.dates in
-    changes_key key_text key_shown key_parts number
-    (Words owner ∷ Int (pos (state_code row.state)) ∷ Int (pos (date_cell d.activation)) ∷ Int (pos (date_cell d.protect_stop)) ∷ Int (pos (date_cell d.deactivation))
-    ∷ Int (pos (date_cell d.destroy)) ∷ Int (pos (date_cell d.compromise)) ∷ Int (pos (date_cell d.compromise_occurrence)) ∷ [])
-    (held_by owner row) (stays_key owner row name dates) (λ p. simp (cast_int, cast_null))
+    changes_keys key_text has_number key_shown key_parts (key_params number owner row) (λ p. p.0 == number) (held_by owner row) (stays_key owner row name dates)
+    (λ p. rw (equal_numbers p.0 number) (and-true (p.0 == number))) (λ p. simp (cast_int, cast_null))

@@ -8,10 +8,9 @@ use Rattle.std.specs.List.Sorted.{IsPermutation}
 use Rattle.sqlite.specs.declared.error.Error.{Error}
 use Rattle.sqlite.specs.declared.types.Value.TheVariants.{Int}
 use Rattle.sqlite.specs.Order.{Row as Cells}
-use Rattle.sqlite.specs.State.{State, HasCleanDisk, QueriesRow, QueriesRowInside, Survives, CommitsShowing}
+use Rattle.sqlite.specs.State.{State, HasCleanDisk, QueriesRow, Survives, CommitsShowing}
 use Rattle.sqlite_rules.specs.Lists.{Has}
 use Rattle.sqlite_trees.proofs.ListLemmas.{map-map, filter-map}
-use Rattle.sql_steps.specs.Steps.{StepsBy}
 use Rattle.sql_steps.proofs.Comparing.{equal_numbers}
 use Rattle.sql_steps.proofs.Members.{from_picked, to_picked}
 use Rattle.sql_steps.proofs.Statements.{picked, is_picked}
@@ -22,9 +21,9 @@ use Rattle.register_store.specs.declared.table.TableName.TheVariants.{Keys}
 use Rattle.register_store.specs.Tables.{tree_of, Tables, IsKey, key_cells, key_row, numbered}
 use Rattle.register_store.specs.Schema.{Holds, rows_of}
 use Rattle.register_store.specs.Making.{key_at}
-use Rattle.register_store.specs.Reading.{FindsKey, HasRow, IsOneOf, IsRowOf, ReadsBy, ShowsKey, ShowsNone}
+use Rattle.register_store.specs.Reading.{HasRow, IsOneOf, IsRowOf, ReadsBy, ShowsKey, ShowsNone}
 use Rattle.register_store.proofs.Decoding.{same_key}
-use Rattle.register_store.proofs.RowFound.{row_loads, row_read}
+use Rattle.register_store.proofs.RowFound.{row_read}
 use Rattle.register_store.proofs.Texts.{find_text, find_is, find_names, has_number, cells_shown}
 
 -- ---- numbered keys
@@ -122,12 +121,6 @@ module _ (number : ℕ) where
   same : (k key : Key) → IsKey k → ShowsKey (key_cells k) k → ShowsKey (key_cells k) key → key ≡ k
   same k key is own shows = same_key (key_cells k) k is refl key shows
 
-  -- outside a transaction
   pub key_read : (old new : State) (r : Result Cells Error) (q : Result (Option Key) StoreError) → IfOk q (IsRowOf ShowsKey r) → IfErr q (λ error. error ≢ Memory)
       → IfErr q (λ error. error ≡ NoRegister → ShowsNone IsKey ShowsKey r) → (HasCleanDisk new → QueriesRow find_text params old new r) → Survives old new (CommitsShowing find_text params old) → ReadsBy (HasRow number) old new q
   key_read = row_read IsKey ShowsKey key_cells find_text (tree_of Keys) has_number cells_shown find_names find_is params matching picks each same (HasRow number) finds
-
-  -- inside one
-  pub key_loads : (old new : State) (r : Result Cells Error) (q : Result (Option Key) StoreError) → IfOk q (IsRowOf ShowsKey r)
-      → (HasCleanDisk new → QueriesRowInside find_text params old new r) → Survives old new (λ _. ⊥) → StepsBy (FindsKey number) old new q
-  key_loads = row_loads IsKey ShowsKey key_cells find_text (tree_of Keys) has_number cells_shown find_names find_is params matching picks each same (HasRow number) finds

@@ -19,7 +19,8 @@ pub mod RequestAdded
 pub mod NameAdded
 pub mod NameRemoved
 pub mod NamesFound
-pub mod Advancing
+pub mod DueChange
+pub mod DueStates
 pub mod AllMet
 pub mod Ordered
 pub mod Asked

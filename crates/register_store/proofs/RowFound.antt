@@ -4,13 +4,10 @@ use Rattle.std.proofs.lemmas.List.Sorted.{IsPermutation-sym, IsPermutation-trans
 use Rattle.std.specs.List.Sorted.{IsPermutation}
 use Rattle.sqlite.specs.declared.error.Error.{Error}
 use Rattle.sqlite.specs.declared.error.Error.TheVariants.{QueryReturnedNoRows}
-use Rattle.sqlite.specs.Effect.{Database}
 use Rattle.sqlite.specs.Order.{Row as Cells}
-use Rattle.sqlite.specs.State.{State, HasCleanDisk, QueriesRow, QueriesRowInside, IsUnchanged, Survives, CommitsShowing}
+use Rattle.sqlite.specs.State.{State, HasCleanDisk, QueriesRow, IsUnchanged, Survives, CommitsShowing}
 use Rattle.sqlite.specs.Term.{Term}
 use Rattle.sqlite_rules.specs.Lists.{Has}
-use Rattle.sql_steps.specs.Steps.{StepsBy}
-use Rattle.sql_steps.proofs.Asking.{asks_row, asks_none, asks_fails}
 use Rattle.sql_steps.proofs.Queries.{gives_one, gives_none, one_only_reads, none_only_reads}
 use Rattle.sql_steps.proofs.SameRows.{map_has}
 use Rattle.sql_steps.proofs.Statements.{picked}
@@ -74,23 +71,7 @@ module _ {X : Type 0} (IsOne : X → Type 0) (ShowsOne : Cells → X → Type 0)
         λ is. none is got.0 own.0 (subst (λ r. ShowsOne r got.0) (sym got.2) own.1)
     registered_so (Err f) (Err e) none asked = none
 
-  -- outside a transaction
   pub row_read : (old new : State) (r : Result Cells Error) (q : Result (Option X) StoreError) → IfOk q (IsRowOf ShowsOne r) → IfErr q (λ error. error ≢ Memory)
       → IfErr q (λ error. error ≡ NoRegister → ShowsNone IsOne ShowsOne r) → (HasCleanDisk new → QueriesRow sql params old new r) → Survives old new (CommitsShowing sql params old) → ReadsBy Found old new q
   row_read old new r q reads failed none asked survives = reads_by sql params search_is.plain old new survives Found q
       (λ clean t holds. found_so old new t holds r q reads (asked clean)) (λ clean t holds. fails_refused q old new failed (registered_so old new t holds r q none (asked clean)))
-
-  -- what is found inside a transaction, and changes nothing
-  abbrev FindsInside : Option X → Database → Database → Type 0
-  FindsInside found old new = (t : Tables) → Holds t old → (new ≡ old) × Found t found
-
-  -- there it is a step, whatever the database holds
-  pub row_loads : (old new : State) (r : Result Cells Error) (q : Result (Option X) StoreError) → IfOk q (IsRowOf ShowsOne r)
-      → (HasCleanDisk new → QueriesRowInside sql params old new r) → Survives old new (λ _. ⊥) → StepsBy FindsInside old new q
-  row_loads old new r (Err e) reads asked survives = asks_fails old new FindsInside sql params r (Err e) refl asked survives
-  row_loads old new (Ok row) (Ok found) reads asked survives =
-      asks_row old new FindsInside found sql params row
-      (λ it t holds. let so = found_so old new t holds (Ok row) (Ok found) reads it in (so.1.0.now_is, so.0)) asked survives
-  row_loads old new (Err e) (Ok found) reads asked survives =
-      asks_none old new FindsInside found sql params e reads.0
-      (λ it t holds. let so = found_so old new t holds (Err QueryReturnedNoRows) (Ok found) (refl, reads.1) it in (so.1.0.now_is, so.0)) asked survives

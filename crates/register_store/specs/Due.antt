@@ -1,21 +1,22 @@
--- Moving keys to their states at a later moment, one after the other.
-use Rattle.std.specs.Prelude.{◌≡◌, ℕ, suc, zero, List, [], ◌∷◌, Some}
-use Rattle.sqlite.specs.Effect.{Database}
-use Rattle.lifecycle_core.specs.State.{state_at}
+-- Moving the keys on whose dates are reached: the Pre-Active ones to Active, and then the Active ones to Deactivated.
+use Rattle.std.specs.Prelude.{◌==◌, ◌&&◌, if◌then◌else◌, ℕ, Bool, Option, map}
+use Rattle.lifecycle_core.specs.declared.dates.Dates.{Dates}
+use Rattle.lifecycle_core.specs.declared.state.State.{State}
+use Rattle.lifecycle_core.specs.declared.state.State.TheVariants.{PreActive, Active, Deactivated}
+use Rattle.lifecycle_core.specs.State.{is_reached_at, state_code}
 use Rattle.register_core.specs.declared.key.Key.{Key}
 use Rattle.register_store.specs.Tables.{Tables}
-use Rattle.register_store.specs.Schema.{Holds}
-use Rattle.register_store.specs.Making.{advanced, in_state, key_at, with_key_at}
+use Rattle.register_store.specs.Making.{in_state}
 
--- the key with this number is there, and comes to be in its state at a moment
-abbrev pub AdvancesKey : ℕ → ℕ → Database → Database → Type 0
-AdvancesKey at number old new = (t : Tables) → Holds t old → (k : Key) × (key_at t.keys number ≡ Some k) × Holds (with_key_at number (in_state (state_at k.row.dates at)) t) new
+-- the key is in this state, and this date of its is reached at a moment
+abbrev pub is_due : State → (Dates → Option ℕ) → ℕ → Key → Bool
+is_due from date at k = (state_code k.row.state == state_code from) && is_reached_at (date k.row.dates) at
 
--- the first keys, up to a number, in their states at a moment
-abbrev pub first_advanced : ℕ → ℕ → List Key → List Key
-first_advanced at zero keys = keys
-first_advanced at (suc more) [] = []
-first_advanced at (suc more) (k ∷ keys) = advanced at k ∷ first_advanced at more keys
+abbrev pub activated : ℕ → Key → Key
+activated at k = if is_due PreActive (λ d. d.activation) at k then in_state Active k else k
 
-abbrev pub with_first_advanced : ℕ → ℕ → Tables → Tables
-with_first_advanced at count t = record t { keys = first_advanced at count t.keys }
+abbrev pub deactivated : ℕ → Key → Key
+deactivated at k = if is_due Active (λ d. d.deactivation) at k then in_state Deactivated k else k
+
+abbrev pub with_each : (Key → Key) → Tables → Tables
+with_each f t = record t { keys = map f t.keys }

@@ -5,7 +5,6 @@ use Rattle.sqlite.specs.declared.types.Value.TheVariants.{Int, Text as Words}
 use Rattle.sqlite.specs.Order.{Row, column}
 use Rattle.sqlite.specs.declared.error.Error.{Error}
 use Rattle.sqlite.specs.declared.error.Error.TheVariants.{QueryReturnedNoRows}
-use Rattle.sqlite.specs.Effect.{Database}
 use Rattle.sqlite.specs.Held.{Held as Connection, state}
 use Rattle.sqlite.specs.State.{State, HasCleanDisk, IsUnchanged, Survives}
 use Rattle.sqlite_rules.specs.Lists.{Has}
@@ -64,10 +63,6 @@ abbrev pub HasRequest : List ℕ → ℕ → Tables → Option KeptReply → Typ
 HasRequest caller number t found = IsOneOf (kept_under caller number t.requests) found
 
 -- ---- what a call that reads does
-
--- inside a transaction: a key is found as it stands in the tables, and the finding changes nothing
-abbrev pub FindsKey : ℕ → Option Key → Database → Database → Type 0
-FindsKey number found old new = (t : Tables) → Holds t old → (new ≡ old) × (found ≡ key_at t.keys number)
 
 -- where memory gave out nothing is changed, and no row is taken for one that no register holds
 pub record ReadFails (old new : State) (error : StoreError) : Type 0 where

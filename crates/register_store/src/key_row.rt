@@ -6,15 +6,14 @@ ghost use Rattle.lifecycle_core.specs.declared.dates.Dates.{Dates};
 ghost use Rattle.register_core.specs.declared.key.Key.{Key};
 ghost use Rattle.register_store.specs.Tables.{AreDates, IsKey};
 ghost use Rattle.register_store.specs.Making.{Makes, Always, with_key, with_key_at, held_by};
-ghost use Rattle.register_store.specs.Making.{in_state};
-ghost use Rattle.register_store.specs.Reading.{FindsKey, HasRow, IsRowOf, Reads};
+ghost use Rattle.register_store.specs.Reading.{HasRow, IsRowOf, Reads};
 ghost use Rattle.register_store.specs.Reading.{ShowsDates, ShowsKey, ShowsNone};
 
 use crate::cell::{
     DateCell, MomentCell, date_in, kind_in, moment_in, name_in, purpose_in, state_in,
 };
 use crate::error::StoreError;
-use lifecycle_core::{Dates, Row, State};
+use lifecycle_core::{Dates, Row};
 use register_core::{Key, Name};
 use sqlite::{Alter, Connection, Error, Transaction, params};
 
@@ -69,17 +68,6 @@ fn key_of(answer: Result<sqlite::Row, Error>) -> Result<Option<Key>, StoreError>
         Err(Error::QueryReturnedNoRows) => Ok(None),
         Err(error) => Err(StoreError::Database(error)),
     }
-}
-
-/// The key with this number, within a transaction. It changes nothing.
-pub(crate) fn find_inside<S: Alter>(
-    tx: &mut Transaction<'_, S>,
-    number: u32,
-) -> Result<Option<Key>, StoreError>
-    ensures same_reference { tx.new.conn.ghost_name ≡ tx.old.conn.ghost_name }
-    ensures found { Steps S.Store (FindsKey number) tx.old.conn.now tx.new.conn.now result }
-{
-    key_of(tx.query_row(FIND_KEY, params![number]))
 }
 
 /// The row of the key with this number, or `None` where there is none. It changes nothing.
@@ -157,23 +145,6 @@ pub(crate) fn update_key<S: Alter>(
             DateCell(dates.compromise),
             DateCell(dates.compromise_occurrence)
         ],
-    )?;
-    Ok(())
-}
-
-/// Gives the key with this number another state.
-pub(crate) fn set_state<S: Alter>(
-    tx: &mut Transaction<'_, S>,
-    number: u32,
-    state: State,
-) -> Result<(), StoreError>
-    ensures same_reference { tx.new.conn.ghost_name ≡ tx.old.conn.ghost_name }
-    ensures set { Steps S.Store (λ _. Makes Always (with_key_at number (in_state state)))
-        tx.old.conn.now tx.new.conn.now result }
-{
-    tx.execute(
-        "UPDATE keys SET state = ?2 WHERE number = ?1",
-        params![number, u32::from(state.code())],
     )?;
     Ok(())
 }

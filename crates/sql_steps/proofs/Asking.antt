@@ -10,7 +10,7 @@ use Rattle.sqlite_trees.specs.declared.error.StoreError.TheVariants.{OutOfMemory
 use Rattle.sqlite.specs.State.{State, HasCleanDisk, QueriesRow, QueriesRowInside, Begins, store_error, FailsToQuery, FailsToShow, Shown, ShowsRows, Shows, IsNotRun, IsUnchanged, IsRolledBack, KeepsCommit, Survives}
 use Rattle.sqlite.proofs.InsideLemmas.{unchanged_keeps}
 use Rattle.sql_steps.specs.Steps.{Change, StepsBy, GoesOn}
-use Rattle.sql_steps.proofs.Queries.{never_store, none_inside}
+use Rattle.sql_steps.proofs.Queries.{never_store}
 
 never_input : (fault : _) (cause : StoreError) → ¬ ◌≡◌ {A = Error} (SqlInputError fault) (store_error cause)
 never_input fault OutOfMemory e = cc
@@ -98,11 +98,6 @@ module _ (old new : State) where
   refused sql params e other (inl fault) = refused_not_run sql params e other fault
   refused sql params e other (inr h) = refused_to_show sql h.0 _ e h.0.returning other h.2
 
-  none_stays : IsTrue old.in_transaction → (sql : List ℕ) (params : Row) → QueriesRow sql params old new (Err QueryReturnedNoRows) → Stays
-  unfolding QueriesRow
-  none_stays inside sql params (inl fails) = same_stays inside (refused sql params QueryReturnedNoRows never_store fails)
-  none_stays inside sql params (inr none) = rows_stay inside sql params [] none.1
-
   -- the text has no meaning
   meaningless_same : (sql : List ℕ) (params : Row) (e : Error) (fault : _) → e ≡ SqlInputError fault → QueriesRowInside sql params old new (Err e) → IsUnchanged old new
   unfolding QueriesRow
@@ -124,16 +119,6 @@ module _ (old new : State) where
   asks_row Changes value sql params row found asked survives = record {
     changed = λ clean inside. (found (asked clean), on (row_stays inside sql params row (asked clean)));
     kept = λ clean inside. inside_keeps inside sql params (Ok row) (asked clean);
-    survives = survives;
-  }
-
-  -- a query that gave no row, and what is made of that
-  pub asks_none : {T E : Type 0} (Changes : T → Change) (value : T) (sql : List ℕ) (params : Row) (e : Error) → e ≡ QueryReturnedNoRows
-      → (QueriesRow sql params old new (Err QueryReturnedNoRows) → Changes value old.now new.now)
-      → (HasCleanDisk new → QueriesRowInside sql params old new (Err e)) → Survives old new (λ _. ⊥) → StepsBy {E = E} Changes old new (Ok value)
-  asks_none Changes value sql params e is none asked survives = record {
-    changed = λ clean inside. let it = none_inside sql params old new e is (asked clean) in (none it, on (none_stays inside sql params it));
-    kept = λ clean inside. inside_keeps inside sql params (Err e) (asked clean);
     survives = survives;
   }
 

@@ -1,10 +1,10 @@
 -- Natural numbers and texts in cells are compared as they are.
-use Rattle.std.proofs.Common.{◌≡◌, inl, inr, ◌==◌, ℕ, pos, List, Bool, true, false, Some, refl, sym, ap, ◌∙◌, arith}
-use Rattle.std.proofs.lemmas.Bool.Decides.{eqb_tells}
+use Rattle.std.proofs.Common.{◌≡◌, inl, inr, ◌==◌, ℕ, nat_le, pos, List, Bool, true, false, Some, refl, sym, ap, ◌∙◌, arith}
+use Rattle.std.proofs.lemmas.Bool.Decides.{eqb_tells, leb_tells}
 use Rattle.std.proofs.lemmas.Int.{ints}
 use Rattle.std.proofs.lemmas.Map.Text.{is_eq-slice_cmp}
 use Rattle.std.specs.Cmp.{int_ranks}
-use Rattle.std.specs.Ordering.{MatchOrdering, is_eq, int_cmp}
+use Rattle.std.specs.Ordering.{MatchOrdering, is_eq, is_le, int_cmp}
 use Rattle.std.specs.Str.{bytes_eq}
 use Rattle.std.specs.Prelude.{◌<ℤ◌}
 use Rattle.std.specs.declared.cmp.Ordering.{Ordering}
@@ -13,7 +13,7 @@ use Rattle.sqlite.specs.declared.types.Value.TheVariants.{Int, Text}
 use Rattle.sqlite.specs.Collation.TheVariants.{Binary}
 use Rattle.sqlite.specs.Ops.{binary, from_truth, is_true}
 use Rattle.sqlite_sql.specs.declared.ops.BinaryOp.TheVariants.{Compare}
-use Rattle.sqlite_sql.specs.declared.ops.CompareOp.TheVariants.{Eq}
+use Rattle.sqlite_sql.specs.declared.ops.CompareOp.TheVariants.{Eq, Le}
 use Rattle.sqlite_value.proofs.OrderLemmas.{value_cmp-Text}
 use Rattle.sql_steps.proofs.Queries.{compares}
 
@@ -27,6 +27,17 @@ same_integer m n = ranked (int_cmp (pos m) (pos n)) (int_ranks (pos m) (pos n))
 
 pub equal_numbers : (m n : ℕ) → is_true (binary (Compare Eq Binary) (Int (pos m)) (Int (pos n))) ≡ (m == n)
 equal_numbers m n = compares Eq (pos m) (pos n) ∙ same_integer m n
+
+at_most : (m n : ℕ) → is_le (int_cmp (pos m) (pos n)) ≡ nat_le m n
+at_most m n = ranked (int_cmp (pos m) (pos n)) (int_ranks (pos m) (pos n))
+  where
+    ranked : (o : Ordering) → MatchOrdering o (pos m <ℤ pos n) (pos m ≡ pos n) (pos n <ℤ pos m) → is_le o ≡ nat_le m n
+    ranked Less h = elim (leb_tells m n) [ inl it ↦ sym it.0 | inr it ↦ absurd (let low = it.1 in omega (arith, ints)) ]
+    ranked Equal h = elim (leb_tells m n) [ inl it ↦ sym it.0 | inr it ↦ absurd (let low = it.1 in omega (arith, ints)) ]
+    ranked Greater h = elim (leb_tells m n) [ inl it ↦ absurd (let low = it.1 in omega (arith, ints)) | inr it ↦ sym it.0 ]
+
+pub most_numbers : (m n : ℕ) → is_true (binary (Compare Le Binary) (Int (pos m)) (Int (pos n))) ≡ nat_le m n
+most_numbers m n = compares Le (pos m) (pos n) ∙ at_most m n
 
 pub equal_words : (a b : List ℕ) → is_true (binary (Compare Eq Binary) (Text a) (Text b)) ≡ bytes_eq a b
 unfolding binary

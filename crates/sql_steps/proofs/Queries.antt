@@ -22,7 +22,7 @@ use Rattle.sqlite.specs.Clock.{timed}
 use Rattle.sqlite.specs.Effect.{Database, RefusesToRead}
 use Rattle.sqlite_trees.specs.declared.error.StoreError.{StoreError}
 use Rattle.sqlite_trees.specs.declared.error.StoreError.TheVariants.{OutOfMemory, Io, Corrupt, Full, Broken, Unstorable}
-use Rattle.sqlite.specs.State.{State, QueriesRow, Shown, FailsToQuery, IsNotRun, FailsToShow, store_error, ShowsRows, IsUnchanged, QueriesRowInside}
+use Rattle.sqlite.specs.State.{State, QueriesRow, Shown, FailsToQuery, IsNotRun, FailsToShow, store_error, ShowsRows, IsUnchanged}
 use Rattle.sqlite.proofs.Callers.{IsPlain, command_of, first_as, reads_as}
 use Rattle.sqlite_value.proofs.OrderLemmas.{value_cmp-Int}
 use Rattle.sql_steps.proofs.Statements.{plain_query, picked, answers}
@@ -105,8 +105,3 @@ module _ (sql : List ℕ) (params : Row) (old new : State) (schema : Schema) (ha
   unfolding QueriesRow
   none_only_reads (inl fails) = absurd (never_fails sql params old new (subst (λ s. IsPlain (understood s sql)) (sym has) plain) fails)
   none_only_reads (inr h) = only_reads [] h.1
-
--- inside a transaction the same
-pub none_inside : (sql : List ℕ) (params : Row) (old new : State) (e : Error) → e ≡ QueryReturnedNoRows → QueriesRowInside sql params old new (Err e) → QueriesRow sql params old new (Err QueryReturnedNoRows)
-none_inside sql params old new e is (inl h) = subst (λ e. QueriesRow sql params old new (Err e)) is h
-none_inside sql params old new e is (inr late) = absurd (let l = late.4 in cc)

@@ -10,7 +10,7 @@ pub returns-in_err-commit-clause-written : goal.returns-in_err-commit-clause-wri
 returns-in_err-commit-clause-written g c =
     let end = c.commit.new.self.0 in
     let same : end ≡ c.connection-2-1.given.0 = search rules in
-    let Made = Makes (CanTake c.args.keys c.args.kept.now) (with_request c.args.keys c.args.change.now c.args.kept.now) in
+    let Made = Makes (CanTake c.args.keys c.args.latest c.args.kept.now) (with_request c.args.keys c.args.change.now c.args.kept.now) in
     let old = state g.S.Store c.args.connection.now in
     subst (λ h. TransactsBy Made old (state g.S.Store h) c.from_residual-in_err-commit.result) same
     (fails_as Made old (state g.S.Store end) _ _ c.from_residual-in_err-commit.ensures.0
@@ -21,7 +21,7 @@ pub returns-clause-written : goal.returns-clause-written
 returns-clause-written g c =
     let end = c.commit.new.self.0 in
     let same : end ≡ c.connection-2-1.given.0 = search rules in
-    let Made = Makes (CanTake c.args.keys c.args.kept.now) (with_request c.args.keys c.args.change.now c.args.kept.now) in
+    let Made = Makes (CanTake c.args.keys c.args.latest c.args.kept.now) (with_request c.args.keys c.args.change.now c.args.kept.now) in
     let old = state g.S.Store c.args.connection.now in
     subst (λ h. TransactsBy Made old (state g.S.Store h) (Ok tt)) same
     (transacts_as Made old (state g.S.Store end) c.in_ok-commit.field-0 _

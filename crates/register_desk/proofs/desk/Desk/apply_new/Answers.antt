@@ -7,6 +7,7 @@ use Rattle.register_core.specs.KeptReply.{reply, kept_with, IsKeptReply}
 use Rattle.register_core.specs.Verdict.{answer_by, is_accepted}
 use Rattle.register_core.proofs.Kept.{decided_at, decided_in_range, decided_in_time}
 use Rattle.register_core.proofs.Verdicts.{verdict_is}
+use Rattle.register_store.specs.Making.{AreRightAt}
 use Rattle.register_desk.specs.Leaving.{EndsBy, IsClean}
 use Rattle.register_desk.specs.Register.{tables, StandsFor}
 use Rattle.register_desk.proofs.Passing.{at_any_end, ends_of, of_residual, on_any_end}
@@ -76,7 +77,7 @@ returns-in_err-accept-in-Ok-clause-tables g c t over request clean =
     let in_range = subst (λ (r : Reply). IsKeptReply (kept_with q r)) (sym c.in-Ok.ensures.reply) (decided_in_range view q request (search rules) c.in-Ok.ensures.accepted) in
     at_any_end _ c.from_residual-in_err-accept-in-Ok.result (λ end is.
     leaves_request g.S.Store mid c.accept.new.self t q c.in-Ok.accept.change c.in-Ok.accept.reply _ c.in_ok-key.ensures.ends.1 (reads.rows t over.sees) (over.counted ∙ sym reads.counts.keys)
-    in_range (ap (λ (r : Reply). r.moment) c.in-Ok.ensures.reply ∙ decided_at view q) c.in_err-accept-in-Ok.ensures.written clean)
+    (subst (λ (latest : ℕ). AreRightAt latest t) (sym reads.counts.latest) over.right) in_range (ap (λ (r : Reply). r.moment) c.in-Ok.ensures.reply ∙ decided_at view q) c.in_err-accept-in-Ok.ensures.written clean)
 
 pub returns-in_err-key-clause-err : goal.returns-in_err-key-clause-err
 returns-in_err-key-clause-err g c h stands = on_any_end _ c.from_residual.result (stands_still g.S.Store _ _ c.in_err-key.ensures.reads h stands)

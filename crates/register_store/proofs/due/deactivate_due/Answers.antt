@@ -1,0 +1,15 @@
+use Rattle.sqlite.specs.Held.{state}
+use Rattle.sql_steps.proofs.Stepping.{runs}
+use Rattle.register_store.specs.Making.{Makes, Always}
+use Rattle.register_store.specs.Due.{deactivated, with_each}
+use Rattle.register_store.proofs.DueChange.{deactivate_text, params, deactivates}
+use Rattle.register_store.proofs.due.deactivate_due.Goals as goal
+
+pub returns-clause-moved : goal.returns-clause-moved
+returns-clause-moved g c =
+    let at = c.args.at in
+    let moment = c.params-to_sql.ensures.in_range in
+    let old = state g.S.Store c.args.tx.now.conn.now in
+    let new = state g.S.Store c.execute.new.self.conn.now in
+    runs (Makes Always (with_each (deactivated at))) deactivate_text (params at moment) old new c.in_ok-execute.field-0 (deactivates at moment old new)
+    (λ clean inside. rw c.params-to_sql.ensures.value at (c.in_ok-execute.ensures.runs clean inside)) c.in_ok-execute.ensures.survives
