@@ -9,4 +9,5 @@ mod long_lines;
 mod openings;
 mod repeats;
 mod rows;
+mod steps;
 mod worked_rows;

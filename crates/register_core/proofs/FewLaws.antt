@@ -53,7 +53,7 @@ with_length name (first ∷ others) =
       | false ↦ refl
     ]
 
-sorted_length : (names : List (List ℕ)) → length (sorted_names names) ≡ length names
+pub sorted_length : (names : List (List ℕ)) → length (sorted_names names) ≡ length names
 sorted_length [] = refl
 sorted_length (name ∷ others) = with_length name (sorted_names others) ∙ ap suc (sorted_length others)
 

@@ -12,6 +12,7 @@ pub mod Readers
 pub mod Lines
 pub mod Refusals
 pub mod Decisions
+pub mod Needed
 pub mod Verdicts
 pub mod Lawful
 pub mod Ranges
@@ -27,6 +28,7 @@ pub mod CustodyLaws
 pub mod CustodyOnce
 pub mod Approvers
 pub mod FewLaws
+pub mod FewApprovals
 pub mod ApartLaw
 pub mod PastLaws
 pub mod Kept

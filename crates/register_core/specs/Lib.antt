@@ -16,6 +16,7 @@ pub mod KeptReply
 pub mod CustodyRefusal
 pub mod Verdict
 pub mod Decision
+pub mod Need
 pub mod Fold
 pub mod Laws
 pub mod Reading

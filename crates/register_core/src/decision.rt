@@ -2,8 +2,9 @@
 ghost use Rattle.std.specs.Prelude.{◌≡◌, ◌≤◌, List, Some, IfOk, IfErr, None};
 ghost use Rattle.register_core.specs.KeptReply.{reply};
 ghost use Rattle.register_core.specs.Verdict.{max_keys, judge_view, judgement};
-ghost use Rattle.register_core.specs.Decision.{IsRightKey, IsViewOf, LeadsTo, held_change};
+ghost use Rattle.register_core.specs.Decision.{IsRightKey, LeadsTo, held_change};
 ghost use Rattle.register_core.specs.Decision.{change_by, reply_to, reply_of_view};
+ghost use Rattle.register_core.specs.Need.{Suffices};
 
 use crate::change::{Accept, Change};
 use crate::effect::{custody_change, dates_after, no_dates, owner_after, row_at};
@@ -81,7 +82,7 @@ fn reply_to(keys: u32, at: Moment, change: &Change) -> Reply
 }
 
 /// Decides on a request: it is accepted, with what it changes and its reply, or the first refusal
-/// that holds.
+/// that holds. Of the key, the view needs no more than the decision looks at.
 pub fn decide(view: &View, request: &Request) -> Result<Accept, Refusal>
     requires within { view.now.keys ≤ max_keys }
     requires right { IsRightKey view.now.key view.now.latest }
@@ -89,10 +90,10 @@ pub fn decide(view: &View, request: &Request) -> Result<Accept, Refusal>
     ensures accepted { IfOk result (λ accept. judge_view view.now request.now ≡ None) }
     ensures change { IfOk result (λ accept. accept.change ≡ change_by view.now.key request.now) }
     ensures reply { IfOk result (λ accept. accept.reply ≡ reply_of_view view.now request.now) }
-    ensures judgement { (h : List Request) → IsViewOf view.now h request.now.command →
+    ensures judgement { (h : List Request) → Suffices view.now h request.now →
         IfErr result (λ refusal. judgement h request.now ≡ Some refusal)
         × IfOk result (λ accept. judgement h request.now ≡ None) }
-    ensures leads { (h : List Request) → IsViewOf view.now h request.now.command →
+    ensures leads { (h : List Request) → Suffices view.now h request.now →
         IfOk result (λ accept.
         (accept.reply ≡ reply h request.now) × LeadsTo h request.now accept.change) }
 {

@@ -109,6 +109,12 @@ pub fn custodians_are_few()
         length (custodians h k) ≤ max_custodians }
 {}
 
+/// No more approve of a key's destruction than it may have custodians.
+pub fn approvals_are_few()
+    ensures { (h : List Request) → IsLawful h → (k : ℕ) →
+        length (approvals h k) ≤ max_custodians }
+{}
+
 /// No custodian of a key is its owner.
 pub fn custodians_are_not_owners()
     ensures { (h : List Request) → IsLawful h → (k : ℕ) →

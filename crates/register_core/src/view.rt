@@ -26,6 +26,6 @@ pub struct View {
     /// How many keys were made.
     pub keys: u32,
     /// The key that the request names, as it stands at the latest moment; `None` where it names
-    /// none, or there is no such key.
+    /// none, or there is no such key. What its decision does not look at may be left out.
     pub key: Option<Held>,
 }

@@ -10,7 +10,7 @@ use Rattle.sqlite_trees.specs.declared.store.Store as store
 use Rattle.sqlite.specs.Recovery.{Image}
 use Rattle.sqlite.specs.Tree.{Trees}
 use Rattle.sqlite.specs.Effect.{Database}
-use Rattle.sqlite.specs.Held.{Held, AreDatabases, state}
+use Rattle.sqlite.specs.Held.{Held, AreDatabases}
 use Rattle.sqlite.specs.Schema.{Schema}
 use Rattle.sqlite_catalog.specs.Listing.{Lists, IsTableRow, IsIndexRow, IsViewRow}
 use Rattle.sqlite_trees.specs.Objects.{catalog_tree}
@@ -21,6 +21,7 @@ use Rattle.register_core.specs.declared.request.Request.{Request}
 use Rattle.register_core.specs.Fold.{history}
 use Rattle.register_store.specs.Schema.{no_schema}
 use Rattle.register_store.proofs.Reopened.{holds_again}
+use Rattle.register_store.specs.Reading.{seen}
 use Rattle.register_desk.specs.declared.desk.Desk.{Desk}
 use Rattle.register_desk.specs.declared.end.End.TheVariants.{Memory, Store, Broken, ReadFault, WriteFault}
 use Rattle.register_desk.specs.declared.runs.Finish.{Finish}
@@ -87,7 +88,7 @@ leaves_in_files h other c leaves it numbered sound outcomes left may = ∥∥₁
         ]
 
 -- what a desk stands for is what a stop leaves, and nothing else
-pub leaves_alone : {S : Type 0} (g : store.Ghosts S) (h : List Request) (desk : Desk S g) → StandsFor g desk h → IsWhole desk → IsClean g desk → LeavesOneOf h h (state g desk.connection)
+pub leaves_alone : {S : Type 0} (g : store.Ghosts S) (h : List Request) (desk : Desk S g) → StandsFor g desk h → IsWhole desk → IsClean g desk → LeavesOneOf h h (seen g desk.connection)
 leaves_alone g h desk stands whole clean trees may = let left = (stands.sees whole clean).leaves trees may in (left.0, inl left.1, left.2)
 
 -- ---- what a run leaves

@@ -12,3 +12,5 @@ pub mod Passing
 pub mod Readings
 pub mod ServingLemmas
 pub mod Cutting
+pub mod Needing
+pub mod Taken

@@ -39,6 +39,7 @@ use Rattle.register_store.specs.Schema.{Holds}
 use Rattle.register_store.specs.Tables.{Tables}
 use Rattle.register_store.specs.Tests.{IsSoundAt, MayBeCustodian, IsCustodian, IsReplyOf, MeetsTests, owner_at, owners_of}
 use Rattle.register_store.proofs.AllMet.{all_met}
+use Rattle.register_store.specs.Reading.{seen}
 use Rattle.register_desk.specs.declared.desk.Desk.{Desk}
 use Rattle.register_desk.specs.declared.opening.OpenRefusal.{OpenRefusal}
 use Rattle.register_desk.specs.Opening.{IsReasonOf, RefusesNoTable, check_refusal}
@@ -181,13 +182,13 @@ module _ {S : Type 0} (g : store.Ghosts S) where
   }
 
   -- tables that were committed stand where nothing was changed
-  pub opened_stands : Settles → (before : State) (desk : Desk S g) (h : List Request) → IsLawful h → HasCommitted (tables h) before → IsUnchanged before (state g desk.connection)
+  pub opened_stands : Settles → (before : State) (desk : Desk S g) (h : List Request) → IsLawful h → HasCommitted (tables h) before → IsUnchanged before (seen g desk.connection)
       → desk.latest ≡ latest h → desk.keys ≡ count h → StandsFor g desk h
   opened_stands settled before desk h lawful shown same latest_is keys_are = record {
     lawful = lawful;
     latest_is = latest_is;
     keys_are = keys_are;
-    sees = λ whole clean. keeps settled desk.connection (tables h) (record {
+    sees = λ whole clean. keeps settled desk.connection.connection (tables h) (record {
       is_open = same.0.is_open;
       holds = subst (Holds (tables h)) (sym same.0.now_is) shown.holds;
       committed = same.0.committed_is ∙ shown.committed ∙ sym same.0.now_is;

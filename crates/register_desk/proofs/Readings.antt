@@ -2,11 +2,11 @@
 use Rattle.std.proofs.Common.{◌≡◌, ℕ, ◌≢◌, List, Result, Ok, Err, inl, inr, refl, sym, subst, ◌∙◌}
 use Rattle.sqlite_trees.specs.declared.store.Store as store
 use Rattle.sqlite.specs.State.{State, HasCleanDisk, IsUnchanged, Survives}
-use Rattle.sqlite.specs.Held.{Held, state}
+use Rattle.register_store.specs.declared.counted.Counted.{Counted}
 use Rattle.register_core.specs.declared.request.Request.{Request}
 use Rattle.register_store.specs.declared.error.StoreError.{StoreError}
 use Rattle.register_store.specs.declared.error.StoreError.TheVariants.{Database, Memory, NoRegister}
-use Rattle.register_store.specs.Reading.{ReadsBy}
+use Rattle.register_store.specs.Reading.{seen, ReadsBy}
 use Rattle.register_store.specs.Tables.{Tables}
 use Rattle.register_store.specs.Schema.{Holds}
 use Rattle.register_desk.specs.declared.desk.Desk.{Desk}
@@ -66,40 +66,40 @@ module _ {S : Type 0} (g : store.Ghosts S) where
   -- a desk that breaks behind that
   pub then_broken : (old mid new : Desk S g) → ChangesNothing g old mid → KeepsAll mid new → IsBroken new → ChangesNothing g old new
   then_broken old mid new nothing same broken = record {
-    clean = λ clean. nothing.clean (subst (λ c. HasCleanDisk (state g c)) same.connection clean);
+    clean = λ clean. nothing.clean (subst (λ c. HasCleanDisk (seen g c)) same.connection clean);
     counts = record { latest = same.counts.latest ∙ nothing.counts.latest; keys = same.counts.keys ∙ nothing.counts.keys };
     rows = λ t sees whole. absurd (let both = sym broken ∙ whole in cc);
-    stop = λ t sees whole clean. subst (λ c. Leaves t (state g c)) (sym same.connection) (nothing.stop t sees whole (subst (λ c. HasCleanDisk (state g c)) same.connection clean));
+    stop = λ t sees whole clean. subst (λ c. Leaves t (seen g c)) (sym same.connection) (nothing.stop t sees whole (subst (λ c. HasCleanDisk (seen g c)) same.connection clean));
   }
 
   -- ---- a reading of the store
 
-  module _ {T : Type 0} (Found : Tables → T → Type 0) (old new : Desk S g) (after : Held S) (r : Result T StoreError) (whole : IsWhole old) (reads : ReadsBy Found (state g old.connection) (state g after) r)
+  module _ {T : Type 0} (Found : Tables → T → Type 0) (old new : Desk S g) (after : Counted S g) (r : Result T StoreError) (whole : IsWhole old) (reads : ReadsBy Found (seen g old.connection) (seen g after) r)
       (same : new.connection ≡ after) (counts : KeepsCounts old new) where
-    early : IsClean g new → HasCleanDisk (state g after)
-    early clean = subst (λ c. HasCleanDisk (state g c)) same clean
+    early : IsClean g new → HasCleanDisk (seen g after)
+    early clean = subst (λ c. HasCleanDisk (seen g c)) same clean
 
-    kept_before : (t : Tables) → Sees g t old → IsClean g new → Keeps t (state g old.connection)
+    kept_before : (t : Tables) → Sees g t old → IsClean g new → Keeps t (seen g old.connection)
     kept_before t sees clean = sees whole (reads.clean (early clean))
 
     -- a stop leaves what it left before
-    leaves_still : (t : Tables) → Sees g t old → IsClean g new → Leaves t (state g new.connection)
+    leaves_still : (t : Tables) → Sees g t old → IsClean g new → Leaves t (seen g new.connection)
     leaves_still t sees clean =
         let kept = kept_before t sees clean in
-        let left : Leaves t (state g after) = λ trees may. elim ((reads.survives (early clean) t kept.holds).crash (early clean) trees may) [
+        let left : Leaves t (seen g after) = λ trees may. elim ((reads.survives (early clean) t kept.holds).crash (early clean) trees may) [
           | inl before ↦ kept.leaves trees before
           | inr none ↦ absurd none
         ] in
-        subst (λ c. Leaves t (state g c)) (sym same) left
+        subst (λ c. Leaves t (seen g c)) (sym same) left
 
     -- where nothing was changed, the connection keeps what it kept
-    keeps_still : (t : Tables) → Sees g t old → IsClean g new → IsUnchanged (state g old.connection) (state g after) → Keeps t (state g new.connection)
+    keeps_still : (t : Tables) → Sees g t old → IsClean g new → IsUnchanged (seen g old.connection) (seen g after) → Keeps t (seen g new.connection)
     keeps_still t sees clean unchanged =
         let kept = kept_before t sees clean in
-        let now = kept_still t (state g old.connection) (state g after) kept unchanged (reads.survives (early clean) t kept.holds) (early clean) in
-        subst (λ c. Keeps t (state g c)) (sym same) now
+        let now = kept_still t (seen g old.connection) (seen g after) kept unchanged (reads.survives (early clean) t kept.holds) (early clean) in
+        subst (λ c. Keeps t (seen g c)) (sym same) now
 
-    only_read : (IsWhole new → (t : Tables) → Sees g t old → IsClean g new → IsUnchanged (state g old.connection) (state g after)) → ChangesNothing g old new
+    only_read : (IsWhole new → (t : Tables) → Sees g t old → IsClean g new → IsUnchanged (seen g old.connection) (seen g after)) → ChangesNothing g old new
     only_read unchanged = record {
       clean = λ clean. reads.clean (early clean);
       counts = counts;
@@ -108,28 +108,28 @@ module _ {S : Type 0} (g : store.Ghosts S) where
     }
 
   -- what was found is of the tables that the desk saw
-  module _ {T : Type 0} (Found : Tables → T → Type 0) (old : Desk S g) (after : Held S) (value : T) (whole : IsWhole old) (reads : ReadsBy Found (state g old.connection) (state g after) (Ok value))
-      (t : Tables) (sees : Sees g t old) (clean : HasCleanDisk (state g after)) where
-    found_so : Found t value × IsUnchanged (state g old.connection) (state g after)
+  module _ {T : Type 0} (Found : Tables → T → Type 0) (old : Desk S g) (after : Counted S g) (value : T) (whole : IsWhole old) (reads : ReadsBy Found (seen g old.connection) (seen g after) (Ok value))
+      (t : Tables) (sees : Sees g t old) (clean : HasCleanDisk (seen g after)) where
+    found_so : Found t value × IsUnchanged (seen g old.connection) (seen g after)
     found_so = reads.found clean t (sees whole (reads.clean clean)).holds
 
     pub found_in : Found t value
     found_in = found_so.0
 
-    unchanged_in : IsUnchanged (state g old.connection) (state g after)
+    unchanged_in : IsUnchanged (seen g old.connection) (seen g after)
     unchanged_in = found_so.1
 
-  pub read_well : {T : Type 0} (Found : Tables → T → Type 0) (old new : Desk S g) (after : Held S) (value : T) → IsWhole old → ReadsBy Found (state g old.connection) (state g after) (Ok value)
+  pub read_well : {T : Type 0} (Found : Tables → T → Type 0) (old new : Desk S g) (after : Counted S g) (value : T) → IsWhole old → ReadsBy Found (seen g old.connection) (seen g after) (Ok value)
       → new.connection ≡ after → KeepsCounts old new → ChangesNothing g old new
   read_well Found old new after value whole reads same counts = only_read Found old new after (Ok value) whole reads same counts
-      (λ still t sees clean. unchanged_in Found old after value whole reads t sees (subst (λ c. HasCleanDisk (state g c)) same clean))
+      (λ still t sees clean. unchanged_in Found old after value whole reads t sees (subst (λ c. HasCleanDisk (seen g c)) same clean))
 
   -- the desk goes on only where memory gave out
-  pub read_failed : {T : Type 0} (Found : Tables → T → Type 0) (old new : Desk S g) (after : Held S) (error : StoreError) → IsWhole old → ReadsBy Found (state g old.connection) (state g after) (Err error)
+  pub read_failed : {T : Type 0} (Found : Tables → T → Type 0) (old new : Desk S g) (after : Counted S g) (error : StoreError) → IsWhole old → ReadsBy Found (seen g old.connection) (seen g after) (Err error)
       → new.connection ≡ after → KeepsCounts old new → (IsWhole new → error ≡ Memory) → ChangesNothing g old new
   read_failed Found old new after error whole reads same counts memory = only_read Found old new after (Err error) whole reads same counts
       (λ still t sees clean.
-      let clean_after : HasCleanDisk (state g after) = subst (λ c. HasCleanDisk (state g c)) same clean in
+      let clean_after : HasCleanDisk (seen g after) = subst (λ c. HasCleanDisk (seen g c)) same clean in
       (reads.failed clean_after t (sees whole (reads.clean clean_after)).holds).unchanged (memory still))
 
 -- ---- ends
@@ -149,7 +149,7 @@ ends_by_error old new NoRegister end whole memory refused = let it = refused (λ
 
 -- after an end 31 of a call that reads, a stop leaves the tables that the desk saw
 pub leaves_seen : {S : Type 0} (g : store.Ghosts S) (old new : Desk S g) (t : Tables) (end : End) → ChangesNothing g old new → EndsBy old new end → Sees g t old → IsClean g new → end ≡ ends.Store
-    → Leaves t (state g new.connection)
+    → Leaves t (seen g new.connection)
 leaves_seen g old new t ends.Store nothing by sees clean is = nothing.stop t sees by.0 clean
 leaves_seen g old new t ends.Memory nothing by sees clean is = absurd cc
 leaves_seen g old new t ends.Broken nothing by sees clean is = absurd cc

@@ -8,7 +8,7 @@ use Rattle.std.proofs.lemmas.List.Sums.{fold-append}
 use Rattle.std.proofs.lemmas.Grind.{flat_map-append}
 use Rattle.sqlite_trees.specs.declared.store.Store.{Ghosts}
 use Rattle.sqlite.specs.State.{HasCleanDisk}
-use Rattle.sqlite.specs.Held.{state}
+use Rattle.register_store.specs.Reading.{seen}
 use Rattle.register_core.specs.declared.request.Request.{Request}
 use Rattle.register_core.specs.declared.reply.Reply.{Reply}
 use Rattle.register_core.specs.declared.reply.Refusal.{Refusal}
@@ -114,9 +114,9 @@ module _ {S : Type 0} (g : Ghosts S) where
 
   -- the answers, with that of one item more
   answered_more : (v w x : Option (List ℕ)) (kept mid now : Desk S g) (items : List (Option Request)) (item : Option Request) (line : List ℕ)
-      → ((h : List Request) → StandsFor g kept h → HasCleanDisk (state g mid.connection) → Appends v w (answer_lines (answers h items)) × StandsFor g mid (history h items))
+      → ((h : List Request) → StandsFor g kept h → HasCleanDisk (seen g mid.connection) → Appends v w (answer_lines (answers h items)) × StandsFor g mid (history h items))
       → Appends w x line → AnswersItem g mid now item line → WasClean g mid now
-      → (h : List Request) → StandsFor g kept h → HasCleanDisk (state g now.connection) → Appends v x (answer_lines (answers h (items ++ item ∷ []))) × StandsFor g now (history h (items ++ item ∷ []))
+      → (h : List Request) → StandsFor g kept h → HasCleanDisk (seen g now.connection) → Appends v x (answer_lines (answers h (items ++ item ∷ []))) × StandsFor g now (history h (items ++ item ∷ []))
   answered_more v w x kept mid now items item line so_far written answers_it was h stands clean =
       let before = so_far h stands (was clean) in
       let it = answers_it (history h items) before.1 clean in (
@@ -183,7 +183,7 @@ module _ {S : Type 0} (g : Ghosts S) (one : OneRequest) (h : List Request) (byte
     first : take replies all ≡ served.items
     first = first_items all served.items split.more replies split.parts served.counted
 
-    pub answered_so : StandsFor g kept h → HasCleanDisk (state g now.connection) → Answered g h all replies v w now
+    pub answered_so : StandsFor g kept h → HasCleanDisk (seen g now.connection) → Answered g h all replies v w now
     answered_so stands clean =
         let it = served.answered h stands clean in
         record {
@@ -241,7 +241,7 @@ module _ {S : Type 0} (g : Ghosts S) (one : OneRequest) (h : List Request) (byte
       with_it = ap (history h) one_more ∙ history_more h served.items item
 
       -- the line in hand was written in part, and its item applied
-      pub in_part_so : (x : Option (List ℕ)) (after : Desk S g) (n : ℕ) → StandsFor g kept h → HasCleanDisk (state g after.connection) → WritesInPart g now after w x item n → AnsweredInPart g h all replies v x after
+      pub in_part_so : (x : Option (List ℕ)) (after : Desk S g) (n : ℕ) → StandsFor g kept h → HasCleanDisk (seen g after.connection) → WritesInPart g now after w x item n → AnsweredInPart g h all replies v x after
       in_part_so x after n stands clean wrote =
           let before = served.answered h stands (wrote.clean clean) in
           let it = wrote.answers (history h served.items) before.1 clean in
@@ -371,7 +371,7 @@ module _ {S : Type 0} (g : Ghosts S) where
   }
 
   runs_known : OneRequest → (h : List Request) (bytes : List ℕ) (all : List (Option Request)) (rest : List ℕ) (old new : Option (List ℕ)) (kept now : Desk S g) (replies : ℕ) (end : Finish) →
-      HasItems bytes all rest → StandsFor g kept h → HasCleanDisk (state g now.connection) → ServesTo g (Some bytes) old new kept now replies end → RunsOver g h all rest end replies old new now
+      HasItems bytes all rest → StandsFor g kept h → HasCleanDisk (seen g now.connection) → ServesTo g (Some bytes) old new kept now replies end → RunsOver g h all rest end replies old new now
   runs_known one h bytes all rest old new kept now replies (AtEnd left) has stands clean serves =
       let ended = ended_so g one h bytes all rest has serves.middle old new kept now replies serves.served serves.after serves.rest serves.unbroken serves.consumed serves.at_end in
       (answered_so g one h bytes all rest has serves.middle old new kept now replies serves.served stands clean, ended.0, serves.counted ∙ ended.1)
@@ -390,12 +390,12 @@ module _ {S : Type 0} (g : Ghosts S) where
       let leaves = stop.leaves (history h items) (serves.served.answered h stands (stop.clean clean)).1 clean in (
         answered_so g one h bytes all rest has serves.middle old new kept now replies still stands clean,
         record { request = stop.request; next = at ∙ ap (λ i. Some i) stop.is; broken = stop.broken },
-        subst (λ (k : List Request). LeavesOneOf k (history h (take (replies + 1) all)) (state g now.connection)) (sym behind)
-            (subst (λ (k : List Request). LeavesOneOf (history h items) k (state g now.connection)) (sym (ahead ∙ ap (history_after (history h items)) stop.is)) leaves),
+        subst (λ (k : List Request). LeavesOneOf k (history h (take (replies + 1) all)) (seen g now.connection)) (sym behind)
+            (subst (λ (k : List Request). LeavesOneOf (history h items) k (seen g now.connection)) (sym (ahead ∙ ap (history_after (history h items)) stop.is)) leaves),
       )
   runs_known one h bytes all rest old new kept now replies (Ended Broken) has stands clean serves =
       let stop = serves.leaves.0 in
-      let still = served_still (Some bytes) serves.middle old serves.so_far new kept serves.mid now replies serves.served serves.leaves.1 (λ k it. subst (λ (d : Desk S g). StandsFor g d k) (sym stop.same) it) (λ clean. subst (λ (d : Desk S g). HasCleanDisk (state g d.connection)) stop.same clean) (λ broken. stop.same) in
+      let still = served_still (Some bytes) serves.middle old serves.so_far new kept serves.mid now replies serves.served serves.leaves.1 (λ k it. subst (λ (d : Desk S g). StandsFor g d k) (sym stop.same) it) (λ clean. subst (λ (d : Desk S g). HasCleanDisk (seen g d.connection)) stop.same clean) (λ broken. stop.same) in
       let at = there g one h bytes all rest has serves.middle old serves.so_far kept serves.mid replies serves.served serves.after serves.line serves.item serves.next in (
         answered_so g one h bytes all rest has serves.middle old new kept now replies still stands clean,
         record { request = stop.request; next = at ∙ ap (λ i. Some i) stop.is; broken = stop.broken },
@@ -404,13 +404,13 @@ module _ {S : Type 0} (g : Ghosts S) where
       in_part_so g one h bytes all rest has serves.middle old serves.so_far kept serves.mid replies serves.served serves.after serves.line serves.item serves.next new now serves.part stands clean serves.leaves
 
   pub runs_so : OneRequest → (h : List Request) (bytes : List ℕ) (all : List (Option Request)) (rest : List ℕ) (before old new : Option (List ℕ)) (kept now : Desk S g) (replies : ℕ) (end : Finish) →
-      before ≡ Some bytes → HasItems bytes all rest → StandsFor g kept h → HasCleanDisk (state g now.connection) → ServesTo g before old new kept now replies end → RunsOver g h all rest end replies old new now
+      before ≡ Some bytes → HasItems bytes all rest → StandsFor g kept h → HasCleanDisk (seen g now.connection) → ServesTo g before old new kept now replies end → RunsOver g h all rest end replies old new now
   runs_so one h bytes all rest before old new kept now replies end known has stands clean serves =
       runs_known one h bytes all rest old new kept now replies end has stands clean (subst (λ b. ServesTo g b old new kept now replies end) known serves)
 
   -- ---- a run over bytes that nobody tells, by how it ended
 
-  pub some_so : (h : List Request) (before old new : Option (List ℕ)) (kept now : Desk S g) (replies : ℕ) (end : Finish) → StandsFor g kept h → HasCleanDisk (state g now.connection) → ServesTo g before old new kept now replies end
+  pub some_so : (h : List Request) (before old new : Option (List ℕ)) (kept now : Desk S g) (replies : ℕ) (end : Finish) → StandsFor g kept h → HasCleanDisk (seen g now.connection) → ServesTo g before old new kept now replies end
       → StandsForSome g h replies end now
   some_so h before old new kept now replies (AtEnd left) stands clean serves =
       record { items = serves.served.items; counted = omega (arith, serves.served.counted); stands = (serves.served.answered h stands clean).1 }
@@ -424,7 +424,7 @@ module _ {S : Type 0} (g : Ghosts S) where
       record { items = serves.served.items; counted = omega (arith, serves.served.counted); stands = stop.stands _ (serves.served.answered h stands (stop.clean clean)).1 }
   some_so h before old new kept now replies (Ended Broken) stands clean serves =
       let same = serves.leaves.0.same in
-      let early = subst (λ (d : Desk S g). HasCleanDisk (state g d.connection)) same clean in
+      let early = subst (λ (d : Desk S g). HasCleanDisk (seen g d.connection)) same clean in
       record {
         items = serves.served.items;
         counted = omega (arith, serves.served.counted);

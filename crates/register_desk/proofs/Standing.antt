@@ -6,7 +6,7 @@ use Rattle.sqlite_trees.specs.declared.store.Store as store
 use Rattle.sqlite.specs.Tree.{Trees}
 use Rattle.sqlite.specs.Effect.{Database}
 use Rattle.sqlite.specs.State.{HasCleanDisk}
-use Rattle.sqlite.specs.Held.{state}
+use Rattle.register_store.specs.Reading.{seen}
 use Rattle.sql_steps.specs.Steps.{TransactsBy}
 use Rattle.sql_steps.proofs.Stepping.{leaves_alone}
 use Rattle.register_core.specs.declared.change.Change.{Change}
@@ -16,18 +16,21 @@ use Rattle.register_core.specs.declared.reply.Reply.{Reply}
 use Rattle.register_core.specs.declared.reply.Refusal.TheVariants.{Full}
 use Rattle.register_core.specs.declared.request.Request.{Request}
 use Rattle.register_core.specs.declared.view.Held.{Held}
-use Rattle.register_core.specs.Decision.{change_by, IsViewOf, LeadsTo}
+use Rattle.register_core.specs.Decision.{change_by, LeadsTo}
 use Rattle.register_core.specs.Fold.{history_after}
 use Rattle.register_core.specs.History.{latest, count}
 use Rattle.register_core.specs.KeptReply.{reply, kept_with, kept_of, IsKeptReply}
 use Rattle.register_core.specs.Laws.{IsAccepted}
 use Rattle.register_core.specs.Subject.{Subject, Makes, Names, NoKey, subject, count_by, made_by}
+use Rattle.register_core.specs.Need.{needed_key, Suffices}
 use Rattle.register_core.specs.Request.{IsRequest}
 use Rattle.register_core.specs.Verdict.{Verdict, Accepts, judge, max_keys, named_key, too_many, verdict, is_accepted}
 use Rattle.register_core.proofs.Histories.{count_grows, latest_grows}
 use Rattle.register_core.proofs.Kept.{kept_here}
 use Rattle.register_core.proofs.Lawful.{lawful_after, lawful_with}
+use Rattle.register_core.proofs.Needed.{changed_so}
 use Rattle.register_core.proofs.Refusals.{passes}
+use Rattle.register_core.proofs.Verdicts.{judged}
 use Rattle.register_core.proofs.Subjects.{is_registration, registers}
 use Rattle.register_store.specs.Change.{made_count}
 use Rattle.register_store.specs.Tables.{Tables}
@@ -43,14 +46,14 @@ use Rattle.register_desk.proofs.Grows.{all_right, tables_grow, change_counts, ke
 -- the desk after the key was read: it stands for the history, and what a decision rests on is the history's view
 pub record Viewed {S : Type 0} (g : store.Ghosts S) (desk : Desk S g) (h : List Request) (q : Request) (key : Option Held) : Type 0 where
   pub stands : StandsFor g desk h
-  pub named : key ≡ named_key h q.command
-  pub view : IsViewOf (record { latest = desk.latest; keys = desk.keys; key = key }) h q.command
+  pub needed : key ≡ needed_key h q
+  pub view : Suffices (record { latest = desk.latest; keys = desk.keys; key = key }) h q
 
-pub viewed : {S : Type 0} (g : store.Ghosts S) (desk : Desk S g) (h : List Request) (q : Request) (key : Option Held) → StandsFor g desk h → (IsClean g desk → key ≡ named_key h q.command) → IsClean g desk
+pub viewed : {S : Type 0} (g : store.Ghosts S) (desk : Desk S g) (h : List Request) (q : Request) (key : Option Held) → StandsFor g desk h → (IsClean g desk → key ≡ needed_key h q) → IsClean g desk
     → Viewed g desk h q key
-viewed g desk h q key stands named clean =
-    let is = named clean in
-    record { stands = stands; named = is; view = record { latest_is = stands.latest_is; keys_are = stands.keys_are; key_is = is } }
+viewed g desk h q key stands needed clean =
+    let is = needed clean in
+    record { stands = stands; needed = is; view = record { latest_is = stands.latest_is; keys_are = stands.keys_are; key_is = is } }
 
 -- where a request is accepted, there is room for what it makes
 pub room_left : (last keys : ℕ) (key : Option Held) (q : Request) (change : Change) → keys ≤ max_keys → judge last keys key q ≡ None → change ≡ change_by key q → keys + made_count change ≤ max_keys
@@ -72,7 +75,7 @@ room_left last keys key q change within accepted is =
     by NoKey none = omega arith
 
 module _ {S : Type 0} (g : store.Ghosts S) (old : Desk S g) (h : List Request) (q : Request) (request : IsRequest q) (stands : StandsFor g old h) (accepted : verdict h q ≡ Accepts)
-    (change : Change) (key : Option Held) (key_is : key ≡ named_key h q.command) (change_is : change ≡ change_by key q) (leads : LeadsTo h q change)
+    (change : Change) (key : Option Held) (key_is : key ≡ needed_key h q) (change_is : change ≡ change_by key q) (leads : LeadsTo h q change)
     (given : Reply) (given_is : given ≡ reply h q) where
   abbrev grown : List Request
   grown = h ++ q ∷ []
@@ -84,7 +87,7 @@ module _ {S : Type 0} (g : store.Ghosts S) (old : Desk S g) (h : List Request) (
   Made = tabled.Makes (CanTake old.keys old.latest (kept_with q given)) (with_request old.keys change (kept_with q given))
 
   is_change : change ≡ change_by (named_key h q.command) q
-  is_change = change_is ∙ ap (λ (k : Option Held). change_by k q) key_is
+  is_change = change_is ∙ ap (λ (k : Option Held). change_by k q) key_is ∙ changed_so h q (judged h q accepted)
 
   -- what the request makes of the tables of the history are those of the history with it
   made_holds : (before after : Database) → Holds (tables h) before → Made before after → Holds (tables grown) after
@@ -104,22 +107,22 @@ module _ {S : Type 0} (g : store.Ghosts S) (old : Desk S g) (h : List Request) (
   counted_after : made_count change ≡ made_by q.command
   counted_after = ap made_count change_is ∙ change_counts key q
 
-  module _ {A E : Type 0} (new : Desk S g) (r : Result A E) (whole : old.is_broken ≡ false) (written : TransactsBy Made (state g old.connection) (state g new.connection) r) where
-    early : HasCleanDisk (state g new.connection) → HasCleanDisk (state g old.connection)
+  module _ {A E : Type 0} (new : Desk S g) (r : Result A E) (whole : old.is_broken ≡ false) (written : TransactsBy Made (seen g old.connection) (seen g new.connection) r) where
+    early : HasCleanDisk (seen g new.connection) → HasCleanDisk (seen g old.connection)
     early clean = omega (arith, written.stop.clean)
 
     -- after a failure a stop leaves the one or the other
-    pub leaves_one : HasCleanDisk (state g new.connection) → LeavesOneOf h (history_after h (Some q)) (state g new.connection)
+    pub leaves_one : HasCleanDisk (seen g new.connection) → LeavesOneOf h (history_after h (Some q)) (seen g new.connection)
     leaves_one clean trees may =
         let kept = stands.sees whole (early clean) in
         elim (written.stop.crash clean trees may) [
           | inl before ↦ let it = kept.leaves trees before in (it.0, inl it.1, it.2)
           | inr after ↦
-              let holds = made_holds (state g old.connection).now after.0 kept.holds after.1 in
+              let holds = made_holds (seen g old.connection).now after.0 kept.holds after.1 in
               (after.0, inr (subst (λ (k : List Request). Holds (tables k) after.0) (sym after_is) holds), after.2)
         ]
 
-  pub stands_after : {A E : Type 0} (new : Desk S g) (r : Result A E) → old.is_broken ≡ false → TransactsBy Made (state g old.connection) (state g new.connection) r
+  pub stands_after : {A E : Type 0} (new : Desk S g) (r : Result A E) → old.is_broken ≡ false → TransactsBy Made (seen g old.connection) (seen g new.connection) r
       → ((s : S) (db : Trees) → IsTrue (g.view s).is_open → g.recovers s db → db ≡ (g.view s).committed)
       → OnOk r (new.latest ≡ given.moment) → OnOk r (new.keys ≡ old.keys + made_count change) → OnOk r (StandsFor g new (history_after h (Some q)))
   stands_after new (Err e) whole written settled moment counted = tt
@@ -128,21 +131,21 @@ module _ {S : Type 0} (g : store.Ghosts S) (old : Desk S g) (h : List Request) (
     latest_is = moment ∙ ap (λ (r : Reply). r.moment) given_is ∙ sym (latest_grows h q) ∙ ap latest (sym after_is);
     keys_are = counted ∙ ap (λ (n : ℕ). n + made_count change) stands.keys_are ∙ ap (λ (n : ℕ). count h + n) counted_after ∙ sym (count_grows h q) ∙ ap count (sym after_is);
     sees = λ still clean.
-        let clean_before : HasCleanDisk (state g old.connection) = omega (arith, written.stop.clean) in
+        let clean_before : HasCleanDisk (seen g old.connection) = omega (arith, written.stop.clean) in
         let kept = stands.sees whole clean_before in
         let did = written.accepted clean in
-        let holds : Holds (tables grown) (state g new.connection).now = made_holds (state g old.connection).now (state g new.connection).now kept.holds did.0 in
-        let holds_after = subst (λ (k : List Request). Holds (tables k) (state g new.connection).now) (sym after_is) holds in
+        let holds : Holds (tables grown) (seen g new.connection).now = made_holds (seen g old.connection).now (seen g new.connection).now kept.holds did.0 in
+        let holds_after = subst (λ (k : List Request). Holds (tables k) (seen g new.connection).now) (sym after_is) holds in
         record {
           is_open = did.3;
           holds = holds_after;
           committed = did.1;
-          leaves = λ trees may. ((state g new.connection).now, holds_after, leaves_alone g settled Made (state g old.connection) new.connection (Ok x) written clean trees may);
+          leaves = λ trees may. ((seen g new.connection).now, holds_after, leaves_alone g settled Made (seen g old.connection) new.connection.connection (Ok x) written clean trees may);
         };
   }
 
 -- where a stop leaves the tables, nothing is left of the request
-pub leaves_before : {S : Type 0} (g : store.Ghosts S) (new : Desk S g) (t : Tables) (q : Request) → Leaves t (state g new.connection) → LeavesWithRequest g t q new
+pub leaves_before : {S : Type 0} (g : store.Ghosts S) (new : Desk S g) (t : Tables) (q : Request) → Leaves t (seen g new.connection) → LeavesWithRequest g t q new
 leaves_before g new t q before = record {
   change = Nothing;
   reply = record { key = 0; state = None; moment = q.moment };
@@ -153,14 +156,14 @@ leaves_before g new t q before = record {
 -- whatever tables the desk is over, a stop leaves them or what the change makes of them
 pub leaves_request : {S A E : Type 0} (g : store.Ghosts S) (old new : Desk S g) (t : Tables) (q : Request) (change : Change) (given : Reply) (r : Result A E) → old.is_broken ≡ false → Sees g t old
     → length t.keys ≡ old.keys → AreRightAt old.latest t → IsKeptReply (kept_with q given) → given.moment ≡ q.moment
-    → TransactsBy (tabled.Makes (CanTake old.keys old.latest (kept_with q given)) (with_request old.keys change (kept_with q given))) (state g old.connection) (state g new.connection) r → IsClean g new
+    → TransactsBy (tabled.Makes (CanTake old.keys old.latest (kept_with q given)) (with_request old.keys change (kept_with q given))) (seen g old.connection) (seen g new.connection) r → IsClean g new
     → LeavesWithRequest g t q new
 leaves_request g old new t q change given r whole sees counted right in_range at written clean = record {
   change = change;
   reply = given;
   at = at;
   leaves = λ trees may.
-      let early : HasCleanDisk (state g old.connection) = omega (arith, written.stop.clean) in
+      let early : HasCleanDisk (seen g old.connection) = omega (arith, written.stop.clean) in
       let kept = sees whole early in
       elim (written.stop.crash clean trees may) [
         | inl before ↦ let it = kept.leaves trees before in (it.0, inl it.1, it.2)

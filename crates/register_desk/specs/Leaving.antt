@@ -1,13 +1,14 @@
 -- What the calls of a desk leave.
-use Rattle.std.specs.Prelude.{◌≡◌, true, false, List, length, Result, MatchResult}
+use Rattle.std.specs.Prelude.{◌≡◌, ℕ, true, false, List, length, Result, MatchResult}
 use Rattle.sqlite_trees.specs.declared.store.Store.{Ghosts}
 use Rattle.sqlite.specs.State.{HasCleanDisk}
-use Rattle.sqlite.specs.Held.{Held as Connection, state}
+use Rattle.sqlite.specs.Held.{Held as Connection}
 use Rattle.register_core.specs.declared.change.Change.{Change}
 use Rattle.register_core.specs.declared.reply.Reply.{Reply}
 use Rattle.register_core.specs.declared.request.Request.{Request}
 use Rattle.register_core.specs.KeptReply.{kept_with}
 use Rattle.register_store.specs.Tables.{Tables}
+use Rattle.register_store.specs.Reading.{Calls, seen}
 use Rattle.register_desk.specs.declared.desk.Desk.{Desk}
 use Rattle.register_desk.specs.declared.end.End.{End}
 use Rattle.register_desk.specs.declared.end.End.TheVariants.{Memory, Store, Broken, ReadFault, WriteFault}
@@ -24,7 +25,7 @@ module _ {S : Type 0} {g : Ghosts S} where
   IsBroken desk = desk.is_broken ≡ true
 
   abbrev pub connection_of : Desk S g → Connection S
-  connection_of desk = desk.connection
+  connection_of desk = desk.connection.connection
 
   -- ---- ends
 
@@ -45,22 +46,30 @@ module _ {S : Type 0} {g : Ghosts S} where
   abbrev pub Ends : {T : Type 0} → Desk S g → Desk S g → Result T End → Type 0
   Ends old new result = MatchResult result (λ _. IsWhole old × IsWhole new) (EndsBy old new)
 
+-- the steps that the database has taken for the desk
+abbrev pub steps_of : {S : Type 0} {g : Ghosts S} → Desk S g → ℕ
+steps_of desk = desk.connection.steps
+
+-- at most this many of them between the one and the other
+abbrev pub TakesSteps : {S : Type 0} {g : Ghosts S} → ℕ → Desk S g → Desk S g → Type 0
+TakesSteps most old new = Calls most old.connection new.connection
+
 -- the disk has given back what was written
 abbrev pub IsClean : {S : Type 0} → (g : Ghosts S) → Desk S g → Type 0
-IsClean g desk = HasCleanDisk (state g desk.connection)
+IsClean g desk = HasCleanDisk (seen g desk.connection)
 
 -- ---- what stands, and what a stop leaves
 
 -- a stop leaves the register of one of these two histories
 abbrev pub LeavesEither : {S : Type 0} → (g : Ghosts S) → List Request → List Request → Desk S g → Type 0
-LeavesEither g h other desk = LeavesOneOf h other (state g desk.connection)
+LeavesEither g h other desk = LeavesOneOf h other (seen g desk.connection)
 
 -- a stop leaves these tables, or what some change makes of them with which the request was accepted, at its moment
 pub record LeavesWithRequest {S : Type 0} (g : Ghosts S) (t : Tables) (q : Request) (desk : Desk S g) : Type 0 where
   pub change : Change
   pub reply : Reply
   pub at : reply.moment ≡ q.moment
-  pub leaves : LeavesEitherOf t (with_request (length t.keys) change (kept_with q reply) t) (state g desk.connection)
+  pub leaves : LeavesEitherOf t (with_request (length t.keys) change (kept_with q reply) t) (seen g desk.connection)
 
 -- the latest moment and the number of keys are as they were
 pub record KeepsCounts {S : Type 0} {g : Ghosts S} (old new : Desk S g) : Type 0 where
@@ -72,4 +81,4 @@ pub record ChangesNothing {S : Type 0} (g : Ghosts S) (old new : Desk S g) : Typ
   pub clean : IsClean g new → IsClean g old
   pub counts : KeepsCounts old new
   pub rows : (t : Tables) → Sees g t old → Sees g t new
-  pub stop : (t : Tables) → Sees g t old → IsWhole old → IsClean g new → Leaves t (state g new.connection)
+  pub stop : (t : Tables) → Sees g t old → IsWhole old → IsClean g new → Leaves t (seen g new.connection)

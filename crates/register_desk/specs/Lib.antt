@@ -1,3 +1,4 @@
+pub mod Custody
 pub mod End
 pub mod Register
 pub mod Leaving

@@ -5,7 +5,7 @@ use Rattle.sqlite_trees.specs.declared.store.Store.{Ghosts}
 use Rattle.sqlite.specs.Tree.{Trees}
 use Rattle.sqlite.specs.Effect.{Database}
 use Rattle.sqlite.specs.State.{State, HasCleanDisk}
-use Rattle.sqlite.specs.Held.{state}
+use Rattle.register_store.specs.Reading.{seen}
 use Rattle.lifecycle_core.specs.State.{state_at}
 use Rattle.register_core.specs.declared.request.Request.{Request}
 use Rattle.register_core.specs.History.{latest, registrations, count, type, dates, owner}
@@ -64,7 +64,7 @@ pub record Keeps (t : Tables) (s : State) : Type 0 where
 
 -- the desk sees these tables, as long as it is whole and the disk has given back what was written
 abbrev pub Sees : {S : Type 0} → (g : Ghosts S) → Tables → Desk S g → Type 0
-Sees g t desk = desk.is_broken ≡ false → HasCleanDisk (state g desk.connection) → Keeps t (state g desk.connection)
+Sees g t desk = desk.is_broken ≡ false → HasCleanDisk (seen g desk.connection) → Keeps t (seen g desk.connection)
 
 -- the desk sees these tables, whatever history they are of if any, and knows what they count; each key is in the state
 -- that its dates give, as the tests of opening have it

@@ -3,7 +3,7 @@ use Rattle.std.specs.Prelude.{◌≡◌, ◌≢◌, ℕ, ◌+◌, ◌≤◌, tru
 use Rattle.std.specs.List.{AllByRecursion}
 use Rattle.std.specs.Io.KnownBytes.{Appends, Consumes, IsAtEnd}
 use Rattle.sqlite_trees.specs.declared.store.Store.{Ghosts}
-use Rattle.sqlite.specs.Held.{state}
+use Rattle.register_store.specs.Reading.{seen}
 use Rattle.register_core.specs.declared.request.Request.{Request}
 use Rattle.register_core.specs.declared.reply.Reply.{Reply}
 use Rattle.register_core.specs.declared.reply.Refusal.{Refusal}
@@ -150,7 +150,7 @@ pub record StandsForSome {S : Type 0} (g : Ghosts S) (h : List Request) (replies
 
 -- a stop leaves the register without the next item's request, or with it where it is to be accepted
 abbrev pub LeavesNext : {S : Type 0} → (g : Ghosts S) → List Request → List (Option Request) → ℕ → Desk S g → Type 0
-LeavesNext g h items replies desk = LeavesOneOf (history h (take replies items)) (history h (take (replies + 1) items)) (state g desk.connection)
+LeavesNext g h items replies desk = LeavesOneOf (history h (take replies items)) (history h (take (replies + 1) items)) (seen g desk.connection)
 
 -- how a run over these items leaves things, by how it ended
 abbrev pub RunsOver : {S : Type 0} → (g : Ghosts S) → List Request → List (Option Request) → List ℕ → Finish → ℕ → Option (List ℕ) → Option (List ℕ) → Desk S g → Type 0

@@ -4,7 +4,7 @@ use Rattle.std.specs.List.{AllByRecursion}
 use Rattle.std.specs.Io.KnownBytes.{Consumes, Appends, IsAtEnd}
 use Rattle.sqlite_trees.specs.declared.store.Store.{Ghosts}
 use Rattle.sqlite.specs.State.{HasCleanDisk}
-use Rattle.sqlite.specs.Held.{state}
+use Rattle.register_store.specs.Reading.{seen}
 use Rattle.register_core.specs.declared.request.Request.{Request}
 use Rattle.register_core.specs.Request.{IsItem}
 use Rattle.register_core.specs.Fold.{history, history_after, answers, answer_to}
@@ -40,11 +40,11 @@ module _ {S : Type 0} (g : Ghosts S) where
   -- the item was applied, and this is the line of its answer
   abbrev pub AnswersItem : Desk S g → Desk S g → Option Request → List ℕ → Type 0
   AnswersItem kept now item line =
-      (h : List Request) → StandsFor g kept h → HasCleanDisk (state g now.connection) → (line ≡ answer_line (answer_to h item)) × StandsFor g now (history_after h item)
+      (h : List Request) → StandsFor g kept h → HasCleanDisk (seen g now.connection) → (line ≡ answer_line (answer_to h item)) × StandsFor g now (history_after h item)
 
   -- a disk that is clean was so before
   abbrev pub WasClean : Desk S g → Desk S g → Type 0
-  WasClean kept now = HasCleanDisk (state g now.connection) → HasCleanDisk (state g kept.connection)
+  WasClean kept now = HasCleanDisk (seen g now.connection) → HasCleanDisk (seen g kept.connection)
 
   -- a broken desk answers no request
   abbrev pub IsQuiet : Desk S g → Option Request → List ℕ → Type 0
@@ -66,7 +66,7 @@ module _ {S : Type 0} (g : Ghosts S) where
     pub was : kept.is_broken ≡ false
     pub broken : now.is_broken ≡ true
     pub stands : (h : List Request) → StandsFor g kept h → StandsFor g now h
-    pub leaves : (h : List Request) → StandsFor g kept h → HasCleanDisk (state g now.connection) → LeavesOneOf h (history_after h (Some request)) (state g now.connection)
+    pub leaves : (h : List Request) → StandsFor g kept h → HasCleanDisk (seen g now.connection) → LeavesOneOf h (history_after h (Some request)) (seen g now.connection)
     pub clean : WasClean kept now
 
   -- the desk was broken when the item came, and nothing changed
@@ -129,7 +129,7 @@ module _ {S : Type 0} (g : Ghosts S) where
     pub items : List (Option Request)
     pub took : Took before after lines items
     pub counted : length items ≡ replies
-    pub answered : (h : List Request) → StandsFor g kept h → HasCleanDisk (state g now.connection) → Appends old new (answer_lines (answers h items)) × StandsFor g now (history h items)
+    pub answered : (h : List Request) → StandsFor g kept h → HasCleanDisk (seen g now.connection) → Appends old new (answer_lines (answers h items)) × StandsFor g now (history h items)
     pub clean : WasClean kept now
     pub quiet : kept.is_broken ≡ true → Quiet kept now old new items
 

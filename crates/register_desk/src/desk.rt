@@ -1,6 +1,7 @@
 //! The register over a database, and the only way to change it.
 ghost use Rattle.std.specs.Prelude.{◌≡◌, ◌≤◌, false};
 ghost use Rattle.register_core.specs.Verdict.{max_keys};
+ghost use Rattle.register_desk.specs.Custody.{without_custody};
 
 use crate::commit::{commit_request, keys_after};
 use crate::end::End;
@@ -9,10 +10,10 @@ use crate::record::Record;
 use lifecycle_core::{Usage, usage_of};
 use moment_core::Moment;
 use register_core::{
-    Accept, Answer, Command, Held, KeptReply, Name, Purpose, Refusal, Request, RequestNumber, View,
-    decide,
+    Accept, Answer, Command, Held, KeptReply, Key, Name, Names, Purpose, Refusal, Request,
+    RequestNumber, View, decide,
 };
-use register_store::{StoreError, check, create, find_request, find_row, load_key};
+use register_store::{Counted, StoreError, check, create, find_request, find_row, load_key};
 use sqlite::{Alter, Connection};
 use std::alloc::Global;
 
@@ -23,11 +24,10 @@ use std::alloc::Global;
 #[derive(Drop)]
 pub struct Desk<S: Alter> {
     alloc: Global,
-    connection: Connection<S>,
+    connection: Counted<S>,
     latest: Moment,
     keys: u32,
     is_broken: bool,
-    ghost idle: { connection.in_transaction ≡ false },
     ghost within: { keys ≤ max_keys },
 }
 
@@ -40,25 +40,30 @@ impl<S: Alter> Desk<S> {
     ghost use Rattle.register_core.specs.Request.{IsRequest, has_text};
     ghost use Rattle.register_core.specs.History.{latest, count};
     ghost use Rattle.register_core.specs.KeptReply.{kept_with};
-    ghost use Rattle.register_core.specs.Verdict.{answer, named_key};
+    ghost use Rattle.register_core.specs.Verdict.{answer};
     ghost use Rattle.register_core.specs.Decision.{IsRightKey};
     ghost use Rattle.register_core.specs.Fold.{IsLawful, history};
-    ghost use Rattle.sql_steps.specs.Steps.{Transacts};
+    ghost use Rattle.sql_steps.specs.Steps.{TransactsBy};
     ghost use Rattle.register_store.specs.Change.{made_count};
     ghost use Rattle.register_store.specs.Creation.{Finds};
     ghost use Rattle.register_store.specs.Schema.{no_schema};
     ghost use Rattle.register_store.specs.Tables.{Tables};
     ghost use Rattle.register_store.specs.Making.{Makes};
+    ghost use Rattle.register_store.specs.Reading.{HasRow, seen};
     ghost use Rattle.register_core.specs.Answer.{UnlessAccepted};
     ghost use Rattle.register_desk.specs.Leaving.{IsWhole, IsBroken, IsClean, Ends, EndsBy};
     ghost use Rattle.register_desk.specs.Leaving.{ChangesNothing, KeepsCounts, LeavesEither};
     ghost use Rattle.register_desk.specs.Leaving.{LeavesWithRequest, connection_of};
+    ghost use Rattle.register_desk.specs.Leaving.{steps_of, TakesSteps};
     ghost use Rattle.register_desk.specs.Opening.{CreatesNothing, IsReasonOf, OpensOver};
     ghost use Rattle.register_desk.specs.Opening.{RefusesNoTable};
     ghost use Rattle.register_desk.specs.Register.{IsOver, HasCommitted, StandsFor, tables};
     ghost use Rattle.register_desk.specs.Shown.{shown, usage};
     ghost use Rattle.register_desk.specs.Step.{CanTake, with_request};
     ghost use Rattle.register_desk.specs.Loading.{KeepsAll, IsKeptUnder, IsNew, loaded};
+    ghost use Rattle.std.specs.Option.{option_map};
+    ghost use Rattle.register_core.specs.Custody.{held};
+    ghost use Rattle.register_core.specs.Need.{needed_key, needed_of};
 
     /// Makes an empty register in the database, which has none yet.
     ///
@@ -84,7 +89,7 @@ impl<S: Alter> Desk<S> {
         match create(&mut connection) {
             Ok(()) => Ok(Desk {
                 alloc,
-                connection,
+                connection: Counted::new(connection),
                 latest: Moment::new(0).unwrap(),
                 keys: 0,
                 is_broken: false,
@@ -122,14 +127,14 @@ impl<S: Alter> Desk<S> {
         ensures idle { IfErr result (λ unopened. unopened.connection.in_transaction ≡ false) }
         // A stop leaves what it left before.
         ensures stop { IfOk result (λ desk.
-            Survives (state S.Store connection) (state S.Store desk.connection) (λ _. ⊥)) }
+            Survives (state S.Store connection) (seen S.Store desk.connection) (λ _. ⊥)) }
         ensures stop_refused { IfErr result (λ unopened.
             Survives (state S.Store connection) (state S.Store unopened.connection) (λ _. ⊥)) }
     {
         match check(alloc, &mut connection) {
             Ok(found) => Ok(Desk {
                 alloc,
-                connection,
+                connection: Counted::new(connection),
                 latest: found.latest,
                 keys: found.keys,
                 is_broken: false,
@@ -153,7 +158,7 @@ impl<S: Alter> Desk<S> {
             keys: _,
             is_broken: _,
         } = self;
-        connection
+        connection.into_connection()
     }
 
     /// The moment of the latest accepted request, 0 before the first. Of a broken desk it is the one before the call
@@ -169,6 +174,13 @@ impl<S: Alter> Desk<S> {
         ensures { (h : List Request) → StandsFor S.Store self.now h → result ≡ count h }
     {
         self.keys
+    }
+
+    /// How many calls of the database the desk has made, and rows these have handed out, up to 2^64 - 1.
+    pub fn steps(&self) -> u64
+        ensures { result ≡ steps_of self.now }
+    {
+        self.connection.steps()
     }
 
     /// Applies a request: it is accepted, and then acts and is kept, or refused, and then changes nothing. A request that
@@ -205,6 +217,9 @@ impl<S: Alter> Desk<S> {
         ensures tables { (t : Tables) → IsOver S.Store self.old t → IsRequest request.now
             → IsClean S.Store self.new → IfErr result (λ end. end ≡ End.Store
             → LeavesWithRequest S.Store t request.now self.new) }
+        // However many keys there are.
+        ensures steps { (h : List Request) → StandsFor S.Store self.old h
+            → IsClean S.Store self.new → TakesSteps 30 self.old self.new }
     {
         if self.is_broken {
             return Err(End::Broken);
@@ -223,6 +238,7 @@ impl<S: Alter> Desk<S> {
         requires { IsWhole self.old }
         ensures ends { Ends self.old self.new result }
         ensures reads { ChangesNothing S.Store self.old self.new }
+        ensures steps { TakesSteps 2 self.old self.new }
         ensures kept { (h : List Request) → StandsFor S.Store self.old h → IsClean S.Store self.new
             → IfOk result (IsKeptUnder h caller.now number) }
     {
@@ -238,6 +254,7 @@ impl<S: Alter> Desk<S> {
         requires { IsWhole self.old }
         ensures ends { Ends self.old self.new result }
         ensures reads { ChangesNothing S.Store self.old self.new }
+        ensures steps { TakesSteps 2 self.old self.new }
         ensures kept { (h : List Request) → StandsFor S.Store self.old h → IsClean S.Store self.new
             → IfOk result (IsKeptUnder h caller.now number) }
     {
@@ -269,8 +286,10 @@ impl<S: Alter> Desk<S> {
         ensures tables { (t : Tables) → IsOver S.Store self.old t → IsRequest request.now
             → IsClean S.Store self.new → IfErr result (λ end. end ≡ End.Store
             → LeavesWithRequest S.Store t request.now self.new) }
+        ensures steps { (h : List Request) → StandsFor S.Store self.old h
+            → IsClean S.Store self.new → TakesSteps 28 self.old self.new }
     {
-        let key = self.named(&request.command)?;
+        let key = self.needed_key(request)?;
         let view = View {
             latest: self.latest,
             keys: self.keys,
@@ -285,21 +304,48 @@ impl<S: Alter> Desk<S> {
         }
     }
 
-    /// The key that the command names, if it names one that is there, in its state at the latest moment.
-    fn named(&mut self, command: &Command) -> Result<Option<Held>, End>
+    /// What the decision on the request needs of the key that it names, as that stands at the latest moment.
+    fn needed_key(&mut self, request: &Request) -> Result<Option<Held>, End>
         requires { IsWhole self.old }
         ensures ends { Ends self.old self.new result }
         ensures reads { ChangesNothing S.Store self.old self.new }
+        ensures steps { (h : List Request) → StandsFor S.Store self.old h
+            → IsClean S.Store self.new → TakesSteps 20 self.old self.new }
         ensures right { IfOk result (λ key. IsRightKey key self.old.latest) }
-        ensures named { (h : List Request) → StandsFor S.Store self.old h → IsClean S.Store self.new
-            → IfOk result (λ key. key ≡ named_key h command.now) }
+        ensures needed { (h : List Request) → StandsFor S.Store self.old h → IsClean S.Store self.new
+            → IfOk result (λ key. key ≡ needed_key h request.now) }
     {
-        let Some(number) = command.key() else {
+        if request.moment < self.latest {
+            return Ok(None);
+        }
+        let Some(number) = request.command.key() else {
             return Ok(None);
         };
-        match self.load(number)? {
-            Some((held, _)) if held.row.is_right_at(self.latest) => Ok(Some(held)),
+        match self.load_for(&request.command, number)? {
+            Some(held) if held.row.is_right_at(self.latest) => Ok(Some(held)),
             Some(_) => Err(self.end_by(StoreError::NoRegister)),
+            None => Ok(None),
+        }
+    }
+
+    /// The key with this number as it stands in the tables, with its custody where a decision on the command looks at it.
+    fn load_for(&mut self, command: &Command, number: u32) -> Result<Option<Held>, End>
+        requires { IsWhole self.old }
+        ensures ends { Ends self.old self.new result }
+        ensures reads { ChangesNothing S.Store self.old self.new }
+        ensures steps { (h : List Request) → StandsFor S.Store self.old h
+            → IsClean S.Store self.new → TakesSteps 20 self.old self.new }
+        ensures loaded { (h : List Request) → StandsFor S.Store self.old h → IsClean S.Store self.new
+            → IfOk result (λ key. key ≡ option_map (needed_of command.now) (held h number)) }
+    {
+        if command.looks_at_custody() {
+            return match self.load(number)? {
+                Some((held, _)) => Ok(Some(held)),
+                None => Ok(None),
+            };
+        }
+        match self.find(number)? {
+            Some(key) => Ok(Some(without_custody(self.alloc, key))),
             None => Ok(None),
         }
     }
@@ -310,9 +356,10 @@ impl<S: Alter> Desk<S> {
         requires later { self.old.latest ≤ accept.now.reply.moment }
         requires room { self.old.keys + made_count accept.now.change ≤ max_keys }
         ensures written { let kept = kept_with request.now accept.now.reply in
-            Transacts S.Store (Makes (CanTake self.old.keys self.old.latest kept)
+            TransactsBy (Makes (CanTake self.old.keys self.old.latest kept)
             (with_request self.old.keys accept.now.change kept))
-            self.old.connection self.new.connection result }
+            (seen S.Store self.old.connection) (seen S.Store self.new.connection) result }
+        ensures steps { TakesSteps 8 self.old self.new }
         ensures latest { OnOk result (self.new.latest ≡ accept.now.reply.moment) }
         ensures keys { OnOk result
             (self.new.keys ≡ self.old.keys + made_count accept.now.change) }
@@ -367,9 +414,24 @@ impl<S: Alter> Desk<S> {
         if self.is_broken {
             return Err(End::Broken);
         }
+        match self.find(number)? {
+            Some(key) => Ok(Some(usage_of(&key.row.dates, self.latest))),
+            None => Ok(None),
+        }
+    }
+
+    /// The row of the key with this number as it stands in the tables.
+    fn find(&mut self, number: u32) -> Result<Option<Key>, End>
+        requires { IsWhole self.old }
+        ensures ends { Ends self.old self.new result }
+        ensures reads { ChangesNothing S.Store self.old self.new }
+        ensures steps { TakesSteps 2 self.old self.new }
+        ensures no_memory { result ≢ Err End.Memory }
+        ensures found { (h : List Request) → StandsFor S.Store self.old h → IsClean S.Store self.new
+            → IfOk result (HasRow number (tables h)) }
+    {
         match find_row(&mut self.connection, number) {
-            Ok(Some(key)) => Ok(Some(usage_of(&key.row.dates, self.latest))),
-            Ok(None) => Ok(None),
+            Ok(found) => Ok(found),
             Err(_) => Err(self.end_by(StoreError::NoRegister)),
         }
     }
@@ -378,6 +440,8 @@ impl<S: Alter> Desk<S> {
     fn load(&mut self, number: u32) -> Result<Option<(Held, Purpose)>, End>
         ensures ends { Ends self.old self.new result }
         ensures reads { ChangesNothing S.Store self.old self.new }
+        ensures steps { (h : List Request) → StandsFor S.Store self.old h
+            → IsClean S.Store self.new → TakesSteps 20 self.old self.new }
         ensures loaded { (h : List Request) → StandsFor S.Store self.old h
             → IsClean S.Store self.new → IfOk result (λ found. found ≡ loaded h number) }
     {
@@ -404,5 +468,18 @@ impl<S: Alter> Desk<S> {
             self.is_broken = true;
             End::Store
         }
+    }
+}
+
+/// The key, with nobody in its custody.
+fn without_custody(alloc: Global, key: Key) -> Held
+    ensures { result ≡ without_custody key }
+{
+    Held {
+        kind: key.kind,
+        owner: key.owner,
+        row: key.row,
+        custodians: Names::from_vec(Vec::new(alloc)),
+        approvals: Names::from_vec(Vec::new(alloc)),
     }
 }

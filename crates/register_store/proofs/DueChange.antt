@@ -9,7 +9,6 @@ use Rattle.sqlite.specs.Listing.{understood}
 use Rattle.sqlite.specs.Order.{Row as Cells}
 use Rattle.sqlite.specs.State.{State as View, Executes}
 use Rattle.sqlite.specs.Term.{Term, lit, col, op2}
-use Rattle.sqlite_schema.specs.declared.schema.Index.{Index}
 use Rattle.sqlite_sql.specs.declared.ops.BinaryOp.TheVariants.{Compare}
 use Rattle.sqlite_sql.specs.declared.ops.CompareOp.TheVariants.{Eq, Le}
 use Rattle.sqlite_tied.specs.Compute.{everything}
@@ -25,7 +24,7 @@ use Rattle.register_store.specs.Tables.{IsKey, date_cell, numbered, unset}
 use Rattle.register_store.specs.Schema.{Holds}
 use Rattle.register_store.specs.Making.{Makes, Always, in_state}
 use Rattle.register_store.specs.Due.{is_due, activated, deactivated, with_each}
-use Rattle.register_store.proofs.KeyChange.{IsUpdate, changed_where, changes_keys, image_of, passes_row}
+use Rattle.register_store.proofs.KeyChange.{IsUpdate, changed_where, changes_keys}
 
 abbrev pub activate_text : List ℕ
 activate_text = codes "UPDATE keys SET state = 2 WHERE state = 1 AND activation <= ?1"

@@ -1,5 +1,5 @@
 -- Two moves, one after the other, bring each key to its state at a later moment.
-use Rattle.std.proofs.Common.{◌≡◌, ◌≤◌, ◌==◌, ◌&&◌, ◌∙◌, cond, inl, inr, ℕ, Bool, true, false, not, List, [], ◌∷◌, map, Option, Some, None, is_some, refl, sym, ap, subst, nat_le, arith}
+use Rattle.std.proofs.Common.{◌≡◌, ◌≤◌, ◌==◌, ◌&&◌, ◌∙◌, cond, inl, inr, ℕ, Bool, true, false, not, List, [], ◌∷◌, map, Option, Some, None, is_some, refl, ap, subst, nat_le, arith}
 use Rattle.std.proofs.lemmas.Bool.Decides.{leb_tells}
 use Rattle.std.specs.List.{AllByRecursion}
 use Rattle.sqlite.specs.Effect.{Database}
@@ -10,7 +10,6 @@ use Rattle.lifecycle_core.specs.State.{state_at, state_code, is_reached_at}
 use Rattle.lifecycle_core.specs.Row.{IsRightAt}
 use Rattle.sql_steps.specs.Steps.{Then}
 use Rattle.register_core.specs.declared.key.Key.{Key}
-use Rattle.register_store.specs.Tables.{Tables}
 use Rattle.register_store.specs.Schema.{Holds}
 use Rattle.register_store.specs.Making.{Makes, Always, AreRightAt, advanced, in_state, with_keys_advanced}
 use Rattle.register_store.specs.Due.{activated, deactivated, with_each}

@@ -1,37 +1,40 @@
 -- What an UPDATE of keys does: of the one with a number, or of any others.
-use Rattle.std.proofs.Common.{◌≡◌, ◌==◌, ℕ, ◌+◌, pos, List, [], ◌∷◌, codes, map, Bool, cond, Ok, true, false, refl, sym, ap, subst, ◌∙◌}
+use Rattle.std.proofs.Common.{◌≡◌, ◌==◌, ℕ, ◌+◌, pos, List, [], ◌∷◌, codes, map, Bool, cond, Ok, Option, Some, not, ◌&&◌, true, false, refl, sym, ap, ap₂, subst, ◌∙◌}
 use Rattle.std.proofs.Math.Bool.{and-true}
 use Rattle.std.specs.List.{AllByRecursion, enumerate_from}
+use Rattle.sqlite.specs.declared.types.Value.{Value}
 use Rattle.sqlite.specs.declared.types.Value.TheVariants.{Null, Int, Text as Words}
 use Rattle.sqlite.specs.Collation.TheVariants.{Binary}
 use Rattle.sqlite.specs.Command.TheVariants.{Update}
 use Rattle.sqlite.specs.Listing.{understood}
 use Rattle.sqlite.specs.Order.{Row as Cells}
 use Rattle.sqlite.specs.State.{State as View, Executes}
-use Rattle.sqlite.specs.Term.{Term, lit, col, op2}
+use Rattle.sqlite.specs.Ops.{from_truth, is_true, unary}
+use Rattle.sqlite.specs.Term.{Term, eval, lit, col, op1, op2}
 use Rattle.sqlite.specs.Tree.{IsTable}
 use Rattle.sqlite.proofs.Callers.{IsPlain, command_of}
 use Rattle.sqlite_schema.specs.declared.schema.Index.{Index}
 use Rattle.sqlite_sql.specs.declared.ops.BinaryOp.TheVariants.{Compare}
 use Rattle.sqlite_sql.specs.declared.ops.CompareOp.TheVariants.{Eq}
+use Rattle.sqlite_sql.specs.declared.ops.UnaryOp.TheVariants.{Not}
 use Rattle.sqlite_tied.specs.Compute.{everything}
 use Rattle.sql_steps.proofs.Changing as changing
 use Rattle.sql_steps.proofs.Updates as typed
-use Rattle.sql_steps.proofs.Comparing.{equal_numbers}
+use Rattle.sql_steps.proofs.Comparing.{equal_integers, equal_numbers, equal_texts, opposite}
 use Rattle.sql_steps.proofs.Statements.{plain_query, cast_int, cast_null}
 use Rattle.moment_core.specs.Moment.{IsMoment}
 use Rattle.lifecycle_core.specs.declared.dates.Dates.{Dates}
 use Rattle.lifecycle_core.specs.declared.row.Row.{Row}
-use Rattle.lifecycle_core.specs.declared.state.State.{State}
 use Rattle.lifecycle_core.specs.State.{state_code}
 use Rattle.register_core.specs.declared.key.Key.{Key}
 use Rattle.register_core.specs.Name.{IsName}
 use Rattle.register_store.specs.declared.table.TableName.TheVariants.{Keys}
 use Rattle.register_store.specs.Tables.{keys, place_of, tree_of, AreDates, IsKey, date_cell, key_row, numbered}
-use Rattle.register_store.specs.Schema.{schema_with, rows_of}
-use Rattle.register_store.specs.Making.{Makes, Always, held_by, with_key_at}
+use Rattle.register_store.specs.Schema.{schema_with, Holds, rows_of}
+use Rattle.register_store.specs.Making.{Makes, Always, held_by, where_number, with_key_at}
 use Rattle.register_store.proofs.Actions.{keys_idle}
 use Rattle.register_store.proofs.Frame.{holds_with}
+use Rattle.register_store.proofs.KeyStands.{joined, stands, stands_so, where_it_differs}
 use Rattle.register_store.proofs.Numbers.{is_table}
 
 -- the text gives the rows that pass other cells
@@ -90,16 +93,16 @@ module _ (sql : List ℕ) (passes shown : List Term) (parts : IsUpdate sql passe
 -- ---- what an accepted request can change
 
 abbrev pub key_text : List ℕ
-key_text = codes "UPDATE keys SET owner = ?2, state = ?3, activation = ?4, protect_stop = ?5, deactivation = ?6, destroyed = ?7, compromised = ?8, occurrence = ?9 WHERE number = ?1"
+key_text = codes "UPDATE keys SET owner = ?2, state = ?3, activation = ?4, protect_stop = ?5, deactivation = ?6, destroyed = ?7, compromised = ?8, occurrence = ?9 WHERE number = ?1 AND NOT (owner = ?2 AND state = ?3 AND activation = ?4 AND protect_stop = ?5 AND deactivation = ?6 AND destroyed = ?7 AND compromised = ?8 AND occurrence = ?9)"
 
--- the rowid is the one that is given first
-abbrev has_number : List Term
-has_number = op2 (Compare Eq Binary) (col 1 0) (col 0 0) ∷ []
+-- the rowid is the one that is given first, and the key stands otherwise than it is to
+abbrev differs : List Term
+differs = op2 (Compare Eq Binary) (col 1 0) (col 0 0) ∷ op1 Not stands_so ∷ []
 
 abbrev key_shown : List Term
 key_shown = col 1 0 ∷ lit Null ∷ col 1 2 ∷ col 0 1 ∷ col 1 4 ∷ col 0 2 ∷ col 1 6 ∷ col 0 3 ∷ col 0 4 ∷ col 0 5 ∷ col 0 6 ∷ col 0 7 ∷ col 0 8 ∷ []
 
-key_parts : IsUpdate key_text has_number key_shown
+key_parts : IsUpdate key_text differs key_shown
 unfolding understood everything
 key_parts more = (refl, (refl, refl))
 
@@ -116,8 +119,33 @@ AreLaterDates d = (initial : ℕ) → IsMoment initial → AreDates (record d { 
 stays_key : (owner : List ℕ) (row : Row) → IsName owner → AreLaterDates row.dates → (k : Key) → IsKey k → IsKey (held_by owner row k)
 stays_key owner row name dates k is = record { owner = name; purpose = is.purpose; dates = dates k.row.dates.initial is.dates.initial }
 
-pub updates_key : (number : ℕ) (owner : List ℕ) (row : Row) → IsName owner → AreLaterDates row.dates → (old new : View) (count : ℕ) → Executes key_text (key_params number owner row) old new (Ok count)
-    → Makes Always (with_key_at number (held_by owner row)) old.now new.now
-updates_key number owner row name dates =
-    changes_keys key_text has_number key_shown key_parts (key_params number owner row) (λ p. p.0 == number) (held_by owner row) (stays_key owner row name dates)
-    (λ p. rw (equal_numbers p.0 number) (and-true (p.0 == number))) (λ p. simp (cast_int, cast_null))
+module _ (number : ℕ) (owner : List ℕ) (row : Row) where
+  abbrev is_to_change : ℕ × Key → Bool
+  is_to_change p = (p.0 == number) && not (stands owner row p.1)
+
+  condition_is : (k : Key) → eval stands_so (key_params number owner row ∷ key_row (number, k) ∷ []) ≡ from_truth (Some (stands owner row k))
+  condition_is k =
+      let d = row.dates in
+      let e = k.row.dates in
+      let date = λ (a b : Option ℕ). equal_integers (date_cell a) (date_cell b) in
+      joined _ _ _ _ (joined _ _ _ _ (joined _ _ _ _ (joined _ _ _ _ (joined _ _ _ _ (joined _ _ _ _
+      (joined _ _ _ _ (equal_texts k.owner owner) (equal_integers (state_code k.row.state) (state_code row.state)))
+      (date e.activation d.activation)) (date e.protect_stop d.protect_stop)) (date e.deactivation d.deactivation)) (date e.destroy d.destroy)) (date e.compromise d.compromise))
+      (date e.compromise_occurrence d.compromise_occurrence)
+
+  all_alike : AreLaterDates row.dates → (n : ℕ) (ks : List Key) → AllByRecursion IsKey ks
+      → map (changed_where is_to_change (held_by owner row)) (enumerate_from n ks) ≡ map (where_number number (held_by owner row)) (enumerate_from n ks)
+  all_alike dates n [] all = refl
+  all_alike dates n (k ∷ ks) all =
+      let head = where_it_differs number owner row (n, k) all.0 (dates k.row.dates.initial all.0.dates.initial) in
+      let tail = all_alike dates (n + 1) ks all.1 in
+      λ i. head i ∷ tail i
+
+  pub updates_key : IsName owner → AreLaterDates row.dates → (old new : View) (count : ℕ) → Executes key_text (key_params number owner row) old new (Ok count)
+      → Makes Always (with_key_at number (held_by owner row)) old.now new.now
+  updates_key name dates old new count ran t holds always =
+      let made = changes_keys key_text differs key_shown key_parts (key_params number owner row) is_to_change (held_by owner row) (stays_key owner row name dates)
+      (λ p. ap₂ (λ (a : Bool) (v : Value). a && (is_true (unary Not v) && true)) (equal_numbers p.0 number) (condition_is p.1)
+      ∙ ap (λ (b : Bool). (p.0 == number) && b) (and-true _ ∙ opposite (stands owner row p.1)))
+      (λ p. simp (cast_int, cast_null)) old new count ran in
+      subst (λ ks. Holds (record t { keys = ks }) new.now) (all_alike dates 1 t.keys (holds.in_range Keys)) (made t holds tt)

@@ -7,10 +7,12 @@ pub mod RequestFound
 pub mod Actions
 pub mod EntryRows
 pub mod EachTable
+pub mod EachIndex
 pub mod Frame
 pub mod Creating
 pub mod Numbers
 pub mod KeyRow
+pub mod KeyStands
 pub mod KeyChange
 pub mod CountsRow
 pub mod EntryAdded

@@ -1,6 +1,7 @@
 -- What the searches for the names of a key's custodians and approvals find.
-use Rattle.std.proofs.Common.{◌≡◌, ◌≢◌, ℕ, pos, List, [], ◌∷◌, map, filter, drop, codes, Result, Ok, Err, IfOk, IfErr, refl, sym, ap, subst, ◌∙◌}
-use Rattle.std.proofs.lemmas.List.Sorted.{IsPermutation-map, IsPermutation-sym, IsPermutation-trans}
+use Rattle.std.proofs.Common.{◌≡◌, ◌≢◌, ℕ, pos, List, [], ◌∷◌, length, map, filter, drop, codes, Result, Ok, Err, IfOk, IfErr, refl, sym, ap, subst, ◌∙◌}
+use Rattle.std.proofs.lemmas.List.Sorted.{IsPermutation-map, IsPermutation-sym, IsPermutation-trans, length_permutation}
+use Rattle.std.proofs.lemmas.List.{length-map}
 use Rattle.std.specs.List.Sorted.{IsPermutation}
 use Rattle.sqlite.specs.declared.error.Error.{Error}
 use Rattle.sqlite.specs.declared.types.Value.{Value}
@@ -101,6 +102,12 @@ module _ (sql : List ℕ) (tree : ℕ) (search_is : IsNameSearch sql tree) (key 
         let all = gives_all sql params old new (schema_with more) holds.schema.is tree at_key name_shown name_column (search_is.is more) (search_is.plain more) (search_is.unlisted more)
         (search_is.low old.now.trees) rows asked in
         IsPermutation-trans _ _ _ (IsPermutation-sym _ _ (IsPermutation-map (λ (row : Cells). column row 0) _ _ all)) (found_names (entries_of t) (old.now.trees tree) (shown t old holds))
+
+    -- the rows are as many as the names
+    pub rows_counted : (t : Tables) → Holds t old.now → (rows : List Cells) → Shown sql params old new rows → length rows ≡ length (names_at key (entries_of t))
+    rows_counted t holds rows asked =
+        let names = names_at key (entries_of t) in
+        sym (length-map rows (λ (row : Cells). column row 0)) ∙ sym (length_permutation _ (map Words names) (shown_names t holds rows asked)) ∙ length-map names Words
 
     -- what is read of it is the names, in order
     found_so : (t : Tables) → Holds t old.now → (rows : List Cells) (q : Result (List (List ℕ)) StoreError) → IfOk q (AreNamesOf rows) → Shown sql params old new rows

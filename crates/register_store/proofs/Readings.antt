@@ -1,5 +1,5 @@
 -- What calls that only read do, one by one and one after the other.
-use Rattle.std.proofs.Common.{◌≡◌, ◌≢◌, ℕ, List, [], false, Result, Ok, Err, IfOk, IfErr, sym, subst, arith}
+use Rattle.std.proofs.Common.{◌≡◌, ◌≢◌, ◌≤◌, ◌+◌, ℕ, List, [], false, Result, Ok, Err, IfOk, IfErr, sym, subst, arith}
 use Rattle.std.specs.Prelude.{IsErrAnd}
 use Rattle.sqlite.specs.Command.TheVariants.{Select}
 use Rattle.sqlite.specs.Listing.{understood, reads_listing}
@@ -14,7 +14,9 @@ use Rattle.sqlite_schema.specs.declared.schema.Index.{Index}
 use Rattle.sql_steps.proofs.Statements.{plain_query}
 use Rattle.register_store.specs.declared.error.StoreError.{StoreError}
 use Rattle.register_store.specs.declared.error.StoreError.TheVariants.{Memory, NoRegister}
-use Rattle.register_store.specs.Reading.{ReadFails, ReadsBy}
+use Rattle.sqlite_trees.specs.declared.store.Store.{Ghosts}
+use Rattle.register_store.specs.declared.counted.Counted.{Counted}
+use Rattle.register_store.specs.Reading.{seen, CallsOver, ReadFails, ReadsBy}
 use Rattle.register_store.specs.Tables.{Tables}
 use Rattle.register_store.specs.Schema.{schema_with, Holds}
 
@@ -93,3 +95,15 @@ module _ {A B : Type 0} (First : Tables → A → Type 0) (Next : Tables → B �
     survives = λ clean t holds. survives_then a b c (λ _. ⊥) (λ _. ⊥) (λ _. ⊥) (λ _ _ none. none) (λ _ _ none. none)
         (one.survives (two.clean clean) t holds) (two.survives clean t (held clean t holds));
   }
+
+-- the steps of one reading and another
+pub calls_then : {S A B : Type 0} (g : Ghosts S) (First : Tables → A → Type 0) (Next : Tables → B → Type 0) (a b c : Counted S g) (x : A) (r : Result B StoreError) (m n : Tables → ℕ)
+    → ReadsBy First (seen g a) (seen g b) (Ok x) → ReadsBy Next (seen g b) (seen g c) r → CallsOver g m a b → CallsOver g n b c → CallsOver g (λ t. m t + n t) a c
+calls_then g First Next a b c x r m n one two first next clean t holds =
+    let p = first (two.clean clean) t holds in
+    let q = next clean t (held First Next (seen g a) (seen g b) (seen g c) x r one two clean t holds) in
+    record { risen = omega (arith, p.risen, q.risen); within = omega (arith, p.within, q.within) }
+
+-- a greater bound
+pub calls_weaker : {S : Type 0} (g : Ghosts S) (a b : Counted S g) (m n : Tables → ℕ) → ((t : Tables) → m t ≤ n t) → CallsOver g m a b → CallsOver g n a b
+calls_weaker g a b m n more first clean t holds = let p = first clean t holds in record { risen = p.risen; within = omega (arith, p.within, more t) }

@@ -1,5 +1,5 @@
--- Making the tables of a register, one after the other.
-use Rattle.std.specs.Prelude.{◌≡◌, ◌<◌, ℕ, Bool, true, false, List, [], length, Ok, IsTrue}
+-- Making the tables of a register and the indexes of due keys, one after the other.
+use Rattle.std.specs.Prelude.{◌≡◌, ◌<◌, ℕ, Bool, true, false, List, [], length, take, Ok, IsTrue}
 use Rattle.sqlite.specs.Effect.{Database}
 use Rattle.sqlite.specs.Held.{Held as Connection, state}
 use Rattle.sqlite.specs.Listing.{understood}
@@ -7,14 +7,22 @@ use Rattle.sqlite.specs.Schema.{Schema}
 use Rattle.sqlite.specs.State.{State, HasCleanDisk, Survives}
 use Rattle.sqlite_trees.specs.declared.store.Store.{Ghosts}
 use Rattle.sqlite_resolve.specs.declared.compiled.Compiled.{Compiled}
-use Rattle.sql_steps.specs.Creating.{Creates}
+use Rattle.sql_steps.specs.Creating.{Creates, Indexes}
+use Rattle.register_store.specs.declared.due_index.DueIndex.{DueIndex}
 use Rattle.register_store.specs.declared.table.TableName.{TableName}
-use Rattle.register_store.specs.Tables.{all_tables, table_of, place_of, count_text, no_rows}
-use Rattle.register_store.specs.Schema.{no_schema, schema_after, Holds, rows_of}
+use Rattle.register_store.specs.Tables.{all_tables, keys, table_of, place_of, count_text, no_rows}
+use Rattle.register_store.specs.Schema.{no_schema, schema_after, schema_with, due_indexes, index_of, index_place, Holds, rows_of}
 
--- an empty database comes to hold an empty register
-abbrev pub MakesEmpty : Database → Database → Type 0
-MakesEmpty old new = old.schema ≡ no_schema → Holds no_rows new
+-- an empty register, whose indexes beside those of the primary keys are those of due keys
+pub record IsNewRegister (db : Database) : Type 0 where
+  pub holds : Holds no_rows db
+  pub indexed : db.schema ≡ schema_with due_indexes
+
+-- an empty database comes to hold one
+abbrev pub MakesRegister : Database → Database → Type 0
+MakesRegister old new = old.schema ≡ no_schema → IsNewRegister new
+
+-- ---- the steps
 
 -- the table is made where those before it are
 abbrev pub MakesTable : TableName → Database → Database → Type 0
@@ -28,9 +36,21 @@ pub record HasFirst (n : ℕ) (db : Database) : Type 0 where
 abbrev pub MakesFirst : ℕ → Database → Database → Type 0
 MakesFirst n old new = old.schema ≡ no_schema → HasFirst n new
 
--- the tables, each empty, come to be those of an empty register
+-- the index of keys is made where the tables and the indexes before it are
+abbrev pub MakesIndex : DueIndex → Database → Database → Type 0
+MakesIndex index = Indexes (schema_with (take (index_place index) due_indexes)) keys (index_of index)
+
+-- all tables are made, each empty, and the first n of the indexes
+pub record HasIndexes (n : ℕ) (db : Database) : Type 0 where
+  pub schema : db.schema ≡ schema_with (take n due_indexes)
+  pub empty : (name : TableName) → rows_of name db ≡ []
+
+abbrev pub MakesIndexes : ℕ → Database → Database → Type 0
+MakesIndexes n old new = HasFirst (length all_tables) old → HasIndexes n new
+
+-- the tables, each empty, come to be those of an empty register, and the indexes stay
 abbrev pub AddsMeta : Database → Database → Type 0
-AddsMeta old new = HasFirst (length all_tables) old → Holds no_rows new
+AddsMeta old new = HasIndexes (length due_indexes) old → IsNewRegister new
 
 -- ---- whether tables are there
 

@@ -6,6 +6,7 @@ pub mod Creation
 pub mod Roles
 pub mod Reading
 pub mod Change
+pub mod Counting
 pub mod Due
 pub mod Tests
 pub mod Checking

@@ -1,11 +1,11 @@
 -- What is read of a register in a database.
-use Rattle.std.specs.Prelude.{◌≡◌, ◌≢◌, ℕ, pos, true, List, [], map, Option, None, Some, Result, Ok, Err, IfOk, IfErr, IsPermutation}
+use Rattle.std.specs.Prelude.{◌≡◌, ◌≢◌, ◌+◌, ℕ, pos, true, List, [], length, map, Option, None, Some, Result, Ok, Err, IfOk, IfErr, IsPermutation}
 use Rattle.std.specs.Option.{option_map}
 use Rattle.sqlite.specs.declared.types.Value.TheVariants.{Int, Text as Words}
 use Rattle.sqlite.specs.Order.{Row, column}
 use Rattle.sqlite.specs.declared.error.Error.{Error}
 use Rattle.sqlite.specs.declared.error.Error.TheVariants.{QueryReturnedNoRows}
-use Rattle.sqlite.specs.Held.{Held as Connection, state}
+use Rattle.sqlite.specs.Held.{state}
 use Rattle.sqlite.specs.State.{State, HasCleanDisk, IsUnchanged, Survives}
 use Rattle.sqlite_rules.specs.Lists.{Has}
 use Rattle.sqlite_trees.specs.declared.store.Store.{Ghosts}
@@ -20,12 +20,14 @@ use Rattle.register_core.specs.KeyName.{names_at}
 use Rattle.register_core.specs.Name.{IsName}
 use Rattle.register_core.specs.Names.{sorted_names}
 use Rattle.register_core.specs.Request.{IsCommand, IsDate, command_text}
+use Rattle.register_store.specs.declared.counted.Counted.{Counted}
 use Rattle.register_store.specs.declared.custody.Role.{Role}
 use Rattle.register_store.specs.declared.error.StoreError.{StoreError}
 use Rattle.register_store.specs.declared.error.StoreError.TheVariants.{Memory, NoRegister}
 use Rattle.register_store.specs.Roles.{names_of}
 use Rattle.register_store.specs.Tables.{Tables, date_cell, state_cell}
 use Rattle.register_store.specs.Schema.{Holds}
+use Rattle.register_store.specs.Counting.{Rises}
 use Rattle.register_store.specs.Making.{key_at}
 
 -- ---- what is found in tables
@@ -36,6 +38,14 @@ HasRow number t found = found ≡ key_at t.keys number
 -- the names with a role at a key, in order
 abbrev pub HasNames : Role → ℕ → Tables → List (List ℕ) → Type 0
 HasNames role key t names = names ≡ sorted_names (names_at key (names_of role t))
+
+-- how many names stand at a key, with each role
+abbrev pub count_at : ℕ → Role → Tables → ℕ
+count_at key role t = length (names_at key (names_of role t))
+
+-- the most steps that reading a key with both lists takes: two for its row, and for each list one and one more a name
+abbrev pub load_steps : ℕ → Tables → ℕ
+load_steps number t = 4 + length (names_at number t.custodians) + length (names_at number t.approvals)
 
 -- a key with its custody, as a decision sees it, and its purpose
 abbrev pub loaded : ℕ → Tables → Key → Held × List ℕ
@@ -69,7 +79,7 @@ pub record ReadFails (old new : State) (error : StoreError) : Type 0 where
   pub unchanged : error ≡ Memory → IsUnchanged old new
   pub registered : error ≢ NoRegister
 
--- Outside one, where the database holds tables and the disk is clean: what is given is found in them, and nothing is
+-- Outside a transaction, where the database holds tables and the disk is clean: what is given is found in them, and nothing is
 -- changed; a failure is as above; a stop leaves what it left before.
 pub record ReadsBy {T : Type 0} (Found : Tables → T → Type 0) (old new : State) (result : Result T StoreError) : Type 0 where
   pub found : HasCleanDisk new → (t : Tables) → Holds t old.now → IfOk result (λ value. Found t value × IsUnchanged old new)
@@ -77,8 +87,20 @@ pub record ReadsBy {T : Type 0} (Found : Tables → T → Type 0) (old new : Sta
   pub clean : HasCleanDisk new → HasCleanDisk old
   pub survives : HasCleanDisk new → (t : Tables) → Holds t old.now → Survives old new (λ _. ⊥)
 
-abbrev pub Reads : {S T : Type 0} → (g : Ghosts S) → (Tables → T → Type 0) → Connection S → Connection S → Result T StoreError → Type 0
-Reads g Found old new result = ReadsBy Found (state g old) (state g new) result
+-- what a counted connection shows
+abbrev pub seen : {S : Type 0} → (g : Ghosts S) → Counted S g → State
+seen g counted = state g counted.connection
+
+-- at most this many steps were taken of it
+abbrev pub Calls : {S : Type 0} → {g : Ghosts S} → ℕ → Counted S g → Counted S g → Type 0
+Calls most old new = Rises most old.steps new.steps
+
+-- the same of a clean disk and tables that it holds, where their content says how many
+abbrev pub CallsOver : {S : Type 0} → (g : Ghosts S) → (Tables → ℕ) → Counted S g → Counted S g → Type 0
+CallsOver g most old new = HasCleanDisk (seen g new) → (t : Tables) → Holds t (seen g old).now → Calls (most t) old new
+
+abbrev pub Reads : {S T : Type 0} → (g : Ghosts S) → (Tables → T → Type 0) → Counted S g → Counted S g → Result T StoreError → Type 0
+Reads g Found old new result = ReadsBy Found (seen g old) (seen g new) result
 
 -- ---- what is read of an answer
 

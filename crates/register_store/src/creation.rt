@@ -1,10 +1,15 @@
-//! Making the tables of a register, and whether they are there.
-ghost use Rattle.std.specs.Prelude.{◌≡◌, false, Err};
+//! Making the tables of a register with its indexes, and whether the tables are there.
+ghost use Rattle.std.specs.Prelude.{◌≡◌, false, Err, length};
 ghost use Rattle.sqlite.specs.Held.{state};
 ghost use Rattle.sql_steps.specs.Steps.{Steps, Transacts};
-ghost use Rattle.register_store.specs.Creation.{MakesEmpty, MakesTable, AddsMeta, HasTable};
+ghost use Rattle.register_store.specs.Tables.{all_tables};
+ghost use Rattle.register_store.specs.Schema.{due_indexes};
+ghost use Rattle.register_store.specs.Creation.{MakesRegister};
+ghost use Rattle.register_store.specs.Creation.{MakesTable, MakesFirst, MakesIndex, MakesIndexes};
+ghost use Rattle.register_store.specs.Creation.{AddsMeta, HasTable};
 ghost use Rattle.register_store.specs.Creation.{Answers, AnswersMeaning, Finds, FindsTable};
 
+use crate::due_index::{DUE_INDEXES, DueIndex};
 use crate::error::CreateError;
 use crate::table::{TABLES, TableName};
 use sqlite::{Alter, Connection, Error, Transaction};
@@ -43,6 +48,15 @@ fn make_table<S: Alter>(tx: &mut Transaction<'_, S>, table: TableName) -> Result
     Ok(())
 }
 
+/// Makes one of the indexes, where the tables and the indexes before it are made.
+fn make_index<S: Alter>(tx: &mut Transaction<'_, S>, index: DueIndex) -> Result<(), Error>
+    ensures same_reference { tx.new.conn.ghost_name ≡ tx.old.conn.ghost_name }
+    ensures made { Steps S.Store (λ _. MakesIndex index) tx.old.conn.now tx.new.conn.now result }
+{
+    tx.execute(index.create_sql(), &[])?;
+    Ok(())
+}
+
 /// Adds the one row of meta: the version of the tables, and that no request was accepted and no key made.
 fn insert_meta<S: Alter>(tx: &mut Transaction<'_, S>) -> Result<usize, Error>
     ensures same_reference { tx.new.conn.ghost_name ≡ tx.old.conn.ghost_name }
@@ -56,37 +70,58 @@ fn insert_meta<S: Alter>(tx: &mut Transaction<'_, S>) -> Result<usize, Error>
 
 fn make_tables<S: Alter>(tx: &mut Transaction<'_, S>) -> Result<(), Error>
     ensures same_reference { tx.new.conn.ghost_name ≡ tx.old.conn.ghost_name }
-    ensures made { Steps S.Store (λ _. MakesEmpty) tx.old.conn.now tx.new.conn.now result }
+    ensures made { Steps S.Store (λ _. MakesFirst (length all_tables))
+        tx.old.conn.now tx.new.conn.now result }
 {
     for table in TABLES {
         make_table(tx, table)?;
     }
+    Ok(())
+}
+
+fn make_indexes<S: Alter>(tx: &mut Transaction<'_, S>) -> Result<(), Error>
+    ensures same_reference { tx.new.conn.ghost_name ≡ tx.old.conn.ghost_name }
+    ensures made { Steps S.Store (λ _. MakesIndexes (length due_indexes))
+        tx.old.conn.now tx.new.conn.now result }
+{
+    for index in DUE_INDEXES {
+        make_index(tx, index)?;
+    }
+    Ok(())
+}
+
+fn make_register<S: Alter>(tx: &mut Transaction<'_, S>) -> Result<(), Error>
+    ensures same_reference { tx.new.conn.ghost_name ≡ tx.old.conn.ghost_name }
+    ensures made { Steps S.Store (λ _. MakesRegister) tx.old.conn.now tx.new.conn.now result }
+{
+    make_tables(tx)?;
+    make_indexes(tx)?;
     insert_meta(tx)?;
     Ok(())
 }
 
-/// Makes the tables where none of them is there.
+/// Makes the register where none of its tables is there.
 fn make_where_none<S: Alter>(tx: &mut Transaction<'_, S>) -> Result<(), CreateError>
     ensures same_reference { tx.new.conn.ghost_name ≡ tx.old.conn.ghost_name }
-    ensures made { Steps S.Store (λ _. MakesEmpty) tx.old.conn.now tx.new.conn.now result }
+    ensures made { Steps S.Store (λ _. MakesRegister) tx.old.conn.now tx.new.conn.now result }
     ensures there { result ≡ Err CreateError.HasTables
         → FindsTable (state S.Store tx.old.conn.now) (state S.Store tx.new.conn.now) }
 {
     if has_one(tx)? {
         return Err(CreateError::HasTables);
     }
-    make_tables(tx)?;
+    make_register(tx)?;
     Ok(())
 }
 
-/// Makes the tables of an empty register, all of them or none, and so over a stop.
+/// Makes the tables of an empty register with their indexes, all of them or none, and so over a stop.
 ///
 /// # Errors
 /// [`CreateError::HasTables`] where one of the tables is there, and [`CreateError::Database`] where the database refused.
 pub fn create<S: Alter>(connection: &mut Connection<S>) -> Result<(), CreateError>
     requires { connection.old.in_transaction ≡ false }
     ensures idle { connection.new.in_transaction ≡ false }
-    ensures made { Transacts S.Store MakesEmpty connection.old connection.new result }
+    ensures made { Transacts S.Store MakesRegister connection.old connection.new result }
     ensures there { result ≡ Err CreateError.HasTables
         → Finds S.Store connection.old connection.new }
 {

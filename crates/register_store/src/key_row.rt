@@ -1,21 +1,23 @@
 //! The row of a key: finding it, adding it, and changing what can change of it.
-ghost use Rattle.std.specs.Prelude.{◌≡◌, ◌≢◌, ◌+◌, false, length, IfOk, IfErr, MatchOption};
+ghost use Rattle.std.specs.Prelude.{◌≡◌, ◌≢◌, ◌+◌, length, IfOk, IfErr, MatchOption};
 ghost use Rattle.sqlite.specs.Held.{state};
-ghost use Rattle.sql_steps.specs.Steps.{Steps};
+ghost use Rattle.sql_steps.specs.Steps.{StepsBy};
 ghost use Rattle.lifecycle_core.specs.declared.dates.Dates.{Dates};
 ghost use Rattle.register_core.specs.declared.key.Key.{Key};
+ghost use Rattle.register_store.specs.Counting.{Takes};
 ghost use Rattle.register_store.specs.Tables.{AreDates, IsKey};
 ghost use Rattle.register_store.specs.Making.{Makes, Always, with_key, with_key_at, held_by};
-ghost use Rattle.register_store.specs.Reading.{HasRow, IsRowOf, Reads};
+ghost use Rattle.register_store.specs.Reading.{Calls, HasRow, IsRowOf, Reads};
 ghost use Rattle.register_store.specs.Reading.{ShowsDates, ShowsKey, ShowsNone};
 
 use crate::cell::{
     DateCell, MomentCell, date_in, kind_in, moment_in, name_in, purpose_in, state_in,
 };
+use crate::counted::{Counted, Inside, StepCount};
 use crate::error::StoreError;
 use lifecycle_core::{Dates, Row};
 use register_core::{Key, Name};
-use sqlite::{Alter, Connection, Error, Transaction, params};
+use sqlite::{Alter, Error, params};
 
 /// The search for the row of a key by its number.
 const FIND_KEY: &str =
@@ -76,28 +78,30 @@ fn key_of(answer: Result<sqlite::Row, Error>) -> Result<Option<Key>, StoreError>
 /// [`StoreError::Database`] where the database refused, and [`StoreError::NoRegister`] where the row is one that no
 /// register holds.
 pub fn find_row<S: Alter>(
-    connection: &mut Connection<S>,
+    connection: &mut Counted<S>,
     number: u32,
 ) -> Result<Option<Key>, StoreError>
-    requires { connection.old.in_transaction ≡ false }
-    ensures idle { connection.new.in_transaction ≡ false }
+    ensures counted { Calls 2 connection.old connection.new }
     ensures reads { Reads S.Store (HasRow number) connection.old connection.new result }
 {
     key_of(connection.query_row(FIND_KEY, params![number]))
 }
 
 /// Adds a key behind the others; `number` is the one that it gets, one more than there are keys.
-pub(crate) fn add_key<S: Alter>(
-    tx: &mut Transaction<'_, S>,
+pub(crate) fn add_key<T: Inside>(
+    tx: &mut T,
+    steps: &mut StepCount,
     number: u32,
     key: &Key,
 ) -> Result<(), StoreError>
-    ensures same_reference { tx.new.conn.ghost_name ≡ tx.old.conn.ghost_name }
-    ensures added { Steps S.Store (λ _. Makes (λ t. number ≡ length t.keys + 1) (with_key key.now))
-        tx.old.conn.now tx.new.conn.now result }
+    ensures same_reference { T.Inside.name tx.new ≡ T.Inside.name tx.old }
+    ensures counted { Takes 1 steps.old steps.new }
+    ensures added { StepsBy (λ _. Makes (λ t. number ≡ length t.keys + 1) (with_key key.now))
+        (T.Inside.sees tx.old) (T.Inside.sees tx.new) result }
 {
     let dates = &key.row.dates;
     tx.execute(
+        steps,
         "INSERT INTO keys (number, kind, owner, purpose, state, initial, activation, protect_stop, deactivation, \
         destroyed, compromised, occurrence) VALUES (?1, ?2, ?3, ?4, ?5, ?6, ?7, ?8, ?9, ?10, ?11, ?12)",
         params![
@@ -118,22 +122,28 @@ pub(crate) fn add_key<S: Alter>(
     Ok(())
 }
 
-/// Gives the key with this number an owner and a row. Its type, its purpose and its Initial Date stay.
-pub(crate) fn update_key<S: Alter>(
-    tx: &mut Transaction<'_, S>,
+/// Gives the key with this number an owner and a row. Its type, its purpose and its Initial Date stay. A row that stands
+/// so already is not written.
+pub(crate) fn update_key<T: Inside>(
+    tx: &mut T,
+    steps: &mut StepCount,
     number: u32,
     owner: &Name,
     row: &Row,
 ) -> Result<(), StoreError>
-    ensures same_reference { tx.new.conn.ghost_name ≡ tx.old.conn.ghost_name }
-    ensures updated { Steps S.Store
+    ensures same_reference { T.Inside.name tx.new ≡ T.Inside.name tx.old }
+    ensures counted { Takes 1 steps.old steps.new }
+    ensures updated { StepsBy
         (λ _. Makes Always (with_key_at number (held_by owner.now row.now)))
-        tx.old.conn.now tx.new.conn.now result }
+        (T.Inside.sees tx.old) (T.Inside.sees tx.new) result }
 {
     let dates = &row.dates;
     tx.execute(
+        steps,
         "UPDATE keys SET owner = ?2, state = ?3, activation = ?4, protect_stop = ?5, deactivation = ?6, \
-        destroyed = ?7, compromised = ?8, occurrence = ?9 WHERE number = ?1",
+        destroyed = ?7, compromised = ?8, occurrence = ?9 WHERE number = ?1 AND NOT (owner = ?2 AND state = ?3 \
+        AND activation = ?4 AND protect_stop = ?5 AND deactivation = ?6 AND destroyed = ?7 AND compromised = ?8 \
+        AND occurrence = ?9)",
         params![
             number,
             owner.text(),

@@ -14,10 +14,12 @@
 mod cell;
 mod change;
 mod checking;
+mod counted;
 mod creation;
 mod custody;
 mod custody_test;
 mod due;
+mod due_index;
 mod error;
 mod found;
 mod key_row;
@@ -30,6 +32,7 @@ mod table;
 
 pub use change::write_change;
 pub use checking::{check, version};
+pub use counted::{Counted, Inside, StepCount, Work};
 pub use creation::create;
 pub use due::advance_due;
 pub use error::{CheckError, CreateError, StoreError};

@@ -1,7 +1,7 @@
 -- From a query inside a transaction to the words for a step, whatever the schema and the text are.
 use Rattle.std.proofs.Common.{◌≡◌, ◌⊎◌, inl, inr, ℕ, List, [], Option, Some, None, cond, true, Ok, Err, Result, IsTrue, IsErr, refl, sym, ap, ◌∙◌}
 use Rattle.sqlite.specs.declared.error.Error.{Error}
-use Rattle.sqlite.specs.declared.error.Error.TheVariants.{SqlInputError, QueryReturnedNoRows}
+use Rattle.sqlite.specs.declared.error.Error.TheVariants.{SqlInputError}
 use Rattle.sqlite_schema.specs.declared.command.Returning.{Returning}
 use Rattle.sqlite.specs.Order.{Row}
 use Rattle.sqlite.specs.Listing.{understood}
@@ -10,7 +10,6 @@ use Rattle.sqlite_trees.specs.declared.error.StoreError.TheVariants.{OutOfMemory
 use Rattle.sqlite.specs.State.{State, HasCleanDisk, QueriesRow, QueriesRowInside, Begins, store_error, FailsToQuery, FailsToShow, Shown, ShowsRows, Shows, IsNotRun, IsUnchanged, IsRolledBack, KeepsCommit, Survives}
 use Rattle.sqlite.proofs.InsideLemmas.{unchanged_keeps}
 use Rattle.sql_steps.specs.Steps.{Change, StepsBy, GoesOn}
-use Rattle.sql_steps.proofs.Queries.{never_store}
 
 never_input : (fault : _) (cause : StoreError) → ¬ ◌≡◌ {A = Error} (SqlInputError fault) (store_error cause)
 never_input fault OutOfMemory e = cc

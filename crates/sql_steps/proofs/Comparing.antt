@@ -1,5 +1,5 @@
 -- Natural numbers and texts in cells are compared as they are.
-use Rattle.std.proofs.Common.{◌≡◌, inl, inr, ◌==◌, ℕ, nat_le, pos, List, Bool, true, false, Some, refl, sym, ap, ◌∙◌, arith}
+use Rattle.std.proofs.Common.{◌≡◌, inl, inr, ◌==◌, ◌&&◌, not, ℕ, nat_le, pos, List, Bool, true, false, Some, refl, sym, ap, ◌∙◌, arith}
 use Rattle.std.proofs.lemmas.Bool.Decides.{eqb_tells, leb_tells}
 use Rattle.std.proofs.lemmas.Int.{ints}
 use Rattle.std.proofs.lemmas.Map.Text.{is_eq-slice_cmp}
@@ -11,10 +11,11 @@ use Rattle.std.specs.declared.cmp.Ordering.{Ordering}
 use Rattle.std.specs.declared.cmp.Ordering.TheVariants.{Less, Equal, Greater}
 use Rattle.sqlite.specs.declared.types.Value.TheVariants.{Int, Text}
 use Rattle.sqlite.specs.Collation.TheVariants.{Binary}
-use Rattle.sqlite.specs.Ops.{binary, from_truth, is_true}
-use Rattle.sqlite_sql.specs.declared.ops.BinaryOp.TheVariants.{Compare}
+use Rattle.sqlite.specs.Ops.{binary, unary, from_truth, is_true}
+use Rattle.sqlite_sql.specs.declared.ops.BinaryOp.TheVariants.{And, Compare}
+use Rattle.sqlite_sql.specs.declared.ops.UnaryOp.TheVariants.{Not}
 use Rattle.sqlite_sql.specs.declared.ops.CompareOp.TheVariants.{Eq, Le}
-use Rattle.sqlite_value.proofs.OrderLemmas.{value_cmp-Text}
+use Rattle.sqlite_value.proofs.OrderLemmas.{value_cmp-Int, value_cmp-Text}
 use Rattle.sql_steps.proofs.Queries.{compares}
 
 same_integer : (m n : ℕ) → is_eq (int_cmp (pos m) (pos n)) ≡ (m == n)
@@ -46,3 +47,26 @@ equal_words a b = ap (λ o. is_true (from_truth (Some (is_eq o)))) (value_cmp-Te
     settled : (v : Bool) → is_true (from_truth (Some v)) ≡ v
     settled true = refl
     settled false = refl
+
+-- ---- conditions of more than one part
+
+-- what a comparison gives, as a value
+pub equal_integers : (m n : ℕ) → binary (Compare Eq Binary) (Int (pos m)) (Int (pos n)) ≡ from_truth (Some (m == n))
+unfolding binary
+equal_integers m n = ap (λ o. from_truth (Some (is_eq o))) (value_cmp-Int (pos m) (pos n)) ∙ ap (λ b. from_truth (Some b)) (same_integer m n)
+
+pub equal_texts : (a b : List ℕ) → binary (Compare Eq Binary) (Text a) (Text b) ≡ from_truth (Some (bytes_eq a b))
+unfolding binary
+equal_texts a b = ap (λ o. from_truth (Some (is_eq o))) (value_cmp-Text a b) ∙ ap (λ b. from_truth (Some b)) (is_eq-slice_cmp a b)
+
+pub both : (a b : Bool) → binary And (from_truth (Some a)) (from_truth (Some b)) ≡ from_truth (Some (a && b))
+unfolding binary
+both true true = refl
+both true false = refl
+both false true = refl
+both false false = refl
+
+pub opposite : (a : Bool) → is_true (unary Not (from_truth (Some a))) ≡ not a
+unfolding unary
+opposite true = refl
+opposite false = refl

@@ -1,16 +1,17 @@
--- What a CREATE TABLE makes, whatever the table is.
-use Rattle.std.proofs.Common.{◌≡◌, ℕ, List, [], None, Ok, false, sym, ap, subst, ◌∙◌}
-use Rattle.sqlite.specs.Change.{created, next_tree, KeepsRows}
-use Rattle.sqlite.specs.Command.TheVariants.{CreateTable}
-use Rattle.sqlite.specs.Compile.{table_defined_by}
-use Rattle.sqlite.specs.Does.{Tally, lacks_sequence}
+-- What a CREATE TABLE and a CREATE INDEX make, whatever the table and the index are.
+use Rattle.std.proofs.Common.{◌≡◌, ℕ, List, [], slice_get, None, Some, Ok, false, sym, ap, subst, ◌∙◌}
+use Rattle.sqlite.specs.Change.{created, indexed, next_tree, KeepsRows}
+use Rattle.sqlite.specs.Command.TheVariants.{CreateTable, CreateIndex}
+use Rattle.sqlite.specs.Compile.{table_defined_by, index_defined_by}
+use Rattle.sqlite.specs.Does.{Tally, AtPlace, Defines, MakesIndex, lacks_sequence}
 use Rattle.sqlite.specs.Effect.{Database}
 use Rattle.sqlite.specs.Listing.{understood}
 use Rattle.sqlite.specs.Schema.{Schema}
-use Rattle.sqlite.specs.State.{State, Writes, Executes}
+use Rattle.sqlite.specs.State.{State, mode_of, Writes, Executes}
 use Rattle.sqlite.specs.Table.{Table}
 use Rattle.sqlite.proofs.Callers.{IsPlain, command_of, statement_of, runs_as}
-use Rattle.sql_steps.specs.Creating.{Creates}
+use Rattle.sqlite_schema.specs.declared.schema.Index.{Index}
+use Rattle.sql_steps.specs.Creating.{Creates, Indexes}
 use Rattle.sql_steps.proofs.Statements.{went, same_value}
 
 -- a CREATE that is understood makes its table; the tree that its text leaves open is the next one
@@ -31,4 +32,22 @@ module _ (before : Schema) (table : Table) (sql : List ℕ) (is : command_of (un
         schema = ap (λ (d : Database). d.schema) now ∙ schema;
         empty = ap (λ (d : Database). d.trees (next_tree before)) now ∙ subst (λ (s : Schema). first.0.trees (next_tree s) ≡ []) has made.empty;
         others = subst (λ (d : Database). KeepsRows before.tables old.now.trees d.trees) (sym now) (subst (λ (s : Schema). KeepsRows s.tables old.now.trees first.0.trees) has made.others);
+      }
+
+-- the same of a CREATE INDEX
+module _ (before : Schema) (at : ℕ) (table : Table) (there : slice_get before.tables at ≡ Some table) (index : Index) (sql : List ℕ) (is : command_of (understood before sql) ≡ CreateIndex at)
+    (whole : statement_of sql (understood before sql) ≡ sql) (plain : IsPlain (understood before sql)) (written : Index) (defined : index_defined_by table sql ≡ Ok written) (same : indexed before table written ≡ indexed before table index) where
+  pub indexes : (old new : State) (count : ℕ) → Executes sql [] old new (Ok count) → Indexes before table index old.now new.now
+  indexes old new count h has =
+      let w = subst (λ t. Writes old new None (CreateIndex at) t [] count) whole (runs_as sql [] old new before has (CreateIndex at) is plain count h) in
+      let place : slice_get old.now.schema.tables at ≡ Some table = ap (λ (s : Schema). slice_get s.tables at) has ∙ there in
+      let all = went (subst (λ o. AtPlace (λ t. Defines (mode_of old) (MakesIndex sql old.now t)) o (Ok (w.tally, new.now))) place w.changed) in
+      let made = all.1 in
+      let both : Ok made.index ≡ Ok written = sym made.defined ∙ defined in
+      let index_is : made.index ≡ written = cc in
+      let schema : all.0.schema ≡ indexed before table index = made.is ∙ ap (λ s. indexed s table made.index) has ∙ ap (indexed before table) index_is ∙ same in
+      let now : new.now ≡ all.0 = ap (λ (p : Tally × Database). p.1) (same_value all.2) in
+      record {
+        schema = ap (λ (d : Database). d.schema) now ∙ schema;
+        tables = subst (λ (d : Database). KeepsRows before.tables old.now.trees d.trees) (sym now) (subst (λ (s : Schema). KeepsRows s.tables old.now.trees all.0.trees) has made.rows);
       }

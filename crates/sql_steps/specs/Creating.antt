@@ -1,9 +1,10 @@
--- What a CREATE TABLE makes of a database.
+-- What a CREATE TABLE and a CREATE INDEX make of a database.
 use Rattle.std.specs.Prelude.{◌≡◌, []}
 use Rattle.sqlite.specs.Schema.{Schema}
 use Rattle.sqlite.specs.Table.{Table}
-use Rattle.sqlite.specs.Change.{created, next_tree, KeepsRows}
+use Rattle.sqlite.specs.Change.{created, indexed, next_tree, KeepsRows}
 use Rattle.sqlite.specs.Effect.{Database}
+use Rattle.sqlite_schema.specs.declared.schema.Index.{Index}
 use Rattle.sql_steps.specs.Steps.{Change}
 
 -- the table is new and empty, and each other table is as it was
@@ -15,3 +16,12 @@ pub record Created (before : Schema) (table : Table) (old new : Database) : Type
 -- the table is made where the schema is this one
 abbrev pub Creates : Schema → Table → Change
 Creates before table old new = old.schema ≡ before → Created before table old new
+
+-- the index is new, and each table is as it was
+pub record Indexed (before : Schema) (table : Table) (index : Index) (old new : Database) : Type 0 where
+  pub schema : new.schema ≡ indexed before table index
+  pub tables : KeepsRows before.tables old.trees new.trees
+
+-- the index of the table is made where the schema is this one
+abbrev pub Indexes : Schema → Table → Index → Change
+Indexes before table index old new = old.schema ≡ before → Indexed before table index old new

@@ -80,7 +80,7 @@ fn reopened(alloc: Global, desk: Desk<MemStore>) -> Result<Desk<MemStore>, OpenR
 }
 
 /// Runs the lines over the desk, and puts what is written behind the output.
-fn run_over(desk: &mut Desk<MemStore>, lines: &[u8], output: &mut Vec<u8>) -> Outcome {
+pub fn run_over(desk: &mut Desk<MemStore>, lines: &[u8], output: &mut Vec<u8>) -> Outcome {
     let mut reader = Watched::new(lines);
     let mut writer = Watched::new(output);
     run(&mut reader, &mut writer, desk)
@@ -97,6 +97,35 @@ pub fn hundred_lines(alloc: Global, before: u8) -> Result<(String, String), Fail
         writeln!(replies, "ok 1 Active {}", 100 + number)?;
     }
     Ok((lines, replies))
+}
+
+/// The register of *defaults* without the indexes of due keys, as it was made before there were any.
+fn without_indexes(alloc: Global) -> Result<Option<Desk<MemStore>>, Fail> {
+    let mut connection = connection_after(alloc, "DROP INDEX keys_by_activation")?;
+    connection.execute("DROP INDEX keys_by_deactivation", &[])?;
+    if !connection.is_autocommit() {
+        return Ok(None);
+    }
+    match Desk::open(alloc, connection) {
+        Ok(desk) => Ok(Some(desk)),
+        Err(_) => Ok(None),
+    }
+}
+
+#[test]
+fn a_register_without_indexes_goes_on(rt: HostRuntime) -> Result<(), Fail> {
+    let Some(mut desk) = without_indexes(rt.alloc())? else {
+        assert!(rt; false, "not opened");
+        return Ok(());
+    };
+    let mut output = Vec::new(rt.alloc());
+    let lines = b"157766399 zed 1 advance\n157766400 zed 2 advance\n200000000 bob 1 revoke 1 2 -\n";
+    let _ = run_over(&mut desk, lines.as_slice(), &mut output);
+    let replies = b"ok 0 - 157766399\nok 0 - 157766400\nok 1 Compromised 200000000\n";
+    assert!(rt; output.as_slice() == replies.as_slice());
+    let usage = desk.usage(1)?;
+    assert!(rt; usage.is_some());
+    Ok(())
 }
 
 #[test]

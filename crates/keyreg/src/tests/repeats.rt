@@ -7,11 +7,11 @@ use std::alloc::{AllocError, Global};
 use std::test::Fail;
 
 /// A moment, a caller with its number, a command, and the reply.
-type Sent = (&'static str, &'static str, &'static str, &'static str);
+pub type Sent = (&'static str, &'static str, &'static str, &'static str);
 
 /// A day on which each command is accepted; the key is destroyed before it ends.
 #[rattlefmt::skip]
-const DAY: [Sent; 16] = [
+pub const DAY: [Sent; 16] = [
     ("100", "ann 1", "register master bob 1000 2000 2000 root", "ok 1 Pre-Active 100"),
     ("101", "bob 1", "add-custodian 1 cat", "ok 1 Pre-Active 101"),
     ("102", "bob 2", "add-custodian 1 dan", "ok 1 Pre-Active 102"),

@@ -60,8 +60,22 @@ pub const DEFAULTS: WorkedRow = WorkedRow {
 
 /// Each worked row.
 #[rattlefmt::skip]
-pub const WORKED_ROWS: [WorkedRow; 36] = [
+pub const WORKED_ROWS: [WorkedRow; 37] = [
     FIRST_DAY,
+    WorkedRow {
+        name: "activated and deactivated at once",
+        lines: &[
+            ("100 ann 1 register master bob 200 300 300 x", "ok 1 Pre-Active 100"),
+            ("400 ann 2 advance", "ok 0 - 400"),
+        ],
+        rest: "",
+        shown: Some(Shown {
+            state: State::Deactivated,
+            dates: [Some(200), Some(300), Some(300), None, None, None],
+            custodians: "",
+            approvals: "",
+        }),
+    },
     WorkedRow {
         name: "nothing",
         lines: &[],

@@ -1,5 +1,6 @@
 use Rattle.std.proofs.Common.{inr, []}
 use Rattle.sqlite.proofs.Callers.{memory_is_clean}
+use Rattle.register_desk.specs.Leaving.{connection_of}
 use Rattle.keyreg.proofs.act.act_in_memory.Goals as goal
 
 pub returns-in-Ok : goal.returns-in-Ok
@@ -8,6 +9,6 @@ returns-in-Ok g c bytes items rest known cut =
       desk = c.run.new.desk;
       end = c.run.result.end;
       replies = c.run.result.replies;
-      over = c.run.ensures.agrees [] bytes items rest c.in-Ok.ensures (memory_is_clean c.run.new.desk.connection) known cut;
+      over = c.run.ensures.agrees [] bytes items rest c.in-Ok.ensures (memory_is_clean (connection_of c.run.new.desk)) known cut;
       status_is = c.report_finish.ensures;
     }

@@ -5,16 +5,16 @@ use Rattle.sql_steps.specs.Steps.{TransactsBy}
 use Rattle.sql_steps.proofs.Stepping.{commits, given_up_survives, rolls_back, transacts_as, fails_as}
 use Rattle.register_store.specs.declared.error.CreateError.{CreateError}
 use Rattle.register_store.specs.declared.error.CreateError.TheVariants.{HasTables}
-use Rattle.register_store.specs.Creation.{FindsBy, FindsTable, MakesEmpty}
+use Rattle.register_store.specs.Creation.{FindsBy, FindsTable, MakesRegister}
 use Rattle.register_store.proofs.creation.create.Goals as goal
 
 pub returns-in_err-commit-clause-made : goal.returns-in_err-commit-clause-made
 returns-in_err-commit-clause-made g c =
     let old = state g.S.Store c.args.connection.now in
     let end = c.commit.new.self.0 in
-    let whole : TransactsBy {E = CreateError} MakesEmpty old (state g.S.Store end) c.from_residual-in_err-commit.result =
-    fails_as MakesEmpty old (state g.S.Store end) _ _ c.from_residual-in_err-commit.ensures.0
-    (commits MakesEmpty old (λ _. MakesEmpty) (state g.S.Store c.make_where_none.new.tx.conn.now) (state g.S.Store end) _ _ (λ db made. made) (rw c.transaction-tx.ensures.begun at c.in_ok-make_where_none.ensures.made)
+    let whole : TransactsBy {E = CreateError} MakesRegister old (state g.S.Store end) c.from_residual-in_err-commit.result =
+    fails_as MakesRegister old (state g.S.Store end) _ _ c.from_residual-in_err-commit.ensures.0
+    (commits MakesRegister old (λ _. MakesRegister) (state g.S.Store c.make_where_none.new.tx.conn.now) (state g.S.Store end) _ _ (λ db made. made) (rw c.transaction-tx.ensures.begun at c.in_ok-make_where_none.ensures.made)
     c.in_err-commit.ensures.ok c.in_err-commit.ensures.err c.in_err-commit.ensures.survives) in
     search rules
 
@@ -22,9 +22,9 @@ pub returns-clause-made : goal.returns-clause-made
 returns-clause-made g c =
     let old = state g.S.Store c.args.connection.now in
     let end = c.commit.new.self.0 in
-    let whole : TransactsBy {E = CreateError} MakesEmpty old (state g.S.Store end) (Ok (tt {0})) =
-    transacts_as MakesEmpty old (state g.S.Store end) c.in_ok-commit.field-0 _
-    (commits MakesEmpty old (λ _. MakesEmpty) (state g.S.Store c.make_where_none.new.tx.conn.now) (state g.S.Store end) _ _ (λ db made. made) (rw c.transaction-tx.ensures.begun at c.in_ok-make_where_none.ensures.made)
+    let whole : TransactsBy {E = CreateError} MakesRegister old (state g.S.Store end) (Ok (tt {0})) =
+    transacts_as MakesRegister old (state g.S.Store end) c.in_ok-commit.field-0 _
+    (commits MakesRegister old (λ _. MakesRegister) (state g.S.Store c.make_where_none.new.tx.conn.now) (state g.S.Store end) _ _ (λ db made. made) (rw c.transaction-tx.ensures.begun at c.in_ok-make_where_none.ensures.made)
     c.in_ok-commit.ensures.ok c.in_ok-commit.ensures.err c.in_ok-commit.ensures.survives) in
     search rules
 
@@ -34,8 +34,8 @@ returns-in_err-make_where_none-clause-made g c =
     let mid = state g.S.Store c.make_where_none.new.tx.conn.now in
     let end = c.drop-tx.new.self.0 in
     let same : end ≡ c.connection-1.given.0 = search rules steps 1000000 in
-    subst (λ h. TransactsBy MakesEmpty old (state g.S.Store h) c.from_residual.result) same
-    (rolls_back MakesEmpty old (λ _. MakesEmpty) mid (state g.S.Store end) (Err c.in_err-make_where_none.field-0.0) c.from_residual.result c.from_residual.ensures.0 (rw c.transaction-tx.ensures.begun at c.in_err-make_where_none.ensures.made) c.drop-tx.ensures.undone
+    subst (λ h. TransactsBy MakesRegister old (state g.S.Store h) c.from_residual.result) same
+    (rolls_back MakesRegister old (λ _. MakesRegister) mid (state g.S.Store end) (Err c.in_err-make_where_none.field-0.0) c.from_residual.result c.from_residual.ensures.0 (rw c.transaction-tx.ensures.begun at c.in_err-make_where_none.ensures.made) c.drop-tx.ensures.undone
     c.drop-tx.ensures.survives)
 
 pub returns-in_err-make_where_none-clause-there : goal.returns-in_err-make_where_none-clause-there
@@ -49,5 +49,5 @@ returns-in_err-make_where_none-clause-there g c is =
     let dropped = c.drop-tx.ensures.survives in
     subst (λ h. FindsBy old (state g.S.Store h)) same (record {
       there = λ clean. let early : HasCleanDisk mid = omega (arith, dropped.clean, clean) in there early refl;
-      survives = given_up_survives (λ _. MakesEmpty) old mid (state g.S.Store end) _ (rw c.transaction-tx.ensures.begun at c.in_err-make_where_none.ensures.made) c.drop-tx.ensures.undone dropped;
+      survives = given_up_survives (λ _. MakesRegister) old mid (state g.S.Store end) _ (rw c.transaction-tx.ensures.begun at c.in_err-make_where_none.ensures.made) c.drop-tx.ensures.undone dropped;
     })

@@ -1,4 +1,3 @@
-use Rattle.sqlite.specs.Held.{state}
 use Rattle.sql_steps.proofs.Stepping.{runs}
 use Rattle.register_store.specs.Making.{Makes, Always}
 use Rattle.register_store.specs.Due.{activated, with_each}
@@ -9,7 +8,7 @@ pub returns-clause-moved : goal.returns-clause-moved
 returns-clause-moved g c =
     let at = c.args.at in
     let moment = c.params-to_sql.ensures.in_range in
-    let old = state g.S.Store c.args.tx.now.conn.now in
-    let new = state g.S.Store c.execute.new.self.conn.now in
+    let old = g.T.Inside.sees c.args.tx.now in
+    let new = g.T.Inside.sees c.execute.new.self in
     runs (Makes Always (with_each (activated at))) activate_text (params at moment) old new c.in_ok-execute.field-0 (activates at moment old new)
     (λ clean inside. rw c.params-to_sql.ensures.value at (c.in_ok-execute.ensures.runs clean inside)) c.in_ok-execute.ensures.survives

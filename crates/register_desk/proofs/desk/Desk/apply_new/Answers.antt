@@ -17,7 +17,7 @@ use Rattle.register_desk.proofs.desk.Desk.apply_new.Goals as goal
 
 pub accept-requires-clause-room : goal.accept-requires-clause-room
 accept-requires-clause-room g c =
-    let mid = c.named.new.self in
+    let mid = c.needed_key.new.self in
     room_left mid.latest mid.keys c.in_ok-key.key c.args.request.now c.in-Ok.accept.change (search rules) c.in-Ok.ensures.accepted c.in-Ok.ensures.change
 
 -- what the decision rested on
@@ -26,51 +26,51 @@ the_view latest keys key = record { latest = latest; keys = keys; key = key }
 
 pub accept-requires-clause-later : goal.accept-requires-clause-later
 accept-requires-clause-later g c =
-    let mid = c.named.new.self in
+    let mid = c.needed_key.new.self in
     let view = the_view mid.latest mid.keys c.in_ok-key.key in
     omega (arith, decided_in_time view c.args.request.now c.in-Ok.ensures.accepted, ap (λ (r : Reply). r.moment) c.in-Ok.ensures.reply)
 
 pub returns-in_err-accept-in-Ok-clause-store : goal.returns-in_err-accept-in-Ok-clause-store
 returns-in_err-accept-in-Ok-clause-store g c h stands new request clean =
-    let mid = c.named.new.self in
+    let mid = c.needed_key.new.self in
     let early : IsClean g.S.Store mid = omega (arith, c.in_err-accept-in-Ok.ensures.written.stop.clean, clean) in
-    let it = viewed g.S.Store mid h c.args.request.now c.in_ok-key.key (stands_still g.S.Store _ _ c.in_ok-key.ensures.reads h stands) (c.in_ok-key.ensures.named h stands) early in
+    let it = viewed g.S.Store mid h c.args.request.now c.in_ok-key.key (stands_still g.S.Store _ _ c.in_ok-key.ensures.reads h stands) (c.in_ok-key.ensures.needed h stands) early in
     at_any_end _ c.from_residual-in_err-accept-in-Ok.result (λ end is.
-    leaves_one g.S.Store mid h c.args.request.now request it.stands (verdict_is h c.args.request.now None new (c.in-Ok.ensures.judgement h it.view).1) c.in-Ok.accept.change c.in_ok-key.key it.named c.in-Ok.ensures.change
+    leaves_one g.S.Store mid h c.args.request.now request it.stands (verdict_is h c.args.request.now None new (c.in-Ok.ensures.judgement h it.view).1) c.in-Ok.accept.change c.in_ok-key.key it.needed c.in-Ok.ensures.change
     (c.in-Ok.ensures.leads h it.view).1 c.in-Ok.accept.reply (c.in-Ok.ensures.leads h it.view).0 c.accept.new.self _ c.in_ok-key.ensures.ends.1 c.in_err-accept-in-Ok.ensures.written clean)
 
 pub returns-in-Err-clause-answer : goal.returns-in-Err-clause-answer
 returns-in-Err-clause-answer g c h stands new clean =
     let q = c.args.request.now in
-    let it = viewed g.S.Store c.named.new.self h q c.in_ok-key.key (stands_still g.S.Store _ _ c.in_ok-key.ensures.reads h stands) (c.in_ok-key.ensures.named h stands) clean in
+    let it = viewed g.S.Store c.needed_key.new.self h q c.in_ok-key.key (stands_still g.S.Store _ _ c.in_ok-key.ensures.reads h stands) (c.in_ok-key.ensures.needed h stands) clean in
     sym (ap (λ v. answer_by v (reply h q)) (verdict_is h q (Some c.in-Err.refusal) new (c.in-Err.ensures.judgement h it.view).0))
 
 pub returns-in-Err-clause-stands : goal.returns-in-Err-clause-stands
 returns-in-Err-clause-stands g c h stands new request clean =
     let q = c.args.request.now in
-    let it = viewed g.S.Store c.named.new.self h q c.in_ok-key.key (stands_still g.S.Store _ _ c.in_ok-key.ensures.reads h stands) (c.in_ok-key.ensures.named h stands) clean in
+    let it = viewed g.S.Store c.needed_key.new.self h q c.in_ok-key.key (stands_still g.S.Store _ _ c.in_ok-key.ensures.reads h stands) (c.in_ok-key.ensures.needed h stands) clean in
     let refused = verdict_is h q (Some c.in-Err.refusal) new (c.in-Err.ensures.judgement h it.view).0 in
-    subst (StandsFor g.S.Store c.named.new.self) (sym (ap (λ v. cond (is_accepted v) (h ++ q ∷ []) h) refused)) it.stands
+    subst (StandsFor g.S.Store c.needed_key.new.self) (sym (ap (λ v. cond (is_accepted v) (h ++ q ∷ []) h) refused)) it.stands
 
 pub returns-clause-answer : goal.returns-clause-answer
 returns-clause-answer g c h stands new clean =
     let q = c.args.request.now in
-    let early : IsClean g.S.Store c.named.new.self = omega (arith, c.in_ok-accept-in-Ok.ensures.written.stop.clean, clean) in
-    let it = viewed g.S.Store c.named.new.self h q c.in_ok-key.key (stands_still g.S.Store _ _ c.in_ok-key.ensures.reads h stands) (c.in_ok-key.ensures.named h stands) early in
+    let early : IsClean g.S.Store c.needed_key.new.self = omega (arith, c.in_ok-accept-in-Ok.ensures.written.stop.clean, clean) in
+    let it = viewed g.S.Store c.needed_key.new.self h q c.in_ok-key.key (stands_still g.S.Store _ _ c.in_ok-key.ensures.reads h stands) (c.in_ok-key.ensures.needed h stands) early in
     ap Accepted (c.in-Ok.ensures.leads h it.view).0 ∙ sym (ap (λ v. answer_by v (reply h q)) (verdict_is h q None new (c.in-Ok.ensures.judgement h it.view).1))
 
 pub returns-clause-stands : goal.returns-clause-stands
 returns-clause-stands g c h stands new request clean =
-    let mid = c.named.new.self in
+    let mid = c.needed_key.new.self in
     let early : IsClean g.S.Store mid = omega (arith, c.in_ok-accept-in-Ok.ensures.written.stop.clean, clean) in
-    let it = viewed g.S.Store mid h c.args.request.now c.in_ok-key.key (stands_still g.S.Store _ _ c.in_ok-key.ensures.reads h stands) (c.in_ok-key.ensures.named h stands) early in
-    stands_after g.S.Store mid h c.args.request.now request it.stands (verdict_is h c.args.request.now None new (c.in-Ok.ensures.judgement h it.view).1) c.in-Ok.accept.change c.in_ok-key.key it.named
+    let it = viewed g.S.Store mid h c.args.request.now c.in_ok-key.key (stands_still g.S.Store _ _ c.in_ok-key.ensures.reads h stands) (c.in_ok-key.ensures.needed h stands) early in
+    stands_after g.S.Store mid h c.args.request.now request it.stands (verdict_is h c.args.request.now None new (c.in-Ok.ensures.judgement h it.view).1) c.in-Ok.accept.change c.in_ok-key.key it.needed
     c.in-Ok.ensures.change (c.in-Ok.ensures.leads h it.view).1 c.in-Ok.accept.reply (c.in-Ok.ensures.leads h it.view).0 c.accept.new.self (Ok c.in_ok-accept-in-Ok.field-0) c.in_ok-key.ensures.ends.1
     c.in_ok-accept-in-Ok.ensures.written g.met.S.Store.settled c.in_ok-accept-in-Ok.ensures.latest c.in_ok-accept-in-Ok.ensures.keys
 
 pub returns-in_err-accept-in-Ok-clause-tables : goal.returns-in_err-accept-in-Ok-clause-tables
 returns-in_err-accept-in-Ok-clause-tables g c t over request clean =
-    let mid = c.named.new.self in
+    let mid = c.needed_key.new.self in
     let q = c.args.request.now in
     let reads = c.in_ok-key.ensures.reads in
     let view = the_view mid.latest mid.keys c.in_ok-key.key in

@@ -1,0 +1,90 @@
+//! How many steps of the database each command takes: its calls, and the rows that they hand out.
+use super::fresh_run::desk_after;
+use super::openings::run_over;
+use super::repeats::DAY;
+use super::worked_rows::WorkedRow;
+use crate::act::create_in_memory;
+use register_desk::Desk;
+use sqlite::MemStore;
+use std::alloc::Global;
+use std::test::Fail;
+
+/// The steps of each command of the day, by the statements that docs/SPECIFICATION.md has. A search for what is kept
+/// takes 1 where nothing is, a transaction 2, the two updates of due keys 2, the request's row and that of meta 2. A
+/// command that names a key takes 2 to read it and 1 to change it; one that looks at custody 1 more for each list and for
+/// each name in it; one that changes custody 1 more.
+const STEPS: [u64; 16] = [8, 13, 14, 15, 16, 15, 16, 17, 16, 16, 10, 10, 10, 16, 7, 10];
+
+/// How many steps a run over the line takes.
+fn steps_of(alloc: Global, desk: &mut Desk<MemStore>, line: &str) -> Result<u64, Fail> {
+    let before = desk.steps();
+    let line = format!(in alloc; "{line}\n")?;
+    let mut output = Vec::new(alloc);
+    let _ = run_over(desk, line.as_bytes(), &mut output);
+    Ok(desk.steps().saturating_sub(before))
+}
+
+#[test]
+fn each_command_takes_its_steps(rt: HostRuntime) -> Result<(), Fail> {
+    let mut desk = create_in_memory(rt.alloc())?;
+    assert_eq!(rt; desk.steps(), 0);
+    for ((moment, caller, command, _), steps) in DAY.iter().zip(&STEPS) {
+        let line = format!(in rt.alloc(); "{moment} {caller} {command}")?;
+        assert_eq!(rt;
+            steps_of(rt.alloc(), &mut desk, line.as_str())?,
+            *steps,
+            "{command}"
+        );
+    }
+    Ok(())
+}
+
+/// A key with eight custodians who all approve of its destruction.
+#[rattlefmt::skip]
+const FULL_CUSTODY: WorkedRow = WorkedRow {
+    name: "full custody",
+    lines: &[
+        ("100 ann 1 register master bob - - - root", ""),
+        ("100 bob 1 add-custodian 1 c1", ""), ("100 c1 1 approve 1", ""),
+        ("100 bob 2 add-custodian 1 c2", ""), ("100 c2 1 approve 1", ""),
+        ("100 bob 3 add-custodian 1 c3", ""), ("100 c3 1 approve 1", ""),
+        ("100 bob 4 add-custodian 1 c4", ""), ("100 c4 1 approve 1", ""),
+        ("100 bob 5 add-custodian 1 c5", ""), ("100 c5 1 approve 1", ""),
+        ("100 bob 6 add-custodian 1 c6", ""), ("100 c6 1 approve 1", ""),
+        ("100 bob 7 add-custodian 1 c7", ""), ("100 c7 1 approve 1", ""),
+        ("100 bob 8 add-custodian 1 c8", ""), ("100 c8 1 approve 1", ""),
+    ],
+    rest: "",
+    shown: None,
+};
+
+/// A line, and how many steps it takes behind that.
+const BEHIND: [(&str, u64); 9] = [
+    // A request that comes again, one whose number is reused, and one whose moment is behind: the look-up alone.
+    ("100 bob 1 add-custodian 1 c1", 2),
+    ("100 bob 1 advance", 2),
+    ("99 bob 9 activate 1", 1),
+    // No such key, and not the owner.
+    ("100 bob 9 activate 2", 2),
+    ("100 eve 9 activate 1", 3),
+    // No time has passed: no key is due.
+    ("100 eve 9 advance", 5),
+    ("100 bob 9 set 1 = = =", 8),
+    // Both lists are full.
+    ("101 bob 10 add-custodian 1 c9", 21),
+    ("101 bob 11 remove-custodian 1 c8", 29),
+];
+
+/// The desk behind that key.
+fn full_custody(alloc: Global) -> Result<Desk<MemStore>, Fail> {
+    desk_after(alloc, &FULL_CUSTODY)
+}
+
+#[test]
+fn no_more_is_asked_than_is_needed(rt: HostRuntime) -> Result<(), Fail> {
+    let mut desk = full_custody(rt.alloc())?;
+    for (line, steps) in &BEHIND {
+        assert_eq!(rt; steps_of(rt.alloc(), &mut desk, line)?, *steps, "{line}");
+    }
+    Ok(())
+}
