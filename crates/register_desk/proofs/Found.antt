@@ -96,13 +96,13 @@ leaves_alone g h desk stands whole clean trees may = let left = (stands.sees who
 -- a disk that is clean behind a run was so before
 pub clean_before : {S : Type 0} (g : store.Ghosts S) (before old new : Option (List ℕ)) (kept now : Desk S g) (replies : ℕ) (end : Finish) → ServesTo g before old new kept now replies end
     → IsClean g now → IsClean g kept
-clean_before g before old new kept now replies (AtEnd left) serves clean = serves.served.clean clean
-clean_before g before old new kept now replies (Ended Memory) serves clean = serves.served.clean (serves.leaves.0.clean clean)
-clean_before g before old new kept now replies (Ended Store) serves clean = serves.served.clean (serves.leaves.0.clean clean)
+clean_before g before old new kept now replies (AtEnd left) serves clean = serves.served.so_far.clean clean
+clean_before g before old new kept now replies (Ended Memory) serves clean = serves.served.so_far.clean (serves.leaves.0.clean clean)
+clean_before g before old new kept now replies (Ended Store) serves clean = serves.served.so_far.clean (serves.leaves.0.clean clean)
 clean_before g before old new kept now replies (Ended Broken) serves clean =
-    serves.served.clean (subst (λ (desk : Desk _ g). IsClean g desk) serves.leaves.0.same clean)
-clean_before g before old new kept now replies (Ended ReadFault) serves clean = serves.served.clean clean
-clean_before g before old new kept now replies (Ended WriteFault) serves clean = serves.served.clean (serves.leaves.clean clean)
+    serves.served.so_far.clean (subst (λ (desk : Desk _ g). IsClean g desk) serves.leaves.0.same clean)
+clean_before g before old new kept now replies (Ended ReadFault) serves clean = serves.served.so_far.clean clean
+clean_before g before old new kept now replies (Ended WriteFault) serves clean = serves.served.so_far.clean (serves.leaves.clean clean)
 
 module _ {S : Type 0} (g : store.Ghosts S) (h : List Request) (items : List (Option Request)) (replies : ℕ) (desk : Desk S g) (clean : IsClean g desk) where
   before_next : IsWhole desk → StandsFor g desk (history h (take replies items)) → LeavesNext g h items replies desk

@@ -10,6 +10,7 @@ pub mod Opened
 pub mod Found
 pub mod Passing
 pub mod Readings
+pub mod Answering
 pub mod ServingLemmas
 pub mod Cutting
 pub mod Needing

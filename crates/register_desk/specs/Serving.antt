@@ -1,4 +1,5 @@
--- What the items that were served so far made of the desk and of the bytes. That it is what the history says is proved of `run`.
+-- What the items that were answered so far made of the desk and of the bytes, apart from where they came from; and the
+-- lines that a run takes them from. That it is what the history says is proved of `run`.
 use Rattle.std.specs.Prelude.{◌≡◌, ℕ, ◌≤◌, true, false, List, [], ◌∷◌, ◌++◌, length, take, Option, None, Some, Err}
 use Rattle.std.specs.List.{AllByRecursion}
 use Rattle.std.specs.Io.KnownBytes.{Consumes, Appends, IsAtEnd}
@@ -123,15 +124,19 @@ module _ {S : Type 0} (g : Ghosts S) where
     pub none : AreNoRequests items
     pub written : Appends old new (bad_lines items)
 
-  -- as many items as there are replies were taken, answered and applied
+  -- these items were answered, each by its whole line, and applied, wherever they came from
+  pub record AnsweredItems (old new : Option (List ℕ)) (kept now : Desk S g) (items : List (Option Request)) : Type 0 where
+    pub answered : (h : List Request) → StandsFor g kept h → HasCleanDisk (seen g now.connection) → Appends old new (answer_lines (answers h items)) × StandsFor g now (history h items)
+    pub clean : WasClean kept now
+    pub quiet : kept.is_broken ≡ true → Quiet kept now old new items
+
+  -- as many items as there are replies were taken, each from its line, and answered
   pub record Served (before after old new : Option (List ℕ)) (kept now : Desk S g) (replies : ℕ) : Type 0 where
     pub lines : List (List ℕ)
     pub items : List (Option Request)
     pub took : Took before after lines items
     pub counted : length items ≡ replies
-    pub answered : (h : List Request) → StandsFor g kept h → HasCleanDisk (seen g now.connection) → Appends old new (answer_lines (answers h items)) × StandsFor g now (history h items)
-    pub clean : WasClean kept now
-    pub quiet : kept.is_broken ≡ true → Quiet kept now old new items
+    pub so_far : AnsweredItems old new kept now items
 
   -- every line was served, and this many bytes are left
   pub record ServedAll (before old new : Option (List ℕ)) (kept now : Desk S g) (replies left : ℕ) : Type 0 where

@@ -6,7 +6,7 @@ use Rattle.streams.specs.declared.watched.TheConstants.{MAX_IDLE_TURNS}
 use Rattle.streams.specs.Lines.{Cut, work_left}
 use Rattle.streams.specs.Watched.{IsFaulted}
 use Rattle.register_desk.proofs.Goings.{goes_then, leaves_going, leaves_same, leaves_stopped, still}
-use Rattle.register_desk.proofs.ServingLemmas.{served_begin, took_begin, took_then, no_read_fault, wrote_item, wrote_part, wrote_begin, stopped_so, all_so, served_more, serves_same, wrote_same}
+use Rattle.register_desk.proofs.ServingLemmas.{served_begin, took_begin, took_then, no_read_fault, wrote_item, wrote_part, wrote_begin, stopped_at, all_so, served_more, serves_same, wrote_same}
 use Rattle.register_desk.proofs.runs.run_lines.Goals as goal
 use Rattle.register_desk.proofs.runs.run_lines.Goals.{in-Ok-Line+in-Err-answer_line, in-Ok-End, in-Err}
 
@@ -58,7 +58,7 @@ returns-clause-serves g c =
           let item = w.item_of.ensures.item cut.0 cut.1.counted cut.1.kept in
           serves_same g.S.Store before old _ _ c.args.desk.now c.match-next.desk w.answer_line.new.desk c.loop-lines.replies c.match-next.end (Ended w.in-Err-answer_line.stop.end)
           w.end-is w.desk-is (ap (λ x. g.W.Write.contents x.inner) w.writer-is)
-          (stopped_so g.S.Store before _ _ old _ _ c.args.desk.now c.loop-lines.desk w.answer_line.new.desk c.loop-lines.replies cut.0 w.item_of.result w.in-Err-answer_line.stop.end w.in-Err-answer_line.stop.written
+          (stopped_at g.S.Store before _ _ old _ _ c.args.desk.now c.loop-lines.desk w.answer_line.new.desk c.loop-lines.replies cut.0 w.item_of.result w.in-Err-answer_line.stop.end w.in-Err-answer_line.stop.written
           served (record { unbroken = cut.1.unbroken; consumed = cut.1.consumed; stands_for = item }) w.in-Err-answer_line.ensures.stop)
       | in-Ok-End w ↦
           let cut = w.in-Ok-End.ensures.end w.in-Ok-End.field-0-is in
