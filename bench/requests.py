@@ -1,0 +1,799 @@
+#!/usr/bin/env python3
+"""What a request costs in microseconds, over a file and in memory, beside the same statements given to the kit's
+`sqlite` alone and to Python's `sqlite3`.
+
+    bench/requests.py [--requests N] [--rounds N] [KEYS..]
+
+Requests of four kinds are served by three programs over copies of one register of so many keys, half of them Pre-Active
+and half Active, each with the request that made it:
+
+    repeat    a request that was accepted before comes again
+    assign    a key without custodians gets another owner
+    register  a new key, Pre-Active
+    advance   the moment alone; one key becomes Active
+
+The moments are *level*, all the latest one, so that no key is looked for that is due, or *rising*, each later than the
+one before it; but for an advance none is due then. Keys are taken out of their order, and each caller's numbers rise.
+
+`keyreg` reads lines, decides and writes replies. The *bare* program, below, gives the statements of an accepted request
+to the kit's `sqlite`, and *python* gives them to `sqlite3`; these two know the values before, and have no line to read,
+nothing to decide and no reply to write. All three hold the file's lock as long as they run, keep a log beside the file,
+copy it into the file when it has 1000 pages, keep 2000 pages in memory, and sync at each commit: the kit twice, since
+it trusts no checksum to refuse a torn write, and SQLite once (synchronous = FULL).
+
+No start, opening or making of a register is in a figure: one run serves a kind after the other, and for each the clock
+of its processor time (user and system) and the time of day are read twice, where the first requests of the kind are
+answered and where the counted ones behind them are. The difference is divided by how many these are; the least of the
+rounds is told. In memory the register is made by requests first. Each reply of `keyreg` is compared with what the rules
+say, and after a run over a file its rows with those that the other two programs left.
+
+The files are written by SQLite's own library from the formats of docs/SPECIFICATION.md. The bare program is proved and
+built in a folder for temporary files, where it is not there as it stands below; that takes some minutes, and so does
+the rest. Build the register's own program first: ./keyreg </dev/null. It needs Linux, for the clock of another process.
+"""
+import argparse
+import os
+import shutil
+import sqlite3
+import subprocess
+import sys
+import tempfile
+import time
+from typing import NamedTuple
+
+HERE = os.path.dirname(os.path.abspath(__file__))
+sys.path.insert(0, os.path.join(HERE, "..", "checks"))
+from registers import PROGRAM, TABLES, UNSET, all_rows, expect  # noqa: E402
+
+INDEXES = """
+CREATE INDEX IF NOT EXISTS keys_by_activation ON keys (state, activation);
+CREATE INDEX IF NOT EXISTS keys_by_deactivation ON keys (state, deactivation);
+"""
+
+# The statements of an accepted request, between BEGIN and COMMIT but for the four searches.
+STATEMENTS = {
+    "FIND_REQUEST": "SELECT command, key_no, state, moment FROM request WHERE caller = ?1 AND number = ?2",
+    "FIND_KEY": "SELECT kind, owner, purpose, state, initial, activation, protect_stop, deactivation, destroyed, "
+    "compromised, occurrence FROM keys WHERE number = ?1",
+    "FIND_CUSTODIANS": "SELECT name FROM custodian WHERE key_no = ?1",
+    "FIND_APPROVALS": "SELECT name FROM approval WHERE key_no = ?1",
+    "ACTIVATE_DUE": "UPDATE keys SET state = 2 WHERE state = 1 AND activation <= ?1",
+    "DEACTIVATE_DUE": "UPDATE keys SET state = 3 WHERE state = 2 AND deactivation <= ?1",
+    "ADD_KEY": "INSERT INTO keys (number, kind, owner, purpose, state, initial, activation, protect_stop, "
+    "deactivation, destroyed, compromised, occurrence) VALUES (?1, ?2, ?3, ?4, ?5, ?6, ?7, ?8, ?9, ?10, ?11, ?12)",
+    "UPDATE_KEY": "UPDATE keys SET owner = ?2, state = ?3, activation = ?4, protect_stop = ?5, deactivation = ?6, "
+    "destroyed = ?7, compromised = ?8, occurrence = ?9 WHERE number = ?1",
+    "ADD_REQUEST": "INSERT INTO request (caller, number, command, key_no, state, moment) "
+    "VALUES (?1, ?2, ?3, ?4, ?5, ?6)",
+    "SET_COUNTS": "UPDATE meta SET latest = ?1, key_count = ?2 WHERE id = 1",
+}
+
+# The latest moment of the register at first; the one behind which its keys fall due, one each second; the Activation
+# Date of the keys that are registered later; the Protect Stop and the Deactivation Date of all keys.
+START = 1_000_000
+DUE = 2_000_000
+LATER = 10_000_000
+STOP = 50_000_000
+END = 100_000_000
+
+DATA_ENCRYPTION = 1
+PRE_ACTIVE, ACTIVE = 1, 2
+STATES = {0: "-", PRE_ACTIVE: "Pre-Active", ACTIVE: "Active"}
+
+# Places are taken in steps of this prime.
+STEP = 7919
+
+# So many requests of a kind come before those that are counted.
+FIRST = 50
+
+
+class Span(NamedTuple):
+    """Requests of one kind, with the places from `first` up to `end`."""
+    kind: str
+    is_rising: bool
+    # The moment of all of them, or, where they are rising, a second and its place before that of each.
+    base: int
+    # How many keys the register has at first, and how many where the requests make none.
+    prepared: int
+    keys: int
+    first: int
+    end: int
+
+
+class Kept(NamedTuple):
+    """What is kept of a request."""
+    caller: str
+    number: int
+    command: str
+    key: int
+    state: int
+    moment: int
+
+
+# ---- the requests
+
+
+def scattered(place, places):
+    return place * STEP % places
+
+
+def activation_at(place, keys):
+    """The Activation Date of the key at this place of a register of so many keys, 0 in every second."""
+    return 0 if place % 2 else DUE + 1 + scattered(place // 2, keys - keys // 2)
+
+
+def purpose(number):
+    return f"backup volume {number}"
+
+
+def registered(number, activation, moment):
+    command = f"register data-encryption office {activation} {STOP} {END} {purpose(number)}"
+    return Kept("ann", number, command, number, PRE_ACTIVE if activation else ACTIVE, moment)
+
+
+def request(span, place):
+    moment = span.base + place + 1 if span.is_rising else span.base
+    if span.kind == "prepare":
+        return registered(place + 1, activation_at(place, span.prepared), moment)
+    if span.kind == "repeat":
+        key = scattered(place, span.prepared)
+        return registered(key + 1, activation_at(key, span.prepared), START)
+    if span.kind == "register":
+        return registered(span.prepared + place + 1, LATER, moment)
+    if span.kind == "assign":
+        key, turn = scattered(place, span.prepared) + 1, place // span.prepared % 2
+        owner, other = ("branch", "office") if turn else ("office", "branch")
+        return Kept(owner, place + 1, f"assign {key} {other}", key, PRE_ACTIVE if key % 2 else ACTIVE, moment)
+    return Kept("clock", place + 1, "advance", 0, 0, moment)
+
+
+def requests(span):
+    return [request(span, place) for place in range(span.first, span.end)]
+
+
+def spans(keys, count):
+    """For each kind of request over a register of so many keys the span that is not counted, and the one that is."""
+    few = min(count, keys // 4)
+    latest, served, made = START, {}, 0
+    for kind, is_rising, counted in (
+        ("repeat", False, 10 * count),
+        ("assign", False, count),
+        ("assign", True, count),
+        ("register", False, few),
+        ("register", True, few),
+        ("advance", True, min(count // 4, keys // 2 - FIRST)),
+    ):
+        if kind == "advance":
+            latest = DUE
+        first = served.get(kind, 0)
+        split, end = first + FIRST, first + FIRST + counted
+        base = latest - first if is_rising else latest
+        yield (
+            Span(kind, is_rising, base, keys, keys + made, first, split),
+            Span(kind, is_rising, base, keys, keys + made, split, end),
+        )
+        served[kind] = end
+        latest = base + end if is_rising else latest
+        made = served.get("register", 0)
+        expect(kind == "advance" or latest < DUE, "so many requests make keys due")
+
+
+# ---- the register
+
+
+def key_row(number, activation, moment):
+    state = PRE_ACTIVE if activation else ACTIVE
+    dates = (moment, activation, STOP, END, UNSET, UNSET, UNSET)
+    return (number, DATA_ENCRYPTION, "office", purpose(number), state, *dates)
+
+
+def write(file, keys):
+    """Writes the register that the requests find."""
+    connection = sqlite3.connect(file)
+    connection.executescript("PRAGMA synchronous = OFF; PRAGMA journal_mode = OFF;" + TABLES + INDEXES)
+    connection.execute("INSERT INTO meta VALUES (1, 1, ?, ?)", (START, keys))
+    made = requests(Span("prepare", False, START, keys, keys, 0, keys))
+    connection.executemany(
+        f"INSERT INTO keys VALUES ({', '.join('?' * 12)})",
+        (key_row(kept.key, activation_at(place, keys), START) for place, kept in enumerate(made)),
+    )
+    connection.executemany("INSERT INTO request VALUES (?, ?, ?, ?, ?, ?)", made)
+    connection.commit()
+    connection.close()
+
+
+def rows(file):
+    connection = sqlite3.connect(file)
+    found = all_rows(connection)
+    connection.close()
+    return found
+
+
+# ---- the statements in Python
+
+
+def serve(connection, span, asked):
+    """Runs the statements of the requests."""
+    run = connection.execute
+    for kept in asked:
+        found = run(STATEMENTS["FIND_REQUEST"], kept[:2]).fetchone()
+        if found != (kept[2:] if span.kind == "repeat" else None):
+            sys.exit(f"FAILED: found {found}")
+        if span.kind == "repeat":
+            continue
+        keys = span.keys
+        if span.kind == "assign":
+            row = run(STATEMENTS["FIND_KEY"], (kept.key,)).fetchone()
+            custodians = run(STATEMENTS["FIND_CUSTODIANS"], (kept.key,)).fetchall()
+            approvals = run(STATEMENTS["FIND_APPROVALS"], (kept.key,)).fetchall()
+            if row[1] != kept.caller or custodians or approvals:
+                sys.exit(f"FAILED: found {row}")
+        run("BEGIN")
+        if span.is_rising:
+            run(STATEMENTS["ACTIVATE_DUE"], (kept.moment,))
+            run(STATEMENTS["DEACTIVATE_DUE"], (kept.moment,))
+        if span.kind == "assign":
+            owner = "office" if kept.caller == "branch" else "branch"
+            run(STATEMENTS["UPDATE_KEY"], (kept.key, owner, row[3], *row[5:]))
+        elif span.kind != "advance":
+            keys = kept.key
+            activation = LATER if span.kind == "register" else activation_at(kept.key - 1, span.prepared)
+            run(STATEMENTS["ADD_KEY"], key_row(kept.key, activation, kept.moment))
+        run(STATEMENTS["ADD_REQUEST"], kept)
+        run(STATEMENTS["SET_COUNTS"], (kept.moment, keys))
+        run("COMMIT")
+
+
+def serve_lines(place):
+    """Serves the spans of the lines that it reads, over the file or `:memory:`. It tells where it knows the values of a
+    span, waits for a line, and tells where the span is done."""
+    connection = sqlite3.connect(place, isolation_level=None)
+    for pragma in (
+        "locking_mode = EXCLUSIVE", "journal_mode = WAL", "synchronous = FULL", "wal_autocheckpoint = 1000",
+        "cache_size = 2000", "foreign_keys = ON",
+    ):
+        connection.execute(f"PRAGMA {pragma}").fetchall()
+    if place == ":memory:":
+        connection.executescript(EMPTY)
+    for line in sys.stdin:
+        kind, moments, *numbers = line.split()
+        span = Span(kind, moments == "rising", *map(int, numbers))
+        asked = requests(span)
+        print("known", flush=True)
+        sys.stdin.readline()
+        serve(connection, span, asked)
+        print("done", flush=True)
+    connection.close()
+
+
+# The statements that make an empty register.
+EMPTY = TABLES + INDEXES + "INSERT INTO meta VALUES (1, 1, 0, 0);"
+
+
+# ---- the statements in the kit
+
+
+def constants():
+    """The statements and the numbers above as items of the bare program."""
+    numbers = ("STEP", "DUE", "LATER", "STOP", "END", "UNSET", "DATA_ENCRYPTION", "PRE_ACTIVE", "ACTIVE")
+    return "".join((
+        *(f"const {name}: {'u64' if name == 'STEP' else 'i64'} = {globals()[name]};\n" for name in numbers),
+        *(f'const {name}: &str = "{text}";\n' for name, text in STATEMENTS.items()),
+    ))
+
+
+BARE_SOURCE = """\
+//! Gives the statements of accepted requests to the kit's `sqlite`, with values that are known before: no request is
+//! read or judged, and no reply is written.
+#![tactic(auto)]
+
+use sqlite::{Alter, Connection, Error, Transaction, Wary, params};
+use std::alloc::Global;
+use std::env;
+use std::process::ExitCode;
+
+""" + constants() + """
+/// Requests of one kind, with the places from `first` up to `end`.
+#[derive(Clone, Copy)]
+struct Span {
+    is_rising: bool,
+    base: u32,
+    prepared: u32,
+    keys: u32,
+    first: u32,
+    end: u32,
+}
+
+/// What is kept of a request but its texts, and the number of keys behind it.
+#[derive(Clone, Copy)]
+struct Kept {
+    number: i64,
+    key: i64,
+    state: i64,
+    moment: i64,
+    keys: i64,
+}
+
+/// What the change of a key's owner sets beside it.
+#[derive(Clone, Copy)]
+struct Row {
+    state: i64,
+    activation: i64,
+    protect_stop: i64,
+    deactivation: i64,
+    destroyed: i64,
+    compromised: i64,
+    occurrence: i64,
+}
+
+fn scattered(place: u32, places: u32) -> Option<u32> {
+    let far = u64::from(place).wrapping_mul(STEP);
+    u32::try_from(far.checked_rem(u64::from(places))?).ok()
+}
+
+fn activation_at(place: u32, keys: u32) -> Option<i64> {
+    if place % 2 == 1 {
+        return Some(0);
+    }
+    Some(DUE + 1 + i64::from(scattered(place / 2, keys - keys / 2)?))
+}
+
+fn is_new<S: Alter>(connection: &mut Connection<S>, caller: &str, number: i64) -> bool {
+    match connection.query_row(FIND_REQUEST, params![caller, number]) {
+        Err(Error::QueryReturnedNoRows) => true,
+        _ => false,
+    }
+}
+
+fn find_key<S: Alter>(connection: &mut Connection<S>, key: i64) -> Option<Row> {
+    let row = connection.query_row(FIND_KEY, params![key]).ok()?;
+    Some(Row {
+        state: row.get(3).ok()?,
+        activation: row.get(5).ok()?,
+        protect_stop: row.get(6).ok()?,
+        deactivation: row.get(7).ok()?,
+        destroyed: row.get(8).ok()?,
+        compromised: row.get(9).ok()?,
+        occurrence: row.get(10).ok()?,
+    })
+}
+
+fn count_names<S: Alter>(connection: &mut Connection<S>, sql: &str, key: i64) -> Option<usize> {
+    let names = connection.query_all(sql, params![key]).ok()?;
+    Some(names.len())
+}
+
+fn advance_due<S: Alter>(tx: &mut Transaction<'_, S>, moment: i64) -> Option<()> {
+    tx.execute(ACTIVATE_DUE, params![moment]).ok()?;
+    tx.execute(DEACTIVATE_DUE, params![moment]).ok()?;
+    Some(())
+}
+
+fn set_owner<S: Alter>(tx: &mut Transaction<'_, S>, key: i64, owner: &str, row: Row) -> Option<()> {
+    tx.execute(
+        UPDATE_KEY,
+        params![
+            key,
+            owner,
+            row.state,
+            row.activation,
+            row.protect_stop,
+            row.deactivation,
+            row.destroyed,
+            row.compromised,
+            row.occurrence
+        ],
+    )
+    .ok()?;
+    Some(())
+}
+
+fn keep<S: Alter>(
+    tx: &mut Transaction<'_, S>,
+    caller: &str,
+    command: &str,
+    kept: Kept,
+) -> Option<()> {
+    tx.execute(
+        ADD_REQUEST,
+        params![caller, kept.number, command, kept.key, kept.state, kept.moment],
+    )
+    .ok()?;
+    tx.execute(SET_COUNTS, params![kept.moment, kept.keys]).ok()?;
+    Some(())
+}
+
+fn register<S: Alter>(
+    alloc: Global,
+    connection: &mut Connection<S>,
+    number: i64,
+    activation: i64,
+    moment: i64,
+    is_later: bool,
+) -> Option<()> {
+    let state = if activation == 0 { ACTIVE } else { PRE_ACTIVE };
+    let purpose = format!(in alloc; "backup volume {number}").ok()?;
+    let command = format!(in alloc; "register data-encryption office {activation} {STOP} {END} {purpose}").ok()?;
+    if !is_new(connection, "ann", number) || !connection.is_autocommit() {
+        return None;
+    }
+    let mut tx = connection.transaction();
+    if is_later {
+        advance_due(&mut tx, moment)?;
+    }
+    let cells = params![
+        number,
+        DATA_ENCRYPTION,
+        "office",
+        purpose.as_str(),
+        state,
+        moment,
+        activation,
+        STOP,
+        END,
+        UNSET,
+        UNSET,
+        UNSET
+    ];
+    tx.execute(ADD_KEY, cells).ok()?;
+    let kept = Kept {
+        number,
+        key: number,
+        state,
+        moment,
+        keys: number,
+    };
+    keep(&mut tx, "ann", command.as_str(), kept)?;
+    tx.commit().ok()
+}
+
+fn assign_text(alloc: Global, key: i64, to: &str) -> Option<String> {
+    format!(in alloc; "assign {key} {to}").ok()
+}
+
+fn assign<S: Alter>(
+    alloc: Global,
+    connection: &mut Connection<S>,
+    number: i64,
+    key: i64,
+    owner: &str,
+    other: &str,
+    keys: i64,
+    moment: i64,
+    is_later: bool,
+) -> Option<()> {
+    let command = assign_text(alloc, key, other)?;
+    if !is_new(connection, owner, number) {
+        return None;
+    }
+    let row = find_key(connection, key)?;
+    let custodians = count_names(connection, FIND_CUSTODIANS, key)?;
+    let approvals = count_names(connection, FIND_APPROVALS, key)?;
+    if custodians > 0 || approvals > 0 || !connection.is_autocommit() {
+        return None;
+    }
+    let mut tx = connection.transaction();
+    if is_later {
+        advance_due(&mut tx, moment)?;
+    }
+    set_owner(&mut tx, key, other, row)?;
+    let kept = Kept {
+        number,
+        key,
+        state: row.state,
+        moment,
+        keys,
+    };
+    keep(&mut tx, owner, command.as_str(), kept)?;
+    tx.commit().ok()
+}
+
+fn repeat<S: Alter>(connection: &mut Connection<S>, number: i64) -> Option<()> {
+    let row = connection.query_row(FIND_REQUEST, params!["ann", number]).ok()?;
+    let key: i64 = row.get(1).ok()?;
+    if key == number { Some(()) } else { None }
+}
+
+fn advance<S: Alter>(
+    connection: &mut Connection<S>,
+    number: i64,
+    keys: i64,
+    moment: i64,
+) -> Option<()> {
+    if !is_new(connection, "clock", number) || !connection.is_autocommit() {
+        return None;
+    }
+    let mut tx = connection.transaction();
+    advance_due(&mut tx, moment)?;
+    let kept = Kept {
+        number,
+        key: 0,
+        state: 0,
+        moment,
+        keys,
+    };
+    keep(&mut tx, "clock", "advance", kept)?;
+    tx.commit().ok()
+}
+
+fn serve<S: Alter>(
+    alloc: Global,
+    connection: &mut Connection<S>,
+    kind: &str,
+    span: Span,
+    place: u32,
+) -> Option<()> {
+    let number = i64::from(place) + 1;
+    let is_later = span.is_rising;
+    let moment = if is_later { i64::from(span.base) + number } else { i64::from(span.base) };
+    match kind {
+        "prepare" => {
+            let activation = activation_at(place, span.prepared)?;
+            register(alloc, connection, number, activation, moment, is_later)
+        }
+        "repeat" => repeat(connection, i64::from(scattered(place, span.prepared)?) + 1),
+        "register" => {
+            let key = i64::from(span.prepared) + number;
+            register(alloc, connection, key, LATER, moment, is_later)
+        }
+        "assign" => {
+            let key = i64::from(scattered(place, span.prepared)?) + 1;
+            let (owner, other) = if place.checked_div(span.prepared)? % 2 == 1 {
+                ("branch", "office")
+            } else {
+                ("office", "branch")
+            };
+            let keys = i64::from(span.keys);
+            assign(alloc, connection, number, key, owner, other, keys, moment, is_later)
+        }
+        "advance" => advance(connection, number, i64::from(span.keys), moment),
+        _ => None,
+    }
+}
+
+fn number_in(field: Option<&str>) -> Option<u32> {
+    field?.parse::<u32>().ok()
+}
+
+fn serve_line<S: Alter>(alloc: Global, connection: &mut Connection<S>, line: &str) -> Option<()> {
+    let mut fields = line.split(' ');
+    let kind = fields.next()?;
+    let span = Span {
+        is_rising: fields.next()? == "rising",
+        base: number_in(fields.next())?,
+        prepared: number_in(fields.next())?,
+        keys: number_in(fields.next())?,
+        first: number_in(fields.next())?,
+        end: number_in(fields.next())?,
+    };
+    for place in span.first..span.end {
+        serve(alloc, connection, kind, span, place)?;
+    }
+    Some(())
+}
+
+/// Serves the span of each line of the input, and tells where it is done.
+fn serve_lines<S: Alter>(rt: &HostRuntime, connection: &mut Connection<S>) -> Option<()> {
+    for line in rt.lines(rt.alloc()) {
+        serve_line(rt.alloc(), connection, line.ok()?.as_str())?;
+        println!(rt; "done").ok()?;
+    }
+    Some(())
+}
+
+fn serve_in_memory(rt: &HostRuntime, tables: &str) -> Option<()> {
+    let mut connection = Connection::open_in_memory(rt.alloc()).ok()?;
+    connection.execute_batch(tables).ok()?;
+    serve_lines(rt, &mut connection)
+}
+
+fn serve_in_file(rt: &HostRuntime, file: &str) -> Option<()> {
+    let mut connection = Connection::open_from(rt, file, false, Wary).ok()?;
+    serve_lines(rt, &mut connection)?;
+    connection.close().ok()
+}
+
+/// The words are a file, or `:memory:` and the statements that make an empty register.
+fn act(rt: &HostRuntime) -> Option<()> {
+    let mut words = env::args(rt).ok()?;
+    words.next()?;
+    let place = words.next()?;
+    if place.as_str() == ":memory:" {
+        serve_in_memory(rt, words.next()?.as_str())
+    } else {
+        serve_in_file(rt, place.as_str())
+    }
+}
+
+fn main(rt: HostRuntime) -> ExitCode {
+    match act(&rt) {
+        Some(()) => ExitCode::from(0),
+        None => ExitCode::from(1),
+    }
+}
+"""
+
+BUILT = os.path.join(tempfile.gettempdir(), "keyreg_bench_requests")
+CRATE = os.path.join(BUILT, "crates", "bare_requests")
+BARE = os.path.join(CRATE, "out", "bare_requests")
+
+
+def build_bare():
+    """Builds the bare program, where it is not there as it stands above."""
+    source = os.path.join(CRATE, "src", "main.rt")
+    if os.path.exists(BARE) and os.path.exists(source):
+        with open(source, encoding="utf-8") as file:
+            if file.read() == BARE_SOURCE:
+                return
+    print("bare_requests: proving and building", file=sys.stderr)
+    shutil.rmtree(BUILT, ignore_errors=True)
+    os.makedirs(os.path.dirname(source))
+    with open(os.path.join(BUILT, "crates.txt"), "w", encoding="utf-8") as file:
+        file.write("bare_requests: sqlite\n")
+    with open(source, "w", encoding="utf-8") as file:
+        file.write(BARE_SOURCE)
+    subprocess.run(["rt", "run"], cwd=CRATE, stdin=subprocess.DEVNULL, capture_output=True, check=False)
+    expect(os.path.exists(BARE), "bare_requests was not built")
+
+
+# ---- the runs
+
+
+class Run:
+    """A run of a program, which is given its input part by part."""
+
+    def __init__(self, words):
+        self.written, self.size = tempfile.TemporaryFile(), 0
+        self.child = subprocess.Popen(words, stdin=subprocess.PIPE, stdout=self.written)
+        # The processor clock of another process, as clock_getcpuclockid gives it.
+        self.clock = (~self.child.pid << 3) | 2
+
+    def give(self, given, wanted):
+        """Gives a part of the input and waits for what is to be written for it. Gives processor and wall seconds."""
+        used, begun = time.clock_gettime(self.clock), time.monotonic()
+        try:
+            self.child.stdin.write(given)
+            self.child.stdin.flush()
+        except BrokenPipeError:
+            self.child.wait()
+        size, moved = 0, begun
+        while size < len(wanted):
+            expect(self.child.poll() is None, f"{self.child.args[:2]}: status {self.child.returncode}")
+            if time.monotonic() > moved + 1:
+                # What is short of what is wanted may be something else.
+                self.expect_written(wanted[:size])
+            time.sleep(0.0002)
+            before, size = size, os.fstat(self.written.fileno()).st_size - self.size
+            moved = time.monotonic() if size > before else moved
+        wall, used = time.monotonic() - begun, time.clock_gettime(self.clock) - used
+        expect(size == len(wanted), f"{self.child.args[:2]}: wrote too much")
+        self.expect_written(wanted)
+        self.size += size
+        return used, wall
+
+    def expect_written(self, wanted):
+        written = os.pread(self.written.fileno(), len(wanted), self.size)
+        expect(written == wanted, f"{self.child.args[:2]}: wrote {written[-80:]}, and not {wanted[-80:]}")
+
+    def end(self):
+        self.child.stdin.close()
+        expect(self.child.wait() == 0, f"status {self.child.returncode}")
+        self.written.close()
+
+
+def told(span):
+    """The line that tells a program of the span."""
+    return " ".join((span.kind, "rising" if span.is_rising else "level", *map(str, span[2:]))).encode() + b"\n"
+
+
+def words_of(name, place):
+    """The words that start a program over a file, or in memory."""
+    if name == "keyreg":
+        return [PROGRAM] if place == ":memory:" else [PROGRAM, "run", "--file", place]
+    return [BARE, place, EMPTY] if name == "bare" else [sys.executable, os.path.abspath(__file__), "--serve", place]
+
+
+def serve_by(name, run, span):
+    """Has the span served by a run of the program. Gives processor and wall seconds."""
+    if name == "bare":
+        return run.give(told(span), b"done\n")
+    if name == "python":
+        run.give(told(span), b"known\n")
+        return run.give(b"\n", b"done\n")
+    asked = requests(span)
+    lines = "".join(f"{kept.moment} {kept.caller} {kept.number} {kept.command}\n" for kept in asked)
+    replies = "".join(f"ok {kept.key} {STATES[kept.state]} {kept.moment}\n" for kept in asked)
+    return run.give(lines.encode(), replies.encode())
+
+
+def measured(name, place, keys, count):
+    """Processor and wall microseconds of a request of each kind."""
+    run = Run(words_of(name, place))
+    if place == ":memory:":
+        serve_by(name, run, Span("prepare", False, START, keys, keys, 0, keys))
+    figures = []
+    for first, counted in spans(keys, count):
+        serve_by(name, run, first)
+        figures.append([1e6 * seconds / (counted.end - counted.first) for seconds in serve_by(name, run, counted)])
+    run.end()
+    return figures
+
+
+PROGRAMS = ("keyreg", "bare", "python")
+
+
+def over_files(keys, count, rounds):
+    """For each program the figures of each round over a file; the three files are to hold the same rows then."""
+    figures = {name: [] for name in PROGRAMS}
+    with tempfile.TemporaryDirectory() as folder:
+        prepared = os.path.join(folder, "prepared.keyreg")
+        write(prepared, keys)
+        for number in range(rounds):
+            files = {name: os.path.join(folder, f"{name}_{number}.keyreg") for name in PROGRAMS}
+            for name, file in files.items():
+                shutil.copy(prepared, file)
+                figures[name].append(measured(name, file, keys, count))
+            wanted, *others = map(rows, files.values())
+            expect(all(other == wanted for other in others), "the files hold other rows")
+    return figures
+
+
+def in_memory(keys, count, rounds):
+    figures = {name: [] for name in PROGRAMS}
+    for _ in range(rounds):
+        for name in PROGRAMS:
+            figures[name].append(measured(name, ":memory:", keys, count))
+    return figures
+
+
+def table(head, lines):
+    print("| " + " | ".join(head) + " |\n" + "|---" * len(head) + "|")
+    for line in lines:
+        print("| " + " | ".join(line) + " |", flush=True)
+
+
+def figures_of(sizes, count, rounds):
+    """What names each place, size and kind of request, with the least figures of the three programs there."""
+    for place, measure in (("file", over_files), ("memory", in_memory)):
+        for keys in sizes:
+            figures = measure(keys, count, rounds)
+            for at, (_, span) in enumerate(spans(keys, count)):
+                kind = span.kind if span.kind == "repeat" else f"{span.kind}, {'rising' if span.is_rising else 'level'}"
+                names = (place, f"{keys}", kind, f"{span.end - span.first}")
+                rounds_of = ([found[at] for found in figures[name]] for name in PROGRAMS)
+                yield names, [[min(values) for values in zip(*found)] for found in rounds_of]
+
+
+def main():
+    words = argparse.ArgumentParser(description="What a request costs.")
+    words.add_argument("keys", nargs="*", type=int, metavar="KEYS", help="the sizes of the registers, from 200 keys on")
+    words.add_argument("--requests", type=int, default=1000, metavar="N",
+                       help="so many assignments, ten times as many repeats, as many registrations but no more than a "
+                       "fourth of the keys, and a fourth as many advances")
+    words.add_argument("--rounds", type=int, default=3, metavar="N")
+    words.add_argument("--serve", help=argparse.SUPPRESS)
+    asked = words.parse_args()
+    if asked.serve:
+        serve_lines(asked.serve)
+        return
+    sizes = asked.keys or [1_000, 10_000, 100_000]
+    expect(asked.requests >= 4, "too few requests")
+    expect(all(keys >= 200 and keys % STEP and (keys - keys // 2) % STEP for keys in sizes), f"sizes {sizes}")
+    build_bare()
+    print(f"SQLite {sqlite3.sqlite_version} in Python. Microseconds a request; the least of {asked.rounds}.\n")
+    found = []
+
+    def lines():
+        for names, figures in figures_of(sizes, asked.requests, asked.rounds):
+            found.append((names, figures))
+            yield [*names, *(f"{x:.1f}" for figure in figures for x in figure)]
+
+    table(("over", "keys", "request", "counted", "keyreg: processor", "wall", "bare: processor", "wall",
+           "python: processor", "wall"), lines())
+    print()
+    ratios = ([*names[:3], *(f"{ours[at] / other[at]:.2f}" for other in others for at in (0, 1))]
+              for names, (ours, *others) in found)
+    table(("over", "keys", "request", "keyreg / bare: processor", "wall", "keyreg / python: processor", "wall"), ratios)
+
+
+main()
