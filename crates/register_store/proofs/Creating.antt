@@ -12,7 +12,7 @@ use Rattle.sqlite_tied.specs.Compute.{everything}
 use Rattle.sql_steps.proofs.Creating.{makes, indexes}
 use Rattle.sql_steps.proofs.Inserting.{edit, puts}
 use Rattle.sql_steps.proofs.Statements.{cast_int, cast_null}
-use Rattle.register_store.specs.declared.due_index.DueIndex.{DueIndex}
+use Rattle.register_store.specs.declared.due_date.DueDate.{DueDate}
 use Rattle.register_store.specs.declared.table.TableName.{TableName}
 use Rattle.register_store.specs.declared.table.TableName.TheVariants.{Meta, Keys}
 use Rattle.register_store.specs.Tables.{meta, keys, table_of, place_of, tree_of, create_text, Shows, content, counts_row, no_rows}
@@ -35,10 +35,10 @@ makes_table name =
 
 -- ---- one index
 
-abbrev MadeIndex : DueIndex → Type 1
+abbrev MadeIndex : DueDate → Type 1
 MadeIndex index = (old new : State) (count : ℕ) → Executes (index_text index) [] old new (Ok count) → MakesIndex index old.now new.now
 
-pub makes_index : (index : DueIndex) → MadeIndex index
+pub makes_index : (index : DueDate) → MadeIndex index
 makes_index index =
     let p = each_index.create_is index in
     indexes (each_index.schema_before index) (place_of Keys) keys refl (index_of index) (index_text index) p.is p.whole p.plain (each_index.unplaced index) p.defined p.same

@@ -8,7 +8,7 @@ use Rattle.sqlite.specs.State.{State, HasCleanDisk, Survives}
 use Rattle.sqlite_trees.specs.declared.store.Store.{Ghosts}
 use Rattle.sqlite_resolve.specs.declared.compiled.Compiled.{Compiled}
 use Rattle.sql_steps.specs.Creating.{Creates, Indexes}
-use Rattle.register_store.specs.declared.due_index.DueIndex.{DueIndex}
+use Rattle.register_store.specs.declared.due_date.DueDate.{DueDate}
 use Rattle.register_store.specs.declared.table.TableName.{TableName}
 use Rattle.register_store.specs.Tables.{all_tables, keys, table_of, place_of, count_text, no_rows}
 use Rattle.register_store.specs.Schema.{no_schema, schema_after, schema_with, due_indexes, index_of, index_place, Holds, rows_of}
@@ -37,7 +37,7 @@ abbrev pub MakesFirst : ℕ → Database → Database → Type 0
 MakesFirst n old new = old.schema ≡ no_schema → HasFirst n new
 
 -- the index of keys is made where the tables and the indexes before it are
-abbrev pub MakesIndex : DueIndex → Database → Database → Type 0
+abbrev pub MakesIndex : DueDate → Database → Database → Type 0
 MakesIndex index = Indexes (schema_with (take (index_place index) due_indexes)) keys (index_of index)
 
 -- all tables are made, each empty, and the first n of the indexes

@@ -6,8 +6,8 @@ use Rattle.sqlite.specs.Change.{created}
 use Rattle.sqlite.specs.Effect.{Database, IsDatabase}
 use Rattle.sqlite_schema.specs.declared.schema.Index.{Index}
 use Rattle.sqlite_value.specs.Keys.{plain}
-use Rattle.register_store.specs.declared.due_index.DueIndex.{DueIndex}
-use Rattle.register_store.specs.declared.due_index.DueIndex.TheVariants.{Activation, Deactivation}
+use Rattle.register_store.specs.declared.due_date.DueDate.{DueDate}
+use Rattle.register_store.specs.declared.due_date.DueDate.TheVariants.{Activation, Deactivation}
 use Rattle.register_store.specs.declared.table.TableName.{TableName}
 use Rattle.register_store.specs.declared.table.TableName.TheVariants.{Keys}
 use Rattle.register_store.specs.Tables.{Tables, content, IsInRange, Shows, all_tables, table_of, tree_of, key_indexes}
@@ -48,7 +48,7 @@ due_index name tree column = record {
 }
 
 -- by the date of activation, and by that of deactivation; their trees come behind those of the tables
-abbrev pub index_of : DueIndex → Index
+abbrev pub index_of : DueDate → Index
 index_of Activation = due_index (codes "keys_by_activation") 8 7
 index_of Deactivation = due_index (codes "keys_by_deactivation") 9 9
 
@@ -57,11 +57,11 @@ abbrev pub due_indexes : List Index
 due_indexes = index_of Activation ∷ index_of Deactivation ∷ []
 
 -- the place of an index among them
-abbrev pub index_place : DueIndex → ℕ
+abbrev pub index_place : DueDate → ℕ
 index_place Activation = 0
 index_place Deactivation = 1
 
-abbrev pub index_text : DueIndex → List ℕ
+abbrev pub index_text : DueDate → List ℕ
 index_text Activation = codes "CREATE INDEX keys_by_activation ON keys (state, activation)"
 index_text Deactivation = codes "CREATE INDEX keys_by_deactivation ON keys (state, deactivation)"
 

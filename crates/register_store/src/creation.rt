@@ -9,7 +9,7 @@ ghost use Rattle.register_store.specs.Creation.{MakesTable, MakesFirst, MakesInd
 ghost use Rattle.register_store.specs.Creation.{AddsMeta, HasTable};
 ghost use Rattle.register_store.specs.Creation.{Answers, AnswersMeaning, Finds, FindsTable};
 
-use crate::due_index::{DUE_INDEXES, DueIndex};
+use crate::due_date::{DUE_DATES, DueDate};
 use crate::error::CreateError;
 use crate::table::{TABLES, TableName};
 use sqlite::{Alter, Connection, Error, Transaction};
@@ -49,11 +49,11 @@ fn make_table<S: Alter>(tx: &mut Transaction<'_, S>, table: TableName) -> Result
 }
 
 /// Makes one of the indexes, where the tables and the indexes before it are made.
-fn make_index<S: Alter>(tx: &mut Transaction<'_, S>, index: DueIndex) -> Result<(), Error>
+fn make_index<S: Alter>(tx: &mut Transaction<'_, S>, date: DueDate) -> Result<(), Error>
     ensures same_reference { tx.new.conn.ghost_name ≡ tx.old.conn.ghost_name }
-    ensures made { Steps S.Store (λ _. MakesIndex index) tx.old.conn.now tx.new.conn.now result }
+    ensures made { Steps S.Store (λ _. MakesIndex date) tx.old.conn.now tx.new.conn.now result }
 {
-    tx.execute(index.create_sql(), &[])?;
+    tx.execute(date.index_sql(), &[])?;
     Ok(())
 }
 
@@ -84,8 +84,8 @@ fn make_indexes<S: Alter>(tx: &mut Transaction<'_, S>) -> Result<(), Error>
     ensures made { Steps S.Store (λ _. MakesIndexes (length due_indexes))
         tx.old.conn.now tx.new.conn.now result }
 {
-    for index in DUE_INDEXES {
-        make_index(tx, index)?;
+    for date in DUE_DATES {
+        make_index(tx, date)?;
     }
     Ok(())
 }

@@ -19,7 +19,7 @@ mod creation;
 mod custody;
 mod custody_test;
 mod due;
-mod due_index;
+mod due_date;
 mod error;
 mod found;
 mod key_row;

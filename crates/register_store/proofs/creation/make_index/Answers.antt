@@ -10,6 +10,6 @@ pub returns-clause-made : goal.returns-clause-made
 returns-clause-made g c =
     let old = state g.S.Store c.args.tx.now.conn.now in
     let new = state g.S.Store c.execute.new.self.conn.now in
-    let index = c.args.index in
+    let index = c.args.date in
     runs (MakesIndex index) (index_text index) [] old new c.in_ok-execute.field-0 (makes_index index old new)
-    (λ clean inside. rw c.create_sql.ensures at (c.in_ok-execute.ensures.runs clean inside)) c.in_ok-execute.ensures.survives
+    (λ clean inside. rw c.index_sql.ensures at (c.in_ok-execute.ensures.runs clean inside)) c.in_ok-execute.ensures.survives
