@@ -16,7 +16,7 @@ import time
 
 HERE = os.path.dirname(os.path.abspath(__file__))
 sys.path.insert(0, os.path.join(HERE, "..", "checks"))
-from registers import PROGRAM, TABLES, UNSET, expect  # noqa: E402
+from registers import INDEXES, PROGRAM, TABLES, UNSET, expect  # noqa: E402
 
 BUILT = os.path.join(tempfile.gettempdir(), "keyreg_bench")
 BARE = os.path.join(BUILT, "crates", "bare_open", "out", "bare_open")
@@ -70,6 +70,7 @@ def write(file, keys):
         "INSERT INTO request VALUES ('ann', ?, ?, ?, 2, 100)",
         ((k, f"register master office 0 - - backup volume {k}", k) for k in range(1, keys + 1)),
     )
+    connection.executescript(INDEXES)
     connection.commit()
     connection.close()
 

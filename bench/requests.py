@@ -1,6 +1,6 @@
 #!/usr/bin/env python3
 """What a request costs in microseconds, over a file and in memory, beside the same statements given to the kit's
-`sqlite` alone and to Python's `sqlite3`.
+`sqlite` alone, and to Python's `sqlite3` with the same rules.
 
     bench/requests.py [--requests N] [--rounds N] [KEYS..]
 
@@ -15,23 +15,25 @@ and half Active, each with the request that made it:
 The moments are *level*, all the latest one, so that no key is looked for that is due, or *rising*, each later than the
 one before it; but for an advance none is due then. Keys are taken out of their order, and each caller's numbers rise.
 
-`keyreg` reads lines, decides and writes replies. The *bare* program, below, gives the statements of an accepted request
-to the kit's `sqlite`, and *python* gives them to `sqlite3`; these two know the values before, and have no line to read,
-nothing to decide and no reply to write. All three hold the file's lock as long as they run, keep a log beside the file,
-copy it into the file when it has 1000 pages, keep 2000 pages in memory, and sync at each commit: the kit twice, since
-it trusts no checksum to refuse a torn write, and SQLite once (synchronous = FULL).
+`keyreg` reads lines, decides and writes replies, each before the next line is read. *python* does the same over `sqlite3`,
+with the rules that these requests meet. The *bare* program, below, gives the statements of an accepted request to the
+kit's `sqlite`: it knows the values before, and has no line to read, nothing to decide and no reply to write. All three
+hold the file's lock as long as they run, keep a log beside the file, copy it into the file when it has 1000 pages, keep
+2000 pages in memory, and sync at each commit: the kit twice, since it trusts no checksum to refuse a torn write, and
+SQLite once (synchronous = FULL).
 
 No start, opening or making of a register is in a figure: one run serves a kind after the other, and for each the clock
 of its processor time (user and system) and the time of day are read twice, where the first requests of the kind are
 answered and where the counted ones behind them are. The difference is divided by how many these are; the least of the
-rounds is told. In memory the register is made by requests first. Each reply of `keyreg` is compared with what the rules
-say, and after a run over a file its rows with those that the other two programs left.
+rounds is told. In memory the register is made by requests first. Each reply of `keyreg` and of *python* is compared
+with what is expected, and after a run over a file the rows that the three programs left.
 
 The files are written by SQLite's own library from the formats of docs/SPECIFICATION.md. The bare program is proved and
 built in a folder for temporary files, where it is not there as it stands below; that takes some minutes, and so does
 the rest. Build the register's own program first: ./keyreg </dev/null. It needs Linux, for the clock of another process.
 """
 import argparse
+import calendar
 import os
 import shutil
 import sqlite3
@@ -43,12 +45,7 @@ from typing import NamedTuple
 
 HERE = os.path.dirname(os.path.abspath(__file__))
 sys.path.insert(0, os.path.join(HERE, "..", "checks"))
-from registers import PROGRAM, TABLES, UNSET, all_rows, expect  # noqa: E402
-
-INDEXES = """
-CREATE INDEX IF NOT EXISTS keys_by_activation ON keys (state, activation);
-CREATE INDEX IF NOT EXISTS keys_by_deactivation ON keys (state, deactivation);
-"""
+from registers import INDEXES, PROGRAM, TABLES, UNSET, all_rows, expect  # noqa: E402
 
 # The statements of an accepted request, between BEGIN and COMMIT but for the four searches.
 STATEMENTS = {
@@ -62,7 +59,9 @@ STATEMENTS = {
     "ADD_KEY": "INSERT INTO keys (number, kind, owner, purpose, state, initial, activation, protect_stop, "
     "deactivation, destroyed, compromised, occurrence) VALUES (?1, ?2, ?3, ?4, ?5, ?6, ?7, ?8, ?9, ?10, ?11, ?12)",
     "UPDATE_KEY": "UPDATE keys SET owner = ?2, state = ?3, activation = ?4, protect_stop = ?5, deactivation = ?6, "
-    "destroyed = ?7, compromised = ?8, occurrence = ?9 WHERE number = ?1",
+    "destroyed = ?7, compromised = ?8, occurrence = ?9 WHERE number = ?1 AND NOT (owner = ?2 AND state = ?3 "
+    "AND activation = ?4 AND protect_stop = ?5 AND deactivation = ?6 AND destroyed = ?7 AND compromised = ?8 "
+    "AND occurrence = ?9)",
     "ADD_REQUEST": "INSERT INTO request (caller, number, command, key_no, state, moment) "
     "VALUES (?1, ?2, ?3, ?4, ?5, ?6)",
     "SET_COUNTS": "UPDATE meta SET latest = ?1, key_count = ?2 WHERE id = 1",
@@ -78,7 +77,8 @@ END = 100_000_000
 
 DATA_ENCRYPTION = 1
 PRE_ACTIVE, ACTIVE = 1, 2
-STATES = {0: "-", PRE_ACTIVE: "Pre-Active", ACTIVE: "Active"}
+STATES = {0: "-", PRE_ACTIVE: "Pre-Active", ACTIVE: "Active", 3: "Deactivated", 4: "Compromised", 5: "Destroyed",
+          6: "Destroyed-Compromised"}
 
 # Places are taken in steps of this prime.
 STEP = 7919
@@ -209,61 +209,137 @@ def rows(file):
     return found
 
 
-# ---- the statements in Python
+# ---- the register in Python
 
 
-def serve(connection, span, asked):
-    """Runs the statements of the requests."""
-    run = connection.execute
-    for kept in asked:
-        found = run(STATEMENTS["FIND_REQUEST"], kept[:2]).fetchone()
-        if found != (kept[2:] if span.kind == "repeat" else None):
-            sys.exit(f"FAILED: found {found}")
-        if span.kind == "repeat":
-            continue
-        keys = span.keys
-        if span.kind == "assign":
-            row = run(STATEMENTS["FIND_KEY"], (kept.key,)).fetchone()
-            custodians = run(STATEMENTS["FIND_CUSTODIANS"], (kept.key,)).fetchall()
-            approvals = run(STATEMENTS["FIND_APPROVALS"], (kept.key,)).fetchall()
-            if row[1] != kept.caller or custodians or approvals:
-                sys.exit(f"FAILED: found {row}")
-        run("BEGIN")
-        if span.is_rising:
-            run(STATEMENTS["ACTIVATE_DUE"], (kept.moment,))
-            run(STATEMENTS["DEACTIVATE_DUE"], (kept.moment,))
-        if span.kind == "assign":
-            owner = "office" if kept.caller == "branch" else "branch"
-            run(STATEMENTS["UPDATE_KEY"], (kept.key, owner, row[3], *row[5:]))
-        elif span.kind != "advance":
-            keys = kept.key
-            activation = LATER if span.kind == "register" else activation_at(kept.key - 1, span.prepared)
-            run(STATEMENTS["ADD_KEY"], key_row(kept.key, activation, kept.moment))
-        run(STATEMENTS["ADD_REQUEST"], kept)
-        run(STATEMENTS["SET_COUNTS"], (kept.moment, keys))
-        run("COMMIT")
+class Register:
+    """The same register, as far as these requests go: it reads a line, judges the request, runs the statements and gives
+    the line of its answer."""
+
+    def __init__(self, place):
+        self.connection = sqlite3.connect(place, isolation_level=None)
+        self.run = self.connection.execute
+        for pragma in (
+            "locking_mode = EXCLUSIVE", "journal_mode = WAL", "synchronous = FULL", "wal_autocheckpoint = 1000",
+            "cache_size = 2000", "foreign_keys = ON",
+        ):
+            self.run(f"PRAGMA {pragma}").fetchall()
+        if place == ":memory:":
+            self.connection.executescript(EMPTY)
+        self.latest, self.keys = self.run("SELECT latest, key_count FROM meta").fetchone()
+
+    def answer(self, line):
+        moment, caller, number, command = line.split(" ", 3)
+        moment, number = int(moment), int(number)
+        kept = self.run(STATEMENTS["FIND_REQUEST"], (caller, number)).fetchone()
+        if kept is not None:
+            return reply(*kept[1:]) if kept[0] == command else "refused 2 RequestReused"
+        if moment < self.latest:
+            return f"refused 3 MomentBehind latest={self.latest}"
+        word, *words = command.split(" ", 6)
+        if word == "register":
+            key, state, change = self.registration(moment, *words)
+        elif word == "assign":
+            key, state, change = self.assignment(moment, caller, *words)
+        else:
+            key, state, change = 0, 0, None
+        if state is None:
+            return change
+        self.accept(Kept(caller, number, command, key, state, moment), change)
+        return reply(key, state, moment)
+
+    def registration(self, moment, kind, owner, activation, protect_stop, deactivation, text):
+        """The key's number, its state and the statement that adds it; or no state and the refusal."""
+        code, originator, recipient = KINDS[kind]
+        given = [None if date == "-" else int(date) for date in (activation, protect_stop, deactivation)]
+        dates = filled(originator, recipient, *given)
+        if dates is None:
+            return 0, None, "refused 9 DateOrder"
+        if self.keys >= 1_000_000:
+            return 0, None, "refused 20 Full"
+        state, key = state_at(dates, (None, None), moment), self.keys + 1
+        cells = [UNSET if date is None else date for date in dates]
+        row = (key, code, owner, text, state, moment, *cells, UNSET, UNSET, UNSET)
+        return key, state, ("ADD_KEY", row)
+
+    def assignment(self, moment, caller, key, owner):
+        key = int(key)
+        row = self.run(STATEMENTS["FIND_KEY"], (key,)).fetchone()
+        custodians = [name for name, in self.run(STATEMENTS["FIND_CUSTODIANS"], (key,)).fetchall()]
+        approvals = sorted(name for name, in self.run(STATEMENTS["FIND_APPROVALS"], (key,)).fetchall())
+        if row is None:
+            return 0, None, "refused 4 UnknownKey"
+        if row[1] != caller:
+            return 0, None, "refused 5 NotOwner"
+        if owner in sorted(custodians) or owner in approvals:
+            return 0, None, "refused 15 OwnerCustodian"
+        activation, protect_stop, deactivation, destroyed, compromised, occurrence = (
+            None if date == UNSET else date for date in row[5:]
+        )
+        state = state_at((activation, protect_stop, deactivation), (destroyed, compromised), moment)
+        return key, state, ("UPDATE_KEY", (key, owner, state, *row[5:]))
+
+    def accept(self, kept, change):
+        self.run("BEGIN")
+        if kept.moment > self.latest:
+            self.run(STATEMENTS["ACTIVATE_DUE"], (kept.moment,))
+            self.run(STATEMENTS["DEACTIVATE_DUE"], (kept.moment,))
+        if change is not None:
+            self.run(STATEMENTS[change[0]], change[1])
+        keys = self.keys + (change is not None and change[0] == "ADD_KEY")
+        self.run(STATEMENTS["ADD_REQUEST"], kept)
+        self.run(STATEMENTS["SET_COUNTS"], (kept.moment, keys))
+        self.run("COMMIT")
+        self.latest, self.keys = kept.moment, keys
+
+
+# The code of a key type, and the months of its originator's and its recipient's usage periods.
+KINDS = {"data-encryption": (DATA_ENCRYPTION, 24, 60)}
+
+
+def reply(key, state, moment):
+    return f"ok {key} {STATES[state]} {moment}"
+
+
+def state_at(dates, done, moment):
+    activation, _, deactivation = dates
+    destroyed, compromised = done
+    if destroyed is not None:
+        return 6 if compromised is not None else 5
+    if compromised is not None:
+        return 4
+    if activation is None or activation > moment:
+        return PRE_ACTIVE
+    return 3 if deactivation is not None and deactivation <= moment else ACTIVE
+
+
+def after_months(second, months):
+    at = time.gmtime(second)
+    years, month = divmod(at.tm_mon - 1 + months, 12)
+    year, month = at.tm_year + years, month + 1
+    day = min(at.tm_mday, calendar.monthrange(year, month)[1])
+    return calendar.timegm((year, month, day, at.tm_hour, at.tm_min, at.tm_sec))
+
+
+def filled(originator, recipient, activation, protect_stop, deactivation):
+    """The dates with those that are not given as the usage periods give them, or `None` where they are out of order."""
+    if activation is None:
+        return (activation, protect_stop, deactivation) if protect_stop is None and deactivation is None else None
+    limits = after_months(activation, originator), after_months(activation, recipient)
+    protect_stop = limits[0] if protect_stop is None else protect_stop
+    deactivation = limits[1] if deactivation is None else deactivation
+    if not activation <= protect_stop <= deactivation or protect_stop > limits[0] or deactivation > limits[1]:
+        return None
+    return activation, protect_stop, deactivation
 
 
 def serve_lines(place):
-    """Serves the spans of the lines that it reads, over the file or `:memory:`. It tells where it knows the values of a
-    span, waits for a line, and tells where the span is done."""
-    connection = sqlite3.connect(place, isolation_level=None)
-    for pragma in (
-        "locking_mode = EXCLUSIVE", "journal_mode = WAL", "synchronous = FULL", "wal_autocheckpoint = 1000",
-        "cache_size = 2000", "foreign_keys = ON",
-    ):
-        connection.execute(f"PRAGMA {pragma}").fetchall()
-    if place == ":memory:":
-        connection.executescript(EMPTY)
-    for line in sys.stdin:
-        kind, moments, *numbers = line.split()
-        span = Span(kind, moments == "rising", *map(int, numbers))
-        asked = requests(span)
-        print("known", flush=True)
-        sys.stdin.readline()
-        serve(connection, span, asked)
-        print("done", flush=True)
-    connection.close()
+    """Answers the lines that it reads, each before the next, over the file or `:memory:`."""
+    register, write = Register(place), sys.stdout.buffer
+    for line in sys.stdin.buffer:
+        write.write(register.answer(line.decode().rstrip("\n")).encode() + b"\n")
+        write.flush()
+    register.connection.close()
 
 
 # The statements that make an empty register.
@@ -697,9 +773,6 @@ def serve_by(name, run, span):
     """Has the span served by a run of the program. Gives processor and wall seconds."""
     if name == "bare":
         return run.give(told(span), b"done\n")
-    if name == "python":
-        run.give(told(span), b"known\n")
-        return run.give(b"\n", b"done\n")
     asked = requests(span)
     lines = "".join(f"{kept.moment} {kept.caller} {kept.number} {kept.command}\n" for kept in asked)
     replies = "".join(f"ok {kept.key} {STATES[kept.state]} {kept.moment}\n" for kept in asked)

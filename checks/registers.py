@@ -25,6 +25,12 @@ CREATE TABLE request (caller TEXT NOT NULL, number INTEGER NOT NULL, command TEX
     PRIMARY KEY (caller, number)) STRICT;
 """
 
+# The indexes of due keys, which a new register has and an older one has not.
+INDEXES = """
+CREATE INDEX keys_by_activation ON keys (state, activation);
+CREATE INDEX keys_by_deactivation ON keys (state, deactivation);
+"""
+
 # The worked row "approved anew by one who was removed": each line with its reply.
 APPROVED_ANEW = [
     ("100 ann 1 register master bob - - - spare", "ok 1 Pre-Active 100"),

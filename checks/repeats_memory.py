@@ -8,7 +8,8 @@ import os
 import sys
 import tempfile
 
-PROGRAM = os.path.join(os.path.dirname(os.path.abspath(__file__)), "..", "crates", "keyreg", "out", "keyreg")
+from registers import PROGRAM
+
 REQUEST = b"100 ann 1 register data-encryption bob 0 - - payroll disks\n"
 REPLY = b"ok 1 Active 100\n"
 # What two runs over the same input differ by: some pages.
