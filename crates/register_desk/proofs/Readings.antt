@@ -6,7 +6,7 @@ use Rattle.register_store.specs.declared.counted.Counted.{Counted}
 use Rattle.register_core.specs.declared.request.Request.{Request}
 use Rattle.register_store.specs.declared.error.StoreError.{StoreError}
 use Rattle.register_store.specs.declared.error.StoreError.TheVariants.{Database, Memory, NoRegister}
-use Rattle.register_store.specs.Reading.{seen, ReadsBy}
+use Rattle.register_store.specs.Reading.{seen, HoldsWhereOpen, ReadsBy}
 use Rattle.register_store.specs.Tables.{Tables}
 use Rattle.register_store.specs.Schema.{Holds}
 use Rattle.register_desk.specs.declared.desk.Desk.{Desk}
@@ -17,18 +17,29 @@ use Rattle.register_desk.specs.Loading.{KeepsAll}
 use Rattle.register_store.specs.Making.{AreRightAt}
 use Rattle.register_desk.specs.Register.{tables, IsOver, StandsFor, Sees, Keeps, Leaves}
 
+-- a stop leaves what it left before
+still_leaves : (t : Tables) (before after : State) → Leaves t before → Survives before after (λ _. ⊥) → HasCleanDisk after → Leaves t after
+still_leaves t before after leaves survives clean trees may = elim (survives.crash clean trees may) [
+  | inl left ↦ leaves trees left
+  | inr none ↦ absurd none
+]
+
+-- where the connection is open, the tables that it keeps are held
+pub seen_where_open : (t : Tables) (s : State) → Keeps t s → HoldsWhereOpen t s
+seen_where_open t s kept is_open = (kept.shows is_open).holds
+
 -- what kept tables keeps them where nothing was changed
 pub kept_still : (t : Tables) (before after : State) → Keeps t before → IsUnchanged before after → Survives before after (λ _. ⊥) → HasCleanDisk after → Keeps t after
 kept_still t before after kept unchanged survives clean =
     let shows = unchanged.0 in
+    let seen_before = kept.shows shows.was_open in
     record {
-      is_open = shows.is_open;
-      holds = subst (Holds t) (sym shows.now_is) kept.holds;
-      committed = shows.committed_is ∙ kept.committed ∙ sym shows.now_is;
-      leaves = λ trees may. elim (survives.crash clean trees may) [
-        | inl left ↦ kept.leaves trees left
-        | inr none ↦ absurd none
-      ];
+      shows = λ is_open. record {
+        is_open = is_open;
+        holds = subst (Holds t) (sym shows.now_is) seen_before.holds;
+        committed = shows.committed_is ∙ seen_before.committed ∙ sym shows.now_is;
+      };
+      leaves = still_leaves t before after kept.leaves survives clean;
     }
 
 module _ {S : Type 0} (g : store.Ghosts S) where
@@ -85,18 +96,14 @@ module _ {S : Type 0} (g : store.Ghosts S) where
     -- a stop leaves what it left before
     leaves_still : (t : Tables) → Sees g t old → IsClean g new → Leaves t (seen g new.connection)
     leaves_still t sees clean =
-        let kept = kept_before t sees clean in
-        let left : Leaves t (seen g after) = λ trees may. elim ((reads.survives (early clean) t kept.holds).crash (early clean) trees may) [
-          | inl before ↦ kept.leaves trees before
-          | inr none ↦ absurd none
-        ] in
+        let left = still_leaves t (seen g old.connection) (seen g after) (kept_before t sees clean).leaves reads.survives (early clean) in
         subst (λ c. Leaves t (seen g c)) (sym same) left
 
     -- where nothing was changed, the connection keeps what it kept
     keeps_still : (t : Tables) → Sees g t old → IsClean g new → IsUnchanged (seen g old.connection) (seen g after) → Keeps t (seen g new.connection)
     keeps_still t sees clean unchanged =
         let kept = kept_before t sees clean in
-        let now = kept_still t (seen g old.connection) (seen g after) kept unchanged (reads.survives (early clean) t kept.holds) (early clean) in
+        let now = kept_still t (seen g old.connection) (seen g after) kept unchanged reads.survives (early clean) in
         subst (λ c. Keeps t (seen g c)) (sym same) now
 
     only_read : (IsWhole new → (t : Tables) → Sees g t old → IsClean g new → IsUnchanged (seen g old.connection) (seen g after)) → ChangesNothing g old new
@@ -111,7 +118,7 @@ module _ {S : Type 0} (g : store.Ghosts S) where
   module _ {T : Type 0} (Found : Tables → T → Type 0) (old : Desk S g) (after : Counted S g) (value : T) (whole : IsWhole old) (reads : ReadsBy Found (seen g old.connection) (seen g after) (Ok value))
       (t : Tables) (sees : Sees g t old) (clean : HasCleanDisk (seen g after)) where
     found_so : Found t value × IsUnchanged (seen g old.connection) (seen g after)
-    found_so = reads.found clean t (sees whole (reads.clean clean)).holds
+    found_so = reads.found clean t (seen_where_open t (seen g old.connection) (sees whole (reads.clean clean)))
 
     pub found_in : Found t value
     found_in = found_so.0
@@ -130,7 +137,7 @@ module _ {S : Type 0} (g : store.Ghosts S) where
   read_failed Found old new after error whole reads same counts memory = only_read Found old new after (Err error) whole reads same counts
       (λ still t sees clean.
       let clean_after : HasCleanDisk (seen g after) = subst (λ c. HasCleanDisk (seen g c)) same clean in
-      (reads.failed clean_after t (sees whole (reads.clean clean_after)).holds).unchanged (memory still))
+      (reads.failed clean_after t (seen_where_open t (seen g old.connection) (sees whole (reads.clean clean_after)))).unchanged (memory still))
 
 -- ---- ends
 

@@ -1,5 +1,5 @@
 -- What the calls of a desk leave.
-use Rattle.std.specs.Prelude.{◌≡◌, ℕ, true, false, List, length, Result, MatchResult}
+use Rattle.std.specs.Prelude.{◌≡◌, ℕ, true, false, List, length, Result, MatchResult, IsTrue}
 use Rattle.sqlite_trees.specs.declared.store.Store.{Ghosts}
 use Rattle.sqlite.specs.State.{HasCleanDisk}
 use Rattle.sqlite.specs.Held.{Held as Connection}
@@ -57,6 +57,10 @@ TakesSteps most old new = Calls most old.connection new.connection
 -- the disk has given back what was written
 abbrev pub IsClean : {S : Type 0} → (g : Ghosts S) → Desk S g → Type 0
 IsClean g desk = HasCleanDisk (seen g desk.connection)
+
+-- and the connection is open: no fault has shut it
+abbrev pub IsOpen : {S : Type 0} → (g : Ghosts S) → Desk S g → Type 0
+IsOpen g desk = IsClean g desk → IsTrue (seen g desk.connection).is_open
 
 -- ---- what stands, and what a stop leaves
 

@@ -51,7 +51,7 @@ impl<S: Alter> Desk<S> {
     ghost use Rattle.register_store.specs.Making.{Makes};
     ghost use Rattle.register_store.specs.Reading.{HasRow, seen};
     ghost use Rattle.register_core.specs.Answer.{UnlessAccepted};
-    ghost use Rattle.register_desk.specs.Leaving.{IsWhole, IsBroken, IsClean, Ends, EndsBy};
+    ghost use Rattle.register_desk.specs.Leaving.{IsWhole, IsBroken, IsClean, IsOpen, Ends, EndsBy};
     ghost use Rattle.register_desk.specs.Leaving.{ChangesNothing, KeepsCounts, LeavesEither};
     ghost use Rattle.register_desk.specs.Leaving.{LeavesWithRequest, connection_of};
     ghost use Rattle.register_desk.specs.Leaving.{steps_of, TakesSteps};
@@ -239,6 +239,7 @@ impl<S: Alter> Desk<S> {
         ensures ends { Ends self.old self.new result }
         ensures reads { ChangesNothing S.Store self.old self.new }
         ensures steps { TakesSteps 2 self.old self.new }
+        ensures opened { OnOk result (IsOpen S.Store self.new) }
         ensures kept { (h : List Request) → StandsFor S.Store self.old h → IsClean S.Store self.new
             → IfOk result (IsKeptUnder h caller.now number) }
     {
@@ -255,6 +256,7 @@ impl<S: Alter> Desk<S> {
         ensures ends { Ends self.old self.new result }
         ensures reads { ChangesNothing S.Store self.old self.new }
         ensures steps { TakesSteps 2 self.old self.new }
+        ensures opened { OnOk result (IsOpen S.Store self.new) }
         ensures kept { (h : List Request) → StandsFor S.Store self.old h → IsClean S.Store self.new
             → IfOk result (IsKeptUnder h caller.now number) }
     {
@@ -266,7 +268,8 @@ impl<S: Alter> Desk<S> {
 
     /// Applies a request that does not come again.
     fn apply_new(&mut self, request: &Request) -> Result<Answer, End>
-        requires { IsWhole self.old }
+        requires whole { IsWhole self.old }
+        requires opened { IsOpen S.Store self.old }
         ensures ends { Ends self.old self.new result }
         ensures clean { IsClean S.Store self.new → IsClean S.Store self.old }
         ensures answer { (h : List Request) → StandsFor S.Store self.old h → IsNew h request.now
@@ -306,11 +309,13 @@ impl<S: Alter> Desk<S> {
 
     /// What the decision on the request needs of the key that it names, as that stands at the latest moment.
     fn needed_key(&mut self, request: &Request) -> Result<Option<Held>, End>
-        requires { IsWhole self.old }
+        requires whole { IsWhole self.old }
+        requires opened { IsOpen S.Store self.old }
         ensures ends { Ends self.old self.new result }
         ensures reads { ChangesNothing S.Store self.old self.new }
         ensures steps { (h : List Request) → StandsFor S.Store self.old h
             → IsClean S.Store self.new → TakesSteps 20 self.old self.new }
+        ensures opened { OnOk result (IsOpen S.Store self.new) }
         ensures right { IfOk result (λ key. IsRightKey key self.old.latest) }
         ensures needed { (h : List Request) → StandsFor S.Store self.old h → IsClean S.Store self.new
             → IfOk result (λ key. key ≡ needed_key h request.now) }
@@ -335,6 +340,7 @@ impl<S: Alter> Desk<S> {
         ensures reads { ChangesNothing S.Store self.old self.new }
         ensures steps { (h : List Request) → StandsFor S.Store self.old h
             → IsClean S.Store self.new → TakesSteps 20 self.old self.new }
+        ensures opened { OnOk result (IsOpen S.Store self.new) }
         ensures loaded { (h : List Request) → StandsFor S.Store self.old h → IsClean S.Store self.new
             → IfOk result (λ key. key ≡ option_map (needed_of command.now) (held h number)) }
     {
@@ -426,6 +432,7 @@ impl<S: Alter> Desk<S> {
         ensures ends { Ends self.old self.new result }
         ensures reads { ChangesNothing S.Store self.old self.new }
         ensures steps { TakesSteps 2 self.old self.new }
+        ensures opened { OnOk result (IsOpen S.Store self.new) }
         ensures no_memory { result ≢ Err End.Memory }
         ensures found { (h : List Request) → StandsFor S.Store self.old h → IsClean S.Store self.new
             → IfOk result (HasRow number (tables h)) }
@@ -442,6 +449,7 @@ impl<S: Alter> Desk<S> {
         ensures reads { ChangesNothing S.Store self.old self.new }
         ensures steps { (h : List Request) → StandsFor S.Store self.old h
             → IsClean S.Store self.new → TakesSteps 20 self.old self.new }
+        ensures opened { OnOk result (IsOpen S.Store self.new) }
         ensures loaded { (h : List Request) → StandsFor S.Store self.old h
             → IsClean S.Store self.new → IfOk result (λ found. found ≡ loaded h number) }
     {

@@ -1,6 +1,7 @@
 pub mod Decoding
 pub mod Texts
 pub mod Readings
+pub mod OpenQueries
 pub mod RowFound
 pub mod KeyFound
 pub mod RequestFound

@@ -1,5 +1,5 @@
 -- What the searches for the names of a key's custodians and approvals find.
-use Rattle.std.proofs.Common.{◌≡◌, ◌≢◌, ℕ, pos, List, [], ◌∷◌, length, map, filter, drop, codes, Result, Ok, Err, IfOk, IfErr, refl, sym, ap, subst, ◌∙◌}
+use Rattle.std.proofs.Common.{◌≡◌, ◌≢◌, ℕ, pos, List, [], ◌∷◌, length, map, filter, drop, codes, Result, Ok, Err, IfOk, IfErr, OnOk, refl, sym, ap, subst, ◌∙◌}
 use Rattle.std.proofs.lemmas.List.Sorted.{IsPermutation-map, IsPermutation-sym, IsPermutation-trans, length_permutation}
 use Rattle.std.proofs.lemmas.List.{length-map}
 use Rattle.std.specs.List.Sorted.{IsPermutation}
@@ -11,6 +11,8 @@ use Rattle.sqlite.specs.Order.{Row as Cells, column}
 use Rattle.sqlite.specs.State.{State, HasCleanDisk, Shown, IsUnchanged, Survives, CommitsShowing}
 use Rattle.sqlite.specs.Term.{Term, col, eval_all}
 use Rattle.sqlite_tied.specs.Compute.{everything}
+use Rattle.sqlite_resolve.specs.Compile.{first}
+use Rattle.row_tests.proofs.Selects.{IsSelect, select_plain}
 use Rattle.sqlite_rules.proofs.ListLemmas.{all_has}
 use Rattle.sqlite_trees.proofs.ListLemmas.{all-filter, map-map}
 use Rattle.sql_steps.proofs.SameRows.{has_map, map_has}
@@ -26,11 +28,12 @@ use Rattle.register_store.specs.declared.custody.Role.{Role}
 use Rattle.register_store.specs.declared.custody.Role.TheVariants as role
 use Rattle.register_store.specs.declared.table.TableName.TheVariants.{Custodian, Approval}
 use Rattle.register_store.specs.Roles.{names_of, select_text}
-use Rattle.register_store.specs.Reading.{AreNamesOf, HasNoName, ReadsBy}
+use Rattle.register_store.specs.Reading.{AreNamesOf, HasNoName, HoldsWhereOpen, IsOpenStill, ReadsBy}
 use Rattle.register_store.specs.Tables.{tree_of, Tables, AreNames, IsNamed, ShowsEntries, name_cells}
 use Rattle.register_store.specs.Schema.{schema_with, Holds}
 use Rattle.register_store.proofs.EntryRows.{picks_entries}
 use Rattle.register_store.proofs.NameTests.{at_key, key_past, key_is}
+use Rattle.register_store.proofs.OpenQueries.{open_still, shown_same}
 use Rattle.register_store.proofs.Readings.{IsSearch, fails_refused, fails_unchanged, reads_by}
 
 -- ---- names in cells
@@ -104,8 +107,9 @@ module _ (sql : List ℕ) (tree : ℕ) (search_is : IsNameSearch sql tree) (key 
         IsPermutation-trans _ _ _ (IsPermutation-sym _ _ (IsPermutation-map (λ (row : Cells). column row 0) _ _ all)) (found_names (entries_of t) (old.now.trees tree) (shown t old holds))
 
     -- the rows are as many as the names
-    pub rows_counted : (t : Tables) → Holds t old.now → (rows : List Cells) → Shown sql params old new rows → length rows ≡ length (names_at key (entries_of t))
-    rows_counted t holds rows asked =
+    pub rows_counted : (t : Tables) → HoldsWhereOpen t old → (rows : List Cells) → Shown sql params old new rows → length rows ≡ length (names_at key (entries_of t))
+    rows_counted t seen rows asked =
+        let holds = seen (shown_same sql params search_is.query old new rows asked).0.was_open in
         let names = names_at key (entries_of t) in
         sym (length-map rows (λ (row : Cells). column row 0)) ∙ sym (length_permutation _ (map Words names) (shown_names t holds rows asked)) ∙ length-map names Words
 
@@ -131,15 +135,21 @@ module _ (sql : List ℕ) (tree : ℕ) (search_is : IsNameSearch sql tree) (key 
     registered_so t holds rows (Ok names) none asked = tt
     registered_so t holds rows (Err e) none asked = λ is. no_other t holds rows asked (none is)
 
+    given_open : (rows : List Cells) (q : Result (List (List ℕ)) StoreError) → Shown sql params old new rows → OnOk q (IsOpenStill old new)
+    given_open rows (Ok names) asked = open_still old new (shown_same sql params search_is.query old new rows asked)
+    given_open rows (Err e) asked = tt
+
     -- the rows were given
     pub names_read : (rows : List Cells) (q : Result (List (List ℕ)) StoreError) → IfOk q (AreNamesOf rows) → IfErr q (λ error. error ≡ NoRegister → HasNoName rows) → (HasCleanDisk new → Shown sql params old new rows)
         → ReadsBy Found old new q
-    names_read rows q reads none asked = reads_by sql params search_is.plain old new survives Found q (λ clean t holds. found_so t holds rows q reads (asked clean))
-        (λ clean t holds. fails_unchanged q old new (unchanged_so t holds rows (asked clean)) (registered_so t holds rows q none (asked clean)))
+    names_read rows q reads none asked =
+        let opened = λ (clean : HasCleanDisk new). (shown_same sql params search_is.query old new rows (asked clean)).0.was_open in
+        reads_by sql params search_is.query old new survives Found q (λ clean. given_open rows q (asked clean)) (λ clean t holds. found_so t (holds (opened clean)) rows q reads (asked clean))
+        (λ clean t holds. fails_unchanged q old new (unchanged_so t (holds (opened clean)) rows (asked clean)) (registered_so t (holds (opened clean)) rows q none (asked clean)))
 
     -- the database refused
     pub names_refused : (error : Error) → ReadsBy Found old new (Err (Database error))
-    names_refused error = reads_by sql params search_is.plain old new survives Found (Err (Database error)) (λ clean t holds. tt)
+    names_refused error = reads_by sql params search_is.query old new survives Found (Err (Database error)) (λ clean. tt) (λ clean t holds. tt)
         (λ clean t holds. fails_refused {A = List (List ℕ)} (Err (Database error)) old new (λ e. cc) (λ e. cc))
 
 -- ---- the two tables
@@ -148,10 +158,17 @@ abbrev pub tree_at : Role → ℕ
 tree_at role.Custodian = tree_of Custodian
 tree_at role.Approver = tree_of Approval
 
+names_select : (role : Role) → IsSelect (select_text role)
+unfolding everything first
+names_select role.Custodian = (_, _, refl, refl, refl)
+names_select role.Approver = (_, _, refl, refl, refl)
+
 pub select_is : (role : Role) → IsNameSearch (select_text role) (tree_at role)
 unfolding understood everything
-select_is role.Custodian = record { is = λ more. refl; plain = λ more. (refl, refl); unlisted = λ more. refl; low = λ db. refl }
-select_is role.Approver = record { is = λ more. refl; plain = λ more. (refl, refl); unlisted = λ more. refl; low = λ db. refl }
+select_is role.Custodian =
+    record { is = λ more. refl; plain = λ more. (refl, refl); unlisted = λ more. refl; low = λ db. refl; query = select_plain (select_text role.Custodian) (names_select role.Custodian) }
+select_is role.Approver =
+    record { is = λ more. refl; plain = λ more. (refl, refl); unlisted = λ more. refl; low = λ db. refl; query = select_plain (select_text role.Approver) (names_select role.Approver) }
 
 pub names_ranged : (role : Role) (t : Tables) (old : State) → Holds t old.now → AreNames (names_of role t)
 names_ranged role.Custodian t old holds = holds.in_range Custodian

@@ -1,5 +1,5 @@
 -- What calls that only read do, one by one and one after the other.
-use Rattle.std.proofs.Common.{◌≡◌, ◌≢◌, ◌≤◌, ◌+◌, ℕ, List, [], false, Result, Ok, Err, IfOk, IfErr, sym, subst, arith}
+use Rattle.std.proofs.Common.{◌≡◌, ◌≢◌, ◌≤◌, ◌+◌, ℕ, List, [], false, Result, Ok, Err, IfOk, IfErr, OnOk, sym, subst, arith}
 use Rattle.std.specs.Prelude.{IsErrAnd}
 use Rattle.sqlite.specs.Command.TheVariants.{Select}
 use Rattle.sqlite.specs.Listing.{understood, reads_listing}
@@ -8,15 +8,17 @@ use Rattle.sqlite.specs.Program.{overlay}
 use Rattle.sqlite.specs.State.{State, HasCleanDisk, IsUnchanged, Survives, CommitsShowing}
 use Rattle.sqlite.specs.Term.{Term}
 use Rattle.sqlite.specs.Tree.{Trees}
-use Rattle.sqlite.proofs.Callers.{IsPlain, command_of, never_commits, unchanged_then}
-use Rattle.sqlite.proofs.StateLemmas.{survives_then, survives_weaker}
+use Rattle.sqlite.proofs.Callers.{IsPlain, command_of, unchanged_then}
+use Rattle.sqlite.proofs.StateLemmas.{survives_then}
 use Rattle.sqlite_schema.specs.declared.schema.Index.{Index}
 use Rattle.sql_steps.proofs.Statements.{plain_query}
+use Rattle.row_tests.specs.Showing.{IsQuery}
+use Rattle.row_tests.proofs.RowByRow.{commits_none}
 use Rattle.register_store.specs.declared.error.StoreError.{StoreError}
 use Rattle.register_store.specs.declared.error.StoreError.TheVariants.{Memory, NoRegister}
 use Rattle.sqlite_trees.specs.declared.store.Store.{Ghosts}
 use Rattle.register_store.specs.declared.counted.Counted.{Counted}
-use Rattle.register_store.specs.Reading.{seen, CallsOver, ReadFails, ReadsBy}
+use Rattle.register_store.specs.Reading.{seen, CallsOver, HoldsWhereOpen, IsOpenStill, ReadFails, ReadsBy}
 use Rattle.register_store.specs.Tables.{Tables}
 use Rattle.register_store.specs.Schema.{schema_with, Holds}
 
@@ -26,6 +28,7 @@ pub record IsSearch (sql : List ℕ) (tree : ℕ) (passes shown : List Term) (na
   pub plain : (more : List Index) → IsPlain (understood (schema_with more) sql)
   pub unlisted : (more : List Index) → reads_listing (schema_with more) sql ≡ false
   pub low : (db : Trees) → overlay db [] tree ≡ db tree
+  pub query : IsQuery sql
 
 -- a failure where nothing is changed
 pub fails_unchanged : {A : Type 0} (r : Result A StoreError) (old new : State) → IsUnchanged old new → IfErr r (λ error. error ≢ NoRegister) → IfErr r (ReadFails old new)
@@ -39,17 +42,13 @@ fails_refused (Err error) old new other registered = record { unchanged = λ is.
 
 -- ---- one query
 
--- a query whose text is plain under each of a register's schemas commits nothing
-module _ (sql : List ℕ) (params : Cells) (plain : (more : List Index) → IsPlain (understood (schema_with more) sql)) (old new : State) (survives : Survives old new (CommitsShowing sql params old)) where
-  commits_none : (t : Tables) → Holds t old.now → Survives old new (λ _. ⊥)
-  commits_none t holds =
-      let bare = subst (λ s. IsPlain (understood s sql)) (sym holds.schema.is) (plain holds.schema.more) in
-      survives_weaker old new (CommitsShowing sql params old) (λ _. ⊥) (λ _ db commits. never_commits sql params old db bare commits) survives
-
-  pub reads_by : {T : Type 0} (Found : Tables → T → Type 0) (q : Result T StoreError)
-      → (HasCleanDisk new → (t : Tables) → Holds t old.now → IfOk q (λ value. Found t value × IsUnchanged old new))
-      → (HasCleanDisk new → (t : Tables) → Holds t old.now → IfErr q (ReadFails old new)) → ReadsBy Found old new q
-  reads_by Found q found failed = record { found = found; failed = failed; clean = λ clean. omega (arith, survives.clean); survives = λ clean. commits_none }
+-- a query commits nothing, under any schema
+pub reads_by : {T : Type 0} (sql : List ℕ) (params : Cells) → IsQuery sql → (old new : State) → Survives old new (CommitsShowing sql params old) → (Found : Tables → T → Type 0) (q : Result T StoreError)
+    → (HasCleanDisk new → OnOk q (IsOpenStill old new))
+    → (HasCleanDisk new → (t : Tables) → HoldsWhereOpen t old → IfOk q (λ value. Found t value × IsUnchanged old new))
+    → (HasCleanDisk new → (t : Tables) → HoldsWhereOpen t old → IfErr q (ReadFails old new)) → ReadsBy Found old new q
+reads_by sql params query old new survives Found q live found failed =
+    record { found = found; failed = failed; opened = live; clean = λ clean. omega (arith, survives.clean); survives = commits_none sql params old new query survives }
 
 -- ---- one reading after another
 
@@ -59,6 +58,7 @@ pub reads_as : {A B : Type 0} (First : Tables → A → Type 0) (Next : Tables �
 reads_as First Next old new x y weaker one = record {
   found = λ clean t holds. let it = one.found clean t holds in (weaker t it.0, it.1);
   failed = λ clean t holds. tt;
+  opened = one.opened;
   clean = one.clean;
   survives = one.survives;
 }
@@ -70,18 +70,23 @@ reads_fail First Next old new e (Ok y) failed one = absurd failed
 reads_fail First Next old new e (Err x) same one = record {
   found = λ clean t holds. tt;
   failed = λ clean t holds. subst (ReadFails old new) (sym same) (one.failed clean t holds);
+  opened = λ clean. tt;
   clean = one.clean;
   survives = one.survives;
 }
 
 module _ {A B : Type 0} (First : Tables → A → Type 0) (Next : Tables → B → Type 0) (a b c : State) (x : A) (r : Result B StoreError) (one : ReadsBy First a b (Ok x)) (two : ReadsBy Next b c r) where
   -- the tables are still held
-  held : HasCleanDisk c → (t : Tables) → Holds t a.now → Holds t b.now
-  held clean t holds = let same = (one.found (two.clean clean) t holds).1 in subst (Holds t) (sym same.0.now_is) holds
+  held : HasCleanDisk c → (t : Tables) → HoldsWhereOpen t a → HoldsWhereOpen t b
+  held clean t holds live = let same = (one.found (two.clean clean) t holds).1 in subst (Holds t) (sym same.0.now_is) (holds same.0.was_open)
 
   joined : (r : Result B StoreError) (t : Tables) → First t x × IsUnchanged a b → IfOk r (λ y. Next t y × IsUnchanged b c) → IfOk r (λ y. (First t x × Next t y) × IsUnchanged a c)
   joined (Ok y) t first next = ((first.0, next.0), unchanged_then a b c first.1 next.1)
   joined (Err e) t first next = tt
+
+  open_still : (r : Result B StoreError) → IsOpenStill a b → OnOk r (IsOpenStill b c) → OnOk r (IsOpenStill a c)
+  open_still (Ok y) first next = record { was_open = first.was_open; is_open = next.is_open }
+  open_still (Err e) first next = tt
 
   lost : (r : Result B StoreError) → IsUnchanged a b → IfErr r (ReadFails b c) → IfErr r (ReadFails a c)
   lost (Ok y) first next = tt
@@ -91,9 +96,9 @@ module _ {A B : Type 0} (First : Tables → A → Type 0) (Next : Tables → B �
   reads_then = record {
     found = λ clean t holds. joined r t (one.found (two.clean clean) t holds) (two.found clean t (held clean t holds));
     failed = λ clean t holds. lost r (one.found (two.clean clean) t holds).1 (two.failed clean t (held clean t holds));
+    opened = λ clean. open_still r (one.opened (two.clean clean)) (two.opened clean);
     clean = λ clean. one.clean (two.clean clean);
-    survives = λ clean t holds. survives_then a b c (λ _. ⊥) (λ _. ⊥) (λ _. ⊥) (λ _ _ none. none) (λ _ _ none. none)
-        (one.survives (two.clean clean) t holds) (two.survives clean t (held clean t holds));
+    survives = survives_then a b c (λ _. ⊥) (λ _. ⊥) (λ _. ⊥) (λ _ _ none. none) (λ _ _ none. none) one.survives two.survives;
   }
 
 -- the steps of one reading and another

@@ -8,6 +8,8 @@ use Rattle.sqlite.specs.declared.error.Error.{Error}
 use Rattle.sqlite.specs.declared.types.Value.TheVariants.{Null, Int, Text as Words}
 use Rattle.sqlite.specs.Collation.TheVariants.{Binary}
 use Rattle.sqlite.specs.Listing.{understood}
+use Rattle.sqlite_resolve.specs.Compile.{first}
+use Rattle.row_tests.proofs.Selects.{IsSelect, select_plain}
 use Rattle.sqlite.specs.Order.{Row as Cells}
 use Rattle.sqlite.specs.State.{State, HasCleanDisk, QueriesRow, Survives, CommitsShowing}
 use Rattle.sqlite.specs.Term.{Term, col, op2, eval_all}
@@ -47,9 +49,13 @@ answer_shown = col 1 3 ∷ col 1 4 ∷ col 1 5 ∷ col 1 6 ∷ []
 abbrev answer_names : List (List ℕ)
 answer_names = codes "command" ∷ codes "key_no" ∷ codes "state" ∷ codes "moment" ∷ []
 
+search_select : IsSelect search_text
+unfolding everything first
+search_select = (_, _, refl, refl, refl)
+
 search_is : IsSearch search_text (tree_of Request) under answer_shown answer_names
 unfolding understood everything
-search_is = record { is = λ more. refl; plain = λ more. (refl, refl); unlisted = λ more. refl; low = λ db. refl }
+search_is = record { is = λ more. refl; plain = λ more. (refl, refl); unlisted = λ more. refl; low = λ db. refl; query = select_plain search_text search_select }
 
 -- ---- the request under a caller's number
 

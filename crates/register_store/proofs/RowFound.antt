@@ -1,5 +1,5 @@
 -- What the search for one row finds, whatever table it asks.
-use Rattle.std.proofs.Common.{◌≡◌, ◌≢◌, inl, ℕ, List, [], ◌∷◌, map, Option, Some, None, Result, Ok, Err, IfOk, IfErr, refl, sym, ap, subst, ◌∙◌}
+use Rattle.std.proofs.Common.{◌≡◌, ◌≢◌, inl, ℕ, List, [], ◌∷◌, map, Option, Some, None, Result, Ok, Err, IfOk, IfErr, OnOk, refl, sym, ap, subst, ◌∙◌}
 use Rattle.std.proofs.lemmas.List.Sorted.{IsPermutation-sym, IsPermutation-trans}
 use Rattle.std.specs.List.Sorted.{IsPermutation}
 use Rattle.sqlite.specs.declared.error.Error.{Error}
@@ -16,7 +16,8 @@ use Rattle.register_store.specs.declared.error.StoreError.{StoreError}
 use Rattle.register_store.specs.declared.error.StoreError.TheVariants.{Memory, NoRegister}
 use Rattle.register_store.specs.Tables.{Tables}
 use Rattle.register_store.specs.Schema.{Holds}
-use Rattle.register_store.specs.Reading.{IsOneOf, IsRowOf, ReadsBy, ShowsNone}
+use Rattle.register_store.specs.Reading.{HoldsWhereOpen, IsOneOf, IsOpenStill, IsRowOf, ReadsBy, ShowsNone}
+use Rattle.register_store.proofs.OpenQueries.{none_same, open_still, row_same}
 use Rattle.register_store.proofs.Readings.{IsSearch, fails_refused, reads_by}
 
 -- no element is the image of none
@@ -71,7 +72,28 @@ module _ {X : Type 0} (IsOne : X → Type 0) (ShowsOne : Cells → X → Type 0)
         λ is. none is got.0 own.0 (subst (λ r. ShowsOne r got.0) (sym got.2) own.1)
     registered_so (Err f) (Err e) none asked = none
 
+  -- what is read was read of an open connection
+  read_open : (old new : State) (r : Result Cells Error) (q : Result (Option X) StoreError) → IfOk q (IsRowOf ShowsOne r) → QueriesRow sql params old new r → OnOk q (IsOpenStill old new)
+  read_open old new r (Err e) reads asked = tt
+  read_open old new (Ok row) (Ok found) reads asked = open_still old new (row_same sql params search_is.query old new row asked)
+  read_open old new (Err e) (Ok found) reads asked = open_still old new (none_same sql params search_is.query old new (subst (λ x. QueriesRow sql params old new (Err x)) reads.0 asked))
+
+  -- the same of what is no row
+  no_row : (old new : State) (t : Tables) → HoldsWhereOpen t old → (r : Result Cells Error) (q : Result (Option X) StoreError) → IfErr q (λ error. error ≡ NoRegister → ShowsNone IsOne ShowsOne r) → QueriesRow sql params old new r
+      → IfErr q (λ error. error ≢ NoRegister)
+  no_row old new t holds r (Ok found) none asked = tt
+  no_row old new t holds (Ok row) (Err e) none asked =
+      registered_so old new t (holds (row_same sql params search_is.query old new row asked).0.was_open) (Ok row) (Err e) none asked
+  no_row old new t holds (Err f) (Err e) none asked = none
+
+  found_open : (old new : State) (t : Tables) → HoldsWhereOpen t old → (r : Result Cells Error) (q : Result (Option X) StoreError) → IfOk q (IsRowOf ShowsOne r) → QueriesRow sql params old new r
+      → OnOk q (IsOpenStill old new) → IfOk q (λ found. Found t found × IsUnchanged old new)
+  found_open old new t holds r (Err e) reads asked live = tt
+  found_open old new t holds r (Ok found) reads asked live = found_so old new t (holds live.was_open) r (Ok found) reads asked
+
   pub row_read : (old new : State) (r : Result Cells Error) (q : Result (Option X) StoreError) → IfOk q (IsRowOf ShowsOne r) → IfErr q (λ error. error ≢ Memory)
       → IfErr q (λ error. error ≡ NoRegister → ShowsNone IsOne ShowsOne r) → (HasCleanDisk new → QueriesRow sql params old new r) → Survives old new (CommitsShowing sql params old) → ReadsBy Found old new q
-  row_read old new r q reads failed none asked survives = reads_by sql params search_is.plain old new survives Found q
-      (λ clean t holds. found_so old new t holds r q reads (asked clean)) (λ clean t holds. fails_refused q old new failed (registered_so old new t holds r q none (asked clean)))
+  row_read old new r q reads failed none asked survives = reads_by sql params search_is.query old new survives Found q
+      (λ clean. read_open old new r q reads (asked clean))
+      (λ clean t holds. found_open old new t holds r q reads (asked clean) (read_open old new r q reads (asked clean)))
+      (λ clean t holds. fails_refused q old new failed (no_row old new t holds r q none (asked clean)))

@@ -6,6 +6,8 @@ use Rattle.sqlite_sql.specs.declared.ops.BinaryOp.TheVariants.{Compare}
 use Rattle.sqlite_sql.specs.declared.ops.CompareOp.TheVariants.{Eq}
 use Rattle.sqlite_tied.specs.Compute.{everything}
 use Rattle.sqlite.specs.Listing.{understood}
+use Rattle.sqlite_resolve.specs.Compile.{first}
+use Rattle.row_tests.proofs.Selects.{IsSelect, select_plain}
 use Rattle.register_store.specs.declared.table.TableName.TheVariants.{Keys}
 use Rattle.register_store.specs.Tables.{tree_of}
 use Rattle.register_store.proofs.Readings.{IsSearch}
@@ -24,6 +26,10 @@ cells_shown = col 1 2 ∷ col 1 3 ∷ col 1 4 ∷ col 1 5 ∷ col 1 6 ∷ col 1 
 abbrev pub find_names : List (List ℕ)
 find_names = codes "kind" ∷ codes "owner" ∷ codes "purpose" ∷ codes "state" ∷ codes "initial" ∷ codes "activation" ∷ codes "protect_stop" ∷ codes "deactivation" ∷ codes "destroyed" ∷ codes "compromised" ∷ codes "occurrence" ∷ []
 
+find_select : IsSelect find_text
+unfolding everything first
+find_select = (_, _, refl, refl, refl)
+
 pub find_is : IsSearch find_text (tree_of Keys) has_number cells_shown find_names
 unfolding understood everything
-find_is = record { is = λ more. refl; plain = λ more. (refl, refl); unlisted = λ more. refl; low = λ db. refl }
+find_is = record { is = λ more. refl; plain = λ more. (refl, refl); unlisted = λ more. refl; low = λ db. refl; query = select_plain find_text find_select }

@@ -1,5 +1,5 @@
 -- What is read of a register in a database.
-use Rattle.std.specs.Prelude.{◌≡◌, ◌≢◌, ◌+◌, ℕ, pos, true, List, [], length, map, Option, None, Some, Result, Ok, Err, IfOk, IfErr, IsPermutation}
+use Rattle.std.specs.Prelude.{◌≡◌, ◌≢◌, ◌+◌, ℕ, pos, true, List, [], length, map, Option, None, Some, Result, Ok, Err, IfOk, IfErr, OnOk, IsTrue, IsPermutation}
 use Rattle.std.specs.Option.{option_map}
 use Rattle.sqlite.specs.declared.types.Value.TheVariants.{Int, Text as Words}
 use Rattle.sqlite.specs.Order.{Row, column}
@@ -79,13 +79,32 @@ pub record ReadFails (old new : State) (error : StoreError) : Type 0 where
   pub unchanged : error ≡ Memory → IsUnchanged old new
   pub registered : error ≢ NoRegister
 
+-- the connection is open, before and after
+pub record IsOpenStill (old new : State) : Type 0 where
+  pub was_open : IsTrue old.is_open
+  pub is_open : IsTrue new.is_open
+
+-- where the connection is open, its database holds the tables: one that a fault has shut shows nothing
+abbrev pub HoldsWhereOpen : Tables → State → Type 0
+HoldsWhereOpen t s = IsTrue s.is_open → Holds t s.now
+
 -- Outside a transaction, where the database holds tables and the disk is clean: what is given is found in them, and nothing is
--- changed; a failure is as above; a stop leaves what it left before.
+-- changed; a failure is as above. Only an open connection gives anything, and a stop leaves what it left before.
 pub record ReadsBy {T : Type 0} (Found : Tables → T → Type 0) (old new : State) (result : Result T StoreError) : Type 0 where
-  pub found : HasCleanDisk new → (t : Tables) → Holds t old.now → IfOk result (λ value. Found t value × IsUnchanged old new)
-  pub failed : HasCleanDisk new → (t : Tables) → Holds t old.now → IfErr result (ReadFails old new)
+  pub found : HasCleanDisk new → (t : Tables) → HoldsWhereOpen t old → IfOk result (λ value. Found t value × IsUnchanged old new)
+  pub failed : HasCleanDisk new → (t : Tables) → HoldsWhereOpen t old → IfErr result (ReadFails old new)
+  pub opened : HasCleanDisk new → OnOk result (IsOpenStill old new)
   pub clean : HasCleanDisk new → HasCleanDisk old
-  pub survives : HasCleanDisk new → (t : Tables) → Holds t old.now → Survives old new (λ _. ⊥)
+  pub survives : Survives old new (λ _. ⊥)
+
+-- whatever came of the call, a connection that is open sees what it saw, where that was committed
+pub record SeesStill (old new : State) : Type 0 where
+  pub was_open : IsTrue old.is_open
+  pub now_is : new.now ≡ old.now
+  pub committed_is : new.committed ≡ old.committed
+
+abbrev pub KeepsSight : State → State → Type 0
+KeepsSight old new = HasCleanDisk new → old.now ≡ old.committed → IsTrue new.is_open → SeesStill old new
 
 -- what a counted connection shows
 abbrev pub seen : {S : Type 0} → (g : Ghosts S) → Counted S g → State
@@ -97,7 +116,7 @@ Calls most old new = Rises most old.steps new.steps
 
 -- the same of a clean disk and tables that it holds, where their content says how many
 abbrev pub CallsOver : {S : Type 0} → (g : Ghosts S) → (Tables → ℕ) → Counted S g → Counted S g → Type 0
-CallsOver g most old new = HasCleanDisk (seen g new) → (t : Tables) → Holds t (seen g old).now → Calls (most t) old new
+CallsOver g most old new = HasCleanDisk (seen g new) → (t : Tables) → HoldsWhereOpen t (seen g old) → Calls (most t) old new
 
 abbrev pub Reads : {S T : Type 0} → (g : Ghosts S) → (Tables → T → Type 0) → Counted S g → Counted S g → Result T StoreError → Type 0
 Reads g Found old new result = ReadsBy Found (seen g old) (seen g new) result

@@ -67,7 +67,7 @@ module _ (old new : State) where
   not_shown_whole sql c params e (Some what) (inl refused) = inl refused.1
   not_shown_whole sql c params e (Some what) (inr failed) = inr failed.3
 
-  fails_whole : (sql : List ℕ) (params : Row) (e : Error) → FailsToQuery sql params old new e → IsUnchanged old new ⊎ IsRolledBack old new
+  pub fails_whole : (sql : List ℕ) (params : Row) (e : Error) → FailsToQuery sql params old new e → IsUnchanged old new ⊎ IsRolledBack old new
   unfolding FailsToQuery
   fails_whole sql params e (inl fault) = not_run_whole sql params e fault
   fails_whole sql params e (inr h) = not_shown_whole sql h.0 _ e h.0.returning h.2

@@ -2,6 +2,7 @@ pub mod Members
 pub mod SameRows
 pub mod Statements
 pub mod Queries
+pub mod Firsts
 pub mod Asking
 pub mod Updates
 pub mod Stepping

@@ -51,7 +51,7 @@ never_store Full e = cc
 never_store Broken e = cc
 never_store Unstorable e = cc
 
-never_not_run : (old new : State) (sql : List ℕ) (params : Row) → ¬ IsNotRun old new sql params QueryReturnedNoRows
+pub never_not_run : (old new : State) (sql : List ℕ) (params : Row) → ¬ IsNotRun old new sql params QueryReturnedNoRows
 unfolding IsNotRun
 never_not_run old new sql params (inl (inl fault, same)) = let e = fault.2 in cc
 never_not_run old new sql params (inl (inr (c, is, inl two), same)) = let e = two.1 in cc

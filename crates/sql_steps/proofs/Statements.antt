@@ -154,7 +154,7 @@ module _ (params : Row) (t : ℕ) (passes shown : List Term) where
   one_or_none true r = refl
   one_or_none false r = refl
 
-  matched : (lost : Value) (db : Trees) → map env_of (filter is_picked (db t)) ≡ matches_as lost db passes (inner t end) (params ∷ [])
+  pub matched : (lost : Value) (db : Trees) → map env_of (filter is_picked (db t)) ≡ matches_as lost db passes (inner t end) (params ∷ [])
   matched lost db =
       ap (map env_of) (filter_as_flat_map is_picked (db t)) ∙ map-flat_map env_of (λ x. cond (is_picked x) (x ∷ []) []) (db t)
       ∙ flat_map_same_on (λ x. map env_of (cond (is_picked x) (x ∷ []) [])) (λ r. cond (is_picked r) (env_of r ∷ []) []) (λ r. one_or_none (is_picked r) r) (db t)
