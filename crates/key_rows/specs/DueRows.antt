@@ -1,0 +1,44 @@
+-- The rows of the keys that are due for rotation, and their order.
+use Rattle.std.specs.Prelude.{◌≡◌, ◌⊎◌, ◌==◌, ◌&&◌, ◌<◌, ℕ, Bool, true, List, [], ◌∷◌, Contains, unwrap_or}
+use Rattle.std.specs.List.{AllByRecursion}
+use Rattle.lifecycle_core.specs.declared.state.State.TheVariants.{Active}
+use Rattle.lifecycle_core.specs.State.{is_reached_at, state_code}
+use Rattle.key_rows.specs.declared.key_row.KeyRow.{KeyRow}
+
+-- the key is Active, and its Protect Stop Date is reached at this moment (SP 800-57 Part 1: a key is
+-- rotated at the end of its originator usage period)
+abbrev pub is_due : ℕ → KeyRow → Bool
+is_due until r = (state_code r.row.state == state_code Active) && is_reached_at r.row.dates.protect_stop until
+
+-- the Protect Stop Date of a row that is due
+abbrev pub stop_of : KeyRow → ℕ
+stop_of r = unwrap_or r.row.dates.protect_stop 0
+
+-- its Protect Stop Date is earlier, or the same and its number lower
+abbrev pub IsBefore : KeyRow → KeyRow → Type 0
+IsBefore a b = (stop_of a < stop_of b) ⊎ ((stop_of a ≡ stop_of b) × (a.number < b.number))
+
+-- each comes before all behind it
+abbrev pub AreInOrder : List KeyRow → Type 0
+AreInOrder [] = Unit {0}
+AreInOrder (r ∷ rows) = AllByRecursion (IsBefore r) rows × AreInOrder rows
+
+-- a row comes behind all of these
+abbrev pub IsBehind : List KeyRow → KeyRow → Type 0
+IsBehind rows r = AllByRecursion (λ x. IsBefore x r) rows
+
+-- these are the rows of all of them that are due, in order
+pub record AreDue (all : List KeyRow) (until : ℕ) (rows : List KeyRow) : Type 0 where
+  pub in_order : AreInOrder rows
+  pub each : (r : KeyRow) → Contains rows r → Contains all r × (is_due until r ≡ true)
+  pub every : (r : KeyRow) → Contains all r → is_due until r ≡ true → Contains rows r
+
+-- these are the first of them: all others come behind
+pub record AreFirstDue (all : List KeyRow) (until : ℕ) (rows : List KeyRow) : Type 0 where
+  pub in_order : AreInOrder rows
+  pub each : (r : KeyRow) → Contains rows r → Contains all r × (is_due until r ≡ true)
+  pub others : (r : KeyRow) → Contains all r → is_due until r ≡ true → Contains rows r ⊎ IsBehind rows r
+
+-- no two of the rows have one number
+abbrev pub HaveOwnNumbers : List KeyRow → Type 0
+HaveOwnNumbers rows = (r s : KeyRow) → Contains rows r → Contains rows s → r.number ≡ s.number → r ≡ s

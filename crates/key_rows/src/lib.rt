@@ -1,0 +1,15 @@
+//! Keys as a reader is shown them: their rows, the order of those that are due for rotation, and
+//! the texts of an export and of a report on rotation, piece by piece.
+//!
+//! ```
+//! let until = horizon(latest, 90);
+//! writer.write_all(report_head(alloc, until)?.as_bytes())?;
+//! writer.write_all(report_line(alloc, latest, &row)?.as_bytes())?;
+//! writer.write_all(report_total(alloc, 1)?.as_bytes())?;
+//! ```
+#![tactic(auto)]
+
+mod key_row;
+pub mod laws;
+
+pub use key_row::KeyRow;
