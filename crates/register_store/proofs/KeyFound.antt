@@ -47,7 +47,7 @@ shows_cells k is = record {
 }
 
 -- a numbered key stands at its number's place
-at_number : (n : ℕ) (keys : List Key) (x : ℕ × Key) → Has (enumerate_from n keys) x → (i : ℕ) × (x.0 ≡ n + i) × (slice_get keys i ≡ Some x.1)
+pub at_number : (n : ℕ) (keys : List Key) (x : ℕ × Key) → Has (enumerate_from n keys) x → (i : ℕ) × (x.0 ≡ n + i) × (slice_get keys i ≡ Some x.1)
 at_number n [] x h = absurd h
 at_number n (k ∷ keys) x (inl e) = (0, ap (λ (y : ℕ × Key). y.0) e ∙ omega arith, ap (λ (y : ℕ × Key). Some y.1) (sym e))
 at_number n (k ∷ keys) x (inr h) = let r = at_number (n + 1) keys x h in (suc r.0, omega arith, r.2)
@@ -63,7 +63,7 @@ number_at n (first ∷ keys) (suc i) k e =
     let next : n + 1 + i ≡ n + suc i = omega arith in
     inr (subst (λ m. Has (enumerate_from (n + 1) keys) (m, k)) next (number_at (n + 1) keys i k e))
 
-in_range_at : (keys : List Key) (i : ℕ) (k : Key) → slice_get keys i ≡ Some k → AllByRecursion IsKey keys → IsKey k
+pub in_range_at : (keys : List Key) (i : ℕ) (k : Key) → slice_get keys i ≡ Some k → AllByRecursion IsKey keys → IsKey k
 in_range_at [] i k e all = absurd (cc)
 in_range_at (first ∷ keys) zero k e all = let same : first ≡ k = cc in subst IsKey same all.0
 in_range_at (first ∷ keys) (suc i) k e all = in_range_at keys i k e all.1

@@ -5,6 +5,8 @@ pub mod OpenQueries
 pub mod RowFound
 pub mod KeyFound
 pub mod RequestFound
+pub mod DueFound
+pub mod NextDue
 pub mod Actions
 pub mod EntryRows
 pub mod EachTable

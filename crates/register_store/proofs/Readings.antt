@@ -1,5 +1,5 @@
 -- What calls that only read do, one by one and one after the other.
-use Rattle.std.proofs.Common.{◌≡◌, ◌≢◌, ◌≤◌, ◌+◌, ℕ, List, [], false, Result, Ok, Err, IfOk, IfErr, OnOk, sym, subst, arith}
+use Rattle.std.proofs.Common.{◌≡◌, ◌≢◌, ◌≤◌, ◌+◌, ℕ, List, [], false, Result, Ok, Err, IfOk, IfErr, OnOk, refl, sym, subst, ◌∙◌, arith}
 use Rattle.std.specs.Prelude.{IsErrAnd}
 use Rattle.sqlite.specs.Command.TheVariants.{Select}
 use Rattle.sqlite.specs.Listing.{understood, reads_listing}
@@ -18,7 +18,7 @@ use Rattle.register_store.specs.declared.error.StoreError.{StoreError}
 use Rattle.register_store.specs.declared.error.StoreError.TheVariants.{Memory, NoRegister}
 use Rattle.sqlite_trees.specs.declared.store.Store.{Ghosts}
 use Rattle.register_store.specs.declared.counted.Counted.{Counted}
-use Rattle.register_store.specs.Reading.{seen, CallsOver, HoldsWhereOpen, IsOpenStill, ReadFails, ReadsBy}
+use Rattle.register_store.specs.Reading.{seen, CallsOver, HoldsWhereOpen, IsOpenStill, KeepsSight, ReadFails, ReadsBy}
 use Rattle.register_store.specs.Tables.{Tables}
 use Rattle.register_store.specs.Schema.{schema_with, Holds}
 
@@ -75,6 +75,11 @@ reads_fail First Next old new e (Err x) same one = record {
   survives = one.survives;
 }
 
+-- the same where what is found says more
+pub reads_weaker : {A : Type 0} (First Next : Tables → A → Type 0) (old new : State) (r : Result A StoreError) → ((t : Tables) (x : A) → First t x → Next t x) → ReadsBy First old new r → ReadsBy Next old new r
+reads_weaker First Next old new (Ok x) weaker one = reads_as First Next old new x x (λ t. weaker t x) one
+reads_weaker First Next old new (Err e) weaker one = reads_fail First Next old new e (Err e) refl one
+
 module _ {A B : Type 0} (First : Tables → A → Type 0) (Next : Tables → B → Type 0) (a b c : State) (x : A) (r : Result B StoreError) (one : ReadsBy First a b (Ok x)) (two : ReadsBy Next b c r) where
   -- the tables are still held
   held : HasCleanDisk c → (t : Tables) → HoldsWhereOpen t a → HoldsWhereOpen t b
@@ -100,6 +105,15 @@ module _ {A B : Type 0} (First : Tables → A → Type 0) (Next : Tables → B �
     clean = λ clean. one.clean (two.clean clean);
     survives = survives_then a b c (λ _. ⊥) (λ _. ⊥) (λ _. ⊥) (λ _ _ none. none) (λ _ _ none. none) one.survives two.survives;
   }
+
+-- what an open connection sees after one reading and another
+pub sight_then : {A B : Type 0} (First : Tables → A → Type 0) (Next : Tables → B → Type 0) (a b c : State) (x : A) (r : Result B StoreError) → ReadsBy First a b (Ok x) → ReadsBy Next b c r
+    → KeepsSight a b → KeepsSight b c → KeepsSight a c
+sight_then First Next a b c x r one two first next clean committed is_open =
+    let early = two.clean clean in
+    let mid = first early committed (one.opened early).is_open in
+    let last = next clean (mid.now_is ∙ committed ∙ sym mid.committed_is) is_open in
+    record { was_open = mid.was_open; now_is = last.now_is ∙ mid.now_is; committed_is = last.committed_is ∙ mid.committed_is }
 
 -- the steps of one reading and another
 pub calls_then : {S A B : Type 0} (g : Ghosts S) (First : Tables → A → Type 0) (Next : Tables → B → Type 0) (a b c : Counted S g) (x : A) (r : Result B StoreError) (m n : Tables → ℕ)

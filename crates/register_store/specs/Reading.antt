@@ -141,6 +141,11 @@ pub record ShowsKey (row : Row) (k : Key) : Type 0 where
   pub state : column row 3 ≡ Int (pos (state_code k.row.state))
   pub dates : ShowsDates row k.row.dates
 
+-- and its number behind them
+pub record ShowsAt (row : Row) (it : ℕ × Key) : Type 0 where
+  pub cells : ShowsKey row it.1
+  pub number : column row 11 ≡ Int (pos it.0)
+
 -- the row of the search for a caller's number has the cells of this, with a command in its range
 pub record HasCellsOf (whose : List ℕ) (which : ℕ) (row : Row) (k : KeptReply) : Type 0 where
   pub caller : k.caller ≡ whose

@@ -4,7 +4,7 @@ use Rattle.std.proofs.lemmas.Bool.Decides.{eqb_tells, leb_tells}
 use Rattle.std.proofs.lemmas.Int.{ints}
 use Rattle.std.proofs.lemmas.Map.Text.{is_eq-slice_cmp}
 use Rattle.std.specs.Cmp.{int_ranks}
-use Rattle.std.specs.Ordering.{MatchOrdering, is_eq, is_le, int_cmp}
+use Rattle.std.specs.Ordering.{MatchOrdering, is_eq, is_gt, is_le, int_cmp}
 use Rattle.std.specs.Str.{bytes_eq}
 use Rattle.std.specs.Prelude.{◌<ℤ◌}
 use Rattle.std.specs.declared.cmp.Ordering.{Ordering}
@@ -14,7 +14,7 @@ use Rattle.sqlite.specs.Collation.TheVariants.{Binary}
 use Rattle.sqlite.specs.Ops.{binary, unary, from_truth, is_true}
 use Rattle.sqlite_sql.specs.declared.ops.BinaryOp.TheVariants.{And, Compare}
 use Rattle.sqlite_sql.specs.declared.ops.UnaryOp.TheVariants.{Not}
-use Rattle.sqlite_sql.specs.declared.ops.CompareOp.TheVariants.{Eq, Le}
+use Rattle.sqlite_sql.specs.declared.ops.CompareOp.TheVariants.{Eq, Gt, Le}
 use Rattle.sqlite_value.proofs.OrderLemmas.{value_cmp-Int, value_cmp-Text}
 use Rattle.sql_steps.proofs.Queries.{compares}
 
@@ -39,6 +39,15 @@ at_most m n = ranked (int_cmp (pos m) (pos n)) (int_ranks (pos m) (pos n))
 
 pub most_numbers : (m n : ℕ) → is_true (binary (Compare Le Binary) (Int (pos m)) (Int (pos n))) ≡ nat_le m n
 most_numbers m n = compares Le (pos m) (pos n) ∙ at_most m n
+
+-- the one is more where it is not at most the other
+pub more_numbers : (m n : ℕ) → is_true (binary (Compare Gt Binary) (Int (pos m)) (Int (pos n))) ≡ not (nat_le m n)
+more_numbers m n = compares Gt (pos m) (pos n) ∙ turned (int_cmp (pos m) (pos n)) ∙ ap not (at_most m n)
+  where
+    turned : (o : Ordering) → is_gt o ≡ not (is_le o)
+    turned Less = refl
+    turned Equal = refl
+    turned Greater = refl
 
 pub equal_words : (a b : List ℕ) → is_true (binary (Compare Eq Binary) (Text a) (Text b)) ≡ bytes_eq a b
 unfolding binary

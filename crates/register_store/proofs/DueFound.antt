@@ -1,0 +1,225 @@
+-- What the searches for the next key that is due find.
+use Rattle.std.proofs.Common.{◌≡◌, ◌⊎◌, ◌<◌, ◌≤◌, ◌==◌, ◌&&◌, inl, inr, not, nat_le, ℕ, ◌+◌, pos, List, [], ◌∷◌, codes, map, filter, slice_get, Bool, true, false, Option, Some, None, Result, Ok, Err, IfOk, IfErr, refl, sym, ap, ap₂, subst, ◌∙◌, arith}
+use Rattle.std.proofs.Math.Bool.{and-true}
+use Rattle.std.proofs.lemmas.Bool.{cases_lt}
+use Rattle.std.proofs.lemmas.Int.{ints}
+use Rattle.std.specs.Cmp.{int_ranks}
+use Rattle.std.specs.Ordering.{MatchOrdering, int_cmp, is_lt, ordering_then}
+use Rattle.std.specs.Prelude.{◌<ℤ◌, ◌≢◌}
+use Rattle.std.specs.declared.cmp.Ordering.{Ordering}
+use Rattle.std.specs.declared.cmp.Ordering.TheVariants.{Less, Equal, Greater}
+use Rattle.sqlite.specs.declared.error.Error.{Error}
+use Rattle.sqlite.specs.declared.error.Error.TheVariants.{QueryReturnedNoRows}
+use Rattle.sqlite.specs.declared.types.Value.TheVariants.{Int}
+use Rattle.sqlite.specs.Collation.TheVariants.{Binary}
+use Rattle.sqlite.specs.Command.TheVariants.{Select}
+use Rattle.sqlite.specs.Listing.{understood, reads_listing}
+use Rattle.sqlite.specs.Order.{Row as Cells, value_cmp}
+use Rattle.sqlite.specs.Program.{overlay}
+use Rattle.sqlite.specs.Query.{output_cmp}
+use Rattle.sqlite.specs.State.{State, HasCleanDisk, QueriesRow, Survives, CommitsShowing}
+use Rattle.sqlite.specs.Term.{Term, col, lit, op2, eval_all}
+use Rattle.sqlite.specs.Tree.{Trees}
+use Rattle.sqlite.proofs.Callers.{IsPlain, command_of}
+use Rattle.sqlite_resolve.specs.Compile.{first}
+use Rattle.sqlite_rules.specs.Lists.{Has}
+use Rattle.sqlite_schema.specs.declared.schema.Index.{Index}
+use Rattle.sqlite_sql.specs.declared.ops.BinaryOp.TheVariants.{Compare}
+use Rattle.sqlite_sql.specs.declared.ops.CompareOp.TheVariants.{Eq, Gt, Le}
+use Rattle.sqlite_tied.specs.Compute.{everything}
+use Rattle.sqlite_trees.proofs.ListLemmas.{filter-map}
+use Rattle.sqlite_value.proofs.OrderLemmas.{value_cmp-Int}
+use Rattle.sqlite_value.specs.Keys.{ascending}
+use Rattle.sqlite_value.specs.declared.keys.Key as sorted_by
+use Rattle.sql_steps.proofs.Comparing.{equal_numbers, more_numbers, most_numbers}
+use Rattle.sql_steps.proofs.Firsts.{ShowsLeast, gives_first, gives_no_row, ordered_by, out_of, passing}
+use Rattle.sql_steps.proofs.Members.{from_picked, to_picked}
+use Rattle.sql_steps.proofs.Statements.{is_picked}
+use Rattle.row_tests.specs.Showing.{IsQuery}
+use Rattle.row_tests.proofs.Selects.{IsSelect, select_plain}
+use Rattle.register_core.specs.declared.key.Key.{Key}
+use Rattle.register_store.specs.declared.error.StoreError.{StoreError}
+use Rattle.register_store.specs.declared.error.StoreError.TheVariants.{Memory, NoRegister}
+use Rattle.register_store.specs.declared.key_walk.DuePlace.{DuePlace}
+use Rattle.register_store.specs.declared.table.TableName.TheVariants.{Keys}
+use Rattle.register_store.specs.KeyWalk.{IsBehind}
+use Rattle.register_store.specs.Reading.{IsRowOf, ReadsBy, ShowsAt, ShowsNone}
+use Rattle.register_store.specs.Schema.{Holds, rows_of, schema_with}
+use Rattle.register_store.specs.Stops.{HasFirst, IsFirst, IsNumbered, cell_place, is_later, is_same, stop_cell}
+use Rattle.register_store.specs.Tables.{IsKey, Tables, key_cells, key_row, numbered, tree_of}
+use Rattle.register_store.proofs.Asked.{names_of_table, shown_of_table}
+use Rattle.register_store.proofs.Decoding.{same_key, same_number, one_key}
+use Rattle.register_store.proofs.KeyFound.{at_number, in_range_at}
+use Rattle.register_store.proofs.RowFound.{answer_read}
+
+-- ---- the texts
+
+abbrev pub same_text : List ℕ
+same_text = codes "SELECT kind, owner, purpose, state, initial, activation, protect_stop, deactivation, destroyed, compromised, occurrence, number FROM keys WHERE state = 2 AND protect_stop = ?1 AND protect_stop <= ?2 AND number > ?3 ORDER BY protect_stop, number"
+
+abbrev pub later_text : List ℕ
+later_text = codes "SELECT kind, owner, purpose, state, initial, activation, protect_stop, deactivation, destroyed, compromised, occurrence, number FROM keys WHERE state = 2 AND protect_stop > ?1 AND protect_stop <= ?2 ORDER BY protect_stop, number"
+
+abbrev pub passes_same : List Term
+passes_same =
+    op2 (Compare Eq Binary) (col 1 5) (lit (Int (pos 2))) ∷ op2 (Compare Eq Binary) (col 1 8) (col 0 0) ∷ op2 (Compare Le Binary) (col 1 8) (col 0 1)
+    ∷ op2 (Compare Gt Binary) (col 1 0) (col 0 2) ∷ []
+
+abbrev pub passes_later : List Term
+passes_later = op2 (Compare Eq Binary) (col 1 5) (lit (Int (pos 2))) ∷ op2 (Compare Gt Binary) (col 1 8) (col 0 0) ∷ op2 (Compare Le Binary) (col 1 8) (col 0 1) ∷ []
+
+abbrev pub shown : List Term
+shown = shown_of_table Keys
+
+-- by Protect Stop, and then by number
+abbrev pub order : List (Term × sorted_by.Key)
+order = (col 1 8, ascending Binary) ∷ (col 1 0, ascending Binary) ∷ []
+
+pub record IsDueSearch (sql : List ℕ) (passes : List Term) : Type 0 where
+  pub is : (more : List Index) → command_of (understood (schema_with more) sql) ≡ Select (record { lets = []; body = ordered_by (tree_of Keys) passes shown order }) (names_of_table Keys)
+  pub plain : (more : List Index) → IsPlain (understood (schema_with more) sql)
+  pub unlisted : (more : List Index) → reads_listing (schema_with more) sql ≡ false
+  pub low : (db : Trees) → overlay db [] (tree_of Keys) ≡ db (tree_of Keys)
+
+same_select : IsSelect same_text
+unfolding everything first
+same_select = (_, _, refl, refl, refl)
+
+pub same_query : IsQuery same_text
+same_query = select_plain same_text same_select
+
+later_select : IsSelect later_text
+unfolding everything first
+later_select = (_, _, refl, refl, refl)
+
+pub later_query : IsQuery later_text
+later_query = select_plain later_text later_select
+
+pub same_is : IsDueSearch same_text passes_same
+unfolding understood everything
+same_is = record { is = λ more. refl; plain = λ more. (refl, refl); unlisted = λ more. refl; low = λ db. refl }
+
+pub later_is : IsDueSearch later_text passes_later
+unfolding understood everything
+later_is = record { is = λ more. refl; plain = λ more. (refl, refl); unlisted = λ more. refl; low = λ db. refl }
+
+-- ---- places
+
+-- what does not come before another by its stop and its number
+not_before : (sy sx ny nx : ℕ) → is_lt (ordering_then (int_cmp (pos sy) (pos sx)) (ordering_then (int_cmp (pos ny) (pos nx)) Equal)) ≡ false → (sx < sy) ⊎ ((sx ≡ sy) × (nx ≤ ny))
+not_before sy sx ny nx h = ranked (int_cmp (pos sy) (pos sx)) (int_ranks (pos sy) (pos sx)) h
+  where
+    then_number : (o : Ordering) → MatchOrdering o (pos ny <ℤ pos nx) (pos ny ≡ pos nx) (pos nx <ℤ pos ny) → is_lt (ordering_then o Equal) ≡ false → nx ≤ ny
+    then_number Less low h = absurd cc
+    then_number Equal same h = omega (arith, ints)
+    then_number Greater high h = omega (arith, ints)
+
+    ranked : (o : Ordering) → MatchOrdering o (pos sy <ℤ pos sx) (pos sy ≡ pos sx) (pos sx <ℤ pos sy) → is_lt (ordering_then o (ordering_then (int_cmp (pos ny) (pos nx)) Equal)) ≡ false → (sx < sy) ⊎ ((sx ≡ sy) × (nx ≤ ny))
+    ranked Less low h = absurd cc
+    ranked Equal same h = let is : sx ≡ sy = cc in inr (is, then_number (int_cmp (pos ny) (pos nx)) (int_ranks (pos ny) (pos nx)) h)
+    ranked Greater high h = inl (omega (arith, ints))
+
+-- a number has one key
+one_number : (t : Tables) (x y : ℕ × Key) → Has (numbered t.keys) x → Has (numbered t.keys) y → x.0 ≡ y.0 → y ≡ x
+one_number t x y here there same =
+    let a = at_number 1 t.keys x here in
+    let b = at_number 1 t.keys y there in
+    let place : b.0 ≡ a.0 = omega (arith, a.1, b.1, same) in
+    let key : y.1 ≡ x.1 = let both : Some y.1 ≡ Some x.1 = sym b.2 ∙ ap (slice_get t.keys) place ∙ a.2 in cc in
+    λ i. (sym same i, key i)
+
+-- ---- one search
+
+module _ (sql : List ℕ) (query : IsQuery sql) (passes : List Term) (search : IsDueSearch sql passes) (params : Cells) where
+  abbrev pub pick : ℕ × Key → Bool
+  pick x = is_picked params (tree_of Keys) passes shown (key_row x)
+
+  -- the cells of the answer
+  abbrev cells_of : ℕ × Key → Cells
+  cells_of x = eval_all shown (params ∷ key_row x ∷ [])
+
+  abbrev Passing : List (ℕ × Key) → List Cells
+  Passing ns = passing (tree_of Keys) passes shown order params (map key_row ns)
+
+  -- what passes came from a key that does
+  came_from : (ns : List (ℕ × Key)) (r : Cells) → Has (Passing ns) r → (x : ℕ × Key) × Has ns x × (pick x ≡ true) × (r ≡ key_row x)
+  came_from ns r there = from_picked key_row pick ns r (subst (λ rs. Has rs r) (filter-map (is_picked params (tree_of Keys) passes shown) key_row ns) there)
+
+  goes_to : (ns : List (ℕ × Key)) (x : ℕ × Key) → Has ns x → pick x ≡ true → Has (Passing ns) (key_row x)
+  goes_to ns x there is = subst (λ rs. Has rs (key_row x)) (sym (filter-map (is_picked params (tree_of Keys) passes shown) key_row ns)) (to_picked key_row pick ns x there is)
+
+  compared : (x y : ℕ × Key) → is_lt (output_cmp (ordered_by (tree_of Keys) passes shown order) (out_of (tree_of Keys) passes shown order params (key_row y)) (out_of (tree_of Keys) passes shown order params (key_row x))) ≡ false
+      → (stop_cell x < stop_cell y) ⊎ ((stop_cell x ≡ stop_cell y) × (x.0 ≤ y.0))
+  compared x y h =
+      not_before (stop_cell y) (stop_cell x) y.0 x.0
+      (subst (λ (p : Ordering × Ordering). is_lt (ordering_then p.0 (ordering_then p.1 Equal)) ≡ false)
+      (λ i. (value_cmp-Int (pos (stop_cell y)) (pos (stop_cell x)) i, value_cmp-Int (pos y.0) (pos x.0) i)) h)
+
+  first_so : (t : Tables) (x y : ℕ × Key) → Has (numbered t.keys) x → Has (numbered t.keys) y → (stop_cell x < stop_cell y) ⊎ ((stop_cell x ≡ stop_cell y) × (x.0 ≤ y.0)) → (y ≡ x) ⊎ IsBehind (cell_place x) (cell_place y)
+  first_so t x y here there (inl later) = inr (inl later)
+  first_so t x y here there (inr (same, high)) = elim (cases_lt x.0 y.0) [
+    | inl below ↦ inr (inr (same, below))
+    | inr not_below ↦ inl (one_number t x y here there (omega (arith, high, not_below)))
+  ]
+
+  module _ (test : ℕ × Key → Bool) (test_is : (x : ℕ × Key) → pick x ≡ test x) where
+    row_is : (old new : State) (t : Tables) → Holds t old.now → (row : Cells) → QueriesRow sql params old new (Ok row) → (x : ℕ × Key) × IsFirst test t x × (row ≡ cells_of x)
+    row_is old new t holds row h =
+        let more = holds.schema.more in
+        let given = gives_first (tree_of Keys) passes shown order params sql old new _ holds.schema.is (names_of_table Keys) (search.is more) (search.plain more) (search.unlisted more) (search.low old.now.trees) row h in
+        let it = subst (λ rs. ShowsLeast (tree_of Keys) passes shown order params rs row) (holds.shown Keys) given in
+        let came = came_from (numbered t.keys) it.least it.passes_too in
+        let x = came.0 in (
+          x,
+          record {
+            there = came.1;
+            passes = sym (test_is x) ∙ came.2;
+            first = λ y there is.
+                let after = it.first (key_row y) (goes_to (numbered t.keys) y there (test_is y ∙ is)) in
+                first_so t x y came.1 there (compared x y (subst (λ (r : Cells). is_lt (output_cmp (ordered_by (tree_of Keys) passes shown order) (out_of (tree_of Keys) passes shown order params (key_row y)) (out_of (tree_of Keys) passes shown order params r)) ≡ false) came.3 after));
+          },
+          it.is ∙ ap (λ (r : Cells). eval_all shown (params ∷ r ∷ [])) came.3,
+        )
+
+    none_is : (old new : State) (t : Tables) → Holds t old.now → QueriesRow sql params old new (Err QueryReturnedNoRows) → HasFirst test t None
+    none_is old new t holds h x there is =
+        let more = holds.schema.more in
+        let given = gives_no_row (tree_of Keys) passes shown order params sql old new _ holds.schema.is (names_of_table Keys) (search.is more) (search.plain more) (search.unlisted more) (search.low old.now.trees) h in
+        let none = subst (λ rs. passing (tree_of Keys) passes shown order params rs ≡ []) (holds.shown Keys) given in
+        subst (λ rs. Has rs (key_row x)) none (goes_to (numbered t.keys) x there (test_is x ∙ is))
+
+    each : (t : Tables) (old : State) → Holds t old.now → (x : ℕ × Key) → IsFirst test t x → IsNumbered x × ShowsAt (cells_of x) x
+    each t old holds x is =
+        let at = at_number 1 t.keys x is.there in
+        let own = in_range_at t.keys at.0 x.1 at.2 (holds.in_range Keys) in
+        let dates = own.dates in (
+          own,
+          record {
+            cells = record {
+              kind = refl;
+              owner = refl;
+              purpose = refl;
+              state = refl;
+              dates = record {
+                initial = refl;
+                activation = (refl, dates.activation);
+                protect_stop = (refl, dates.protect_stop);
+                deactivation = (refl, dates.deactivation);
+                destroy = (refl, dates.destroy);
+                compromise = (refl, dates.compromise);
+                compromise_occurrence = (refl, dates.compromise_occurrence);
+              };
+            };
+            number = refl;
+          },
+        )
+
+    same : (x y : ℕ × Key) → IsNumbered x → ShowsAt (cells_of x) x → ShowsAt (cells_of x) y → y ≡ x
+    same x y own mine theirs =
+        let key : y.1 ≡ x.1 = one_key (cells_of x) y.1 x.1 theirs.cells mine.cells in
+        let number : y.0 ≡ x.0 = same_number _ y.0 x.0 theirs.number mine.number in
+        λ i. (number i, key i)
+
+    pub due_read : (old new : State) (r : Result Cells Error) (q : Result (Option (ℕ × Key)) StoreError) → IfOk q (IsRowOf ShowsAt r) → IfErr q (λ error. error ≢ Memory)
+        → IfErr q (λ error. error ≡ NoRegister → ShowsNone IsNumbered ShowsAt r) → (HasCleanDisk new → QueriesRow sql params old new r) → Survives old new (CommitsShowing sql params old) → ReadsBy (HasFirst test) old new q
+    due_read = answer_read IsNumbered ShowsAt cells_of sql query params (IsFirst test) (λ t. HasFirst test t None) row_is none_is each same (HasFirst test) (λ t x is. is) (λ t none. none)
