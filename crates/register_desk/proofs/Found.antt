@@ -23,7 +23,7 @@ use Rattle.register_store.specs.Schema.{no_schema}
 use Rattle.register_store.proofs.Reopened.{holds_again}
 use Rattle.register_store.specs.Reading.{seen}
 use Rattle.register_desk.specs.declared.desk.Desk.{Desk}
-use Rattle.register_desk.specs.declared.end.End.TheVariants.{Memory, Store, Broken, ReadFault, WriteFault}
+use Rattle.register_desk.specs.declared.end.End.TheVariants.{Memory, Store, Broken, ReadFault, WriteFault, BadHeader}
 use Rattle.register_desk.specs.declared.runs.Finish.{Finish}
 use Rattle.register_desk.specs.declared.runs.Finish.TheVariants.{AtEnd, Ended}
 use Rattle.register_desk.specs.Files.{HoldsRegister, HoldsOneOf, ShowsNothing}
@@ -103,6 +103,7 @@ clean_before g before old new kept now replies (Ended Broken) serves clean =
     serves.served.so_far.clean (subst (λ (desk : Desk _ g). IsClean g desk) serves.leaves.0.same clean)
 clean_before g before old new kept now replies (Ended ReadFault) serves clean = serves.served.so_far.clean clean
 clean_before g before old new kept now replies (Ended WriteFault) serves clean = serves.served.so_far.clean (serves.leaves.clean clean)
+clean_before g before old new kept now replies (Ended BadHeader) serves clean = absurd serves
 
 module _ {S : Type 0} (g : store.Ghosts S) (h : List Request) (items : List (Option Request)) (replies : ℕ) (desk : Desk S g) (clean : IsClean g desk) where
   before_next : IsWhole desk → StandsFor g desk (history h (take replies items)) → LeavesNext g h items replies desk
@@ -120,3 +121,4 @@ module _ {S : Type 0} (g : store.Ghosts S) (h : List Request) (items : List (Opt
   leaves_next rest (Ended Broken) old new before whole leaves over = absurd (let broken = leaves.was_broken refl in let both = sym whole ∙ broken in cc)
   leaves_next rest (Ended ReadFault) old new before whole leaves over = before_next (leaves.whole whole (λ e. absurd cc)) over.stands
   leaves_next rest (Ended WriteFault) old new before whole leaves over = behind_next (leaves.whole whole (λ e. absurd cc)) over.stands
+  leaves_next rest (Ended BadHeader) old new before whole leaves over = absurd over

@@ -162,3 +162,4 @@ leaves_seen g old new t ends.Memory nothing by sees clean is = absurd cc
 leaves_seen g old new t ends.Broken nothing by sees clean is = absurd cc
 leaves_seen g old new t ends.ReadFault nothing by sees clean is = absurd cc
 leaves_seen g old new t ends.WriteFault nothing by sees clean is = absurd cc
+leaves_seen g old new t ends.BadHeader nothing by sees clean is = absurd cc

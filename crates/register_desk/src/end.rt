@@ -17,6 +17,8 @@ pub enum End {
     ReadFault,
     /// 36: a write failed or took no byte, or the bound on a writer's idle turns was met.
     WriteFault,
+    /// 37: an import does not begin with its header row. Nothing was registered. No other call gives it.
+    BadHeader,
 }
 
 impl End {
@@ -32,6 +34,7 @@ impl End {
             End::Broken => 32,
             End::ReadFault => 35,
             End::WriteFault => 36,
+            End::BadHeader => 37,
         }
     }
 
@@ -41,7 +44,7 @@ impl End {
     {
         match self {
             End::Memory | End::Store | End::Broken => 3,
-            End::ReadFault | End::WriteFault => 4,
+            End::ReadFault | End::WriteFault | End::BadHeader => 4,
         }
     }
 }
@@ -60,6 +63,7 @@ impl fmt::Display for End {
             End::Broken => "Broken",
             End::ReadFault => "ReadFault",
             End::WriteFault => "WriteFault",
+            End::BadHeader => "BadHeader",
         })
     }
 }

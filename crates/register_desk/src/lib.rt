@@ -21,5 +21,5 @@ pub use end::End;
 pub use opening::{OpenRefusal, Unopened};
 pub use record::Record;
 pub use register_core::Answer;
-pub use runs::{Finish, Outcome, run};
+pub use runs::{Finish, ItemStop, Outcome, answer_item, run};
 pub use streams::{MAX_IDLE_TURNS, MAX_READS, ReadFault, Watched, WriteFault};

@@ -7,12 +7,13 @@ use std::alloc::Global;
 use std::io::{Read, Write};
 use std::test::Fail;
 
-const ENDS: [(End, u8, &str); 5] = [
+const ENDS: [(End, u8, &str); 6] = [
     (End::Memory, 3, "keyreg: Memory\n"),
     (End::Store, 3, "keyreg: Store\n"),
     (End::Broken, 3, "keyreg: Broken\n"),
     (End::ReadFault, 4, "keyreg: ReadFault\n"),
     (End::WriteFault, 4, "keyreg: WriteFault\n"),
+    (End::BadHeader, 4, "keyreg: BadHeader\n"),
 ];
 
 const REFUSALS: [(OpenRefusal, &str); 4] = [
