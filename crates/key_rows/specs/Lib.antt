@@ -1,1 +1,4 @@
 pub mod DueRows
+pub mod Export
+pub mod RowWriter
+pub mod Report

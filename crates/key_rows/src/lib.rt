@@ -9,7 +9,12 @@
 //! ```
 #![tactic(auto)]
 
+mod date_text;
+mod export;
 mod key_row;
 pub mod laws;
+mod report;
 
+pub use export::{export_header, export_row};
 pub use key_row::KeyRow;
+pub use report::{horizon, report_head, report_line, report_total};

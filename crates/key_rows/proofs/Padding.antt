@@ -1,0 +1,50 @@
+-- What a hole with a width writes.
+use Rattle.std.proofs.Common.{◌≡◌, ℕ, zero, suc, ◌-◌, ◌^◌, Bool, true, false, List, [], ◌∷◌, ◌++◌, length, refl, ap, ◌∙◌, append_assoc, arith}
+use Rattle.std.specs.Prelude.{decimal, codes, if◌then◌else◌}
+use Rattle.std.specs.List.{repeat}
+use Rattle.std.proofs.lemmas.List.{append-nil}
+use Rattle.std.specs.Fmt.{styled_decimal, styled_text, format_spec, padded_integral, padded, char_count, take_chars}
+use Rattle.period_core.specs.declared.key_type.KeyType.{KeyType}
+use Rattle.period_core.specs.declared.key_type.KeyType.TheVariants.{DataEncryption, Authentication, KeyWrapping, PrivateSignature, PrivateAuthentication, PrivateTransport, Master}
+use Rattle.period_core.specs.KeyType.{key_type_text}
+use Rattle.lifecycle_core.specs.State.{is_reached_at}
+use Rattle.key_rows.specs.declared.key_row.KeyRow.{KeyRow}
+use Rattle.key_rows.specs.Export.{date_text}
+use Rattle.key_rows.specs.Report.{left, right, spaces, mark, report_line}
+
+repeated : (n : ℕ) → repeat n (32 ∷ []) ≡ spaces n
+repeated zero = refl
+repeated (suc n) = ap (λ (l : List ℕ). 32 ∷ l) (repeated n)
+
+pub number_right : (n : ℕ) → styled_decimal (format_spec 32 3 0 7 (2 ^ 64 - 1)) n ≡ right 7 (decimal n)
+unfolding padded_integral char_count lib.Utf8.encode
+number_right n =
+    let p = 7 - length (decimal n) - 0 - 0 in
+    let none : p - p ≡ 0 = omega arith in
+    let all : p ≡ 7 - length (decimal n) = omega arith in
+    ap (λ (k : ℕ). (repeat p (32 ∷ []) ++ [] ++ [] ++ []) ++ (decimal n ++ repeat k (32 ∷ []))) none
+    ∙ ap (λ (l : List ℕ). l ++ (decimal n ++ [])) (append-nil _ ∙ append-nil _ ∙ append-nil _ ∙ repeated p ∙ ap spaces all)
+    ∙ ap (λ (l : List ℕ). spaces (7 - length (decimal n)) ++ l) (append-nil (decimal n))
+
+pub mark_left : (overdue : Bool) → styled_text (format_spec 32 1 0 7 (2 ^ 64 - 1)) (if overdue then codes "overdue" else codes "due") ≡ left 7 (if overdue then codes "overdue" else codes "due")
+unfolding padded char_count take_chars lib.Utf8.encode
+mark_left true = refl
+mark_left false = refl
+
+pub kind_left : (kind : KeyType) → styled_text (format_spec 32 1 0 22 (2 ^ 64 - 1)) (key_type_text kind) ≡ left 22 (key_type_text kind)
+unfolding padded char_count take_chars lib.Utf8.encode
+kind_left DataEncryption = refl
+kind_left Authentication = refl
+kind_left KeyWrapping = refl
+kind_left PrivateSignature = refl
+kind_left PrivateAuthentication = refl
+kind_left PrivateTransport = refl
+kind_left Master = refl
+
+-- a line, as one `format!` writes it
+pub line_text : (latest : ℕ) (r : KeyRow) → styled_decimal (format_spec 32 3 0 7 (2 ^ 64 - 1)) r.number
+    ++ (codes "  " ++ (date_text r.row.dates.protect_stop ++ (codes "  " ++ (styled_text (format_spec 32 1 0 7 (2 ^ 64 - 1)) (mark latest r) ++ (codes "  "
+    ++ (styled_text (format_spec 32 1 0 22 (2 ^ 64 - 1)) (key_type_text r.kind) ++ (codes "  " ++ (r.owner ++ (codes "  " ++ (r.purpose ++ codes "\n"))))))))))
+    ≡ report_line latest r
+unfolding report_line
+line_text latest r = rw (number_right r.number, mark_left (is_reached_at r.row.dates.protect_stop latest), kind_left r.kind) (simp append_assoc)

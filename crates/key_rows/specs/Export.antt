@@ -1,0 +1,63 @@
+-- The text of an export: a header, and one row for each key. Its form is this register's own; fields
+-- are quoted as RFC 4180 says.
+use Rattle.std.specs.Prelude.{ℕ, ◌==◌, ◌||◌, nat_le, if◌then◌else◌, List, [], ◌∷◌, ◌++◌, map, flat_map, codes, decimal, Option, None, Some, IsTrue}
+use Rattle.std.specs.List.{list_any, list_all, join_with_byte}
+use Rattle.moment_core.specs.Text.{moment_text}
+use Rattle.period_core.specs.KeyType.{key_type_text}
+use Rattle.lifecycle_core.specs.State.{state_text}
+use Rattle.key_rows.specs.declared.key_row.KeyRow.{KeyRow}
+
+-- ---- rows of fields
+
+abbrev pub comma : ℕ
+comma = 44
+
+abbrev pub quote : ℕ
+quote = 34
+
+abbrev pub line_feed : ℕ
+line_feed = 10
+
+-- a byte of a field between quotes: a quote twice
+abbrev pub doubled : ℕ → List ℕ
+doubled b = if b == quote then quote ∷ quote ∷ [] else b ∷ []
+
+-- a field, between quotes where it has a comma or a quote
+abbrev pub field_text : List ℕ → List ℕ
+field_text field =
+    if list_any (λ b. (b == comma) || (b == quote)) field then (quote ∷ flat_map doubled field) ++ quote ∷ [] else field
+
+-- a row: its fields with commas between them, and a line feed
+abbrev pub csv_row : List (List ℕ) → List ℕ
+csv_row fields = join_with_byte comma (map field_text fields) ++ line_feed ∷ []
+
+-- the bytes have no control character, so that they end no line
+abbrev pub IsPrintable : List ℕ → Type 0
+IsPrintable bytes = IsTrue (list_all (nat_le 32) bytes)
+
+-- ---- keys
+
+-- the text of a date: nothing where it is not set
+abbrev pub date_text : Option ℕ → List ℕ
+date_text None = []
+date_text (Some date) = moment_text date
+
+unfoldable pub export_header : List ℕ
+export_header =
+    codes "number,type,owner,activation,protect_stop,deactivation,state,initial,destroyed,compromised,occurrence,purpose\n"
+
+-- what stands in the columns
+abbrev pub export_fields : KeyRow → List (List ℕ)
+export_fields r =
+    let dates = r.row.dates in
+    decimal r.number ∷ key_type_text r.kind ∷ r.owner ∷
+    date_text dates.activation ∷ date_text dates.protect_stop ∷ date_text dates.deactivation ∷
+    state_text r.row.state ∷ moment_text dates.initial ∷ date_text dates.destroy ∷
+    date_text dates.compromise ∷ date_text dates.compromise_occurrence ∷ r.purpose ∷ []
+
+unfoldable pub export_row : KeyRow → List ℕ
+export_row r = csv_row (export_fields r)
+
+-- the export of these keys
+abbrev pub export_text : List KeyRow → List ℕ
+export_text rows = export_header ++ flat_map export_row rows

@@ -1,0 +1,43 @@
+-- The text of a report on the keys that are due for rotation. Its form is this register's own.
+use Rattle.std.specs.Prelude.{ℕ, ◌+◌, ◌-◌, ◌*◌, min, if◌then◌else◌, List, ◌++◌, length, replicate, flat_map, codes, decimal}
+use Rattle.moment_core.specs.Calendar.{day_seconds}
+use Rattle.moment_core.specs.Moment.{last_second}
+use Rattle.moment_core.specs.Text.{moment_text}
+use Rattle.period_core.specs.KeyType.{key_type_text}
+use Rattle.lifecycle_core.specs.State.{is_reached_at}
+use Rattle.key_rows.specs.declared.key_row.KeyRow.{KeyRow}
+use Rattle.key_rows.specs.Export.{date_text}
+
+-- the last moment of a report for so many days from the latest moment on
+abbrev pub horizon : ℕ → ℕ → ℕ
+horizon latest days = min (latest + day_seconds * days) last_second
+
+abbrev pub spaces : ℕ → List ℕ
+spaces n = replicate n 32
+
+-- a text on the right, and on the left, of so many places
+abbrev pub right : ℕ → List ℕ → List ℕ
+right places text = spaces (places - length text) ++ text
+
+abbrev pub left : ℕ → List ℕ → List ℕ
+left places text = text ++ spaces (places - length text)
+
+unfoldable pub report_head : ℕ → List ℕ
+report_head until = codes "Keys due for rotation by " ++ moment_text until ++ codes "\n"
+
+-- a key is overdue where its Protect Stop Date is reached at the latest moment
+abbrev pub mark : ℕ → KeyRow → List ℕ
+mark latest r = if is_reached_at r.row.dates.protect_stop latest then codes "overdue" else codes "due"
+
+unfoldable pub report_line : ℕ → KeyRow → List ℕ
+report_line latest r =
+    right 7 (decimal r.number) ++ codes "  " ++ date_text r.row.dates.protect_stop ++ codes "  "
+    ++ left 7 (mark latest r) ++ codes "  " ++ left 22 (key_type_text r.kind) ++ codes "  "
+    ++ r.owner ++ codes "  " ++ r.purpose ++ codes "\n"
+
+unfoldable pub report_total : ℕ → List ℕ
+report_total count = codes "total " ++ decimal count ++ codes "\n"
+
+-- the report on these keys, which are due by then
+abbrev pub report_text : ℕ → ℕ → List KeyRow → List ℕ
+report_text latest until rows = report_head until ++ flat_map (report_line latest) rows ++ report_total (length rows)
