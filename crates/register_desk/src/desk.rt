@@ -7,13 +7,18 @@ use crate::commit::{commit_request, keys_after};
 use crate::end::End;
 use crate::opening::{OpenRefusal, Unopened};
 use crate::record::Record;
+use crate::rows::{KeyRows, Progress, Walk, key_row};
+use key_rows::KeyRow;
 use lifecycle_core::{Usage, usage_of};
 use moment_core::Moment;
 use register_core::{
     Accept, Answer, Command, Held, KeptReply, Key, Name, Names, Purpose, Refusal, Request,
     RequestNumber, View, decide,
 };
-use register_store::{Counted, StoreError, check, create, find_request, find_row, load_key};
+use register_store::{
+    Counted, DuePlace, StoreError, check, create, each_due, each_key, find_request, find_row,
+    load_key,
+};
 use sqlite::{Alter, Connection};
 use std::alloc::Global;
 
@@ -58,6 +63,10 @@ impl<S: Alter> Desk<S> {
     ghost use Rattle.register_desk.specs.Opening.{CreatesNothing, IsReasonOf, OpensOver};
     ghost use Rattle.register_desk.specs.Opening.{RefusesNoTable};
     ghost use Rattle.register_desk.specs.Register.{IsOver, HasCommitted, StandsFor, tables};
+    ghost use Rattle.register_desk.specs.Lending.{LendsRows};
+    ghost use Rattle.register_desk.specs.Rows.{GoOn, HasNextRow, HaveGiven, until_of};
+    ghost use Rattle.key_rows.specs.declared.key_row.KeyRow.{KeyRow};
+    ghost use Rattle.std.specs.Borrow.{sem};
     ghost use Rattle.register_desk.specs.Shown.{shown, usage};
     ghost use Rattle.register_desk.specs.Step.{CanTake, with_request};
     ghost use Rattle.register_desk.specs.Loading.{KeepsAll, IsKeptUnder, IsNew, loaded};
@@ -422,6 +431,104 @@ impl<S: Alter> Desk<S> {
         }
         match self.find(number)? {
             Some(key) => Ok(Some(usage_of(&key.row.dates, self.latest))),
+            None => Ok(None),
+        }
+    }
+
+    /// The keys as of the latest accepted moment, by number, one row at a time.
+    ///
+    /// # Errors
+    /// [`End::Broken`] on a broken desk; nothing changed.
+    pub fn keys(&mut self) -> Result<KeyRows<'_, S>, End>
+        ensures* lends { sem 𝓛 (LendsRows S.row S.Store self.entry result) }
+        ensures same_reference { IfOk result (λ rows. rows.desk.ghost_name ≡ self.entry.ghost_name) }
+        ensures same { IfOk result (λ rows. rows.desk.now ≡ self.old) }
+        ensures begins { IfOk result (λ rows. GoOn rows × (until_of rows ≡ None)
+            × ((all : List KeyRow) → HaveGiven rows all [])) }
+        ensures whole { IfOk result (λ rows. IsWhole self.old) }
+        ensures broken { IfErr result (λ end. (end ≡ End.Broken) × IsBroken self.old) }
+    {
+        if self.is_broken {
+            return Err(End::Broken);
+        }
+        Ok(self.rows(Walk::ByNumber(0)))
+    }
+
+    /// The Active keys with a Protect Stop Date up to `until`, by that date and then by number, one row at a time.
+    ///
+    /// # Errors
+    /// [`End::Broken`] on a broken desk; nothing changed.
+    pub fn due(&mut self, until: Moment) -> Result<KeyRows<'_, S>, End>
+        ensures* lends { sem 𝓛 (LendsRows S.row S.Store self.entry result) }
+        ensures same_reference { IfOk result (λ rows. rows.desk.ghost_name ≡ self.entry.ghost_name) }
+        ensures same { IfOk result (λ rows. rows.desk.now ≡ self.old) }
+        ensures begins { IfOk result (λ rows. GoOn rows × (until_of rows ≡ Some until)
+            × ((all : List KeyRow) → HaveGiven rows all [])) }
+        ensures whole { IfOk result (λ rows. IsWhole self.old) }
+        ensures broken { IfErr result (λ end. (end ≡ End.Broken) × IsBroken self.old) }
+    {
+        if self.is_broken {
+            return Err(End::Broken);
+        }
+        let stop = Moment::new(0).unwrap();
+        Ok(self.rows(Walk::ByStop(until, DuePlace { stop, number: 0 })))
+    }
+
+    /// Lends the desk to rows.
+    fn rows(&mut self, walk: Walk) -> KeyRows<'_, S>
+        ensures same_reference { result.desk.ghost_name ≡ self.entry.ghost_name }
+        ensures same { result.desk.now ≡ self.old }
+        ensures walk { result.walk ≡ walk }
+        ensures goes_on { GoOn result }
+    {
+        KeyRows {
+            desk: self,
+            walk,
+            progress: Progress::Going,
+        }
+    }
+
+    /// The next row of a walk, or `None` behind the last.
+    pub(crate) fn next_row(&mut self, walk: Walk) -> Result<Option<KeyRow>, StoreError>
+        ensures reads { ChangesNothing S.Store self.old self.new }
+        ensures mark { self.new.is_broken ≡ self.old.is_broken }
+        ensures next { (h : List Request) → StandsFor S.Store self.old h → IsWhole self.old
+            → IsClean S.Store self.new → IfOk result (HasNextRow walk (tables h)) }
+    {
+        match walk {
+            Walk::ByNumber(last) => self.next_by_number(last),
+            Walk::ByStop(until, last) => self.next_by_stop(until, last),
+        }
+    }
+
+    /// The row of the key behind the one with this number, or `None` behind the last.
+    fn next_by_number(&mut self, last: u32) -> Result<Option<KeyRow>, StoreError>
+        ensures reads { ChangesNothing S.Store self.old self.new }
+        ensures mark { self.new.is_broken ≡ self.old.is_broken }
+        ensures next { (h : List Request) → StandsFor S.Store self.old h → IsWhole self.old
+            → IsClean S.Store self.new → IfOk result (HasNextRow (Walk.ByNumber last) (tables h)) }
+    {
+        if last >= self.keys {
+            return Ok(None);
+        }
+        match each_key(&mut self.connection, last)? {
+            Some(key) => Ok(Some(key_row(last + 1, key))),
+            None => Ok(None),
+        }
+    }
+
+    /// The row of the first key that is due behind this place, or `None` behind the last.
+    fn next_by_stop(&mut self, until: Moment, last: DuePlace) -> Result<Option<KeyRow>, StoreError>
+        ensures reads { ChangesNothing S.Store self.old self.new }
+        ensures mark { self.new.is_broken ≡ self.old.is_broken }
+        ensures next { (h : List Request) → StandsFor S.Store self.old h → IsWhole self.old
+            → IsClean S.Store self.new → IfOk result (HasNextRow (Walk.ByStop until last) (tables h)) }
+    {
+        match each_due(&mut self.connection, until, last)? {
+            Some((number, key)) => match u32::try_from(number) {
+                Ok(number) => Ok(Some(key_row(number, key))),
+                Err(_) => Err(StoreError::NoRegister),
+            },
             None => Ok(None),
         }
     }

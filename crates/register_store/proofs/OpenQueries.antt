@@ -47,9 +47,9 @@ module _ (sql : List ℕ) (params : Row) (query : IsQuery sql) (old new : State)
   whole (Err e) (inl fails) = fails_whole old new sql params e fails
   whole (Err e) (inr h) = inl (shown_same [] h.1)
 
-  sight_of : IsUnchanged old new ⊎ IsRolledBack old new → old.now ≡ old.committed → IsTrue new.is_open → SeesStill old new
+  sight_of : IsUnchanged old new ⊎ IsRolledBack old new → (IsTrue old.is_open → old.now ≡ old.committed) → IsTrue new.is_open → SeesStill old new
   sight_of (inl same) committed live = record { was_open = same.0.was_open; now_is = same.0.now_is; committed_is = same.0.committed_is }
-  sight_of (inr back) committed live = let undone = back.undone live in record { was_open = back.was_open live; now_is = undone.0 ∙ sym committed; committed_is = undone.1 }
+  sight_of (inr back) committed live = let was = back.was_open live in let undone = back.undone live in record { was_open = was; now_is = undone.0 ∙ sym (committed was); committed_is = undone.1 }
 
   pub keeps_sight : (r : Result Row Error) → (HasCleanDisk new → QueriesRow sql params old new r) → KeepsSight old new
   keeps_sight r asked clean committed live = sight_of (whole r (asked clean)) committed live

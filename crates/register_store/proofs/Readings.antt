@@ -112,7 +112,7 @@ pub sight_then : {A B : Type 0} (First : Tables → A → Type 0) (Next : Tables
 sight_then First Next a b c x r one two first next clean committed is_open =
     let early = two.clean clean in
     let mid = first early committed (one.opened early).is_open in
-    let last = next clean (mid.now_is ∙ committed ∙ sym mid.committed_is) is_open in
+    let last = next clean (λ _. mid.now_is ∙ committed mid.was_open ∙ sym mid.committed_is) is_open in
     record { was_open = mid.was_open; now_is = last.now_is ∙ mid.now_is; committed_is = last.committed_is ∙ mid.committed_is }
 
 -- the steps of one reading and another
