@@ -1,7 +1,7 @@
 -- The texts in an export and in a report have no control character.
 use Rattle.std.proofs.Common.{◌≡◌, ℕ, ◌+◌, ◌/◌, ◌%◌, ◌^◌, ◌<◌, Bool, true, List, [], ◌∷◌, ◌++◌, refl, ◌∙◌, arith}
 use Rattle.std.specs.Prelude.{nat_le, nat_lt, ◌&&◌, decimal, Option, None, Some}
-use Rattle.std.specs.List.{list_all}
+use Rattle.std.specs.List.{list_all, AllByRecursion}
 use Rattle.std.specs.Str.{IsAscii}
 use Rattle.std.proofs.lemmas.Bool.{and_parts, and_from}
 use Rattle.std.proofs.lemmas.Bool.Decides.{nat_tests}
@@ -17,7 +17,8 @@ use Rattle.lifecycle_core.specs.State.{state_text}
 use Rattle.moment_core.specs.Text.{moment_text}
 use Rattle.register_core.specs.Name.{IsName, is_name_byte}
 use Rattle.register_core.specs.Purpose.{IsPurpose, is_purpose_byte}
-use Rattle.key_rows.specs.Export.{IsPrintable, date_text}
+use Rattle.key_rows.specs.declared.key_row.KeyRow.{KeyRow}
+use Rattle.key_rows.specs.Export.{IsPrintable, date_text, export_fields}
 
 -- ---- all bytes of a text
 
@@ -88,14 +89,14 @@ moment_ascii m = plain_ascii (moment_text m) (moment_plain m)
 
 -- ---- the fields of a key
 
-pub number_printable : (n : ℕ) → n < 2 ^ 64 → IsPrintable (decimal n)
+number_printable : (n : ℕ) → n < 2 ^ 64 → IsPrintable (decimal n)
 number_printable n small = plain_printable (decimal n) (decimal_plain n small)
 
-pub date_printable : (date : Option ℕ) → IsPrintable (date_text date)
+date_printable : (date : Option ℕ) → IsPrintable (date_text date)
 date_printable None = refl
 date_printable (Some date) = plain_printable (moment_text date) (moment_plain date)
 
-pub kind_printable : (kind : KeyType) → IsPrintable (key_type_text kind)
+kind_printable : (kind : KeyType) → IsPrintable (key_type_text kind)
 kind_printable DataEncryption = refl
 kind_printable Authentication = refl
 kind_printable KeyWrapping = refl
@@ -104,7 +105,7 @@ kind_printable PrivateAuthentication = refl
 kind_printable PrivateTransport = refl
 kind_printable Master = refl
 
-pub state_printable : (state : State) → IsPrintable (state_text state)
+state_printable : (state : State) → IsPrintable (state_text state)
 state_printable PreActive = refl
 state_printable Active = refl
 state_printable Deactivated = refl
@@ -115,8 +116,19 @@ state_printable DestroyedCompromised = refl
 name_byte : (b : ℕ) → is_name_byte b ≡ true → nat_le 32 b ≡ true
 name_byte b is = grind (arith, nat_tests)
 
-pub name_printable : (name : List ℕ) → IsName name → IsPrintable name
+name_printable : (name : List ℕ) → IsName name → IsPrintable name
 name_printable name is = all_weaker is_name_byte (nat_le 32) name_byte name is.2
 
-pub purpose_printable : (purpose : List ℕ) → IsPurpose purpose → IsPrintable purpose
+purpose_printable : (purpose : List ℕ) → IsPurpose purpose → IsPrintable purpose
 purpose_printable purpose is = all_weaker is_purpose_byte (nat_le 32) (λ b h. (and_parts (nat_le 32 b) _ h).0) purpose is.printable
+
+also : {A B : Type 0} → A → B → A × B
+also a b = (a, b)
+
+pub fields_printable : (r : KeyRow) → r.number < 2 ^ 64 → IsName r.owner → IsPurpose r.purpose → AllByRecursion IsPrintable (export_fields r)
+unfolding also
+fields_printable r small name purpose =
+    let dates = r.row.dates in
+    also (number_printable r.number small) (also (kind_printable r.kind) (also (name_printable r.owner name) (also (date_printable dates.activation)
+    (also (date_printable dates.protect_stop) (also (date_printable dates.deactivation) (also (state_printable r.row.state) (also (date_printable (Some dates.initial))
+    (also (date_printable dates.destroy) (also (date_printable dates.compromise) (also (date_printable dates.compromise_occurrence) (also (purpose_printable r.purpose purpose) tt)))))))))))

@@ -1,8 +1,8 @@
 -- What csv's writer has of a row, field by field.
 use Rattle.std.proofs.Common.{◌≡◌, ◌≢◌, ℕ, ◌+◌, ◌-◌, ◌^◌, ◌<◌, Bool, true, false, List, [], ◌∷◌, ◌++◌, length, min, refl, sym, ap, subst, ◌∙◌, arith, length-append}
-use Rattle.std.specs.Prelude.{◌||◌, ◌&&◌, not, if◌then◌else◌, Option, None, Some, Result, Ok, Err, OnOk, IfOk, MatchResult, is_ok, is_err, Vec}
+use Rattle.std.specs.Prelude.{◌||◌, ◌&&◌, not, if◌then◌else◌, Option, None, Some, Result, Ok, Err, OnOk, IfOk, MatchResult, is_ok, Vec}
 use Rattle.std.specs.declared.alloc.Global.{Global}
-use Rattle.std.specs.Io.KnownBytes.{Appends, Keeps}
+use Rattle.std.specs.Io.KnownBytes.{Appends}
 use Rattle.std.specs.List.{AllByRecursion}
 use Rattle.std.proofs.lemmas.Bool.{ne_eqb}
 use Rattle.csv.specs.Writing as kit
@@ -11,31 +11,29 @@ use Rattle.csv.specs.declared.writer.QuoteStyle.TheVariants as style
 use Rattle.csv.specs.declared.writer.Writer.{Writer}
 use Rattle.csv.proofs.WriteFacts.{row-more}
 use Rattle.key_rows.specs.Export.{line_feed, csv_row, IsPrintable}
-use Rattle.key_rows.specs.RowWriter.{HasFields}
+use Rattle.key_rows.specs.RowWriter.{HasFields, written}
 use Rattle.key_rows.proofs.CsvRows.{same_row}
 
 -- ---- results
 
--- what three clauses on one result say together of another that is `Ok` with it
-pub on_ok_all : {T E U F P Q R S : Type 0} (r : Result T E) (s : Result U F) → is_ok s ≡ is_ok r → (P → Q → R → S) → OnOk r P → OnOk r Q → OnOk r R → OnOk s S
-on_ok_all (Ok x) (Ok y) same all p q r = all p q r
-on_ok_all (Err e) (Ok y) same all p q r = absurd (cc same)
-on_ok_all (Ok x) (Err f) same all p q r = tt
-on_ok_all (Err e) (Err f) same all p q r = tt
+-- two clauses on one result
+pub on_ok_both : {T E : Type 0} (P Q : Type 0) (r : Result T E) → OnOk r P → OnOk r Q → OnOk r (P × Q)
+on_ok_both P Q (Ok x) p q = (p, q)
+on_ok_both P Q (Err e) p q = tt
+
+-- what a clause says of another result, which is `Ok` with the first
+pub on_ok_of : {T E U F P Q : Type 0} (r : Result T E) (s : Result U F) → is_ok s ≡ is_ok r → (P → Q) → OnOk r P → OnOk s Q
+on_ok_of (Ok x) (Ok y) same to p = to p
+on_ok_of (Err e) (Ok y) same to p = absurd (cc same)
+on_ok_of (Ok x) (Err f) same to p = tt
+on_ok_of (Err e) (Err f) same to p = tt
 
 pub if_ok_mapped : {T E F : Type 0} (Q : E → Type 0) (P : T → Type 0) (r : Result T E) (s : Result T F) → MatchResult r (λ x. s ≡ Ok x) Q → is_ok s ≡ is_ok r → IfOk r P → IfOk s P
 if_ok_mapped Q P (Ok x) s same variant p = subst (λ t. IfOk t P) (sym same) p
 if_ok_mapped Q P (Err e) (Ok y) same variant p = absurd (cc variant)
 if_ok_mapped Q P (Err e) (Err f) same variant p = tt
 
-pub on_ok_at : {T E P : Type 0} (r : Result T E) → is_err r ≡ false → OnOk r P → P
-on_ok_at (Ok x) no_err p = p
-on_ok_at (Err e) no_err p = absurd (cc no_err)
-
 -- ---- a writer
-
-abbrev text_of : Writer (Vec ℕ Global) → Option (List ℕ)
-text_of w = text_written (λ v. Some v.items) w
 
 appended : (xs ys : List ℕ) (o : Option (List ℕ)) → Appends (Some xs) o ys → o ≡ Some (xs ++ ys)
 appended xs ys None more = absurd more
@@ -43,18 +41,18 @@ appended xs ys (Some zs) more = ap Some more
 
 -- one field more
 pub has_more : (old new : Writer (Vec ℕ Global)) (field : List ℕ)
-    → ((writer_setup old).style ≢ style.NonNumeric → Appends (text_of old) (text_of new) (next_sep (writer_setup old) (fields_written old) ++ kit.field_text (writer_setup old) field))
+    → ((writer_setup old).style ≢ style.NonNumeric → Appends (written old) (written new) (next_sep (writer_setup old) (fields_written old) ++ kit.field_text (writer_setup old) field))
     → writer_setup new ≡ writer_setup old → fields_written new ≡ min (fields_written old + 1) (2 ^ 64 - 1)
     → (fields : List (List ℕ)) → length fields < 12 → HasFields old fields → HasFields new (fields ++ field ∷ [])
 has_more old new field more same count fields small has =
     let plain : (writer_setup old).style ≢ style.NonNumeric = subst (λ s. s.style ≢ style.NonNumeric) (sym has.setup) (λ e. cc e) in
-    let from = subst (λ t. Appends t (text_of new) (next_sep (writer_setup old) (fields_written old) ++ kit.field_text (writer_setup old) field)) has.text (more plain) in
-    let by = subst (λ s. Appends (Some (row_body default_writer fields)) (text_of new) (next_sep s (fields_written old) ++ kit.field_text s field)) has.setup from in
-    let at = subst (λ n. Appends (Some (row_body default_writer fields)) (text_of new) (next_sep default_writer n ++ kit.field_text default_writer field)) has.count by in
+    let from = subst (λ t. Appends t (written new) (next_sep (writer_setup old) (fields_written old) ++ kit.field_text (writer_setup old) field)) has.text (more plain) in
+    let by = subst (λ s. Appends (Some (row_body default_writer fields)) (written new) (next_sep s (fields_written old) ++ kit.field_text s field)) has.setup from in
+    let at = subst (λ n. Appends (Some (row_body default_writer fields)) (written new) (next_sep default_writer n ++ kit.field_text default_writer field)) has.count by in
     record {
       setup = same ∙ has.setup;
       count = omega (arith, count, has.count, length-append fields (field ∷ []));
-      text = appended (row_body default_writer fields) (next_sep default_writer (length fields) ++ kit.field_text default_writer field) (text_of new) at ∙ ap Some (sym (row-more default_writer fields field));
+      text = appended (row_body default_writer fields) (next_sep default_writer (length fields) ++ kit.field_text default_writer field) (written new) at ∙ ap Some (sym (row-more default_writer fields field));
     }
 
 -- what ends a row of several fields
@@ -65,14 +63,12 @@ ends wrote n several = rw (ne_eqb n 0 (λ e. omega arith), ne_eqb n 1 (λ e. ome
     by true = refl
     by false = refl
 
--- the bytes of a row that is ended
-pub row_ended : (old new : Writer (Vec ℕ Global)) (wrote : Bool) → Appends (text_of old) (text_of new) (tail_text (writer_setup old) wrote (fields_written old))
-    → (bytes : List ℕ) → Keeps (text_of new) (Some bytes)
-    → (fields : List (List ℕ)) → 1 < length fields → HasFields old fields → AllByRecursion IsPrintable fields → bytes ≡ csv_row fields
-row_ended old new wrote more bytes keeps fields several has printable =
-    let from = subst (λ t. Appends t (text_of new) (tail_text (writer_setup old) wrote (fields_written old))) has.text more in
-    let by = subst (λ s. Appends (Some (row_body default_writer fields)) (text_of new) (tail_text s wrote (fields_written old))) has.setup from in
-    let at = subst (λ n. Appends (Some (row_body default_writer fields)) (text_of new) (tail_text default_writer wrote n)) has.count by in
-    let whole = appended (row_body default_writer fields) (tail_text default_writer wrote (length fields)) (text_of new) at in
-    let kept : bytes ≡ row_body default_writer fields ++ tail_text default_writer wrote (length fields) = subst (λ o. Keeps o (Some bytes)) whole keeps in
-    kept ∙ ap (λ l. row_body default_writer fields ++ l) (ends wrote (length fields) several) ∙ same_row fields several printable
+-- a row that is ended
+pub row_ended : (old new : Writer (Vec ℕ Global)) (wrote : Bool) → Appends (written old) (written new) (tail_text (writer_setup old) wrote (fields_written old))
+    → (fields : List (List ℕ)) → 1 < length fields → AllByRecursion IsPrintable fields → HasFields old fields → written new ≡ Some (csv_row fields)
+row_ended old new wrote more fields several printable has =
+    let from = subst (λ t. Appends t (written new) (tail_text (writer_setup old) wrote (fields_written old))) has.text more in
+    let by = subst (λ s. Appends (Some (row_body default_writer fields)) (written new) (tail_text s wrote (fields_written old))) has.setup from in
+    let at = subst (λ n. Appends (Some (row_body default_writer fields)) (written new) (tail_text default_writer wrote n)) has.count by in
+    appended (row_body default_writer fields) (tail_text default_writer wrote (length fields)) (written new) at
+    ∙ ap (λ l. Some (row_body default_writer fields ++ l)) (ends wrote (length fields) several) ∙ ap Some (same_row fields several printable)
