@@ -1,0 +1,29 @@
+use Rattle.std.proofs.Common.{◌≡◌, ◌-◌, ◌*◌, ◌≤◌, true, false}
+use Rattle.csv.specs.Reading.{Ready, default_config, is_flexible, reader_config, reader_trim}
+use Rattle.csv.specs.declared.reader.Trim.TheVariants as trim
+use Rattle.register_core.specs.declared.line.TheConstants.{MAX_REPLY_LENGTH}
+use Rattle.streams.specs.declared.watched.TheConstants.{MAX_IDLE_TURNS}
+use Rattle.register_desk.specs.Leaving.{GoesOn}
+use Rattle.register_desk.specs.Run.{Wrote}
+use Rattle.register_report.specs.declared.importing.TheConstants.{MAX_ROWS}
+use Rattle.register_report.specs.Serving.{ServedRows}
+use Rattle.register_report.proofs.importing.serve_rows.Given as goal
+
+abbrev pub invariant-loop-row : goal.invariant-loop-row
+invariant-loop-row g l = record {
+  served : ServedRows g.S.Store g.R.Read.remaining l.fn.moment l.fn.caller l.fn.first l.fn.reader l.reader
+      (g.W.Write.contents l.fn.writer.inner) (g.W.Write.contents l.writer.inner) l.fn.desk l.desk l.replies;
+  wrote : Wrote (g.W.Write.contents l.fn.writer.inner) (g.W.Write.contents l.writer.inner) l.written;
+  plain : reader_trim l.reader ≡ trim.None;
+  flexible : is_flexible l.reader ≡ true;
+  ready : Ready l.reader;
+  config : reader_config l.reader ≡ default_config;
+  within : l.replies ≤ MAX_ROWS;
+  short : l.written ≤ MAX_REPLY_LENGTH * l.replies;
+  idle_bounded : l.writer.idle ≤ MAX_IDLE_TURNS;
+  flushed : l.fn.writer.unflushed ≡ false → l.writer.unflushed ≡ false;
+  goes_on : GoesOn l.fn.desk l.desk;
+}
+
+abbrev pub decreases-loop-row : goal.decreases-loop-row
+decreases-loop-row g l = MAX_ROWS - l.replies
