@@ -86,7 +86,7 @@ impl<S: Alter> Drop for KeyRows<'_, S> {
 }
 
 impl<S: Alter> KeyRows<'_, S> {
-    ghost use Rattle.std.specs.Prelude.{◌≡◌, List, Ok, Err, None, IfOk, IfErr};
+    ghost use Rattle.std.specs.Prelude.{◌≡◌, List, Ok, Err, None, IfOk, IfErr, OnSome};
     ghost use Rattle.key_rows.specs.declared.key_row.KeyRow.{KeyRow};
     ghost use Rattle.register_core.specs.declared.request.Request.{Request};
     ghost use Rattle.register_desk.specs.Leaving.{ChangesNothing, IsBroken, IsClean, IsWhole};
@@ -116,6 +116,7 @@ impl<S: Alter> KeyRows<'_, S> {
         ensures refused { GoOn self.old →
             IfErr result (λ end. (end ≡ End.Store) × AreBroken self.new) }
         ensures none { result ≡ Ok None → AreEnded self.new }
+        ensures goes_on { IfOk result (λ found. OnSome found (GoOn self.new)) }
     {
         match self.progress {
             Progress::Ended => return Ok(None),

@@ -4,3 +4,7 @@ pub mod HeaderLemmas
 pub mod ServedLemmas
 pub mod ImportLemmas
 pub mod StreamLemmas
+pub mod TextLemmas
+pub mod RowsWritten
+pub mod TableWritten
+pub mod WholeTable

@@ -1,0 +1,79 @@
+-- What is written one piece after another.
+use Rattle.std.proofs.Common.{◌≡◌, ◌≢◌, ◌≤◌, ◌+◌, ℕ, List, [], ◌∷◌, ◌++◌, length, take, drop, Bool, true, false, Option, Result, Ok, Err, OnOk, refl, sym, ap, subst, ◌∙◌, append_assoc, length-append, arith}
+use Rattle.std.proofs.lemmas.List.{append-nil, take-append-drop}
+use Rattle.std.specs.Io.KnownBytes.{Appends}
+use Rattle.streams.specs.declared.watched.Watched.{Watched}
+use Rattle.streams.specs.Watched.{IsFaulted}
+use Rattle.register_desk.specs.declared.end.End.{End}
+use Rattle.register_desk.specs.declared.end.End.TheVariants.{Memory, Store, Broken, ReadFault, WriteFault, BadHeader}
+use Rattle.register_desk.specs.Run.{IsFrontOf, max_idle_turns}
+use Rattle.register_desk.proofs.Answering.{appends_none, appends_then}
+use Rattle.register_report.specs.Writing.{Puts, PutsText}
+
+-- a front of the front, and of what it begins
+pub front_of_first : (part text more : List ℕ) → IsFrontOf part text → IsFrontOf part (text ++ more)
+front_of_first part text more front = (front.0 ++ more, sym (append_assoc part front.0 more) ∙ ap (λ bytes. bytes ++ more) front.1)
+
+pub front_behind : (first part text : List ℕ) → IsFrontOf part text → IsFrontOf (first ++ part) (first ++ text)
+front_behind first part text front = (front.0, append_assoc first part front.0 ∙ ap (λ bytes. first ++ bytes) front.1)
+
+pub front_whole : (text : List ℕ) → IsFrontOf text text
+front_whole text = ([], append-nil text)
+
+-- a call that went well met no fault
+pub no_fault : {T : Type 0} (x : T) → ◌≢◌ {A = Result T End} (Ok x) (Err WriteFault)
+no_fault x is = cc
+
+module _ {W : Type 0} (contents : W → Option (List ℕ)) where
+  -- nothing was written
+  pub puts_nothing : {T : Type 0} (writer : Watched W) (count : ℕ) (result : Result T End) → result ≢ Err WriteFault → Puts contents writer writer count count [] result
+  puts_nothing writer count result sound = record {
+    written = appends_none (contents writer.inner);
+    counted = omega arith;
+    flushed = λ other before. before;
+    fault = λ is. absurd (sound is);
+    bounded = λ bounded. bounded;
+  }
+
+  pub text_nothing : {T : Type 0} (writer : Watched W) (count : ℕ) (text : List ℕ) (e : End) → ◌≢◌ {A = Result T End} (Err e) (Err WriteFault) → PutsText {T = T} contents writer writer count count text (Err e)
+  text_nothing writer count text e sound = record { bytes = []; puts = puts_nothing writer count (Err e) sound; front = (text, refl); whole = tt }
+
+  module _ (a b c : Watched W) (i j k : ℕ) where
+    -- what went well, and what came behind it
+    pub puts_then : {T U : Type 0} (xs ys : List ℕ) (x : T) (r : Result U End) → Puts {T = T} contents a b i j xs (Ok x) → Puts contents b c j k ys r → Puts contents a c i k (xs ++ ys) r
+    puts_then {T} {U} xs ys x r one two = record {
+      written = appends_then (contents a.inner) (contents b.inner) (contents c.inner) xs ys one.written two.written;
+      counted = let more = length-append xs ys in omega (arith, one.counted, two.counted, more);
+      flushed = λ other before. two.flushed other (one.flushed (no_fault x) before);
+      fault = two.fault;
+      bounded = λ bounded. two.bounded (one.bounded bounded);
+    }
+
+    pub text_then : {T U : Type 0} (first next : List ℕ) (x : T) (r : Result U End) → PutsText {T = T} contents a b i j first (Ok x) → PutsText contents b c j k next r → PutsText contents a c i k (first ++ next) r
+    text_then {T} {U} first next x r one two =
+        let same : one.bytes ≡ first = one.whole in
+        record {
+          bytes = one.bytes ++ two.bytes;
+          puts = puts_then one.bytes two.bytes x r one.puts two.puts;
+          front = subst (λ bytes. IsFrontOf (bytes ++ two.bytes) (first ++ next)) (sym same) (front_behind first two.bytes next two.front);
+          whole = both r two.whole;
+        }
+      where
+        both : (r : Result U End) → OnOk r (two.bytes ≡ next) → OnOk r (one.bytes ++ two.bytes ≡ first ++ next)
+        both (Ok y) is = ap (λ bytes. bytes ++ two.bytes) one.whole ∙ ap (λ bytes. first ++ bytes) is
+        both (Err e) is = tt
+
+  -- a text that was not written whole is a front of a longer one
+  pub text_longer : {T U : Type 0} (a b : Watched W) (i j : ℕ) (text more : List ℕ) (e : End) → PutsText {T = T} contents a b i j text (Err e) → PutsText {T = U} contents a b i j (text ++ more) (Err e)
+  text_longer {T} {U} a b i j text more e one = record {
+    bytes = one.bytes;
+    puts = record {
+      written = one.puts.written;
+      counted = one.puts.counted;
+      flushed = λ other before. one.puts.flushed (λ is. other (let same : e ≡ WriteFault = cc in ap Err same)) before;
+      fault = λ is. one.puts.fault (let same : e ≡ WriteFault = cc in ap Err same);
+      bounded = one.puts.bounded;
+    };
+    front = front_of_first one.bytes text more one.front;
+    whole = tt;
+  }

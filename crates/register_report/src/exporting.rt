@@ -1,0 +1,139 @@
+//! The export of all keys, and the report on those that are due for rotation.
+ghost use Rattle.std.specs.Prelude.{◌≡◌, false, List, IfErr};
+ghost use Rattle.key_rows.specs.declared.key_row.KeyRow.{KeyRow};
+ghost use Rattle.key_rows.specs.DueRows.{AreDue};
+ghost use Rattle.key_rows.specs.Export.{export_text};
+ghost use Rattle.key_rows.specs.Report.{horizon, report_text};
+ghost use Rattle.register_core.specs.declared.request.Request.{Request};
+ghost use Rattle.register_core.specs.History.{latest};
+ghost use Rattle.register_desk.specs.Leaving.{IsClean, IsWhole};
+ghost use Rattle.register_desk.specs.Register.{StandsFor};
+ghost use Rattle.register_desk.specs.Rows.{all_rows};
+ghost use Rattle.register_desk.specs.Run.{LeavesWriter};
+ghost use Rattle.register_report.specs.Writing.{EndsAs, LeavesAlone, PutsAll, WritesText};
+ghost use Rattle.register_report.specs.Writing.{finish_of};
+
+use crate::table::Table;
+use crate::writing::put_table;
+use key_rows::horizon;
+use moment_core::Moment;
+use register_desk::{Desk, End, Finish, Outcome, Watched};
+use sqlite::Alter;
+use std::alloc::Global;
+use std::io::Write;
+
+/// What a call did that wrote so much and reads nothing.
+fn outcome(written: u64, done: Result<(), End>) -> Outcome
+    ensures { result ≡ record { read = 0; written = written; replies = 0; end = finish_of done } }
+{
+    let end = match done {
+        Ok(()) => Finish::AtEnd { rest: 0 },
+        Err(end) => Finish::Ended(end),
+    };
+    Outcome {
+        read: 0,
+        written,
+        replies: 0,
+        end,
+    }
+}
+
+/// Writes the export of all keys.
+fn put_all_keys<W: Write, S: Alter>(
+    alloc: Global,
+    desk: &mut Desk<S>,
+    writer: &mut Watched<W>,
+    written: &mut u64,
+) -> Result<(), End>
+    ensures puts { PutsAll W.contents S.Store writer.old writer.new written.old written.new
+        desk.old desk.new Table.Export result }
+    ensures alone { LeavesAlone S.Store desk.old desk.new (finish_of result) }
+    ensures end { EndsAs (finish_of result) }
+{
+    let mut rows = desk.keys()?;
+    put_table(alloc, &Table::Export, &mut rows, writer, written)
+}
+
+/// Writes the report on the keys that are due up to a moment.
+fn put_due_keys<W: Write, S: Alter>(
+    alloc: Global,
+    desk: &mut Desk<S>,
+    latest: Moment,
+    until: Moment,
+    writer: &mut Watched<W>,
+    written: &mut u64,
+) -> Result<(), End>
+    ensures puts { PutsAll W.contents S.Store writer.old writer.new written.old written.new
+        desk.old desk.new (Table.Report latest until) result }
+    ensures alone { LeavesAlone S.Store desk.old desk.new (finish_of result) }
+    ensures end { EndsAs (finish_of result) }
+{
+    let mut rows = desk.due(until)?;
+    put_table(
+        alloc,
+        &Table::Report(latest, until),
+        &mut rows,
+        writer,
+        written,
+    )
+}
+
+/// Writes all keys as CSV (RFC 4180), as of the latest accepted moment: the header row
+/// `number,type,owner,activation,protect_stop,deactivation,state,initial,destroyed,compromised,occurrence,purpose`, then
+/// one row for each key, by number. A moment stands as `YYYY-MM-DDTHH:MM:SSZ`, a date that is not set as an empty field. It
+/// changes nothing, and holds one row at a time.
+///
+/// # Errors
+/// The outcome's end is [`End::Store`] where the database refused, or a row is one that no register holds, and the desk goes
+/// on; [`End::Broken`] on a broken desk; [`End::Memory`] where there is no memory for a row; [`End::WriteFault`] where the
+/// writer failed. What was written before any of these is a front of the export.
+pub fn export<W: Write, S: Alter>(
+    alloc: Global,
+    desk: &mut Desk<S>,
+    writer: &mut Watched<W>,
+) -> Outcome
+    requires { writer.old.failed ≡ false }
+    ensures agrees { (h : List Request) → StandsFor S.Store desk.old h → IsWhole desk.old →
+        IsClean S.Store desk.new → WritesText (export_text (all_rows h)) result.end
+        (W.contents writer.old.inner) (W.contents writer.new.inner) }
+    ensures alone { LeavesAlone S.Store desk.old desk.new result.end }
+    ensures writer { LeavesWriter W.contents writer.old writer.new result }
+    ensures ends { EndsAs result.end }
+    ensures uncounted { (result.read ≡ 0) × (result.replies ≡ 0) }
+{
+    writer.begin();
+    let mut written: u64 = 0;
+    let done = put_all_keys(alloc, desk, writer, &mut written);
+    outcome(written, done)
+}
+
+/// Writes the report on the keys that are due for rotation in so many days from the latest accepted moment: the Active
+/// keys with a Protect Stop Date up to the horizon, by that date and then by number, with `overdue` where it is reached. It
+/// changes nothing, and holds one row at a time.
+///
+/// # Errors
+/// As of [`export`].
+pub fn rotation<W: Write, S: Alter>(
+    alloc: Global,
+    desk: &mut Desk<S>,
+    days: u32,
+    writer: &mut Watched<W>,
+) -> Outcome
+    requires { writer.old.failed ≡ false }
+    ensures agrees { (h : List Request) (due : List KeyRow) → StandsFor S.Store desk.old h →
+        IsWhole desk.old → IsClean S.Store desk.new →
+        AreDue (all_rows h) (horizon (latest h) days) due →
+        WritesText (report_text (latest h) (horizon (latest h) days) due) result.end
+        (W.contents writer.old.inner) (W.contents writer.new.inner) }
+    ensures alone { LeavesAlone S.Store desk.old desk.new result.end }
+    ensures writer { LeavesWriter W.contents writer.old writer.new result }
+    ensures ends { EndsAs result.end }
+    ensures uncounted { (result.read ≡ 0) × (result.replies ≡ 0) }
+{
+    writer.begin();
+    let latest = desk.latest();
+    let until = horizon(latest, days);
+    let mut written: u64 = 0;
+    let done = put_due_keys(alloc, desk, latest, until, writer, &mut written);
+    outcome(written, done)
+}

@@ -1,0 +1,97 @@
+//! Writing out what a desk has, a row at a time.
+ghost use Rattle.std.specs.Prelude.{◌≡◌, ◌≢◌, Ok, IfOk, IfErr};
+ghost use Rattle.register_desk.specs.Leaving.{ChangesNothing};
+ghost use Rattle.register_desk.specs.Rows.{GoOn};
+ghost use Rattle.register_report.specs.Writing.{IsEndOfWriting, PutsRows, PutsTable, PutsText};
+
+use crate::table::Table;
+use register_core::MAX_KEYS;
+use register_desk::{End, KeyRows, MAX_IDLE_TURNS, Watched};
+use sqlite::Alter;
+use std::alloc::{AllocError, Global};
+use std::io::Write;
+
+/// The text, where there was memory for it.
+fn formed(text: Result<Vec<u8>, AllocError>) -> Result<Vec<u8>, End>
+    ensures text { IfOk result (λ formed. text ≡ Ok formed) }
+    ensures end { IfErr result (λ end. end ≡ End.Memory) }
+{
+    match text {
+        Ok(text) => Ok(text),
+        Err(AllocError) => Err(End::Memory),
+    }
+}
+
+/// Writes the text and flushes it, and counts what was written of it. A count that has no room for the text is want of
+/// memory, and nothing of it is written.
+fn put_text<W: Write>(writer: &mut Watched<W>, written: &mut u64, text: &[u8]) -> Result<(), End>
+    ensures puts { PutsText W.contents writer.old writer.new written.old written.new text.now result }
+    ensures end { IfErr result IsEndOfWriting }
+    ensures sound { IfErr result (λ end. end ≢ End.Broken) }
+{
+    let Some(after) = written.checked_add(text.len() as u64) else {
+        return Err(End::Memory);
+    };
+    match writer.write_flushed(MAX_IDLE_TURNS, text) {
+        Ok(()) => {
+            *written = after;
+            Ok(())
+        }
+        Err(fault) => {
+            *written += fault.written as u64;
+            Err(End::WriteFault)
+        }
+    }
+}
+
+/// Writes a line for each row that comes, and counts them.
+fn put_rows<W: Write, S: Alter>(
+    alloc: Global,
+    table: &Table,
+    rows: &mut KeyRows<'_, S>,
+    writer: &mut Watched<W>,
+    written: &mut u64,
+) -> Result<u64, End>
+    ensures same_reference { rows.new.desk.ghost_name ≡ rows.old.desk.ghost_name }
+    ensures reads { ChangesNothing S.Store rows.old.desk.now rows.new.desk.now }
+    ensures mark { rows.new.desk.now.is_broken ≡ rows.old.desk.now.is_broken }
+    ensures rows { PutsRows W.contents S.Store writer.old writer.new written.old written.new
+        rows.old rows.new table.now result }
+    ensures end { IfErr result IsEndOfWriting }
+    ensures sound { GoOn rows.old → IfErr result (λ end. end ≢ End.Broken) }
+{
+    let mut count: u64 = 0;
+    'lines: while count <= u64::from(MAX_KEYS) {
+        let Some(row) = rows.next_key()? else {
+            return Ok(count);
+        };
+        let line = formed(table.line(alloc, &row))?;
+        put_text(writer, written, &line)?;
+        count += 1;
+    }
+    // No register has as many keys.
+    Err(End::Store)
+}
+
+/// Writes the table of the rows that come: its head, a line for each, and its foot.
+pub(crate) fn put_table<W: Write, S: Alter>(
+    alloc: Global,
+    table: &Table,
+    rows: &mut KeyRows<'_, S>,
+    writer: &mut Watched<W>,
+    written: &mut u64,
+) -> Result<(), End>
+    ensures same_reference { rows.new.desk.ghost_name ≡ rows.old.desk.ghost_name }
+    ensures reads { ChangesNothing S.Store rows.old.desk.now rows.new.desk.now }
+    ensures mark { rows.new.desk.now.is_broken ≡ rows.old.desk.now.is_broken }
+    ensures table { PutsTable W.contents S.Store writer.old writer.new written.old written.new
+        rows.old rows.new table.now result }
+    ensures end { IfErr result IsEndOfWriting }
+    ensures sound { GoOn rows.old → IfErr result (λ end. end ≢ End.Broken) }
+{
+    let head = formed(table.head(alloc))?;
+    put_text(writer, written, &head)?;
+    let count = put_rows(alloc, table, rows, writer, written)?;
+    let foot = formed(table.foot(alloc, count))?;
+    put_text(writer, written, &foot)
+}
