@@ -1,9 +1,10 @@
 -- The order of the rows that are due, and lists in that order.
-use Rattle.std.proofs.Common.{◌≡◌, ◌⊎◌, inl, inr, List, [], ◌∷◌, ◌++◌, refl, sym, ap, subst, ◌∙◌, arith}
+use Rattle.std.proofs.Common.{◌≡◌, ◌⊎◌, inl, inr, List, [], ◌∷◌, ◌++◌, refl, sym, ap, subst, ◌∙◌, arith, ◌<◌}
+use Rattle.std.specs.List.{AllByRecursion}
 use Rattle.std.proofs.lemmas.Bool.{cases_lt}
 use Rattle.key_rows.specs.declared.key_row.KeyRow.{KeyRow}
-use Rattle.key_rows.specs.DueRows.{stop_of, IsBefore, IsBehind, AreInOrder}
-use Rattle.key_rows.proofs.Members.{Has, each_of, all_of, has_last, has_cases}
+use Rattle.key_rows.specs.DueRows.{stop_of, IsBefore, IsBehind, AreInOrder, HaveOwnNumbers}
+use Rattle.key_rows.proofs.Members.{Has, has_of, each_of, all_of, has_last, has_cases}
 
 -- ---- two rows
 
@@ -102,3 +103,26 @@ begun (x ∷ rows) (y ∷ all) of_rows of_all to from =
     behind_first : (x y r : KeyRow) (rows all : List KeyRow) → x ≡ y → AreInOrder (y ∷ all) → Has all r → Has (x ∷ rows) r ⊎ IsBehind (x ∷ rows) r → Has rows r ⊎ IsBehind rows r
     behind_first x y r rows all same of_all here (inl h) = inl (tail_of y x r all rows (sym same) of_all here h)
     behind_first x y r rows all same of_all here (inr behind) = inr behind.1
+
+-- ---- numbers that rise
+
+-- each row has a lower number than all behind it
+abbrev pub AreRising : List KeyRow → Type 0
+AreRising [] = Unit {0}
+AreRising (r ∷ rows) = AllByRecursion (λ s. r.number < s.number) rows × AreRising rows
+
+one_of_number : (rows : List KeyRow) → AreRising rows → (r s : KeyRow) → Has rows r → Has rows s → r.number ≡ s.number → r ≡ s
+one_of_number [] rising r s of_r of_s same = absurd of_r
+one_of_number (x ∷ rows) rising r s (inl e) (inl f) same = e ∙ sym f
+one_of_number (x ∷ rows) rising r s (inl e) (inr k) same =
+    let lower = each_of (λ y. x.number < y.number) rows rising.0 s k in
+    let here = ap (λ (y : KeyRow). y.number) e in
+    absurd (omega arith)
+one_of_number (x ∷ rows) rising r s (inr h) (inl f) same =
+    let lower = each_of (λ y. x.number < y.number) rows rising.0 r h in
+    let here = ap (λ (y : KeyRow). y.number) f in
+    absurd (omega arith)
+one_of_number (x ∷ rows) rising r s (inr h) (inr k) same = one_of_number rows rising.1 r s h k same
+
+pub own_numbers : (rows : List KeyRow) → AreRising rows → HaveOwnNumbers rows
+own_numbers rows rising r s of_r of_s same = one_of_number rows rising r s (has_of rows r of_r) (has_of rows s of_s) same

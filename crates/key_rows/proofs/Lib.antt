@@ -5,3 +5,4 @@ pub mod Printable
 pub mod CsvRows
 pub mod RowWriting
 pub mod Padding
+pub mod Texts

@@ -38,6 +38,10 @@ report_line latest r =
 unfoldable pub report_total : ℕ → List ℕ
 report_total count = codes "total " ++ decimal count ++ codes "\n"
 
+-- a report without its last line: the first, and those of these keys
+abbrev pub report_begun : ℕ → ℕ → List KeyRow → List ℕ
+report_begun latest until rows = report_head until ++ flat_map (report_line latest) rows
+
 -- the report on these keys, which are due by then
 abbrev pub report_text : ℕ → ℕ → List KeyRow → List ℕ
-report_text latest until rows = report_head until ++ flat_map (report_line latest) rows ++ report_total (length rows)
+report_text latest until rows = report_begun latest until rows ++ report_total (length rows)
