@@ -94,6 +94,7 @@ fn serve_rows<R: Read, W: Write, S: Alter>(
     ensures writer { LeavesWriter W.contents writer.old writer.new result }
     ensures desk { LeavesDesk desk.old desk.new result.end }
     ensures uncounted { result.read ≡ 0 }
+    ensures no_rest { (rest : ℕ) → result.end ≡ Finish.AtEnd rest → rest ≡ 0 }
 {
     let mut written: u64 = 0;
     let mut replies: u64 = 0;
@@ -189,6 +190,7 @@ pub fn import<R: Read + Drop, W: Write, S: Alter>(
     ensures desk { LeavesDesk desk.old desk.new result.end }
     ensures clean { IsClean S.Store desk.new → IsClean S.Store desk.old }
     ensures uncounted { result.read ≡ 0 }
+    ensures no_rest { (rest : ℕ) → result.end ≡ Finish.AtEnd rest → rest ≡ 0 }
 {
     writer.begin();
     let mut reader = ReaderBuilder::new()
