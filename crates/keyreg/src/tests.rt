@@ -5,6 +5,7 @@ mod desks;
 mod faults;
 mod files;
 mod fresh_run;
+mod imports;
 mod long_lines;
 mod openings;
 mod repeats;
