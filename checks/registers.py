@@ -25,10 +25,11 @@ CREATE TABLE request (caller TEXT NOT NULL, number INTEGER NOT NULL, command TEX
     PRIMARY KEY (caller, number)) STRICT;
 """
 
-# The indexes of due keys, which a new register has and an older one has not.
+# The indexes of keys beside their primary key, which a new register has and an older one has not.
 INDEXES = """
 CREATE INDEX keys_by_activation ON keys (state, activation);
 CREATE INDEX keys_by_deactivation ON keys (state, deactivation);
+CREATE INDEX keys_by_protect_stop ON keys (state, protect_stop);
 """
 
 # The worked row "approved anew by one who was removed": each line with its reply.

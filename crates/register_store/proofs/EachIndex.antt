@@ -1,4 +1,4 @@
--- What is proved of each index of due keys by its name.
+-- What is proved of each index of keys by its name.
 use Rattle.std.proofs.Common.{◌≡◌, take, Ok, refl}
 use Rattle.sqlite.specs.Change.{indexed}
 use Rattle.sqlite.specs.Command.TheVariants.{CreateIndex}
@@ -8,29 +8,30 @@ use Rattle.sqlite.specs.Schema.{Schema}
 use Rattle.sqlite.proofs.Callers.{IsPlain, command_of, statement_of}
 use Rattle.sqlite_schema.specs.declared.schema.Index.{Index}
 use Rattle.sqlite_tied.specs.Compute.{everything}
-use Rattle.register_store.specs.declared.due_date.DueDate.{DueDate}
-use Rattle.register_store.specs.declared.due_date.DueDate.TheVariants.{Activation, Deactivation}
+use Rattle.register_store.specs.declared.key_index.KeyIndex.{KeyIndex}
+use Rattle.register_store.specs.declared.key_index.KeyIndex.TheVariants.{Activation, Deactivation, ProtectStop}
 use Rattle.register_store.specs.declared.table.TableName.TheVariants.{Keys}
 use Rattle.register_store.specs.Tables.{keys, place_of}
-use Rattle.register_store.specs.Schema.{schema_with, due_indexes, index_of, index_place, index_text}
+use Rattle.register_store.specs.Schema.{schema_with, made_indexes, index_of, index_place, index_text}
 
 -- the schema with the indexes before it
-abbrev pub schema_before : DueDate → Schema
-schema_before index = schema_with (take (index_place index) due_indexes)
+abbrev pub schema_before : KeyIndex → Schema
+schema_before index = schema_with (take (index_place index) made_indexes)
 
 -- an index as its text gives it: the tree is left open
-abbrev pub unplaced : DueDate → Index
+abbrev pub unplaced : KeyIndex → Index
 unplaced index = record (index_of index) { tree = 0 }
 
 -- what the text means where the tables and the indexes before it are made
-pub record IsCreate (index : DueDate) : Type 0 where
+pub record IsCreate (index : KeyIndex) : Type 0 where
   pub is : command_of (understood (schema_before index) (index_text index)) ≡ CreateIndex (place_of Keys)
   pub whole : statement_of (index_text index) (understood (schema_before index) (index_text index)) ≡ index_text index
   pub plain : IsPlain (understood (schema_before index) (index_text index))
   pub defined : index_defined_by keys (index_text index) ≡ Ok (unplaced index)
   pub same : indexed (schema_before index) keys (unplaced index) ≡ indexed (schema_before index) keys (index_of index)
 
-pub create_is : (index : DueDate) → IsCreate index
+pub create_is : (index : KeyIndex) → IsCreate index
 unfolding understood everything
 create_is Activation = record { is = refl; whole = refl; plain = (refl, refl); defined = refl; same = refl }
 create_is Deactivation = record { is = refl; whole = refl; plain = (refl, refl); defined = refl; same = refl }
+create_is ProtectStop = record { is = refl; whole = refl; plain = (refl, refl); defined = refl; same = refl }

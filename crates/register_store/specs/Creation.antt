@@ -1,4 +1,4 @@
--- Making the tables of a register and the indexes of due keys, one after the other.
+-- Making the tables of a register and the indexes of its keys, one after the other.
 use Rattle.std.specs.Prelude.{◌≡◌, ◌<◌, ℕ, Bool, true, false, List, [], length, take, Ok, IsTrue}
 use Rattle.sqlite.specs.Effect.{Database}
 use Rattle.sqlite.specs.Held.{Held as Connection, state}
@@ -8,15 +8,15 @@ use Rattle.sqlite.specs.State.{State, HasCleanDisk, Survives}
 use Rattle.sqlite_trees.specs.declared.store.Store.{Ghosts}
 use Rattle.sqlite_resolve.specs.declared.compiled.Compiled.{Compiled}
 use Rattle.sql_steps.specs.Creating.{Creates, Indexes}
-use Rattle.register_store.specs.declared.due_date.DueDate.{DueDate}
+use Rattle.register_store.specs.declared.key_index.KeyIndex.{KeyIndex}
 use Rattle.register_store.specs.declared.table.TableName.{TableName}
 use Rattle.register_store.specs.Tables.{all_tables, keys, table_of, place_of, count_text, no_rows}
-use Rattle.register_store.specs.Schema.{no_schema, schema_after, schema_with, due_indexes, index_of, index_place, Holds, rows_of}
+use Rattle.register_store.specs.Schema.{no_schema, schema_after, schema_with, made_indexes, index_of, index_place, Holds, rows_of}
 
--- an empty register, whose indexes beside those of the primary keys are those of due keys
+-- an empty register, whose indexes beside those of the primary keys are those that a new one has
 pub record IsNewRegister (db : Database) : Type 0 where
   pub holds : Holds no_rows db
-  pub indexed : db.schema ≡ schema_with due_indexes
+  pub indexed : db.schema ≡ schema_with made_indexes
 
 -- an empty database comes to hold one
 abbrev pub MakesRegister : Database → Database → Type 0
@@ -37,12 +37,12 @@ abbrev pub MakesFirst : ℕ → Database → Database → Type 0
 MakesFirst n old new = old.schema ≡ no_schema → HasFirst n new
 
 -- the index of keys is made where the tables and the indexes before it are
-abbrev pub MakesIndex : DueDate → Database → Database → Type 0
-MakesIndex index = Indexes (schema_with (take (index_place index) due_indexes)) keys (index_of index)
+abbrev pub MakesIndex : KeyIndex → Database → Database → Type 0
+MakesIndex index = Indexes (schema_with (take (index_place index) made_indexes)) keys (index_of index)
 
 -- all tables are made, each empty, and the first n of the indexes
 pub record HasIndexes (n : ℕ) (db : Database) : Type 0 where
-  pub schema : db.schema ≡ schema_with (take n due_indexes)
+  pub schema : db.schema ≡ schema_with (take n made_indexes)
   pub empty : (name : TableName) → rows_of name db ≡ []
 
 abbrev pub MakesIndexes : ℕ → Database → Database → Type 0
@@ -50,7 +50,7 @@ MakesIndexes n old new = HasFirst (length all_tables) old → HasIndexes n new
 
 -- the tables, each empty, come to be those of an empty register, and the indexes stay
 abbrev pub AddsMeta : Database → Database → Type 0
-AddsMeta old new = HasIndexes (length due_indexes) old → IsNewRegister new
+AddsMeta old new = HasIndexes (length made_indexes) old → IsNewRegister new
 
 -- ---- whether tables are there
 

@@ -6,8 +6,8 @@ use Rattle.sqlite.specs.Change.{created}
 use Rattle.sqlite.specs.Effect.{Database, IsDatabase}
 use Rattle.sqlite_schema.specs.declared.schema.Index.{Index}
 use Rattle.sqlite_value.specs.Keys.{plain}
-use Rattle.register_store.specs.declared.due_date.DueDate.{DueDate}
-use Rattle.register_store.specs.declared.due_date.DueDate.TheVariants.{Activation, Deactivation}
+use Rattle.register_store.specs.declared.key_index.KeyIndex.{KeyIndex}
+use Rattle.register_store.specs.declared.key_index.KeyIndex.TheVariants.{Activation, Deactivation, ProtectStop}
 use Rattle.register_store.specs.declared.table.TableName.{TableName}
 use Rattle.register_store.specs.declared.table.TableName.TheVariants.{Keys}
 use Rattle.register_store.specs.Tables.{Tables, content, IsInRange, Shows, all_tables, table_of, tree_of, key_indexes}
@@ -34,11 +34,11 @@ pub record IsRegister (schema : Schema) : Type 0 where
   pub more : List Index
   pub is : schema ≡ schema_with more
 
--- ---- the indexes of due keys, which a new register has
+-- ---- the indexes of keys that a new register has
 
 -- An index of keys by their states, and then by a column. Columns are counted from the rowid, which is 0: the state is 5.
-abbrev pub due_index : List ℕ → ℕ → ℕ → Index
-due_index name tree column = record {
+abbrev pub state_index : List ℕ → ℕ → ℕ → Index
+state_index name tree column = record {
   name = name;
   tree = tree;
   table = tree_of Keys;
@@ -47,23 +47,27 @@ due_index name tree column = record {
   is_unique = false;
 }
 
--- by the date of activation, and by that of deactivation; their trees come behind those of the tables
-abbrev pub index_of : DueDate → Index
-index_of Activation = due_index (codes "keys_by_activation") 8 7
-index_of Deactivation = due_index (codes "keys_by_deactivation") 9 9
+-- by the date of activation, by that of deactivation, and by that of the stop of protection; their trees come behind
+-- those of the tables
+abbrev pub index_of : KeyIndex → Index
+index_of Activation = state_index (codes "keys_by_activation") 8 7
+index_of Deactivation = state_index (codes "keys_by_deactivation") 9 9
+index_of ProtectStop = state_index (codes "keys_by_protect_stop") 10 8
 
 -- the indexes in the order in which they are made
-abbrev pub due_indexes : List Index
-due_indexes = index_of Activation ∷ index_of Deactivation ∷ []
+abbrev pub made_indexes : List Index
+made_indexes = index_of Activation ∷ index_of Deactivation ∷ index_of ProtectStop ∷ []
 
 -- the place of an index among them
-abbrev pub index_place : DueDate → ℕ
+abbrev pub index_place : KeyIndex → ℕ
 index_place Activation = 0
 index_place Deactivation = 1
+index_place ProtectStop = 2
 
-abbrev pub index_text : DueDate → List ℕ
+abbrev pub index_text : KeyIndex → List ℕ
 index_text Activation = codes "CREATE INDEX keys_by_activation ON keys (state, activation)"
 index_text Deactivation = codes "CREATE INDEX keys_by_deactivation ON keys (state, deactivation)"
+index_text ProtectStop = codes "CREATE INDEX keys_by_protect_stop ON keys (state, protect_stop)"
 
 -- ---- the rows
 

@@ -22,6 +22,7 @@ mod due;
 mod due_date;
 mod error;
 mod found;
+mod key_index;
 mod key_row;
 mod key_test;
 mod key_walk;

@@ -99,10 +99,11 @@ pub fn hundred_lines(alloc: Global, before: u8) -> Result<(String, String), Fail
     Ok((lines, replies))
 }
 
-/// The register of *defaults* without the indexes of due keys, as it was made before there were any.
+/// The register of *defaults* without the further indexes of keys, as it was made before there were any.
 fn without_indexes(alloc: Global) -> Result<Option<Desk<MemStore>>, Fail> {
     let mut connection = connection_after(alloc, "DROP INDEX keys_by_activation")?;
     connection.execute("DROP INDEX keys_by_deactivation", &[])?;
+    connection.execute("DROP INDEX keys_by_protect_stop", &[])?;
     if !connection.is_autocommit() {
         return Ok(None);
     }
