@@ -29,7 +29,7 @@ CREATE TABLE request (caller TEXT NOT NULL, number INTEGER NOT NULL, command TEX
 INDEXES = """
 CREATE INDEX keys_by_activation ON keys (state, activation);
 CREATE INDEX keys_by_deactivation ON keys (state, deactivation);
-CREATE INDEX keys_by_protect_stop ON keys (state, protect_stop);
+CREATE INDEX keys_by_protect_stop ON keys (state, protect_stop, number);
 """
 
 # The worked row "approved anew by one who was removed": each line with its reply.

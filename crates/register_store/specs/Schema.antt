@@ -36,23 +36,24 @@ pub record IsRegister (schema : Schema) : Type 0 where
 
 -- ---- the indexes of keys that a new register has
 
--- An index of keys by their states, and then by a column. Columns are counted from the rowid, which is 0: the state is 5.
-abbrev pub state_index : List ℕ → ℕ → ℕ → Index
-state_index name tree column = record {
+-- An index of keys by their states, and then by further columns. Columns are counted from the rowid, which is the number
+-- and has 0: the state is 5.
+abbrev pub state_index : List ℕ → ℕ → List ℕ → Index
+state_index name tree columns = record {
   name = name;
   tree = tree;
   table = tree_of Keys;
-  columns = 5 ∷ column ∷ [];
+  columns = 5 ∷ columns;
   order = plain;
   is_unique = false;
 }
 
--- by the date of activation, by that of deactivation, and by that of the stop of protection; their trees come behind
--- those of the tables
+-- by the date of activation, by that of deactivation, and by that of the stop of protection with the number
+-- behind it; their trees come behind those of the tables
 abbrev pub index_of : KeyIndex → Index
-index_of Activation = state_index (codes "keys_by_activation") 8 7
-index_of Deactivation = state_index (codes "keys_by_deactivation") 9 9
-index_of ProtectStop = state_index (codes "keys_by_protect_stop") 10 8
+index_of Activation = state_index (codes "keys_by_activation") 8 (7 ∷ [])
+index_of Deactivation = state_index (codes "keys_by_deactivation") 9 (9 ∷ [])
+index_of ProtectStop = state_index (codes "keys_by_protect_stop") 10 (8 ∷ 0 ∷ [])
 
 -- the indexes in the order in which they are made
 abbrev pub made_indexes : List Index
@@ -67,7 +68,7 @@ index_place ProtectStop = 2
 abbrev pub index_text : KeyIndex → List ℕ
 index_text Activation = codes "CREATE INDEX keys_by_activation ON keys (state, activation)"
 index_text Deactivation = codes "CREATE INDEX keys_by_deactivation ON keys (state, deactivation)"
-index_text ProtectStop = codes "CREATE INDEX keys_by_protect_stop ON keys (state, protect_stop)"
+index_text ProtectStop = codes "CREATE INDEX keys_by_protect_stop ON keys (state, protect_stop, number)"
 
 -- ---- the rows
 
