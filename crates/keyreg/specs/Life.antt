@@ -1,5 +1,5 @@
--- A life of a register in files: it is opened, runs over an input, and may be stopped.
-use Rattle.std.specs.Prelude.{◌+◌, ℕ, List, Option, take}
+-- A life of a register in files: it is opened, something is done over it, and it may be stopped.
+use Rattle.std.specs.Prelude.{◌≡◌, ◌+◌, ℕ, List, Option, take}
 use Rattle.sqlite_disk.specs.declared.Disk.{Ghosts}
 use Rattle.sqlite_store.specs.declared.store.FileStore.{FileStore}
 use Rattle.sqlite_store.specs.FileStore.{state}
@@ -11,6 +11,8 @@ use Rattle.register_desk.specs.declared.desk.Desk.{Desk}
 use Rattle.register_desk.specs.declared.runs.Outcome.{Outcome}
 use Rattle.register_desk.specs.Files.{HoldsOneOf}
 use Rattle.register_desk.specs.Run.{RunsOver}
+use Rattle.register_report.specs.Import.{EndsWithoutHeader}
+use Rattle.register_report.specs.Writing.{WritesText}
 
 -- whatever a stop leaves in the files holds the register of one of these histories
 abbrev pub LeavesInFiles : {D : Type 0} {g : Ghosts D} → List Request → List Request → FileStore D g → Type 0
@@ -22,3 +24,15 @@ pub record LivesOver {D : Type 0} {g : Ghosts D} (h : List Request) (items : Lis
   pub desk : Desk (FileStore D g) over_files
   pub over : RunsOver over_files h items rest outcome.end outcome.replies old new desk
   pub leaves : LeavesInFiles (history h (take outcome.replies items)) (history h (take (outcome.replies + 1) items)) store
+
+-- An import without its header row wrote nothing, and whatever a stop leaves in the files holds the register as it was.
+pub record EndsUnbegun {D : Type 0} {g : Ghosts D} (h : List Request) (outcome : Outcome) (old new : Option (List ℕ)) (store : FileStore D g) : Type 0 where
+  pub ends : EndsWithoutHeader outcome.end
+  pub same : new ≡ old
+  pub leaves : LeavesInFiles h h store
+
+-- The text was written, or a front of it where the call ended before, and whatever a stop leaves in the files holds the
+-- register as it was.
+pub record WritesOut {D : Type 0} {g : Ghosts D} (h : List Request) (text : List ℕ) (outcome : Outcome) (old new : Option (List ℕ)) (store : FileStore D g) : Type 0 where
+  pub writes : WritesText text outcome.end old new
+  pub leaves : LeavesInFiles h h store

@@ -7,12 +7,12 @@ ghost use Rattle.register_desk.specs.Register.{StandsFor};
 ghost use Rattle.register_desk.specs.End.{exit_status};
 ghost use Rattle.keyreg.specs.Act.{unopened_status, status_of, Acts};
 
-use crate::register_file::{Life, init_file, run_file};
+use crate::register_file::{Life, export_file, import_file, init_file, report_file, run_file};
+use crate::values::read_days;
 use crate::words::{Task, read_words};
 use clap::error::ErrorKind;
 use register_desk::{Desk, End, Finish, OpenRefusal, Watched, run};
-use sqlite::{Connection, FileStore, MemStore, Wary};
-use sqlite_disk::Disk;
+use sqlite::{Connection, FileFrom, FileStore, MemStore, Wary};
 use std::alloc::Global;
 use std::io::{Read, Write};
 
@@ -79,28 +79,29 @@ pub fn create_in_memory(alloc: Global) -> Result<Desk<MemStore>, OpenRefusal>
 }
 
 /// Runs over the request lines of `reader`, over a new register in memory.
-fn act_in_memory<R: Read, W: Write>(
+fn act_in_memory<R: Read + Drop, W: Write>(
     alloc: Global,
-    reader: &mut Watched<R>,
+    reader: R,
     writer: &mut Watched<W>,
     faults: &mut impl Write,
 ) -> u8
-    requires reader { reader.old.failed ≡ false }
-    requires writer { writer.old.failed ≡ false }
+    requires { writer.old.failed ≡ false }
     ensures { (bytes : List ℕ) (items : List (Option Request)) (rest : List ℕ) →
-        R.remaining reader.old.inner ≡ Some bytes → HasItems bytes items rest →
+        R.remaining reader ≡ Some bytes → HasItems bytes items rest →
         Acts items rest result (W.contents writer.old.inner) (W.contents writer.new.inner) }
 {
     match create_in_memory(alloc) {
-        Ok(mut desk) => report_finish(run(reader, writer, &mut desk).end, faults),
+        Ok(mut desk) => {
+            let mut reader = Watched::new(reader);
+            report_finish(run(&mut reader, writer, &mut desk).end, faults)
+        }
         Err(refusal) => report_refusal(refusal, faults),
     }
 }
 
 /// Copies the log into the database file. What cannot be copied stays in the log, where the next opening finds it.
-fn copy_log<D: Disk>(mut store: FileStore<D>) -> FileStore<D> {
+fn copy_log(mut store: FileStore<FileFrom<Wary>>) {
     let _ = store.checkpoint();
-    store
 }
 
 /// Makes an empty register in the file.
@@ -114,18 +115,9 @@ fn init(rt: &HostRuntime, file: &str, faults: &mut impl Write) -> u8 {
     }
 }
 
-/// Runs over the request lines of `reader`, over the register in the file.
-fn act_in_file<R: Read, W: Write>(
-    rt: &HostRuntime,
-    file: &str,
-    reader: &mut Watched<R>,
-    writer: &mut Watched<W>,
-    faults: &mut impl Write,
-) -> u8
-    requires reader { reader.old.failed ≡ false }
-    requires writer { writer.old.failed ≡ false }
-{
-    match run_file(rt, file, Wary, reader, writer) {
+/// Ends a life of a register in a file, and gives the exit status of what it came to.
+fn end_life(life: Result<Life<FileFrom<Wary>>, OpenRefusal>, faults: &mut impl Write) -> u8 {
+    match life {
         Ok(Life { outcome, store }) => {
             copy_log(store);
             report_finish(outcome.end, faults)
@@ -136,27 +128,39 @@ fn act_in_file<R: Read, W: Write>(
 
 /// Does what the words ask for, of which the first is the program's own name: with no more words, a run over the request
 /// lines of `reader`, over a new register in memory. Gives the exit status: 0 where all went well, 1 where the words are
-/// no command or ask for help, 2 where the register could not be made or opened, 3 after an end of the register or want
-/// of memory for the words, and 4 after a fault of a stream. What it has to say of these it writes to `faults`.
-pub fn act<R: Read, W: Write>(
+/// no command, ask for help or have a bad value, 2 where the register could not be made or opened, 3 after an end of the
+/// register or want of memory for the words, and 4 after a fault of a stream or an import without its header row. What it
+/// has to say of these it writes to `faults`.
+pub fn act<R: Read + Drop, W: Write>(
     rt: &HostRuntime,
     words: &[String],
-    reader: &mut Watched<R>,
+    reader: R,
     writer: &mut Watched<W>,
     faults: &mut impl Write,
 ) -> u8
-    requires reader { reader.old.failed ≡ false }
-    requires writer { writer.old.failed ≡ false }
+    requires { writer.old.failed ≡ false }
     // With no words but its name, what is written and the status are those of a run from the empty history, where the
     // reader's bytes are known.
     ensures acts { (bytes : List ℕ) (items : List (Option Request)) (rest : List ℕ) → length words.now ≤ 1 →
-        R.remaining reader.old.inner ≡ Some bytes → HasItems bytes items rest →
+        R.remaining reader ≡ Some bytes → HasItems bytes items rest →
         Acts items rest result (W.contents writer.old.inner) (W.contents writer.new.inner) }
 {
     match read_words(rt.alloc(), words) {
         Ok(Task::RunInMemory) => act_in_memory(rt.alloc(), reader, writer, faults),
         Ok(Task::Init { file }) => init(rt, file, faults),
-        Ok(Task::Run { file }) => act_in_file(rt, file, reader, writer, faults),
+        Ok(Task::Run { file }) => {
+            let mut reader = Watched::new(reader);
+            end_life(run_file(rt, file, Wary, &mut reader, writer), faults)
+        }
+        Ok(Task::Import { file, terms }) => match terms.read() {
+            Some(terms) => end_life(import_file(rt, file, Wary, &terms, reader, writer), faults),
+            None => report_bad_value(faults),
+        },
+        Ok(Task::Export { file }) => end_life(export_file(rt, file, Wary, writer), faults),
+        Ok(Task::Report { file, days }) => match read_days(days) {
+            Some(days) => end_life(report_file(rt, file, Wary, days, writer), faults),
+            None => report_bad_value(faults),
+        },
         Err(error) => report_words(&error, faults),
     }
 }

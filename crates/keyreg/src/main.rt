@@ -1,9 +1,10 @@
-//! The register's program: it reads request lines from standard input and writes their reply lines
-//! to standard output, over the register in a file, or over a new one in memory.
+//! The register's program: it reads request lines or rows of CSV from standard input, and writes reply lines, an export or a
+//! report to standard output, over the register in a file, or over a new one in memory.
 #![tactic(auto)]
 
 mod act;
 mod register_file;
+mod values;
 mod words;
 
 use act::{act, report_bad_value, report_end};
@@ -20,12 +21,11 @@ fn all_words(rt: &HostRuntime) -> io::Result<Vec<String>> {
 fn main(rt: HostRuntime) -> ExitCode {
     let status = match all_words(&rt) {
         Ok(words) => {
-            let mut reader = Watched::new(rt.stdin());
             let mut writer = Watched::new(rt.stdout());
             act(
                 &rt,
                 words.as_slice(),
-                &mut reader,
+                rt.stdin(),
                 &mut writer,
                 &mut rt.stderr(),
             )

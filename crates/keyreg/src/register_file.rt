@@ -9,19 +9,28 @@ ghost use Rattle.register_core.specs.declared.request.Request.{Request};
 ghost use Rattle.register_core.specs.Fold.{IsLawful};
 ghost use Rattle.register_desk.specs.Files.{HoldsRegister, ShowsNothing};
 ghost use Rattle.register_desk.specs.Input.{HasItems};
-ghost use Rattle.register_desk.specs.Leaving.{IsClean, IsWhole};
+ghost use Rattle.register_core.specs.History.{latest};
+ghost use Rattle.key_rows.specs.declared.key_row.KeyRow.{KeyRow};
+ghost use Rattle.key_rows.specs.DueRows.{AreDue};
+ghost use Rattle.key_rows.specs.Export.{export_text};
+ghost use Rattle.key_rows.specs.Report.{horizon, report_text};
+ghost use Rattle.register_desk.specs.Leaving.{IsClean, IsWhole, LeavesEither};
 ghost use Rattle.register_desk.specs.Opening.{RefusesNoTable};
 ghost use Rattle.register_desk.specs.Register.{HasCommitted, StandsFor, tables};
-ghost use Rattle.keyreg.specs.Life.{LeavesInFiles, LivesOver};
+ghost use Rattle.register_desk.specs.Rows.{all_rows};
+ghost use Rattle.register_report.specs.Rows.{BeginsWithHeader, HasRowItems};
+ghost use Rattle.keyreg.specs.Life.{EndsUnbegun, LeavesInFiles, LivesOver, WritesOut};
 
+use crate::values::Terms;
 use register_desk::{Desk, OpenRefusal, Outcome, Watched, run};
+use register_report::{export, import, rotation};
 use sqlite::{Connection, Error, ErrorCode, FileFrom, FileStore, Start};
 use sqlite_disk::Disk;
 use std::io::{Read, Write};
 
 /// What one life of a register in a file came to.
 pub struct Life<D: Disk> {
-    /// What its run did.
+    /// What was done.
     pub outcome: Outcome,
     /// The files as it left them.
     pub store: FileStore<D>,
@@ -51,6 +60,17 @@ fn connect<S: Start>(
     }
 }
 
+/// The files of a register that nobody uses any more.
+fn into_files<S: Start>(desk: Desk<FileStore<FileFrom<S>>>) -> FileStore<FileFrom<S>>
+    ensures clean { IsCleanStore (view result) → IsClean over_files desk }
+    // What a stop leaves of the register is what it leaves in the files.
+    ensures leaves { (h : List Request) (other : List Request) →
+        LeavesEither over_files h other desk → IsCleanStore (view result) →
+        LeavesInFiles h other result }
+{
+    desk.into_connection().into_store()
+}
+
 /// Makes an empty register in the file, which is made where there is none. Gives the files as it left them.
 ///
 /// # Errors
@@ -67,7 +87,7 @@ pub fn init_file<S: Start>(
 {
     let connection = connect(rt, file, start)?;
     match Desk::create(rt.alloc(), connection) {
-        Ok(desk) => Ok(desk.into_connection().into_store()),
+        Ok(desk) => Ok(into_files(desk)),
         Err(unopened) => Err(unopened.refusal),
     }
 }
@@ -119,6 +139,106 @@ pub fn run_file<S: Start, R: Read, W: Write>(
     let outcome = run(reader, writer, &mut desk);
     Ok(Life {
         outcome,
-        store: desk.into_connection().into_store(),
+        store: into_files(desk),
+    })
+}
+
+/// Opens the register in the file, and registers a key for each row of the table that `reader` gives, as
+/// [`import`](register_report::import).
+///
+/// # Errors
+/// As [`open_file`]; nothing was read or written then.
+pub fn import_file<S: Start, R: Read + Drop, W: Write>(
+    rt: &HostRuntime,
+    file: &str,
+    start: S,
+    terms: &Terms,
+    reader: R,
+    writer: &mut Watched<W>,
+) -> Result<Life<FileFrom<S>>, OpenRefusal>
+    requires { writer.old.failed ≡ false }
+    // Where the files held the register of a history, it is a run over the items of the rows behind the header row.
+    ensures lives { (h : List Request) (bytes : List ℕ) (items : List (Option Request)) →
+        IsLawful h → HoldsRegister h (image_at S.Start) → R.remaining reader ≡ Some bytes →
+        HasRowItems terms.now.moment terms.now.caller terms.now.first bytes items →
+        IfOk result (λ life. IsCleanStore (view life.store) → LivesOver h items [] life.outcome
+        (W.contents writer.old.inner) (W.contents writer.new.inner) life.store) }
+    // Without the header row nothing is registered.
+    ensures without { (h : List Request) (bytes : List ℕ) → IsLawful h →
+        HoldsRegister h (image_at S.Start) → R.remaining reader ≡ Some bytes →
+        (BeginsWithHeader bytes → ⊥) →
+        IfOk result (λ life. IsCleanStore (view life.store) → EndsUnbegun h life.outcome
+        (W.contents writer.old.inner) (W.contents writer.new.inner) life.store) }
+    ensures untouched { IfErr result (λ _. writer.new ≡ writer.old) }
+{
+    let mut desk = open_file(rt, file, start)?;
+    let outcome = import(
+        rt.alloc(),
+        &mut desk,
+        terms.moment,
+        &terms.caller,
+        terms.first.get(),
+        reader,
+        writer,
+    );
+    Ok(Life {
+        outcome,
+        store: into_files(desk),
+    })
+}
+
+/// Opens the register in the file, and writes all its keys, as [`export`](register_report::export).
+///
+/// # Errors
+/// As [`open_file`]; nothing was written then.
+pub fn export_file<S: Start, W: Write>(
+    rt: &HostRuntime,
+    file: &str,
+    start: S,
+    writer: &mut Watched<W>,
+) -> Result<Life<FileFrom<S>>, OpenRefusal>
+    requires { writer.old.failed ≡ false }
+    // Where the files held the register of a history, its export is written, and they hold it still.
+    ensures lives { (h : List Request) → IsLawful h → HoldsRegister h (image_at S.Start) →
+        IfOk result (λ life. IsCleanStore (view life.store) →
+        WritesOut h (export_text (all_rows h)) life.outcome
+        (W.contents writer.old.inner) (W.contents writer.new.inner) life.store) }
+    ensures untouched { IfErr result (λ _. writer.new ≡ writer.old) }
+{
+    let mut desk = open_file(rt, file, start)?;
+    let outcome = export(rt.alloc(), &mut desk, writer);
+    Ok(Life {
+        outcome,
+        store: into_files(desk),
+    })
+}
+
+/// Opens the register in the file, and writes which keys are due for rotation in this number of days, as
+/// [`rotation`](register_report::rotation).
+///
+/// # Errors
+/// As [`open_file`]; nothing was written then.
+pub fn report_file<S: Start, W: Write>(
+    rt: &HostRuntime,
+    file: &str,
+    start: S,
+    days: u32,
+    writer: &mut Watched<W>,
+) -> Result<Life<FileFrom<S>>, OpenRefusal>
+    requires { writer.old.failed ≡ false }
+    // Where the files held the register of a history, its report is written, and they hold it still.
+    ensures lives { (h : List Request) (due : List KeyRow) →
+        IsLawful h → HoldsRegister h (image_at S.Start) →
+        AreDue (all_rows h) (horizon (latest h) days) due →
+        IfOk result (λ life. IsCleanStore (view life.store) →
+        WritesOut h (report_text (latest h) (horizon (latest h) days) due) life.outcome
+        (W.contents writer.old.inner) (W.contents writer.new.inner) life.store) }
+    ensures untouched { IfErr result (λ _. writer.new ≡ writer.old) }
+{
+    let mut desk = open_file(rt, file, start)?;
+    let outcome = rotation(rt.alloc(), &mut desk, days, writer);
+    Ok(Life {
+        outcome,
+        store: into_files(desk),
     })
 }

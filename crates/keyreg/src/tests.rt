@@ -2,6 +2,7 @@
 
 mod acts;
 mod desks;
+mod exports;
 mod faults;
 mod files;
 mod fresh_run;
@@ -11,4 +12,5 @@ mod openings;
 mod repeats;
 mod rows;
 mod steps;
+mod tables_in_files;
 mod worked_rows;

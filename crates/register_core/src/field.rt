@@ -46,8 +46,8 @@ pub(crate) fn next_field<'a>(rest: &mut &'a [u8]) -> Option<&'a [u8]>
     Some(field)
 }
 
-/// The number that the field writes in decimal, with no sign and no leading zero.
-fn number_of(field: &[u8]) -> Option<u64>
+/// The number that the field writes in decimal, with no sign and no leading zero, or `None` where it writes none below 2^64.
+pub fn read_decimal(field: &[u8]) -> Option<u64>
     ensures found { IfSome result (λ n. field.now ≡ decimal n) }
     ensures none { IfNone result ((n : ℕ) → n < 2 ^ 64 → field.now ≢ decimal n) }
 {
@@ -70,7 +70,7 @@ fn number_of(field: &[u8]) -> Option<u64>
 pub(crate) fn moment_of(field: &[u8]) -> Option<Moment>
     ensures { result ≡ moment_at field.now }
 {
-    Moment::new(number_of(field)?)
+    Moment::new(read_decimal(field)?)
 }
 
 /// The date that the field writes, `-` for none.
@@ -116,7 +116,7 @@ fn key_number(number: u64) -> Option<u32>
 pub(crate) fn key_number_of(field: &[u8]) -> Option<u32>
     ensures { result ≡ key_number_at field.now }
 {
-    key_number(number_of(field)?)
+    key_number(read_decimal(field)?)
 }
 
 /// The key's number before the first space, and what stands behind that space.
@@ -140,7 +140,7 @@ fn reason_with(number: u64) -> Option<Reason>
 pub(crate) fn reason_of(field: &[u8]) -> Option<Reason>
     ensures { result ≡ reason_at field.now }
 {
-    reason_with(number_of(field)?)
+    reason_with(read_decimal(field)?)
 }
 
 /// The occurrence that the field writes: a date with a compromise, else `-` alone.
@@ -162,7 +162,7 @@ pub(crate) fn occurrence_of(reason: Reason, field: &[u8]) -> Option<Option<Momen
 pub(crate) fn request_number_of(field: &[u8]) -> Option<RequestNumber>
     ensures { result ≡ request_number_at field.now }
 {
-    RequestNumber::new(number_of(field)?)
+    RequestNumber::new(read_decimal(field)?)
 }
 
 /// The name that the field is.

@@ -65,9 +65,8 @@ pub fn act_on<R: Read + Drop, W: Write + Drop>(
     faults: &mut impl Write,
 ) -> Result<u8, Fail> {
     let words = words_of(rt.alloc(), given)?;
-    let mut reader = Watched::new(input);
     let mut writer = Watched::new(output);
-    Ok(act(rt, words.as_slice(), &mut reader, &mut writer, faults))
+    Ok(act(rt, words.as_slice(), input, &mut writer, faults))
 }
 
 /// What the program did.
@@ -100,7 +99,7 @@ pub fn is_served(rt: &HostRuntime, row: &WorkedRow) -> Result<bool, Fail> {
 }
 
 /// Words that are no command, or ask for help, and the first line of what is said of them.
-const NO_COMMANDS: [(&[&str], &str); 9] = [
+const NO_COMMANDS: [(&[&str], &str); 12] = [
     (
         &["--help"],
         "The register of cryptographic keys: owners, purposes and lifecycles\n",
@@ -109,6 +108,10 @@ const NO_COMMANDS: [(&[&str], &str); 9] = [
         &["run", "--help"],
         "Applies the request lines of standard input, and writes their reply lines\n",
     ),
+    (
+        &["import", "--help"],
+        "Registers a key for each row of the CSV of standard input, and writes the reply lines\n",
+    ),
     (&["show"], "error: unrecognized subcommand 'show'\n"),
     (
         &["--"],
@@ -116,6 +119,14 @@ const NO_COMMANDS: [(&[&str], &str); 9] = [
     ),
     (
         &["init"],
+        "error: the following required arguments were not provided:\n",
+    ),
+    (
+        &["export"],
+        "error: the following required arguments were not provided:\n",
+    ),
+    (
+        &["report", "--file", "a"],
         "error: the following required arguments were not provided:\n",
     ),
     (

@@ -9,7 +9,7 @@ use std::fs;
 use std::test::Fail;
 
 /// Takes the file and its log away, where they are there.
-fn remove(rt: &HostRuntime, file: &str) -> Result<(), Fail> {
+pub fn remove(rt: &HostRuntime, file: &str) -> Result<(), Fail> {
     let _ = fs::remove_file(rt, file);
     let log = format!(in rt.alloc(); "{file}-wal")?;
     let _ = fs::remove_file(rt, log.as_str());
@@ -17,7 +17,7 @@ fn remove(rt: &HostRuntime, file: &str) -> Result<(), Fail> {
 }
 
 /// Whether the program ends with this status, writes these lines, and names this fault, if any.
-fn does(
+pub fn does(
     rt: &HostRuntime,
     given: &[&str],
     input: &[u8],
@@ -34,13 +34,13 @@ fn does(
 }
 
 /// Makes a register in the file, in the place of what was there.
-fn is_made(rt: &HostRuntime, file: &str) -> Result<bool, Fail> {
+pub fn is_made(rt: &HostRuntime, file: &str) -> Result<bool, Fail> {
     remove(rt, file)?;
     does(rt, &["init", "--file", file], b"", 0, b"", "")
 }
 
 /// Makes the register of *defaults* in the file.
-fn is_defaults(rt: &HostRuntime, file: &str) -> Result<bool, Fail> {
+pub fn is_defaults(rt: &HostRuntime, file: &str) -> Result<bool, Fail> {
     let input = input_of(rt.alloc(), &DEFAULTS)?;
     let output = output_of(rt.alloc(), DEFAULTS.lines)?;
     let run = ["run", "--file", file];

@@ -40,12 +40,17 @@ pub fn fresh_run<R: Read + Drop, W: Write + Drop>(
     })
 }
 
-/// The desk after a run over the row.
-pub fn desk_after(alloc: Global, row: &WorkedRow) -> Result<Desk<MemStore>, Fail> {
-    let input = input_of(alloc, row)?;
+/// The desk after a run over these lines.
+pub fn desk_of(alloc: Global, lines: &[u8]) -> Result<Desk<MemStore>, Fail> {
     let mut desk = create_in_memory(alloc)?;
-    let mut reader = Watched::new(input.as_slice());
+    let mut reader = Watched::new(lines);
     let mut writer = Watched::new(Vec::new(alloc));
     let _ = run(&mut reader, &mut writer, &mut desk);
     Ok(desk)
+}
+
+/// The desk after a run over the row.
+pub fn desk_after(alloc: Global, row: &WorkedRow) -> Result<Desk<MemStore>, Fail> {
+    let input = input_of(alloc, row)?;
+    desk_of(alloc, input.as_slice())
 }

@@ -9,6 +9,6 @@ returns-in-Ok g c bytes items rest known cut =
       desk = c.run.new.desk;
       end = c.run.result.end;
       replies = c.run.result.replies;
-      over = c.run.ensures.agrees [] bytes items rest c.in-Ok.ensures (memory_is_clean (connection_of c.run.new.desk)) known cut;
+      over = c.run.ensures.agrees [] bytes items rest c.in-Ok.ensures (memory_is_clean (connection_of c.run.new.desk)) (rw c.new-reader.ensures known) cut;
       status_is = c.report_finish.ensures;
     }

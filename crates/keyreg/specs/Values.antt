@@ -1,0 +1,34 @@
+-- The values among the program's words. Their forms are those of the fields of a request line; the bound on days is this
+-- register's own.
+use Rattle.std.specs.Prelude.{◌≡◌, ◌≤◌, ℕ, List, decimal, Option, None, Some}
+use Rattle.moment_core.specs.Moment.{last_second}
+use Rattle.register_core.specs.Name.{IsName}
+use Rattle.register_core.specs.Number.{IsNumber}
+use Rattle.keyreg.specs.declared.values.GivenTerms.{GivenTerms}
+use Rattle.keyreg.specs.declared.values.Terms.{Terms}
+
+-- for how many days a report looks ahead at most
+abbrev pub max_days : ℕ
+max_days = 36_500
+
+abbrev pub IsMoment : List ℕ → ℕ → Type 0
+IsMoment text moment = (text ≡ decimal moment) × (moment ≤ last_second)
+
+abbrev pub IsCaller : List ℕ → List ℕ → Type 0
+IsCaller text name = (text ≡ name) × IsName name
+
+abbrev pub IsFirst : List ℕ → ℕ → Type 0
+IsFirst text number = (text ≡ decimal number) × IsNumber number
+
+abbrev pub IsDays : List ℕ → ℕ → Type 0
+IsDays text days = (text ≡ decimal days) × (days ≤ max_days)
+
+pub record AreTerms (given : GivenTerms) (terms : Terms) : Type 0 where
+  pub moment : IsMoment given.moment.now terms.moment
+  pub caller : IsCaller given.caller.now terms.caller
+  pub first : IsFirst given.first.now terms.first
+
+-- what is read of what was given is its value, and nothing is read only where it has none
+abbrev pub Reads : {T X : Type 0} → (T → X → Type 0) → T → Option X → Type 0
+Reads Is given None = (value : _) → Is given value → ⊥
+Reads Is given (Some value) = Is given value

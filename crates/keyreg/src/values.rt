@@ -1,0 +1,70 @@
+//! The values among the program's words, each read as a field of a request line is.
+ghost use Rattle.keyreg.specs.Values.{AreTerms, IsCaller, IsDays, IsFirst, IsMoment, Reads};
+
+use moment_core::Moment;
+use register_core::{Name, RequestNumber, read_decimal};
+
+/// For how many days a report looks ahead at most.
+pub const MAX_DAYS: u64 = 36_500;
+
+/// What is said of the rows of an import, as it was given.
+#[derive(Clone, Copy, Debug, PartialEq, Eq)]
+pub struct GivenTerms<'a> {
+    pub moment: &'a str,
+    pub caller: &'a str,
+    pub first: &'a str,
+}
+
+/// At which moment, of whom, and under which number for the first one the rows of an import are registered.
+#[derive(Clone, Copy)]
+pub struct Terms {
+    pub moment: Moment,
+    pub caller: Name,
+    pub first: RequestNumber,
+}
+
+/// The moment that the text writes in seconds since 1970-01-01T00:00:00Z, in decimal.
+fn read_moment(text: &str) -> Option<Moment>
+    ensures { Reads IsMoment text.now result }
+{
+    Moment::new(read_decimal(text.as_bytes())?)
+}
+
+/// The caller that the text names.
+fn read_caller(text: &str) -> Option<Name>
+    ensures { Reads IsCaller text.now result }
+{
+    Name::new(text.as_bytes())
+}
+
+/// The number of a request that the text writes in decimal.
+fn read_first(text: &str) -> Option<RequestNumber>
+    ensures { Reads IsFirst text.now result }
+{
+    RequestNumber::new(read_decimal(text.as_bytes())?)
+}
+
+impl GivenTerms<'_> {
+    /// The terms, where each text is a value.
+    pub fn read(&self) -> Option<Terms>
+        ensures { Reads AreTerms self.now result }
+    {
+        Some(Terms {
+            moment: read_moment(self.moment)?,
+            caller: read_caller(self.caller)?,
+            first: read_first(self.first)?,
+        })
+    }
+}
+
+/// The number of days, up to [`MAX_DAYS`], that the text writes in decimal.
+pub fn read_days(text: &str) -> Option<u32>
+    ensures { Reads IsDays text.now result }
+{
+    let days = read_decimal(text.as_bytes())?;
+    if days <= MAX_DAYS {
+        Some(days as u32)
+    } else {
+        None
+    }
+}
