@@ -5,22 +5,20 @@
 
 Each register has so many keys, each with the request that made it, written by SQLite's own library from the formats
 of docs/SPECIFICATION.md. The bare opening is the program below, which is built in a folder for temporary files where it
-is not there yet. Each number is the least of three rounds. Build the register's own program first: ./keyreg </dev/null
+is not there as it stands. Each number is the least of three rounds. Build the register's own program first: ./keyreg </dev/null
 """
 import os
 import sqlite3
-import subprocess
 import sys
 import tempfile
 import time
 
 HERE = os.path.dirname(os.path.abspath(__file__))
 sys.path.insert(0, os.path.join(HERE, "..", "checks"))
+from measuring import built  # noqa: E402
 from registers import INDEXES, PROGRAM, TABLES, UNSET, expect  # noqa: E402
 
 ROUNDS = 3
-BUILT = os.path.join(tempfile.gettempdir(), "keyreg_bench")
-BARE = os.path.join(BUILT, "crates", "bare_open", "out", "bare_open")
 BARE_SOURCE = """\
 //! Opens a database file as the kit's `sqlite` does, and nothing more: what an opening of the same
 //! file by `keyreg` is measured against.
@@ -46,17 +44,6 @@ fn main(rt: HostRuntime) -> ExitCode {
 
 # A master key's usage period is twelve months, of both parties.
 YEAR = 365 * 86400
-
-
-def build_bare():
-    crate = os.path.join(BUILT, "crates", "bare_open")
-    os.makedirs(os.path.join(crate, "src"), exist_ok=True)
-    with open(os.path.join(BUILT, "crates.txt"), "w", encoding="utf-8") as file:
-        file.write("bare_open: sqlite\n")
-    with open(os.path.join(crate, "src", "main.rt"), "w", encoding="utf-8") as file:
-        file.write(BARE_SOURCE)
-    subprocess.run(["rt", "run"], cwd=crate, stdin=subprocess.DEVNULL, capture_output=True, check=False)
-    expect(os.path.exists(BARE), "bare_open was not built")
 
 
 def write(file, keys):
@@ -90,8 +77,7 @@ def measured(words, wanted):
 
 
 def main():
-    if not os.path.exists(BARE):
-        build_bare()
+    bare_open = built("bare_open", BARE_SOURCE)
     sizes = [int(word) for word in sys.argv[1:]] or [1_000, 100_000, 1_000_000]
     print("| keys | file, MB | bare: wall s | processor s | MB | keyreg: wall s | processor s | MB | ratio of processor |")
     print("|---|---|---|---|---|---|---|---|---|")
@@ -100,7 +86,7 @@ def main():
             file = os.path.join(folder, "office.keyreg")
             write(file, keys)
             size = os.path.getsize(file) / 1e6
-            rounds = [(measured([BARE, file], 0), measured([PROGRAM, "run", "--file", file], 0)) for _ in range(ROUNDS)]
+            rounds = [(measured([bare_open, file], 0), measured([PROGRAM, "run", "--file", file], 0)) for _ in range(ROUNDS)]
             bare, ours = (tuple(map(min, zip(*runs))) for runs in zip(*rounds))
             cells = [f"{keys}", f"{size:.1f}", *(f"{x:.2f}" for x in (*bare, *ours)), f"{ours[1] / bare[1]:.2f}"]
             print("| " + " | ".join(cells) + " |", flush=True)

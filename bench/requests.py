@@ -45,7 +45,8 @@ from typing import NamedTuple
 
 HERE = os.path.dirname(os.path.abspath(__file__))
 sys.path.insert(0, os.path.join(HERE, "..", "checks"))
-from registers import INDEXES, PROGRAM, TABLES, UNSET, all_rows, expect  # noqa: E402
+from measuring import built, clock_of, table  # noqa: E402
+from registers import INDEXES, PROGRAM, STATES, TABLES, UNSET, all_rows, expect  # noqa: E402
 
 # The statements of an accepted request, between BEGIN and COMMIT but for the four searches.
 STATEMENTS = {
@@ -77,8 +78,6 @@ END = 100_000_000
 
 DATA_ENCRYPTION = 1
 PRE_ACTIVE, ACTIVE = 1, 2
-STATES = {0: "-", PRE_ACTIVE: "Pre-Active", ACTIVE: "Active", 3: "Deactivated", 4: "Compromised", 5: "Destroyed",
-          6: "Destroyed-Compromised"}
 
 # Places are taken in steps of this prime.
 STEP = 7919
@@ -689,29 +688,6 @@ fn main(rt: HostRuntime) -> ExitCode {
 }
 """
 
-BUILT = os.path.join(tempfile.gettempdir(), "keyreg_bench_requests")
-CRATE = os.path.join(BUILT, "crates", "bare_requests")
-BARE = os.path.join(CRATE, "out", "bare_requests")
-
-
-def build_bare():
-    """Builds the bare program, where it is not there as it stands above."""
-    source = os.path.join(CRATE, "src", "main.rt")
-    if os.path.exists(BARE) and os.path.exists(source):
-        with open(source, encoding="utf-8") as file:
-            if file.read() == BARE_SOURCE:
-                return
-    print("bare_requests: proving and building", file=sys.stderr)
-    shutil.rmtree(BUILT, ignore_errors=True)
-    os.makedirs(os.path.dirname(source))
-    with open(os.path.join(BUILT, "crates.txt"), "w", encoding="utf-8") as file:
-        file.write("bare_requests: sqlite\n")
-    with open(source, "w", encoding="utf-8") as file:
-        file.write(BARE_SOURCE)
-    subprocess.run(["rt", "run"], cwd=CRATE, stdin=subprocess.DEVNULL, capture_output=True, check=False)
-    expect(os.path.exists(BARE), "bare_requests was not built")
-
-
 # ---- the runs
 
 
@@ -721,8 +697,7 @@ class Run:
     def __init__(self, words):
         self.written, self.size = tempfile.TemporaryFile(), 0
         self.child = subprocess.Popen(words, stdin=subprocess.PIPE, stdout=self.written)
-        # The processor clock of another process, as clock_getcpuclockid gives it.
-        self.clock = (~self.child.pid << 3) | 2
+        self.clock = clock_of(self.child.pid)
 
     def give(self, given, wanted):
         """Gives a part of the input and waits for what is to be written for it. Gives processor and wall seconds."""
@@ -766,7 +741,9 @@ def words_of(name, place):
     """The words that start a program over a file, or in memory."""
     if name == "keyreg":
         return [PROGRAM] if place == ":memory:" else [PROGRAM, "run", "--file", place]
-    return [BARE, place, EMPTY] if name == "bare" else [sys.executable, os.path.abspath(__file__), "--serve", place]
+    if name == "bare":
+        return [built("bare_requests", BARE_SOURCE), place, EMPTY]
+    return [sys.executable, os.path.abspath(__file__), "--serve", place]
 
 
 def serve_by(name, run, span):
@@ -819,12 +796,6 @@ def in_memory(keys, count, rounds):
     return figures
 
 
-def table(head, lines):
-    print("| " + " | ".join(head) + " |\n" + "|---" * len(head) + "|")
-    for line in lines:
-        print("| " + " | ".join(line) + " |", flush=True)
-
-
 def figures_of(sizes, count, rounds):
     """What names each place, size and kind of request, with the least figures of the three programs there."""
     for place, measure in (("file", over_files), ("memory", in_memory)):
@@ -852,7 +823,7 @@ def main():
     sizes = asked.keys or [1_000, 10_000, 100_000]
     expect(asked.requests >= 4, "too few requests")
     expect(all(keys >= 200 and keys % STEP and (keys - keys // 2) % STEP for keys in sizes), f"sizes {sizes}")
-    build_bare()
+    built("bare_requests", BARE_SOURCE)
     print(f"SQLite {sqlite3.sqlite_version} in Python. Microseconds a request; the least of {asked.rounds}.\n")
     found = []
 

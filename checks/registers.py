@@ -6,6 +6,12 @@ import sys
 
 PROGRAM = os.environ.get("KEYREG") or os.path.join(os.path.dirname(os.path.abspath(__file__)), "..", "crates", "keyreg", "out", "keyreg")
 
+# The texts of the key types by their codes, and of the states; 0 stands where a reply names no state.
+TYPES = {1: "data-encryption", 2: "authentication", 3: "key-wrapping", 4: "private-signature", 5: "private-authentication",
+         6: "private-transport", 7: "master"}
+STATES = {0: "-", 1: "Pre-Active", 2: "Active", 3: "Deactivated", 4: "Compromised", 5: "Destroyed",
+          6: "Destroyed-Compromised"}
+
 # A date that is not set.
 UNSET = 253402300800
 
