@@ -109,14 +109,8 @@ fn registers_are_written_out(rt: HostRuntime) -> Result<(), Fail> {
     Ok(())
 }
 
-/// Whether an export with a writer that fails after these writes and flushes ends so, and has written the first bytes.
-fn is_cut(
-    alloc: Global,
-    desk: &mut Desk<MemStore>,
-    good_turns: usize,
-    written: usize,
-    text: &str,
-) -> bool {
+/// Whether an export with a writer that fails after these writes and flushes ends so, and has written this.
+fn is_cut(alloc: Global, desk: &mut Desk<MemStore>, good_turns: usize, text: &str) -> bool {
     let mut writer = Watched::new(Troubled {
         inner: Vec::new(alloc),
         trouble: Trouble::Fails,
@@ -125,21 +119,20 @@ fn is_cut(
     let outcome = export(alloc, desk, &mut writer);
     let expected = Outcome {
         read: 0,
-        written: written as u64,
+        written: text.len() as u64,
         replies: 0,
         end: Finish::Ended(End::WriteFault),
     };
-    outcome == expected && writer.into_inner().inner.as_slice() == &text.as_bytes()[..written]
+    outcome == expected && writer.into_inner().inner.as_slice() == text.as_bytes()
 }
 
 #[test]
 fn a_writer_that_fails_ends_an_export(rt: HostRuntime) -> Result<(), Fail> {
     let mut desk = desk_of(rt.alloc(), DEFAULTS.lines.as_bytes())?;
-    let header = EMPTY.export.len();
     // Each line takes a write and a flush.
-    for (good_turns, written) in [(0, 0), (2, header), (3, DEFAULTS.export.len())] {
+    for (good_turns, text) in [(0, ""), (2, EMPTY.export), (3, DEFAULTS.export)] {
         assert!(rt;
-            is_cut(rt.alloc(), &mut desk, good_turns, written, DEFAULTS.export),
+            is_cut(rt.alloc(), &mut desk, good_turns, text),
             "{good_turns}"
         );
     }

@@ -1,4 +1,4 @@
-use Rattle.std.proofs.Common.{◌+◌, take, sym, refl}
+use Rattle.std.proofs.Common.{◌+◌, take, refl}
 use Rattle.sqlite.specs.Files.{over_files}
 use Rattle.register_core.specs.Fold.{history}
 use Rattle.register_desk.proofs.Found.{leaves_alone}
