@@ -17,53 +17,79 @@ none_first all until = record {
   others = λ r there due. inr tt;
 }
 
--- with the next of them they are the first: behind all of them, and before each other that is due behind them
-pub next_first : (all : List KeyRow) (until : ℕ) (rows : List KeyRow) (r : KeyRow) → AreFirstDue all until rows → Contains all r → is_due until r ≡ true → IsBehind rows r
-    → ((s : KeyRow) → Contains all s → is_due until s ≡ true → IsBehind rows s → (s ≡ r) ⊎ IsBefore r s) → AreFirstDue all until (rows ++ r ∷ [])
+-- with the next of them they are the first: behind all of them, and before each other that is due
+-- behind them
+pub next_first : (all : List KeyRow) (until : ℕ) (rows : List KeyRow) (r : KeyRow)
+    → AreFirstDue all until rows → Contains all r → is_due until r ≡ true → IsBehind rows r
+    → ((s : KeyRow) → Contains all s → is_due until s ≡ true → IsBehind rows s
+    → (s ≡ r) ⊎ IsBefore r s) → AreFirstDue all until (rows ++ r ∷ [])
 next_first all until rows r first there due behind next = record {
   in_order = with_last rows r first.in_order behind;
   each = λ s h. each_with s (has_cases rows r s (has_of (rows ++ r ∷ []) s h));
-  others = λ s is_there is_due_then. others_with s (first.others s is_there is_due_then) (next s is_there is_due_then);
+  others =
+      λ s is_there is_due_then. others_with s (first.others s is_there is_due_then)
+      (next s is_there is_due_then);
 }
   where
     each_with : (s : KeyRow) → Has rows s ⊎ (s ≡ r) → Contains all s × (is_due until s ≡ true)
     each_with s (inl h) = first.each s (contains_of rows s h)
-    each_with s (inr e) = (subst (Contains all) (sym e) there, subst (λ x. is_due until x ≡ true) (sym e) due)
+    each_with s (inr e) = (
+      subst (Contains all) (sym e) there,
+      subst (λ x. is_due until x ≡ true) (sym e) due,
+    )
 
     behind_with : (s : KeyRow) → IsBehind rows s → IsBefore r s → IsBehind (rows ++ r ∷ []) s
-    behind_with s behind_rows after = all_of (λ x. IsBefore x s) (rows ++ r ∷ []) (λ x h. elim (has_cases rows r x h) [
-      | inl k ↦ each_of (λ x. IsBefore x s) rows behind_rows x k
-      | inr e ↦ subst (λ x. IsBefore x s) (sym e) after
-    ])
+    behind_with s behind_rows after =
+        all_of (λ x. IsBefore x s) (rows ++ r ∷ []) (λ x h. elim (has_cases rows r x h) [
+          | inl k ↦ each_of (λ x. IsBefore x s) rows behind_rows x k
+          | inr e ↦ subst (λ x. IsBefore x s) (sym e) after
+        ])
 
-    others_with : (s : KeyRow) → Contains rows s ⊎ IsBehind rows s → (IsBehind rows s → (s ≡ r) ⊎ IsBefore r s) → Contains (rows ++ r ∷ []) s ⊎ IsBehind (rows ++ r ∷ []) s
-    others_with s (inl h) then = inl (contains_of (rows ++ r ∷ []) s (has_before rows r s (has_of rows s h)))
+    others_with : (s : KeyRow) → Contains rows s ⊎ IsBehind rows s
+        → (IsBehind rows s → (s ≡ r) ⊎ IsBefore r s)
+        → Contains (rows ++ r ∷ []) s ⊎ IsBehind (rows ++ r ∷ []) s
+    others_with s (inl h) then =
+        inl (contains_of (rows ++ r ∷ []) s (has_before rows r s (has_of rows s h)))
     others_with s (inr behind_rows) then =
         elim (then behind_rows) [
-          | inl e ↦ inl (subst (Contains (rows ++ r ∷ [])) (sym e) (contains_of (rows ++ r ∷ []) r (has_last rows r)))
+          | inl e ↦ inl (subst (Contains (rows ++ r ∷ [])) (sym e)
+              (contains_of (rows ++ r ∷ []) r (has_last rows r)))
           | inr after ↦ inr (behind_with s behind_rows after)
         ]
 
 -- where no other is due behind them, they are all
-pub all_first : (all : List KeyRow) (until : ℕ) (rows : List KeyRow) → AreFirstDue all until rows → ((s : KeyRow) → Contains all s → is_due until s ≡ true → IsBehind rows s → ⊥) → AreDue all until rows
+pub all_first : (all : List KeyRow) (until : ℕ) (rows : List KeyRow) → AreFirstDue all until rows
+    → ((s : KeyRow) → Contains all s → is_due until s ≡ true → IsBehind rows s → ⊥)
+    → AreDue all until rows
 all_first all until rows first none = record {
   in_order = first.in_order;
   each = first.each;
-  every = λ r there due. elim (first.others r there due) [ inl h ↦ h | inr behind ↦ absurd (none r there due behind) ];
+  every =
+      λ r there due. elim (first.others r there due)
+      [ inl h ↦ h | inr behind ↦ absurd (none r there due behind) ];
 }
 
 -- ---- the laws
 
-pub one_list : (all : List KeyRow) (until : ℕ) (rows others : List KeyRow) → AreDue all until rows → AreDue all until others → rows ≡ others
-one_list all until rows others p q = same_rows rows others p.in_order q.in_order (to rows others p q) (to others rows q p)
+pub one_list : (all : List KeyRow) (until : ℕ) (rows others : List KeyRow) → AreDue all until rows
+    → AreDue all until others → rows ≡ others
+one_list all until rows others p q = same_rows rows others p.in_order q.in_order
+    (to rows others p q) (to others rows q p)
   where
-    to : (xs ys : List KeyRow) → AreDue all until xs → AreDue all until ys → (r : KeyRow) → Has xs r → Has ys r
+    to : (xs ys : List KeyRow) → AreDue all until xs → AreDue all until ys → (r : KeyRow) → Has xs r
+        → Has ys r
     to xs ys p q r h = let e = p.each r (contains_of xs r h) in has_of ys r (q.every r e.0 e.1)
 
-pub first_begin : (all : List KeyRow) (until : ℕ) (first rows : List KeyRow) → AreFirstDue all until first → AreDue all until rows → (rest : List KeyRow) × (rows ≡ first ++ rest)
-first_begin all until first rows p q = begun first rows p.in_order q.in_order
+pub first_begin : (all : List KeyRow) (until : ℕ) (first rows : List KeyRow)
+    → AreFirstDue all until first → AreDue all until rows
+    → (rest : List KeyRow) × (rows ≡ first ++ rest)
+first_begin all until first rows p q =
+    begun first rows p.in_order q.in_order
     (λ r h. let e = p.each r (contains_of first r h) in has_of rows r (q.every r e.0 e.1))
-    (λ r h. let e = q.each r (contains_of rows r h) in elim (p.others r e.0 e.1) [ inl k ↦ inl (has_of first r k) | inr behind ↦ inr behind ])
+    (λ r h. let e = q.each r (contains_of rows r h) in elim (p.others r e.0 e.1) [
+      | inl k ↦ inl (has_of first r k)
+      | inr behind ↦ inr behind
+    ])
 
 -- a row in its place among others
 record Places (r : KeyRow) (rows out : List KeyRow) : Type 0 where
@@ -73,7 +99,9 @@ record Places (r : KeyRow) (rows out : List KeyRow) : Type 0 where
   every : (s : KeyRow) → Has rows s → Has out s
 
 -- there is such a place in rows in order, where one of the same number is the row itself
-placed : (r : KeyRow) (rows : List KeyRow) → AreInOrder rows → ((s : KeyRow) → Has rows s → r.number ≡ s.number → r ≡ s) → (out : List KeyRow) × Places r rows out
+placed : (r : KeyRow) (rows : List KeyRow) → AreInOrder rows
+    → ((s : KeyRow) → Has rows s → r.number ≡ s.number → r ≡ s)
+    → (out : List KeyRow) × Places r rows out
 placed r [] in_order own = (
   r ∷ [],
   record {
@@ -88,7 +116,14 @@ placed r (x ∷ rows) in_order own =
       | inl before ↦ (
         r ∷ x ∷ rows,
         record {
-          in_order = ((before, all_of (IsBefore r) rows (λ s h. before_trans r x s before (each_of (IsBefore x) rows in_order.0 s h))), in_order);
+          in_order = (
+            (
+              before,
+              all_of (IsBefore r) rows
+                  (λ s h. before_trans r x s before (each_of (IsBefore x) rows in_order.0 s h)),
+            ),
+            in_order,
+          );
           each = λ s h. h;
           itself = inl refl;
           every = λ s h. inr h;
@@ -106,7 +141,8 @@ placed r (x ∷ rows) in_order own =
       )
     ]
   where
-    behind : IsBefore x r → (out : List KeyRow) × Places r rows out → (out : List KeyRow) × Places r (x ∷ rows) out
+    behind : IsBefore x r → (out : List KeyRow) × Places r rows out
+        → (out : List KeyRow) × Places r (x ∷ rows) out
     behind after (out, places) = (
       x ∷ out,
       record {
@@ -117,10 +153,11 @@ placed r (x ∷ rows) in_order own =
           ]),
           places.in_order,
         );
-        each = λ s h. elim h [
-          | inl e ↦ inr (inl e)
-          | inr k ↦ elim (places.each s k) [ inl e ↦ inl e | inr j ↦ inr (inr j) ]
-        ];
+        each =
+            λ s h. elim h [
+              | inl e ↦ inr (inl e)
+              | inr k ↦ elim (places.each s k) [ inl e ↦ inl e | inr j ↦ inr (inr j) ]
+            ];
         itself = inr places.itself;
         every = λ s h. elim h [ inl e ↦ inl e | inr k ↦ inr (places.every s k) ];
       },
@@ -132,24 +169,38 @@ record Gathers (until : ℕ) (all rows : List KeyRow) : Type 0 where
   each : (r : KeyRow) → Has rows r → Has all r × (is_due until r ≡ true)
   every : (r : KeyRow) → Has all r → is_due until r ≡ true → Has rows r
 
-gathered : (until : ℕ) (all : List KeyRow) → ((r s : KeyRow) → Has all r → Has all s → r.number ≡ s.number → r ≡ s) → (rows : List KeyRow) × Gathers until all rows
-gathered until [] own = ([], record { in_order = tt; each = λ r h. absurd h; every = λ r h due. absurd h })
-gathered until (x ∷ all) own = with_first (gathered until all (λ r s h k. own r s (inr h) (inr k))) (cases_Bool (is_due until x))
+gathered : (until : ℕ) (all : List KeyRow)
+    → ((r s : KeyRow) → Has all r → Has all s → r.number ≡ s.number → r ≡ s)
+    → (rows : List KeyRow) × Gathers until all rows
+gathered until [] own = (
+  [],
+  record {
+    in_order = tt;
+    each = λ r h. absurd h;
+    every = λ r h due. absurd h;
+  },
+)
+gathered until (x ∷ all) own = with_first (gathered until all (λ r s h k. own r s (inr h) (inr k)))
+    (cases_Bool (is_due until x))
   where
-    with_first : (rows : List KeyRow) × Gathers until all rows → (is_due until x ≡ true) ⊎ (is_due until x ≡ false) → (out : List KeyRow) × Gathers until (x ∷ all) out
+    with_first : (rows : List KeyRow) × Gathers until all rows
+        → (is_due until x ≡ true) ⊎ (is_due until x ≡ false)
+        → (out : List KeyRow) × Gathers until (x ∷ all) out
     with_first (rows, g) (inl due) =
         let p = placed x rows g.in_order (λ s h. own x s (inl refl) (inr (g.each s h).0)) in (
           p.0,
           record {
             in_order = p.1.in_order;
-            each = λ r h. elim (p.1.each r h) [
-              | inl e ↦ (inl e, subst (λ y. is_due until y ≡ true) (sym e) due)
-              | inr k ↦ (inr (g.each r k).0, (g.each r k).1)
-            ];
-            every = λ r h then. elim h [
-              | inl e ↦ subst (Has p.0) (sym e) p.1.itself
-              | inr k ↦ p.1.every r (g.every r k then)
-            ];
+            each =
+                λ r h. elim (p.1.each r h) [
+                  | inl e ↦ (inl e, subst (λ y. is_due until y ≡ true) (sym e) due)
+                  | inr k ↦ (inr (g.each r k).0, (g.each r k).1)
+                ];
+            every =
+                λ r h then. elim h [
+                  | inl e ↦ subst (Has p.0) (sym e) p.1.itself
+                  | inr k ↦ p.1.every r (g.every r k then)
+                ];
           },
         )
     with_first (rows, g) (inr not_due) = (
@@ -157,14 +208,16 @@ gathered until (x ∷ all) own = with_first (gathered until all (λ r s h k. own
       record {
         in_order = g.in_order;
         each = λ r h. (inr (g.each r h).0, (g.each r h).1);
-        every = λ r h then. elim h [
-          | inl e ↦ absurd (let d = subst (λ y. is_due until y ≡ true) e then in cc)
-          | inr k ↦ g.every r k then
-        ];
+        every =
+            λ r h then. elim h [
+              | inl e ↦ absurd (let d = subst (λ y. is_due until y ≡ true) e then in cc)
+              | inr k ↦ g.every r k then
+            ];
       },
     )
 
-pub a_list : (all : List KeyRow) (until : ℕ) → HaveOwnNumbers all → (rows : List KeyRow) × AreDue all until rows
+pub a_list : (all : List KeyRow) (until : ℕ) → HaveOwnNumbers all
+    → (rows : List KeyRow) × AreDue all until rows
 a_list all until own =
     let g = gathered until all (λ r s h k. own r s (contains_of all r h) (contains_of all s k)) in (
       g.0,

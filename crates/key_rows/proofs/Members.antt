@@ -17,12 +17,14 @@ contains_of (y ∷ ys) x (inl e) = (0, omega arith, sym e)
 contains_of (y ∷ ys) x (inr h) = let r = contains_of ys x h in (suc r.0, omega arith, r.2)
 
 -- what holds of all holds of each
-pub each_of : {A : Type 0} (P : A → Type 0) (xs : List A) → AllByRecursion P xs → (x : A) → Has xs x → P x
+pub each_of : {A : Type 0} (P : A → Type 0) (xs : List A) → AllByRecursion P xs → (x : A) → Has xs x
+    → P x
 each_of P [] all x h = absurd h
 each_of P (y ∷ ys) all x (inl e) = subst P (sym e) all.0
 each_of P (y ∷ ys) all x (inr h) = each_of P ys all.1 x h
 
-pub all_of : {A : Type 0} (P : A → Type 0) (xs : List A) → ((x : A) → Has xs x → P x) → AllByRecursion P xs
+pub all_of : {A : Type 0} (P : A → Type 0) (xs : List A) → ((x : A) → Has xs x → P x)
+    → AllByRecursion P xs
 all_of P [] each = tt
 all_of P (y ∷ ys) each = (each y (inl refl), all_of P ys (λ x h. each x (inr h)))
 

@@ -1,37 +1,51 @@
 -- What a hole with a width writes.
-use Rattle.std.proofs.Common.{◌≡◌, ℕ, zero, suc, ◌-◌, ◌^◌, Bool, true, false, List, [], ◌∷◌, ◌++◌, length, refl, ap, ◌∙◌, append_assoc, arith}
+use Rattle.std.proofs.Common.{◌≡◌, ℕ, zero, suc, ◌-◌, ◌^◌, Bool, true, false, List, [], ◌∷◌, ◌++◌}
+use Rattle.std.proofs.Common.{length, refl, ap, ◌∙◌, append_assoc, arith}
 use Rattle.std.specs.Prelude.{decimal, codes, if◌then◌else◌}
 use Rattle.std.specs.List.{repeat}
 use Rattle.std.proofs.lemmas.List.{append-nil}
 use Rattle.std.specs.Fmt.{styled_decimal, styled_text, format_spec, padded_integral, padded, char_count, take_chars}
 use Rattle.period_core.specs.declared.key_type.KeyType.{KeyType}
-use Rattle.period_core.specs.declared.key_type.KeyType.TheVariants.{DataEncryption, Authentication, KeyWrapping, PrivateSignature, PrivateAuthentication, PrivateTransport, Master}
+use Rattle.period_core.specs.declared.key_type.KeyType.TheVariants.{DataEncryption, Authentication}
+use Rattle.period_core.specs.declared.key_type.KeyType.TheVariants.{KeyWrapping, PrivateSignature}
+use Rattle.period_core.specs.declared.key_type.KeyType.TheVariants.{PrivateAuthentication, PrivateTransport, Master}
 use Rattle.period_core.specs.KeyType.{key_type_text}
 use Rattle.lifecycle_core.specs.State.{is_reached_at}
 use Rattle.key_rows.specs.declared.key_row.KeyRow.{KeyRow}
 use Rattle.key_rows.specs.Export.{date_text}
 use Rattle.key_rows.specs.Report.{left, right, spaces, mark, report_line}
 
+-- a hole that is filled up to a width, from the left or from the right
+abbrev to_left : ℕ → List ℕ → List ℕ
+to_left width text = styled_text (format_spec 32 1 0 width (2 ^ 64 - 1)) text
+
+abbrev to_right : ℕ → ℕ → List ℕ
+to_right width n = styled_decimal (format_spec 32 3 0 width (2 ^ 64 - 1)) n
+
 repeated : (n : ℕ) → repeat n (32 ∷ []) ≡ spaces n
 repeated zero = refl
 repeated (suc n) = ap (λ (l : List ℕ). 32 ∷ l) (repeated n)
 
-pub number_right : (n : ℕ) → styled_decimal (format_spec 32 3 0 7 (2 ^ 64 - 1)) n ≡ right 7 (decimal n)
+pub number_right : (n : ℕ) → to_right 7 n ≡ right 7 (decimal n)
 unfolding padded_integral char_count lib.Utf8.encode
 number_right n =
     let p = 7 - length (decimal n) - 0 - 0 in
     let none : p - p ≡ 0 = omega arith in
     let all : p ≡ 7 - length (decimal n) = omega arith in
+    let front = append-nil _ ∙ append-nil _ ∙ append-nil _ ∙ repeated p ∙ ap spaces all in
     ap (λ (k : ℕ). (repeat p (32 ∷ []) ++ [] ++ [] ++ []) ++ (decimal n ++ repeat k (32 ∷ []))) none
-    ∙ ap (λ (l : List ℕ). l ++ (decimal n ++ [])) (append-nil _ ∙ append-nil _ ∙ append-nil _ ∙ repeated p ∙ ap spaces all)
+    ∙ ap (λ (l : List ℕ). l ++ (decimal n ++ [])) front
     ∙ ap (λ (l : List ℕ). spaces (7 - length (decimal n)) ++ l) (append-nil (decimal n))
 
-pub mark_left : (overdue : Bool) → styled_text (format_spec 32 1 0 7 (2 ^ 64 - 1)) (if overdue then codes "overdue" else codes "due") ≡ left 7 (if overdue then codes "overdue" else codes "due")
+abbrev due_mark : Bool → List ℕ
+due_mark overdue = if overdue then codes "overdue" else codes "due"
+
+pub mark_left : (overdue : Bool) → to_left 7 (due_mark overdue) ≡ left 7 (due_mark overdue)
 unfolding padded char_count take_chars lib.Utf8.encode
 mark_left true = refl
 mark_left false = refl
 
-pub kind_left : (kind : KeyType) → styled_text (format_spec 32 1 0 22 (2 ^ 64 - 1)) (key_type_text kind) ≡ left 22 (key_type_text kind)
+pub kind_left : (kind : KeyType) → to_left 22 (key_type_text kind) ≡ left 22 (key_type_text kind)
 unfolding padded char_count take_chars lib.Utf8.encode
 kind_left DataEncryption = refl
 kind_left Authentication = refl
@@ -42,9 +56,15 @@ kind_left PrivateTransport = refl
 kind_left Master = refl
 
 -- a line, as one `format!` writes it
-pub line_text : (latest : ℕ) (r : KeyRow) → styled_decimal (format_spec 32 3 0 7 (2 ^ 64 - 1)) r.number
-    ++ (codes "  " ++ (date_text r.row.dates.protect_stop ++ (codes "  " ++ (styled_text (format_spec 32 1 0 7 (2 ^ 64 - 1)) (mark latest r) ++ (codes "  "
-    ++ (styled_text (format_spec 32 1 0 22 (2 ^ 64 - 1)) (key_type_text r.kind) ++ (codes "  " ++ (r.owner ++ (codes "  " ++ (r.purpose ++ codes "\n"))))))))))
-    ≡ report_line latest r
+abbrev pub formatted : ℕ → KeyRow → List ℕ
+formatted latest r =
+    to_right 7 r.number ++ (codes "  " ++ (date_text r.row.dates.protect_stop ++ (codes "  "
+    ++ (to_left 7 (mark latest r)
+    ++ (codes "  " ++ (to_left 22 (key_type_text r.kind) ++ (codes "  "
+    ++ (r.owner ++ (codes "  " ++ (r.purpose ++ codes "\n"))))))))))
+
+pub line_text : (latest : ℕ) (r : KeyRow) → formatted latest r ≡ report_line latest r
 unfolding report_line
-line_text latest r = rw (number_right r.number, mark_left (is_reached_at r.row.dates.protect_stop latest), kind_left r.kind) (simp append_assoc)
+line_text latest r =
+    let overdue = is_reached_at r.row.dates.protect_stop latest in
+    rw (number_right r.number, mark_left overdue, kind_left r.kind) (simp append_assoc)

@@ -9,10 +9,13 @@ use Rattle.std.proofs.lemmas.List.Folds.{list_all-append}
 use Rattle.std.proofs.lemmas.Str.Ascii.{IsAscii-nil, IsAscii-cons}
 use Rattle.std.proofs.lemmas.Fmt.{decimal_by_steps}
 use Rattle.period_core.specs.declared.key_type.KeyType.{KeyType}
-use Rattle.period_core.specs.declared.key_type.KeyType.TheVariants.{DataEncryption, Authentication, KeyWrapping, PrivateSignature, PrivateAuthentication, PrivateTransport, Master}
+use Rattle.period_core.specs.declared.key_type.KeyType.TheVariants.{DataEncryption, Authentication}
+use Rattle.period_core.specs.declared.key_type.KeyType.TheVariants.{KeyWrapping, PrivateSignature}
+use Rattle.period_core.specs.declared.key_type.KeyType.TheVariants.{PrivateAuthentication, PrivateTransport, Master}
 use Rattle.period_core.specs.KeyType.{key_type_text}
 use Rattle.lifecycle_core.specs.declared.state.State.{State}
-use Rattle.lifecycle_core.specs.declared.state.State.TheVariants.{PreActive, Active, Deactivated, Compromised, Destroyed, DestroyedCompromised}
+use Rattle.lifecycle_core.specs.declared.state.State.TheVariants.{PreActive, Active, Deactivated}
+use Rattle.lifecycle_core.specs.declared.state.State.TheVariants.{Compromised, Destroyed, DestroyedCompromised}
 use Rattle.lifecycle_core.specs.State.{state_text}
 use Rattle.moment_core.specs.Text.{moment_text}
 use Rattle.register_core.specs.Name.{IsName, is_name_byte}
@@ -22,14 +25,17 @@ use Rattle.key_rows.specs.Export.{IsPrintable, date_text, export_fields}
 
 -- ---- all bytes of a text
 
-all_weaker : (p q : ℕ → Bool) → ((b : ℕ) → p b ≡ true → q b ≡ true) → (bytes : List ℕ) → list_all p bytes ≡ true → list_all q bytes ≡ true
+all_weaker : (p q : ℕ → Bool) → ((b : ℕ) → p b ≡ true → q b ≡ true) → (bytes : List ℕ)
+    → list_all p bytes ≡ true → list_all q bytes ≡ true
 all_weaker p q more [] all = refl
 all_weaker p q more (b ∷ bytes) all =
     let both = and_parts (p b) (list_all p bytes) all in
     and_from (q b) (list_all q bytes) (more b both.0) (all_weaker p q more bytes both.1)
 
-all_append : (p : ℕ → Bool) (xs ys : List ℕ) → list_all p xs ≡ true → list_all p ys ≡ true → list_all p (xs ++ ys) ≡ true
-all_append p xs ys of_xs of_ys = list_all-append p xs ys ∙ and_from (list_all p xs) (list_all p ys) of_xs of_ys
+all_append : (p : ℕ → Bool) (xs ys : List ℕ) → list_all p xs ≡ true → list_all p ys ≡ true
+    → list_all p (xs ++ ys) ≡ true
+all_append p xs ys of_xs of_ys =
+    list_all-append p xs ys ∙ and_from (list_all p xs) (list_all p ys) of_xs of_ys
 
 -- a printable character of ASCII
 is_plain : ℕ → Bool
@@ -41,22 +47,26 @@ digit_plain n small = grind (arith, nat_tests)
 
 plain_printable : (bytes : List ℕ) → list_all is_plain bytes ≡ true → IsPrintable bytes
 unfolding is_plain
-plain_printable bytes = all_weaker is_plain (nat_le 32) (λ b h. (and_parts (nat_le 32 b) (nat_lt b 128) h).0) bytes
+plain_printable bytes =
+    all_weaker is_plain (nat_le 32) (λ b h. (and_parts (nat_le 32 b) (nat_lt b 128) h).0) bytes
 
 plain_ascii : (bytes : List ℕ) → list_all is_plain bytes ≡ true → IsAscii bytes
 unfolding is_plain
 plain_ascii [] all = IsAscii-nil
 plain_ascii (b ∷ bytes) all =
     let both = and_parts (is_plain b) (list_all is_plain bytes) all in
-    let low : b < 128 = let h = (and_parts (nat_le 32 b) (nat_lt b 128) both.0).1 in grind (arith, nat_tests) in
+    let low : b < 128 = let h = (and_parts (nat_le 32 b) (nat_lt b 128) both.0).1 in
+    grind (arith, nat_tests) in
     IsAscii-cons b bytes low (plain_ascii bytes both.1)
 
 -- ---- numbers and moments
 
 decimal_plain : (n : ℕ) → n < 2 ^ 64 → list_all is_plain (decimal n) ≡ true
-decimal_plain n small = decimal_by_steps (λ n ds. list_all is_plain ds ≡ true)
+decimal_plain n small =
+    decimal_by_steps (λ n ds. list_all is_plain ds ≡ true)
     (λ n small. and_from (is_plain (48 + n)) true (digit_plain n small) refl)
-    (λ n ds large front. all_append is_plain ds ((48 + n % 10) ∷ []) front (and_from (is_plain (48 + n % 10)) true (digit_plain (n % 10) (omega arith)) refl)) n small
+    (λ n ds large front. all_append is_plain ds ((48 + n % 10) ∷ []) front
+    (and_from (is_plain (48 + n % 10)) true (digit_plain (n % 10) (omega arith)) refl)) n small
 
 tens_plain : (n : ℕ) → is_plain (48 + n / 10 % 10) ≡ true
 tens_plain n = digit_plain (n / 10 % 10) (omega arith)
@@ -120,15 +130,25 @@ name_printable : (name : List ℕ) → IsName name → IsPrintable name
 name_printable name is = all_weaker is_name_byte (nat_le 32) name_byte name is.2
 
 purpose_printable : (purpose : List ℕ) → IsPurpose purpose → IsPrintable purpose
-purpose_printable purpose is = all_weaker is_purpose_byte (nat_le 32) (λ b h. (and_parts (nat_le 32 b) _ h).0) purpose is.printable
+purpose_printable purpose is =
+    all_weaker is_purpose_byte (nat_le 32)
+    (λ b h. (and_parts (nat_le 32 b) _ h).0) purpose is.printable
 
 also : {A B : Type 0} → A → B → A × B
 also a b = (a, b)
 
-pub fields_printable : (r : KeyRow) → r.number < 2 ^ 64 → IsName r.owner → IsPurpose r.purpose → AllByRecursion IsPrintable (export_fields r)
+pub fields_printable : (r : KeyRow) → r.number < 2 ^ 64 → IsName r.owner → IsPurpose r.purpose
+    → AllByRecursion IsPrintable (export_fields r)
 unfolding also
 fields_printable r small name purpose =
     let dates = r.row.dates in
-    also (number_printable r.number small) (also (kind_printable r.kind) (also (name_printable r.owner name) (also (date_printable dates.activation)
-    (also (date_printable dates.protect_stop) (also (date_printable dates.deactivation) (also (state_printable r.row.state) (also (date_printable (Some dates.initial))
-    (also (date_printable dates.destroy) (also (date_printable dates.compromise) (also (date_printable dates.compromise_occurrence) (also (purpose_printable r.purpose purpose) tt)))))))))))
+    also (number_printable r.number small)
+    (also (kind_printable r.kind)
+    (also (name_printable r.owner name) (also (date_printable dates.activation)
+    (also (date_printable dates.protect_stop)
+    (also (date_printable dates.deactivation)
+    (also (state_printable r.row.state) (also (date_printable (Some dates.initial))
+    (also (date_printable dates.destroy)
+    (also (date_printable dates.compromise)
+    (also (date_printable dates.compromise_occurrence)
+    (also (purpose_printable r.purpose purpose) tt)))))))))))

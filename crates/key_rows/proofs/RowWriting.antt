@@ -1,6 +1,8 @@
 -- What csv's writer has of a row, field by field.
-use Rattle.std.proofs.Common.{◌≡◌, ◌≢◌, ℕ, ◌+◌, ◌-◌, ◌^◌, ◌<◌, Bool, true, false, List, [], ◌∷◌, ◌++◌, length, min, refl, sym, ap, subst, ◌∙◌, arith, length-append}
-use Rattle.std.specs.Prelude.{◌||◌, ◌&&◌, not, if◌then◌else◌, Option, None, Some, Result, Ok, Err, OnOk, IfOk, MatchResult, is_ok, Vec}
+use Rattle.std.proofs.Common.{◌≡◌, ◌≢◌, ℕ, ◌+◌, ◌-◌, ◌^◌, ◌<◌, Bool, true, false, List, [], ◌∷◌}
+use Rattle.std.proofs.Common.{◌++◌, length, min, refl, sym, ap, subst, ◌∙◌, arith, length-append}
+use Rattle.std.specs.Prelude.{◌||◌, ◌&&◌, not, if◌then◌else◌, Option, None, Some, Result, Ok, Err}
+use Rattle.std.specs.Prelude.{OnOk, IfOk, MatchResult, is_ok, Vec}
 use Rattle.std.specs.declared.alloc.Global.{Global}
 use Rattle.std.specs.Io.KnownBytes.{Appends}
 use Rattle.std.specs.List.{AllByRecursion}
@@ -9,6 +11,7 @@ use Rattle.csv.specs.Writing as kit
 use Rattle.csv.specs.Writing.{default_writer, writer_setup, fields_written, text_written, row_body, next_sep, tail_text}
 use Rattle.csv.specs.declared.writer.QuoteStyle.TheVariants as style
 use Rattle.csv.specs.declared.writer.Writer.{Writer}
+use Rattle.csv.specs.declared.writer.WriterBuilder.{WriterBuilder}
 use Rattle.csv.proofs.WriteFacts.{row-more}
 use Rattle.key_rows.specs.Export.{line_feed, csv_row, IsPrintable}
 use Rattle.key_rows.specs.RowWriter.{HasFields, written}
@@ -17,18 +20,21 @@ use Rattle.key_rows.proofs.CsvRows.{same_row}
 -- ---- results
 
 -- two clauses on one result
-pub on_ok_both : {T E : Type 0} (P Q : Type 0) (r : Result T E) → OnOk r P → OnOk r Q → OnOk r (P × Q)
+pub on_ok_both : {T E : Type 0} (P Q : Type 0) (r : Result T E) → OnOk r P → OnOk r Q
+    → OnOk r (P × Q)
 on_ok_both P Q (Ok x) p q = (p, q)
 on_ok_both P Q (Err e) p q = tt
 
 -- what a clause says of another result, which is `Ok` with the first
-pub on_ok_of : {T E U F P Q : Type 0} (r : Result T E) (s : Result U F) → is_ok s ≡ is_ok r → (P → Q) → OnOk r P → OnOk s Q
+pub on_ok_of : {T E U F P Q : Type 0} (r : Result T E) (s : Result U F) → is_ok s ≡ is_ok r
+    → (P → Q) → OnOk r P → OnOk s Q
 on_ok_of (Ok x) (Ok y) same to p = to p
 on_ok_of (Err e) (Ok y) same to p = absurd (cc same)
 on_ok_of (Ok x) (Err f) same to p = tt
 on_ok_of (Err e) (Err f) same to p = tt
 
-pub if_ok_mapped : {T E F : Type 0} (Q : E → Type 0) (P : T → Type 0) (r : Result T E) (s : Result T F) → MatchResult r (λ x. s ≡ Ok x) Q → is_ok s ≡ is_ok r → IfOk r P → IfOk s P
+pub if_ok_mapped : {T E F : Type 0} (Q : E → Type 0) (P : T → Type 0) (r : Result T E)
+    → (s : Result T F) → MatchResult r (λ x. s ≡ Ok x) Q → is_ok s ≡ is_ok r → IfOk r P → IfOk s P
 if_ok_mapped Q P (Ok x) s same variant p = subst (λ t. IfOk t P) (sym same) p
 if_ok_mapped Q P (Err e) (Ok y) same variant p = absurd (cc variant)
 if_ok_mapped Q P (Err e) (Err f) same variant p = tt
@@ -39,36 +45,58 @@ appended : (xs ys : List ℕ) (o : Option (List ℕ)) → Appends (Some xs) o ys
 appended xs ys None more = absurd more
 appended xs ys (Some zs) more = ap Some more
 
+-- what is written for one field more
+abbrev field_after : WriterBuilder → ℕ → List ℕ → List ℕ
+field_after setup count field = next_sep setup count ++ kit.field_text setup field
+
 -- one field more
 pub has_more : (old new : Writer (Vec ℕ Global)) (field : List ℕ)
-    → ((writer_setup old).style ≢ style.NonNumeric → Appends (written old) (written new) (next_sep (writer_setup old) (fields_written old) ++ kit.field_text (writer_setup old) field))
-    → writer_setup new ≡ writer_setup old → fields_written new ≡ min (fields_written old + 1) (2 ^ 64 - 1)
-    → (fields : List (List ℕ)) → length fields < 12 → HasFields old fields → HasFields new (fields ++ field ∷ [])
+    → ((writer_setup old).style ≢ style.NonNumeric
+    → Appends (written old) (written new)
+    (field_after (writer_setup old) (fields_written old) field))
+    → writer_setup new ≡ writer_setup old
+    → fields_written new ≡ min (fields_written old + 1) (2 ^ 64 - 1) → (fields : List (List ℕ))
+    → length fields < 12 → HasFields old fields → HasFields new (fields ++ field ∷ [])
 has_more old new field more same count fields small has =
-    let plain : (writer_setup old).style ≢ style.NonNumeric = subst (λ s. s.style ≢ style.NonNumeric) (sym has.setup) (λ e. cc e) in
-    let from = subst (λ t. Appends t (written new) (next_sep (writer_setup old) (fields_written old) ++ kit.field_text (writer_setup old) field)) has.text (more plain) in
-    let by = subst (λ s. Appends (Some (row_body default_writer fields)) (written new) (next_sep s (fields_written old) ++ kit.field_text s field)) has.setup from in
-    let at = subst (λ n. Appends (Some (row_body default_writer fields)) (written new) (next_sep default_writer n ++ kit.field_text default_writer field)) has.count by in
+    let body = row_body default_writer fields in
+    let plain : (writer_setup old).style ≢ style.NonNumeric =
+    subst (λ s. s.style ≢ style.NonNumeric) (sym has.setup) (λ e. cc e) in
+    let from = subst (λ t. Appends t (written new)
+    (field_after (writer_setup old) (fields_written old) field)) has.text (more plain) in
+    let by = subst (λ s. Appends (Some body) (written new)
+    (field_after s (fields_written old) field)) has.setup from in
+    let at = subst (λ n. Appends (Some body) (written new) (field_after default_writer n field))
+    has.count by in
+    let all = appended body (field_after default_writer (length fields) field) (written new) at in
     record {
       setup = same ∙ has.setup;
       count = omega (arith, count, has.count, length-append fields (field ∷ []));
-      text = appended (row_body default_writer fields) (next_sep default_writer (length fields) ++ kit.field_text default_writer field) (written new) at ∙ ap Some (sym (row-more default_writer fields field));
+      text = all ∙ ap Some (sym (row-more default_writer fields field));
     }
 
 -- what ends a row of several fields
 ends : (wrote : Bool) (n : ℕ) → 1 < n → tail_text default_writer wrote n ≡ line_feed ∷ []
 ends wrote n several = rw (ne_eqb n 0 (λ e. omega arith), ne_eqb n 1 (λ e. omega arith)) (by wrote)
   where
-    by : (b : Bool) → (if not b && (false || false) then 34 ∷ 34 ∷ [] else []) ++ line_feed ∷ [] ≡ line_feed ∷ []
+    by : (b : Bool)
+        → (if not b && (false || false) then 34 ∷ 34 ∷ [] else []) ++ line_feed ∷ []
+        ≡ line_feed ∷ []
     by true = refl
     by false = refl
 
 -- a row that is ended
-pub row_ended : (old new : Writer (Vec ℕ Global)) (wrote : Bool) → Appends (written old) (written new) (tail_text (writer_setup old) wrote (fields_written old))
-    → (fields : List (List ℕ)) → 1 < length fields → AllByRecursion IsPrintable fields → HasFields old fields → written new ≡ Some (csv_row fields)
+pub row_ended : (old new : Writer (Vec ℕ Global)) (wrote : Bool)
+    → Appends (written old) (written new) (tail_text (writer_setup old) wrote (fields_written old))
+    → (fields : List (List ℕ)) → 1 < length fields → AllByRecursion IsPrintable fields
+    → HasFields old fields → written new ≡ Some (csv_row fields)
 row_ended old new wrote more fields several printable has =
-    let from = subst (λ t. Appends t (written new) (tail_text (writer_setup old) wrote (fields_written old))) has.text more in
-    let by = subst (λ s. Appends (Some (row_body default_writer fields)) (written new) (tail_text s wrote (fields_written old))) has.setup from in
-    let at = subst (λ n. Appends (Some (row_body default_writer fields)) (written new) (tail_text default_writer wrote n)) has.count by in
-    appended (row_body default_writer fields) (tail_text default_writer wrote (length fields)) (written new) at
-    ∙ ap (λ l. Some (row_body default_writer fields ++ l)) (ends wrote (length fields) several) ∙ ap Some (same_row fields several printable)
+    let body = row_body default_writer fields in
+    let from = subst (λ t. Appends t (written new)
+    (tail_text (writer_setup old) wrote (fields_written old))) has.text more in
+    let by = subst (λ s. Appends (Some body) (written new) (tail_text s wrote (fields_written old)))
+    has.setup from in
+    let at = subst (λ n. Appends (Some body) (written new) (tail_text default_writer wrote n))
+    has.count by in
+    let all = appended body (tail_text default_writer wrote (length fields)) (written new) at in
+    let ended = ap (λ l. Some (body ++ l)) (ends wrote (length fields) several) in
+    all ∙ ended ∙ ap Some (same_row fields several printable)

@@ -5,10 +5,11 @@ use Rattle.lifecycle_core.specs.declared.state.State.TheVariants.{Active}
 use Rattle.lifecycle_core.specs.State.{is_reached_at, state_code}
 use Rattle.key_rows.specs.declared.key_row.KeyRow.{KeyRow}
 
--- the key is Active, and its Protect Stop Date is reached at this moment (SP 800-57 Part 1: a key is
--- rotated at the end of its originator usage period)
+-- the key is Active, and its Protect Stop Date is reached at this moment (SP 800-57 Part 1: a key
+-- is rotated at the end of its originator usage period)
 abbrev pub is_due : ℕ → KeyRow → Bool
-is_due until r = (state_code r.row.state == state_code Active) && is_reached_at r.row.dates.protect_stop until
+is_due until r =
+    (state_code r.row.state == state_code Active) && is_reached_at r.row.dates.protect_stop until
 
 -- the Protect Stop Date of a row that is due
 abbrev pub stop_of : KeyRow → ℕ
@@ -37,8 +38,10 @@ pub record AreDue (all : List KeyRow) (until : ℕ) (rows : List KeyRow) : Type 
 pub record AreFirstDue (all : List KeyRow) (until : ℕ) (rows : List KeyRow) : Type 0 where
   pub in_order : AreInOrder rows
   pub each : (r : KeyRow) → Contains rows r → Contains all r × (is_due until r ≡ true)
-  pub others : (r : KeyRow) → Contains all r → is_due until r ≡ true → Contains rows r ⊎ IsBehind rows r
+  pub others : (r : KeyRow) → Contains all r → is_due until r ≡ true
+      → Contains rows r ⊎ IsBehind rows r
 
 -- no two of the rows have one number
 abbrev pub HaveOwnNumbers : List KeyRow → Type 0
-HaveOwnNumbers rows = (r s : KeyRow) → Contains rows r → Contains rows s → r.number ≡ s.number → r ≡ s
+HaveOwnNumbers rows = (r s : KeyRow) → Contains rows r → Contains rows s → r.number ≡ s.number
+    → r ≡ s

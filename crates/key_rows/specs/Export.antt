@@ -1,6 +1,7 @@
--- The text of an export: a header, and one row for each key. Its form is this register's own; fields
--- are quoted as RFC 4180 says.
-use Rattle.std.specs.Prelude.{ℕ, ◌==◌, ◌||◌, nat_le, if◌then◌else◌, List, [], ◌∷◌, ◌++◌, map, flat_map, codes, decimal, Option, None, Some, IsTrue}
+-- The text of an export: a header, and one row for each key. Its form is this register's own;
+-- fields are quoted as RFC 4180 says.
+use Rattle.std.specs.Prelude.{ℕ, ◌==◌, ◌||◌, nat_le, if◌then◌else◌, List, [], ◌∷◌, ◌++◌, map}
+use Rattle.std.specs.Prelude.{flat_map, codes, decimal, Option, None, Some, IsTrue}
 use Rattle.std.specs.List.{list_any, list_all, join_with_byte}
 use Rattle.moment_core.specs.Text.{moment_text}
 use Rattle.period_core.specs.KeyType.{key_type_text}
@@ -25,7 +26,8 @@ doubled b = if b == quote then quote ∷ quote ∷ [] else b ∷ []
 -- a field, between quotes where it has a comma or a quote
 abbrev pub field_text : List ℕ → List ℕ
 field_text field =
-    if list_any (λ b. (b == comma) || (b == quote)) field then (quote ∷ flat_map doubled field) ++ quote ∷ [] else field
+    if list_any (λ b. (b == comma) || (b == quote)) field then (quote ∷ flat_map doubled field)
+    ++ quote ∷ [] else field
 
 -- a row: its fields with commas between them, and a line feed
 abbrev pub csv_row : List (List ℕ) → List ℕ
@@ -44,7 +46,8 @@ date_text (Some date) = moment_text date
 
 unfoldable pub export_header : List ℕ
 export_header =
-    codes "number,type,owner,activation,protect_stop,deactivation,state,initial,destroyed,compromised,occurrence,purpose\n"
+    codes
+    "number,type,owner,activation,protect_stop,deactivation,state,initial,destroyed,compromised,occurrence,purpose\n"
 
 -- what stands in the columns
 abbrev pub export_fields : KeyRow → List (List ℕ)

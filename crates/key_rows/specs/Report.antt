@@ -1,5 +1,6 @@
 -- The text of a report on the keys that are due for rotation. Its form is this register's own.
-use Rattle.std.specs.Prelude.{ℕ, ◌+◌, ◌-◌, ◌*◌, min, if◌then◌else◌, List, ◌++◌, length, replicate, flat_map, codes, decimal}
+use Rattle.std.specs.Prelude.{ℕ, ◌+◌, ◌-◌, ◌*◌, min, if◌then◌else◌, List, ◌++◌, length, replicate}
+use Rattle.std.specs.Prelude.{flat_map, codes, decimal}
 use Rattle.moment_core.specs.Calendar.{day_seconds}
 use Rattle.moment_core.specs.Moment.{last_second}
 use Rattle.moment_core.specs.Text.{moment_text}
@@ -27,7 +28,8 @@ report_head until = codes "Keys due for rotation by " ++ moment_text until ++ co
 
 -- a key is overdue where its Protect Stop Date is reached at the latest moment
 abbrev pub mark : ℕ → KeyRow → List ℕ
-mark latest r = if is_reached_at r.row.dates.protect_stop latest then codes "overdue" else codes "due"
+mark latest r =
+    if is_reached_at r.row.dates.protect_stop latest then codes "overdue" else codes "due"
 
 unfoldable pub report_line : ℕ → KeyRow → List ℕ
 report_line latest r =

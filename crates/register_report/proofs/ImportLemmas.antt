@@ -1,5 +1,6 @@
 -- How an import leaves things, by how it ended: as a run over the items of its rows.
-use Rattle.std.proofs.Common.{◌≡◌, ℕ, ◌+◌, true, false, List, [], ◌∷◌, ◌++◌, length, take, Option, None, Some, refl, sym, ap, subst, ◌∙◌, arith, inl, inr}
+use Rattle.std.proofs.Common.{◌≡◌, ℕ, ◌+◌, true, false, List, [], ◌∷◌, ◌++◌, length, take, Option}
+use Rattle.std.proofs.Common.{None, Some, refl, sym, ap, subst, ◌∙◌, arith, inl, inr}
 use Rattle.std.proofs.lemmas.List.{append-nil, take_at}
 use Rattle.sqlite_trees.specs.declared.store.Store.{Ghosts}
 use Rattle.csv.specs.Machine.{next_record}
@@ -18,153 +19,231 @@ use Rattle.register_desk.specs.Register.{StandsFor}
 use Rattle.register_desk.specs.Run.{Answered, in_hand, LeavesDesk, Refused, RunsBroken, RunsOver, StandsForSome}
 use Rattle.register_desk.proofs.Answering.{front_refused, front_so, some_stopped, stopped_broken, stopped_so}
 use Rattle.register_report.specs.Import.{ImportsBroken}
-use Rattle.register_report.specs.Rows.{AreRowItems, AreTexts, IsRowItem}
+use Rattle.register_report.specs.Rows.{AreRowItems, AreTexts, IsRowItem, Item, Row}
 use Rattle.register_report.specs.Serving.{ServedAllRows, ServedRowInPart, ServedRows, ServesRowsTo}
-use Rattle.register_report.proofs.RowsLemmas.{ItemsSplit, items_split, next_item, no_items, RowsSplit, rows_split, same_length}
+use Rattle.register_report.proofs.RowsLemmas.{HasLeft, ItemsSplit, items_split, next_item, no_items}
+use Rattle.register_report.proofs.RowsLemmas.{RowsSplit, rows_split, same_length}
 
 -- a text with no next record has no rows
-no_rows : (s : State) (left : List ℕ) (rows : List (List (List ℕ))) → next_record default_config s [] [] left ≡ None → AreRecords default_config s left rows → rows ≡ []
+no_rows : (s : State) (left : List ℕ) (rows : List Row)
+    → next_record default_config s [] [] left ≡ None → AreRecords default_config s left rows
+    → rows ≡ []
 unfolding Reached
 no_rows s left [] none are = refl
-no_rows s left (r ∷ rows) none are = let both : Some are.2.0 ≡ None = sym are.2.1 ∙ none in absurd cc
+no_rows s left (r ∷ rows) none are =
+    let both : Some are.2.0 ≡ None = sym are.2.1 ∙ none in
+    absurd cc
 
-module _ {S R : Type 0} (g : Ghosts S) (remaining : R → Option (List ℕ)) (moment : ℕ) (caller : List ℕ) (first : ℕ) where
-  -- ---- bytes that are known
-
-  module _ (start : Reader R) (bytes : List ℕ) (known : source_of remaining start ≡ Some bytes) (all_rows : List (List (List ℕ))) (are : AreRecords default_config (reader_state start) bytes all_rows) where
-    module _ (reader : Reader R) (v w : Option (List ℕ)) (kept mid : Desk S g) (replies : ℕ) (served : ServedRows g remaining moment caller first start reader v w kept mid replies) where
-      so_far : (y : List ℕ) × (source_of remaining reader ≡ Some y) × Reached default_config (reader_state start) bytes served.rows (reader_state reader) y
-      so_far = served.read bytes known
+module _ {S R : Type 0} {g : Ghosts S} {remaining : R → Option (List ℕ)} {moment : ℕ}
+    {caller : List ℕ} {first : ℕ} where
+  module _ {start : Reader R} {all_rows : List Row}
+      (behind : HasLeft remaining start all_rows) where
+    module _ {reader : Reader R} {v w : Option (List ℕ)} {kept mid : Desk S g} {replies : ℕ}
+        (served : ServedRows g remaining moment caller first start reader v w kept mid
+        replies) where
+      so_far :
+          (y : List ℕ) × (source_of remaining reader ≡ Some y)
+          × Reached default_config (reader_state start) behind.bytes served.rows
+          (reader_state reader) y
+      so_far = served.read behind.bytes behind.source
 
       rows_left : RowsSplit default_config all_rows served.rows (reader_state reader) so_far.0
-      rows_left = rows_split default_config (reader_state start) (reader_state reader) bytes so_far.0 served.rows all_rows so_far.2 are
+      rows_left =
+          rows_split default_config (reader_state start) (reader_state reader) behind.bytes
+          so_far.0 served.rows all_rows so_far.2 behind.are
 
       -- the rows that were answered are texts
       served_texts : AreTexts (take replies all_rows)
       served_texts =
-          let counted = same_length moment caller first served.rows served.items served.each ∙ served.counted in
-          subst AreTexts (sym (ap (take replies) rows_left.parts ∙ take_at served.rows rows_left.more replies counted)) served.texts
+          let counted = same_length moment caller first served.rows served.items served.each
+          ∙ served.counted in
+          let front = ap (take replies) rows_left.parts
+          ∙ take_at served.rows rows_left.more replies counted in
+          subst AreTexts (sym front) served.texts
 
-      module _ (all : List (Option Request)) (each : AreRowItems moment caller first all_rows all) where
-        items_left : ItemsSplit moment caller (first + length served.items) all served.items rows_left.more
-        items_left = items_split moment caller first served.rows rows_left.more served.items all served.each (subst (λ (rs : List (List (List ℕ))). AreRowItems moment caller first rs all) rows_left.parts each)
+      module _ (all : List Item) (each : AreRowItems moment caller first all_rows all) where
+        -- the number of the next row
+        abbrev number : ℕ
+        number = first + length served.items
+
+        items_left : ItemsSplit moment caller number all served.items rows_left.more
+        items_left =
+            let parted = subst (λ (rs : List Row). AreRowItems moment caller first rs all)
+            rows_left.parts each in
+            items_split moment caller first served.rows rows_left.more served.items all served.each
+            parted
+
+        abbrev AreBehind : List Row → Type 0
+        AreBehind rs = AreRowItems moment caller number rs items_left.more
 
         -- no row is left
-        all_served : (last : Reader R) (fields : List (List ℕ)) → reader_config reader ≡ default_config → ReadRecord remaining reader last false fields → all ≡ served.items
+        all_served : (last : Reader R) (fields : Row) → reader_config reader ≡ default_config
+            → ReadRecord remaining reader last false fields → all ≡ served.items
         all_served last fields config at_end =
-            let none = rows-end remaining reader last fields default_config so_far.0 config so_far.1 at_end in
-            let no_row = no_rows (reader_state reader) so_far.0 rows_left.more none rows_left.behind in
-            let no_item : items_left.more ≡ [] = no_items moment caller (first + length served.items) items_left.more
-            (subst (λ (rs : List (List (List ℕ))). AreRowItems moment caller (first + length served.items) rs items_left.more) no_row items_left.behind) in
+            let none = rows-end remaining reader last fields default_config so_far.0 config so_far.1
+            at_end in
+            let no_row = no_rows (reader_state reader) so_far.0 rows_left.more none
+            rows_left.behind in
+            let no_item = no_items moment caller number items_left.more
+            (subst AreBehind no_row items_left.behind) in
             items_left.parts ∙ ap (λ l. served.items ++ l) no_item ∙ append-nil served.items
 
         -- the row in hand stands behind them
-        next_so : (next : Reader R) (row : List (List ℕ)) (item : Option Request) → reader_config reader ≡ default_config → ReadRecord remaining reader next true row
-            → IsRowItem moment caller (first + replies) row item → (more : List (Option Request)) × (all ≡ served.items ++ item ∷ more)
+        next_so : (next : Reader R) (row : Row) (item : Item)
+            → reader_config reader ≡ default_config → ReadRecord remaining reader next true row
+            → IsRowItem moment caller (first + replies) row item
+            → (more : List Item) × (all ≡ served.items ++ item ∷ more)
         unfolding Reached
         next_so next row item config one is =
-            let read = rows-more remaining reader next row default_config (reader_state reader) so_far.0 so_far.0 [] config so_far.1 (refl, refl) one in
-            let split = rows_split default_config (reader_state reader) next.state so_far.0 read.0 (row ∷ []) rows_left.more read.2 rows_left.behind in
-            let number = first + length served.items in
-            let rest = next_item moment caller number row split.more item items_left.more (subst (λ (rs : List (List (List ℕ))). AreRowItems moment caller number rs items_left.more) split.parts items_left.behind)
-            (subst (λ (n : ℕ). IsRowItem moment caller n row item) (ap (λ (n : ℕ). first + n) (sym served.counted)) is) in
+            let read = rows-more remaining reader next row default_config (reader_state reader)
+            so_far.0 so_far.0 [] config so_far.1 (refl, refl) one in
+            let split = rows_split default_config (reader_state reader) next.state so_far.0 read.0
+            (row ∷ []) rows_left.more read.2 rows_left.behind in
+            let counted = ap (λ (n : ℕ). first + n) (sym served.counted) in
+            let own = subst (λ (n : ℕ). IsRowItem moment caller n row item) counted is in
+            let rest = next_item moment caller number row split.more item items_left.more
+            (subst AreBehind split.parts items_left.behind) own in
             (rest.0, items_left.parts ∙ ap (λ l. served.items ++ l) rest.1)
 
-        front : (h : List Request) → StandsFor g kept h → IsClean g mid → Answered g h all replies v w mid
-        front h stands clean = front_so g all served.items replies served.counted items_left.more items_left.parts h v w kept mid served.so_far stands clean
+        front : (h : List Request) → StandsFor g kept h → IsClean g mid
+            → Answered g h all replies v w mid
+        front h stands clean =
+            front_so g all served.items replies served.counted items_left.more
+            items_left.parts h v w kept mid served.so_far stands clean
 
         refused : IsBroken kept → Refused all replies v w
-        refused broken = front_refused g all served.items replies served.counted items_left.more items_left.parts v w kept mid served.so_far broken
+        refused broken =
+            front_refused g all served.items replies served.counted items_left.more
+            items_left.parts v w kept mid served.so_far broken
 
-    module _ (old new : Option (List ℕ)) (kept now : Desk S g) (replies : ℕ) where
-      -- ---- the rows that were answered
+-- ---- what the rows that were served came to
 
-      pub texts_so : (end : Finish) → ServesRowsTo g remaining moment caller first start old new kept now replies end → AreTexts (take replies all_rows)
-      texts_so (AtEnd left) serves = served_texts serves.0.reader old new kept now replies serves.0.served
-      texts_so (Ended Memory) (inl serves) = served_texts serves.reader old new kept now replies serves.served
-      texts_so (Ended Memory) (inr serves) = served_texts serves.reader old serves.so_far kept serves.mid replies serves.served
-      texts_so (Ended Store) serves = served_texts serves.reader old serves.so_far kept serves.mid replies serves.served
-      texts_so (Ended Broken) serves = served_texts serves.reader old serves.so_far kept serves.mid replies serves.served
-      texts_so (Ended ReadFault) serves = served_texts serves.reader old new kept now replies serves.served
-      texts_so (Ended WriteFault) serves = served_texts serves.reader old serves.so_far kept serves.mid replies serves.served
-      texts_so (Ended BadHeader) serves = absurd serves
+module _ {S R : Type 0} (g : Ghosts S) (remaining : R → Option (List ℕ)) (moment : ℕ)
+    (caller : List ℕ) (first : ℕ) (start : Reader R) (old new : Option (List ℕ))
+    (kept now : Desk S g) (replies : ℕ) where
+  abbrev Serves : Finish → Type 0
+  Serves end = ServesRowsTo g remaining moment caller first start old new kept now replies end
 
-      module _ (all : List (Option Request)) (each : AreRowItems moment caller first all_rows all) where
-        next_of : (end : End) (serves : ServedRowInPart g remaining moment caller first start old new kept now replies end) → (more : List (Option Request)) × (all ≡ serves.served.items ++ serves.item ∷ more)
-        next_of end serves = next_so serves.reader old serves.so_far kept serves.mid replies serves.served all each serves.next serves.row serves.item serves.config serves.read serves.stands_for
-
-        all_answered : (serves : ServedAllRows g remaining moment caller first start old new kept now replies) → replies ≡ length all
-        all_answered serves =
-            let served = serves.served in
-            sym served.counted ∙ ap length (sym (all_served serves.reader old new kept now replies served all each serves.last serves.fields serves.config serves.at_end))
-
-        -- ---- a whole desk
-
-        module _ (h : List Request) (stands : StandsFor g kept h) (clean : IsClean g now) where
-          stopped_over : (end : End) → ServedRowInPart g remaining moment caller first start old new kept now replies end → RunsOver g h all [] (Ended end) replies old new now
-          stopped_over end serves =
-              let served = serves.served in
-              let next = next_of end serves in
-              stopped_so g all served.items replies served.counted serves.item next.0 next.1 old serves.so_far new kept serves.mid now served.so_far h stands clean end serves.part [] serves.leaves
-
-          pub over_so : (end : Finish) → ServesRowsTo g remaining moment caller first start old new kept now replies end → RunsOver g h all [] end replies old new now
-          over_so (AtEnd left) serves = (front serves.0.reader old new kept now replies serves.0.served all each h stands clean, all_answered serves.0, serves.1)
-          over_so (Ended Memory) (inl serves) = front serves.reader old new kept now replies serves.served all each h stands clean
-          over_so (Ended Memory) (inr serves) = stopped_over Memory serves
-          over_so (Ended Store) serves = stopped_over Store serves
-          over_so (Ended Broken) serves = stopped_over Broken serves
-          over_so (Ended ReadFault) serves = front serves.reader old new kept now replies serves.served all each h stands clean
-          over_so (Ended WriteFault) serves = stopped_over WriteFault serves
-          over_so (Ended BadHeader) serves = absurd serves
-
-        -- ---- a broken desk
-
-        module _ (broken : IsBroken kept) where
-          stopped_refused : (end : End) → LeavesDesk kept now (Ended end) → ServedRowInPart g remaining moment caller first start old new kept now replies end → RunsBroken all [] (Ended end) replies old new
-          stopped_refused end leaves serves =
-              let served = serves.served in
-              let next = next_of end serves in
-              stopped_broken g all served.items replies served.counted serves.item next.0 next.1 old serves.so_far new kept serves.mid now served.so_far end serves.part [] broken leaves serves.leaves
-
-          pub broken_so : (end : Finish) → LeavesDesk kept now end → ServesRowsTo g remaining moment caller first start old new kept now replies end → ImportsBroken all end replies old new
-          broken_so (AtEnd left) leaves serves = (refused serves.0.reader old new kept now replies serves.0.served all each broken, all_answered serves.0, serves.1)
-          broken_so (Ended Memory) leaves (inl serves) = refused serves.reader old new kept now replies serves.served all each broken
-          broken_so (Ended Memory) leaves (inr serves) = absurd (stopped_refused Memory leaves serves)
-          broken_so (Ended Store) leaves serves = stopped_refused Store leaves serves
-          broken_so (Ended Broken) leaves serves = stopped_refused Broken leaves serves
-          broken_so (Ended ReadFault) leaves serves = refused serves.reader old new kept now replies serves.served all each broken
-          broken_so (Ended WriteFault) leaves serves = stopped_refused WriteFault leaves serves
-          broken_so (Ended BadHeader) leaves serves = absurd serves
+  abbrev InPart : End → Type 0
+  InPart end = ServedRowInPart g remaining moment caller first start old new kept now replies end
 
   -- ---- bytes that nobody tells
 
-  module _ (start : Reader R) (old new : Option (List ℕ)) (kept now : Desk S g) (replies : ℕ) where
-    -- a disk that is clean behind an import was so before
-    pub clean_so : (end : Finish) → ServesRowsTo g remaining moment caller first start old new kept now replies end → IsClean g now → IsClean g kept
-    clean_so (AtEnd left) serves clean = serves.0.served.so_far.clean clean
-    clean_so (Ended Memory) (inl serves) clean = serves.served.so_far.clean clean
-    clean_so (Ended Memory) (inr serves) clean = serves.served.so_far.clean (serves.leaves.0.clean clean)
-    clean_so (Ended Store) serves clean = serves.served.so_far.clean (serves.leaves.0.clean clean)
-    clean_so (Ended Broken) serves clean = serves.served.so_far.clean (subst (λ (desk : Desk S g). IsClean g desk) serves.leaves.0.same clean)
-    clean_so (Ended ReadFault) serves clean = serves.served.so_far.clean clean
-    clean_so (Ended WriteFault) serves clean = serves.served.so_far.clean (serves.leaves.clean clean)
-    clean_so (Ended BadHeader) serves clean = absurd serves
+  -- a disk that is clean behind an import was so before
+  pub clean_so : (end : Finish) → Serves end → IsClean g now → IsClean g kept
+  clean_so (AtEnd left) serves clean = serves.0.served.so_far.clean clean
+  clean_so (Ended Memory) (inl serves) clean = serves.served.so_far.clean clean
+  clean_so (Ended Memory) (inr serves) clean =
+      serves.served.so_far.clean (serves.leaves.0.clean clean)
+  clean_so (Ended Store) serves clean = serves.served.so_far.clean (serves.leaves.0.clean clean)
+  clean_so (Ended Broken) serves clean =
+      serves.served.so_far.clean (subst (λ (desk : Desk S g). IsClean g desk) serves.leaves.0.same
+      clean)
+  clean_so (Ended ReadFault) serves clean = serves.served.so_far.clean clean
+  clean_so (Ended WriteFault) serves clean = serves.served.so_far.clean (serves.leaves.clean clean)
+  clean_so (Ended BadHeader) serves clean = absurd serves
 
-    module _ (h : List Request) (stands : StandsFor g kept h) (clean : IsClean g now) where
-      some_all : (reader : Reader R) (end : Finish) → in_hand end ≡ 0 → ServedRows g remaining moment caller first start reader old new kept now replies → StandsForSome g h replies end now
-      some_all reader end none served = record { items = served.items; counted = omega (arith, served.counted, none); stands = (served.so_far.answered h stands clean).1 }
+  module _ (h : List Request) (stands : StandsFor g kept h) (clean : IsClean g now) where
+    some_all : (reader : Reader R) (end : Finish) → in_hand end ≡ 0
+        → ServedRows g remaining moment caller first start reader old new kept now replies
+        → StandsForSome g h replies end now
+    some_all reader end none served = record {
+      items = served.items;
+      counted = omega (arith, served.counted, none);
+      stands = (served.so_far.answered h stands clean).1;
+    }
 
-      some_in_hand : (end : End) → ServedRowInPart g remaining moment caller first start old new kept now replies end → StandsForSome g h replies (Ended end) now
-      some_in_hand end serves =
+    some_in_hand : (end : End) → InPart end → StandsForSome g h replies (Ended end) now
+    some_in_hand end serves =
+        let served = serves.served in
+        some_stopped g h served.items replies served.counted old serves.so_far new kept serves.mid
+        now stands clean serves.item end serves.part served.so_far serves.leaves
+
+    pub some_so : (end : Finish) → Serves end → StandsForSome g h replies end now
+    some_so (AtEnd left) serves = some_all serves.0.reader (AtEnd left) refl serves.0.served
+    some_so (Ended Memory) (inl serves) = some_all serves.reader (Ended Memory) refl serves.served
+    some_so (Ended Memory) (inr serves) = some_in_hand Memory serves
+    some_so (Ended Store) serves = some_in_hand Store serves
+    some_so (Ended Broken) serves = some_in_hand Broken serves
+    some_so (Ended ReadFault) serves = some_all serves.reader (Ended ReadFault) refl serves.served
+    some_so (Ended WriteFault) serves = some_in_hand WriteFault serves
+    some_so (Ended BadHeader) serves = absurd serves
+
+  -- ---- bytes that are known
+
+  module _ {all_rows : List Row} (behind : HasLeft remaining start all_rows) where
+    pub texts_so : (end : Finish) → Serves end → AreTexts (take replies all_rows)
+    texts_so (AtEnd left) serves = served_texts behind serves.0.served
+    texts_so (Ended Memory) (inl serves) = served_texts behind serves.served
+    texts_so (Ended Memory) (inr serves) = served_texts behind serves.served
+    texts_so (Ended Store) serves = served_texts behind serves.served
+    texts_so (Ended Broken) serves = served_texts behind serves.served
+    texts_so (Ended ReadFault) serves = served_texts behind serves.served
+    texts_so (Ended WriteFault) serves = served_texts behind serves.served
+    texts_so (Ended BadHeader) serves = absurd serves
+
+    module _ (all : List Item) (each : AreRowItems moment caller first all_rows all) where
+      next_of : (end : End) (serves : InPart end)
+          → (more : List Item) × (all ≡ serves.served.items ++ serves.item ∷ more)
+      next_of end serves =
+          next_so behind serves.served all each serves.next serves.row serves.item
+          serves.config serves.read serves.stands_for
+
+      all_answered :
+          (serves : ServedAllRows g remaining moment caller first start old new kept now replies)
+          → replies ≡ length all
+      all_answered serves =
           let served = serves.served in
-          some_stopped g h served.items replies served.counted old serves.so_far new kept serves.mid now stands clean serves.item end serves.part served.so_far serves.leaves
+          let none_left = all_served behind served all each serves.last serves.fields serves.config
+          serves.at_end in
+          sym served.counted ∙ ap length (sym none_left)
 
-      pub some_so : (end : Finish) → ServesRowsTo g remaining moment caller first start old new kept now replies end → StandsForSome g h replies end now
-      some_so (AtEnd left) serves = some_all serves.0.reader (AtEnd left) refl serves.0.served
-      some_so (Ended Memory) (inl serves) = some_all serves.reader (Ended Memory) refl serves.served
-      some_so (Ended Memory) (inr serves) = some_in_hand Memory serves
-      some_so (Ended Store) serves = some_in_hand Store serves
-      some_so (Ended Broken) serves = some_in_hand Broken serves
-      some_so (Ended ReadFault) serves = some_all serves.reader (Ended ReadFault) refl serves.served
-      some_so (Ended WriteFault) serves = some_in_hand WriteFault serves
-      some_so (Ended BadHeader) serves = absurd serves
+      -- ---- a whole desk
+
+      module _ (h : List Request) (stands : StandsFor g kept h) (clean : IsClean g now) where
+        stopped_over : (end : End) → InPart end
+            → RunsOver g h all [] (Ended end) replies old new now
+        stopped_over end serves =
+            let served = serves.served in
+            let next = next_of end serves in
+            stopped_so g all served.items replies served.counted serves.item next.0 next.1 old
+            serves.so_far new kept serves.mid now served.so_far h stands clean end serves.part
+            [] serves.leaves
+
+        pub over_so : (end : Finish) → Serves end → RunsOver g h all [] end replies old new now
+        over_so (AtEnd left) serves = (
+          front behind serves.0.served all each h stands clean,
+          all_answered serves.0,
+          serves.1,
+        )
+        over_so (Ended Memory) (inl serves) = front behind serves.served all each h stands clean
+        over_so (Ended Memory) (inr serves) = stopped_over Memory serves
+        over_so (Ended Store) serves = stopped_over Store serves
+        over_so (Ended Broken) serves = stopped_over Broken serves
+        over_so (Ended ReadFault) serves = front behind serves.served all each h stands clean
+        over_so (Ended WriteFault) serves = stopped_over WriteFault serves
+        over_so (Ended BadHeader) serves = absurd serves
+
+      -- ---- a broken desk
+
+      module _ (broken : IsBroken kept) where
+        stopped_refused : (end : End) → LeavesDesk kept now (Ended end) → InPart end
+            → RunsBroken all [] (Ended end) replies old new
+        stopped_refused end leaves serves =
+            let served = serves.served in
+            let next = next_of end serves in
+            stopped_broken g all served.items replies served.counted serves.item next.0 next.1 old
+            serves.so_far new kept serves.mid now served.so_far end serves.part [] broken leaves
+            serves.leaves
+
+        pub broken_so : (end : Finish) → LeavesDesk kept now end → Serves end
+            → ImportsBroken all end replies old new
+        broken_so (AtEnd left) leaves serves =
+            (refused behind serves.0.served all each broken, all_answered serves.0, serves.1)
+        broken_so (Ended Memory) leaves (inl serves) = refused behind serves.served all each broken
+        broken_so (Ended Memory) leaves (inr serves) = absurd (stopped_refused Memory leaves serves)
+        broken_so (Ended Store) leaves serves = stopped_refused Store leaves serves
+        broken_so (Ended Broken) leaves serves = stopped_refused Broken leaves serves
+        broken_so (Ended ReadFault) leaves serves = refused behind serves.served all each broken
+        broken_so (Ended WriteFault) leaves serves = stopped_refused WriteFault leaves serves
+        broken_so (Ended BadHeader) leaves serves = absurd serves

@@ -3,7 +3,8 @@ use Rattle.std.proofs.Common.{◌≡◌, ◌≢◌, ℕ, zero, suc, ◌<◌, Lis
 use Rattle.csv.specs.Records.{field_at}
 
 -- a place within a record has a field
-pub has_field_at : (fields : List (List ℕ)) (place : ℕ) → place < length fields → field_at fields place ≢ None
+pub has_field_at : (fields : List (List ℕ)) (place : ℕ) → place < length fields
+    → field_at fields place ≢ None
 unfolding field_at
 has_field_at [] place lt e = absurd (omega arith)
 has_field_at (f ∷ fields) zero lt e = absurd cc
@@ -13,8 +14,10 @@ some_same : {A : Type 0} (a b : A) → Some a ≡ Some b → a ≡ b
 some_same a b e = cc
 
 -- a record of six fields is the list of them
-pub six : (fields : List (List ℕ)) (a b c d e f : List ℕ) → length fields ≡ 6 → field_at fields 0 ≡ Some a → field_at fields 1 ≡ Some b
-    → field_at fields 2 ≡ Some c → field_at fields 3 ≡ Some d → field_at fields 4 ≡ Some e → field_at fields 5 ≡ Some f
+pub six : (fields : List (List ℕ)) (a b c d e f : List ℕ) → length fields ≡ 6
+    → field_at fields 0 ≡ Some a → field_at fields 1 ≡ Some b
+    → field_at fields 2 ≡ Some c → field_at fields 3 ≡ Some d → field_at fields 4 ≡ Some e
+    → field_at fields 5 ≡ Some f
     → fields ≡ a ∷ b ∷ c ∷ d ∷ e ∷ f ∷ []
 unfolding field_at
 six (u ∷ v ∷ w ∷ x ∷ y ∷ z ∷ []) a b c d e f len pa pb pc pd pe pf =

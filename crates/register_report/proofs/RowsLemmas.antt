@@ -1,9 +1,12 @@
--- Rows that were read one after the other are the first of the input's, and their items the first of its items.
-use Rattle.std.proofs.Common.{◌≡◌, ℕ, suc, ◌+◌, List, [], ◌∷◌, ◌++◌, length, Option, None, Some, refl, sym, ap, subst, ◌∙◌, arith}
+-- Rows that were read one after the other are the first of the input's, and their items the first
+-- of its items.
+use Rattle.std.proofs.Common.{◌≡◌, ℕ, suc, ◌+◌, List, [], ◌∷◌, ◌++◌, length, Option, None, Some}
+use Rattle.std.proofs.Common.{refl, sym, ap, subst, ◌∙◌, arith}
 use Rattle.csv.specs.Machine.{next_record, Read}
-use Rattle.csv.specs.Reading.{AreRecords, Reached}
+use Rattle.csv.specs.Reading.{AreRecords, Reached, default_config, reader_state, source_of}
 use Rattle.csv.specs.declared.parser.Config.{Config}
 use Rattle.csv.specs.declared.parser.State.{State}
+use Rattle.csv.specs.declared.reader.Reader.{Reader}
 use Rattle.moment_core.proofs.Texts.{one_moment, text_length}
 use Rattle.period_core.specs.declared.key_type.KeyType.{KeyType}
 use Rattle.period_core.specs.KeyType.{key_type_text}
@@ -11,12 +14,14 @@ use Rattle.register_core.specs.declared.request.Request.{Request}
 use Rattle.register_core.specs.Request.{IsDate, IsRequest}
 use Rattle.register_core.specs.Reading.{key_type_at}
 use Rattle.register_core.proofs.Readers.{key_type_reader}
-use Rattle.register_report.specs.Rows.{date_field, IsRowOf, IsRowItem, AreRowItems}
+use Rattle.register_report.specs.Rows.{AreRowItems, IsRowItem, IsRowOf, Item, Row, date_field}
 
 -- ---- no row asks for two registrations
 
 one_key_type : (a b : KeyType) → key_type_text a ≡ key_type_text b → a ≡ b
-one_key_type a b e = let found : Some a ≡ Some b = sym (key_type_reader.again a tt) ∙ ap key_type_at e ∙ key_type_reader.again b tt in cc
+one_key_type a b e =
+    let found : Some a ≡ Some b = sym (key_type_reader.again a tt)
+    ∙ ap key_type_at e ∙ key_type_reader.again b tt in cc
 
 one_date : (a b : Option ℕ) → IsDate a → IsDate b → date_field a ≡ date_field b → a ≡ b
 one_date None None p q e = refl
@@ -24,7 +29,8 @@ one_date None (Some b) p q e = absurd (let len = text_length [] b e in cc)
 one_date (Some a) None p q e = absurd (let len = text_length [] a (sym e) in cc)
 one_date (Some a) (Some b) p q e = ap (λ (m : ℕ). Some m) (one_moment a b p q e)
 
-pub one_row : (moment : ℕ) (caller : List ℕ) (number : ℕ) (fields : List (List ℕ)) (p q : Request) → IsRowOf moment caller number fields p → IsRowOf moment caller number fields q → p ≡ q
+pub one_row : (moment : ℕ) (caller : List ℕ) (number : ℕ) (fields : Row) (p q : Request)
+    → IsRowOf moment caller number fields p → IsRowOf moment caller number fields q → p ≡ q
 one_row moment caller number fields p q a b =
     let same = sym a.fields_are ∙ b.fields_are in
     let ra = (subst IsRequest a.is a.in_range).command in
@@ -37,78 +43,120 @@ one_row moment caller number fields p q a b =
     let purpose : a.purpose ≡ b.purpose = cc in
     cc
 
-one_item : (moment : ℕ) (caller : List ℕ) (number : ℕ) (fields : List (List ℕ)) (a b : Option Request) → IsRowItem moment caller number fields a → IsRowItem moment caller number fields b → a ≡ b
+one_item : (moment : ℕ) (caller : List ℕ) (number : ℕ) (fields : Row) (a b : Item)
+    → IsRowItem moment caller number fields a → IsRowItem moment caller number fields b → a ≡ b
 one_item moment caller number fields None None p q = refl
 one_item moment caller number fields None (Some b) p q = absurd (p b q)
 one_item moment caller number fields (Some a) None p q = absurd (q a p)
-one_item moment caller number fields (Some a) (Some b) p q = ap (λ (r : Request). Some r) (one_row moment caller number fields a b p q)
+one_item moment caller number fields (Some a) (Some b) p q =
+    ap (λ (r : Request). Some r) (one_row moment caller number fields a b p q)
 
 -- ---- the rows that were read are the first
 
-pub record RowsSplit (cfg : Config) (all rows : List (List (List ℕ))) (s : State) (left : List ℕ) : Type 0 where
-  pub more : List (List (List ℕ))
+pub record RowsSplit (cfg : Config) (all rows : List Row) (s : State) (left : List ℕ) : Type 0 where
+  pub more : List Row
   pub parts : all ≡ rows ++ more
   pub behind : AreRecords cfg s left more
 
 some_same : {A : Type 0} (a b : A) → Some a ≡ Some b → a ≡ b
 some_same a b e = cc
 
-pub rows_split : (cfg : Config) (s s2 : State) (xs left : List ℕ) (rows all : List (List (List ℕ))) → Reached cfg s xs rows s2 left → AreRecords cfg s xs all → RowsSplit cfg all rows s2 left
+pub rows_split : (cfg : Config) (s s2 : State) (xs left : List ℕ) (rows all : List Row)
+    → Reached cfg s xs rows s2 left → AreRecords cfg s xs all → RowsSplit cfg all rows s2 left
 unfolding Reached
-rows_split cfg s s2 xs left [] all reached are = record { more = all; parts = refl; behind = rw (← reached.0, ← reached.1) are }
+rows_split cfg s s2 xs left [] all reached are = record {
+  more = all;
+  parts = refl;
+  behind = rw (← reached.0, ← reached.1) are;
+}
 rows_split cfg s s2 xs left (r ∷ rows) [] reached are =
     let none : next_record cfg s [] [] xs ≡ None = rw (are.2.0, are.2.1) are.3 in
     let both : Some reached.0 ≡ None = sym reached.1 ∙ none in absurd cc
 rows_split cfg s s2 xs left (r ∷ rows) (t ∷ all) reached are =
     let step = are.2 in
     let same : reached.0 ≡ step.0 = some_same reached.0 step.0 (sym reached.1 ∙ step.1) in
-    let rest : AreRecords cfg reached.0.1 reached.0.2 all = subst (λ (p : Read). AreRecords cfg p.1 p.2 all) (sym same) (are.0, are.1, step.3, are.3) in
+    let rest : AreRecords cfg reached.0.1 reached.0.2 all =
+    subst (λ (p : Read). AreRecords cfg p.1 p.2 all) (sym same) (are.0, are.1, step.3, are.3) in
     let split = rows_split cfg reached.0.1 s2 reached.0.2 left rows all reached.3 rest in
-    record { more = split.more; parts = ap (λ (l : List (List (List ℕ))). l) (let head : t ≡ r = step.2 ∙ ap (λ (p : Read). p.0) (sym same) ∙ sym reached.2 in ap (λ (f : List (List ℕ)). f ∷ all) head ∙ ap (λ (l : List (List (List ℕ))). r ∷ l) split.parts); behind = split.behind }
+    let head : t ≡ r = step.2 ∙ ap (λ (p : Read). p.0) (sym same) ∙ sym reached.2 in
+    let front = ap (λ (f : Row). f ∷ all) head in
+    let behind = ap (λ (l : List Row). r ∷ l) split.parts in
+    record { more = split.more; parts = front ∙ behind; behind = split.behind }
+
+-- the rows that are left to a reader, where its bytes are known
+pub record HasLeft {R : Type 0} (remaining : R → Option (List ℕ)) (reader : Reader R)
+    (rows : List Row) : Type 0 where
+  pub bytes : List ℕ
+  pub source : source_of remaining reader ≡ Some bytes
+  pub are : AreRecords default_config (reader_state reader) bytes rows
 
 -- ---- items
 
-pub items_more : (moment : ℕ) (caller : List ℕ) (number : ℕ) (rows : List (List (List ℕ))) (items : List (Option Request)) (row : List (List ℕ)) (item : Option Request)
-    → AreRowItems moment caller number rows items → IsRowItem moment caller (number + length items) row item → AreRowItems moment caller number (rows ++ row ∷ []) (items ++ item ∷ [])
-items_more moment caller number [] [] row item each is = (subst (λ (n : ℕ). IsRowItem moment caller n row item) (omega arith) is, tt)
-items_more moment caller number (r ∷ rows) (i ∷ items) row item each is =
-    (each.0, items_more moment caller (number + 1) rows items row item each.1 (subst (λ (n : ℕ). IsRowItem moment caller n row item) (omega arith) is))
+pub items_more : (moment : ℕ) (caller : List ℕ) (number : ℕ) (rows : List Row) (items : List Item)
+    → (row : Row) (item : Item)
+    → AreRowItems moment caller number rows items
+    → IsRowItem moment caller (number + length items) row item
+    → AreRowItems moment caller number (rows ++ row ∷ []) (items ++ item ∷ [])
+items_more moment caller number [] [] row item each is =
+    (subst (λ (n : ℕ). IsRowItem moment caller n row item) (omega arith) is, tt)
+items_more moment caller number (r ∷ rows) (i ∷ items) row item each is = (
+  each.0,
+  items_more moment caller (number + 1) rows items row item each.1
+      (subst (λ (n : ℕ). IsRowItem moment caller n row item) (omega arith) is),
+)
 items_more moment caller number [] (i ∷ items) row item each is = absurd each
 items_more moment caller number (r ∷ rows) [] row item each is = absurd each
 
-pub record ItemsSplit (moment : ℕ) (caller : List ℕ) (number : ℕ) (all items : List (Option Request)) (rows : List (List (List ℕ))) : Type 0 where
-  pub more : List (Option Request)
+pub record ItemsSplit (moment : ℕ) (caller : List ℕ) (number : ℕ) (all items : List Item)
+    (rows : List Row) : Type 0 where
+  pub more : List Item
   pub parts : all ≡ items ++ more
   pub behind : AreRowItems moment caller number rows more
 
-pub items_split : (moment : ℕ) (caller : List ℕ) (number : ℕ) (rows more : List (List (List ℕ))) (items all : List (Option Request))
-    → AreRowItems moment caller number rows items → AreRowItems moment caller number (rows ++ more) all → ItemsSplit moment caller (number + length items) all items more
-items_split moment caller number [] more [] all a b = record { more = all; parts = refl; behind = subst (λ (n : ℕ). AreRowItems moment caller n more all) (omega arith) b }
+pub items_split : (moment : ℕ) (caller : List ℕ) (number : ℕ) (rows more : List Row)
+    → (items all : List Item)
+    → AreRowItems moment caller number rows items
+    → AreRowItems moment caller number (rows ++ more) all
+    → ItemsSplit moment caller (number + length items) all items more
+items_split moment caller number [] more [] all a b = record {
+  more = all;
+  parts = refl;
+  behind = subst (λ (n : ℕ). AreRowItems moment caller n more all) (omega arith) b;
+}
 items_split moment caller number (r ∷ rows) more (i ∷ items) [] a b = absurd b
 items_split moment caller number (r ∷ rows) more (i ∷ items) (j ∷ all) a b =
     let split = items_split moment caller (number + 1) rows more items all a.1 b.1 in
     record {
       more = split.more;
-      parts = ap (λ (k : Option Request). k ∷ all) (one_item moment caller number r j i b.0 a.0) ∙ ap (λ (l : List (Option Request)). i ∷ l) split.parts;
-      behind = subst (λ (n : ℕ). AreRowItems moment caller n more split.more) (omega arith) split.behind;
+      parts =
+          ap (λ (k : Item). k ∷ all) (one_item moment caller number r j i b.0 a.0)
+          ∙ ap (λ (l : List Item). i ∷ l) split.parts;
+      behind =
+          subst (λ (n : ℕ). AreRowItems moment caller n more split.more) (omega arith) split.behind;
     }
 items_split moment caller number [] more (i ∷ items) all a b = absurd a
 items_split moment caller number (r ∷ rows) more [] all a b = absurd a
 
 -- no rows, no items
-pub no_items : (moment : ℕ) (caller : List ℕ) (number : ℕ) (items : List (Option Request)) → AreRowItems moment caller number [] items → items ≡ []
+pub no_items : (moment : ℕ) (caller : List ℕ) (number : ℕ) (items : List Item)
+    → AreRowItems moment caller number [] items → items ≡ []
 no_items moment caller number [] a = refl
 no_items moment caller number (i ∷ items) a = absurd a
 
 -- the next row's item comes first
-pub next_item : (moment : ℕ) (caller : List ℕ) (number : ℕ) (row : List (List ℕ)) (rows : List (List (List ℕ))) (item : Option Request) (items : List (Option Request))
-    → AreRowItems moment caller number (row ∷ rows) items → IsRowItem moment caller number row item → (more : List (Option Request)) × (items ≡ item ∷ more)
+pub next_item : (moment : ℕ) (caller : List ℕ) (number : ℕ) (row : Row) (rows : List Row)
+    → (item : Item) (items : List Item)
+    → AreRowItems moment caller number (row ∷ rows) items → IsRowItem moment caller number row item
+    → (more : List Item) × (items ≡ item ∷ more)
 next_item moment caller number row rows item [] a is = absurd a
-next_item moment caller number row rows item (i ∷ items) a is = (items, ap (λ (k : Option Request). k ∷ items) (one_item moment caller number row i item a.0 is))
+next_item moment caller number row rows item (i ∷ items) a is =
+    (items, ap (λ (k : Item). k ∷ items) (one_item moment caller number row i item a.0 is))
 
 -- as many items as rows
-pub same_length : (moment : ℕ) (caller : List ℕ) (number : ℕ) (rows : List (List (List ℕ))) (items : List (Option Request)) → AreRowItems moment caller number rows items → length rows ≡ length items
+pub same_length : (moment : ℕ) (caller : List ℕ) (number : ℕ) (rows : List Row) (items : List Item)
+    → AreRowItems moment caller number rows items → length rows ≡ length items
 same_length moment caller number [] [] each = refl
-same_length moment caller number (r ∷ rows) (i ∷ items) each = ap suc (same_length moment caller (number + 1) rows items each.1)
+same_length moment caller number (r ∷ rows) (i ∷ items) each =
+    ap suc (same_length moment caller (number + 1) rows items each.1)
 same_length moment caller number [] (i ∷ items) each = absurd each
 same_length moment caller number (r ∷ rows) [] each = absurd each

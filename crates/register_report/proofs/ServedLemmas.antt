@@ -16,66 +16,88 @@ use Rattle.register_desk.specs.declared.desk.Desk.{Desk}
 use Rattle.register_desk.specs.Leaving.{GoesOn}
 use Rattle.register_desk.specs.Serving.{ServesItem}
 use Rattle.register_desk.proofs.Answering.{answered_more, answered_none}
-use Rattle.register_report.specs.Rows.{IsRowItem}
+use Rattle.register_report.specs.Rows.{IsRowItem, Item, Row}
 use Rattle.register_report.specs.Serving.{ExplainsEnd, ReadRows, ServedRowInPart, ServedRows, ServesRowsTo}
 use Rattle.register_report.proofs.RowsLemmas.{items_more}
 
-read_none : {R : Type 0} (remaining : R → Option (List ℕ)) (reader : Reader R) → ReadRows remaining reader reader []
+read_none : {R : Type 0} (remaining : R → Option (List ℕ)) (reader : Reader R)
+    → ReadRows remaining reader reader []
 unfolding Reached
 read_none remaining reader xs known = (xs, known, (refl, refl))
 
-read_more : {R : Type 0} (remaining : R → Option (List ℕ)) (start reader next : Reader R) (rows : List (List (List ℕ))) (row : List (List ℕ))
-    → reader_config reader ≡ default_config → ReadRows remaining start reader rows → ReadRecord remaining reader next true row → ReadRows remaining start next (rows ++ row ∷ [])
+read_more : {R : Type 0} (remaining : R → Option (List ℕ)) (start reader next : Reader R)
+    → (rows : List Row) (row : Row)
+    → reader_config reader ≡ default_config → ReadRows remaining start reader rows
+    → ReadRecord remaining reader next true row
+    → ReadRows remaining start next (rows ++ row ∷ [])
 read_more remaining start reader next rows row config read one xs known =
     let so_far = read xs known in
-    rows-more remaining reader next row default_config (reader_state start) xs so_far.0 rows config so_far.1 so_far.2 one
+    rows-more remaining reader next row default_config (reader_state start) xs so_far.0 rows config
+    so_far.1 so_far.2 one
 
-module _ {S R : Type 0} (g : Ghosts S) (remaining : R → Option (List ℕ)) (moment : ℕ) (caller : List ℕ) (first : ℕ) where
-  pub rows_none : (reader : Reader R) (w : Option (List ℕ)) (kept : Desk S g) → ServedRows g remaining moment caller first reader reader w w kept kept 0
-  rows_none reader w kept = record { rows = []; items = []; each = tt; counted = refl; texts = tt; read = read_none remaining reader; so_far = answered_none g w kept }
-
-  -- one row more: it was read, and its item answered by its whole line and applied
-  pub rows_then : (start reader next : Reader R) (v w x : Option (List ℕ)) (kept mid now : Desk S g) (replies count : ℕ) (row : List (List ℕ)) (item : Option Request)
-      → ServedRows g remaining moment caller first start reader v w kept mid replies → reader_config reader ≡ default_config → ReadRecord remaining reader next true row → AllText row
-      → IsRowItem moment caller (first + replies) row item → ServesItem g mid now w x item count → GoesOn mid now
-      → ServedRows g remaining moment caller first start next v x kept now (replies + 1)
-  rows_then start reader next v w x kept mid now replies count row item served config one text is serves goes = record {
-    rows = served.rows ++ row ∷ [];
-    items = served.items ++ item ∷ [];
-    each = items_more moment caller first served.rows served.items row item served.each (subst (λ (n : ℕ). IsRowItem moment caller n row item) (ap (λ (n : ℕ). first + n) (sym served.counted)) is);
-    counted = length-append served.items (item ∷ []) ∙ ap (λ (n : ℕ). n + 1) served.counted;
-    texts = all_more AllText served.rows row served.texts text;
-    read = read_more remaining start reader next served.rows row config served.read one;
-    so_far = answered_more g v w x kept mid now served.items item count served.so_far serves goes;
+module _ {S R : Type 0} (g : Ghosts S) (remaining : R → Option (List ℕ)) (moment : ℕ)
+    (caller : List ℕ) (first : ℕ) where
+  pub rows_none : (reader : Reader R) (w : Option (List ℕ)) (kept : Desk S g)
+      → ServedRows g remaining moment caller first reader reader w w kept kept 0
+  rows_none reader w kept = record {
+    rows = [];
+    items = [];
+    each = tt;
+    counted = refl;
+    texts = tt;
+    read = read_none remaining reader;
+    so_far = answered_none g w kept;
   }
+
+module _ {S R : Type 0} {g : Ghosts S} {remaining : R → Option (List ℕ)} {moment : ℕ}
+    {caller : List ℕ} {first : ℕ} where
+  -- one row more: it was read, and its item answered by its whole line and applied
+  pub rows_then : {start reader : Reader R} (next : Reader R) {v w x : Option (List ℕ)}
+      → {kept mid now : Desk S g} {replies count : ℕ} (row : Row) {item : Item}
+      → ServedRows g remaining moment caller first start reader v w kept mid replies
+      → reader_config reader ≡ default_config → ReadRecord remaining reader next true row
+      → AllText row
+      → IsRowItem moment caller (first + replies) row item → ServesItem g mid now w x item count
+      → GoesOn mid now
+      → ServedRows g remaining moment caller first start next v x kept now (replies + 1)
+  rows_then {start} {reader} next {v} {w} {x} {kept} {mid} {now} {replies} {count} row {item} served
+      config one text is serves goes =
+      let counted = ap (λ (n : ℕ). first + n) (sym served.counted) in
+      let own = subst (λ (n : ℕ). IsRowItem moment caller n row item) counted is in
+      record {
+        rows = served.rows ++ row ∷ [];
+        items = served.items ++ item ∷ [];
+        each = items_more moment caller first served.rows served.items row item served.each own;
+        counted = length-append served.items (item ∷ []) ∙ ap (λ (n : ℕ). n + 1) served.counted;
+        texts = all_more AllText served.rows row served.texts text;
+        read = read_more remaining start reader next served.rows row config served.read one;
+        so_far =
+            answered_more g v w x kept mid now served.items item count served.so_far serves goes;
+      }
 
   -- ---- ends
 
   -- no row could be read
-  pub unread_at : (start reader next : Reader R) (v w : Option (List ℕ)) (kept now : Desk S g) (replies : ℕ) (end : End)
-      → ServedRows g remaining moment caller first start reader v w kept now replies → ExplainsEnd remaining reader next end
-      → ServesRowsTo g remaining moment caller first start v w kept now replies (Ended end)
-  unread_at start reader next v w kept now replies Memory served why = inl (record { reader = reader; served = served })
-  unread_at start reader next v w kept now replies ReadFault served why = record { reader = reader; served = served }
-  unread_at start reader next v w kept now replies Store served why = absurd why
-  unread_at start reader next v w kept now replies Broken served why = absurd why
-  unread_at start reader next v w kept now replies WriteFault served why = absurd why
-  unread_at start reader next v w kept now replies BadHeader served why = absurd why
+  module _ {start reader : Reader R} (next : Reader R) {v w : Option (List ℕ)} {kept now : Desk S g}
+      {replies : ℕ}
+      (served : ServedRows g remaining moment caller first start reader v w kept now replies) where
+    pub unread_at : (end : End) → ExplainsEnd remaining reader next end
+        → ServesRowsTo g remaining moment caller first start v w kept now replies (Ended end)
+    unread_at Memory why = inl (record { reader = reader; served = served })
+    unread_at ReadFault why = record { reader = reader; served = served }
+    unread_at Store why = absurd why
+    unread_at Broken why = absurd why
+    unread_at WriteFault why = absurd why
+    unread_at BadHeader why = absurd why
 
   -- the row's item ended the import
-  pub row_stops : (start : Reader R) (v x : Option (List ℕ)) (kept now : Desk S g) (replies : ℕ) (end : End)
-      → ServedRowInPart g remaining moment caller first start v x kept now replies end → ServesRowsTo g remaining moment caller first start v x kept now replies (Ended end)
-  row_stops start v x kept now replies Memory stop = inr stop
-  row_stops start v x kept now replies Store stop = stop
-  row_stops start v x kept now replies Broken stop = stop
-  row_stops start v x kept now replies WriteFault stop = stop
-  row_stops start v x kept now replies ReadFault stop = absurd stop.leaves
-  row_stops start v x kept now replies BadHeader stop = absurd stop.leaves
-
-  -- the same, of values that are equal
-  pub serves_same : (start : Reader R) (v w w' : Option (List ℕ)) (kept now now' : Desk S g) (replies : ℕ) (end end' : Finish) → end ≡ end' → now ≡ now' → w ≡ w'
-      → ServesRowsTo g remaining moment caller first start v w' kept now' replies end' → ServesRowsTo g remaining moment caller first start v w kept now replies end
-  serves_same start v w w' kept now now' replies end end' e n b serves =
-      subst (λ (f : Finish). ServesRowsTo g remaining moment caller first start v w kept now replies f) (sym e)
-      (subst (λ (d : Desk S g). ServesRowsTo g remaining moment caller first start v w kept d replies end') (sym n)
-      (subst (λ (o : Option (List ℕ)). ServesRowsTo g remaining moment caller first start v o kept now' replies end') (sym b) serves))
+  pub row_stops : {start : Reader R} {v x : Option (List ℕ)} {kept now : Desk S g} {replies : ℕ}
+      → (end : End)
+      → ServedRowInPart g remaining moment caller first start v x kept now replies end
+      → ServesRowsTo g remaining moment caller first start v x kept now replies (Ended end)
+  row_stops Memory stop = inr stop
+  row_stops Store stop = stop
+  row_stops Broken stop = stop
+  row_stops WriteFault stop = stop
+  row_stops ReadFault stop = absurd stop.leaves
+  row_stops BadHeader stop = absurd stop.leaves

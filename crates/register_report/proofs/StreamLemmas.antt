@@ -14,8 +14,10 @@ use Rattle.register_report.specs.Serving.{ExplainsEnd, ExplainsNoHeader}
 use Rattle.streams.specs.declared.watched.Watched.{Watched}
 
 -- no write failed
-pub leaves_sound : {W : Type 0} (contents : W → Option (List ℕ)) (old new : Watched W) (outcome : Outcome) → Wrote (contents old.inner) (contents new.inner) outcome.written
-    → (old.unflushed ≡ false → new.unflushed ≡ false) → new.idle ≤ max_idle_turns → (outcome.end ≡ Ended WriteFault → ⊥) → LeavesWriter contents old new outcome
+pub leaves_sound : {W : Type 0} (contents : W → Option (List ℕ)) (old new : Watched W)
+    → (outcome : Outcome) → Wrote (contents old.inner) (contents new.inner) outcome.written
+    → (old.unflushed ≡ false → new.unflushed ≡ false) → new.idle ≤ max_idle_turns
+    → (outcome.end ≡ Ended WriteFault → ⊥) → LeavesWriter contents old new outcome
 leaves_sound contents old new outcome wrote flushed bounded sound = record {
   wrote = wrote;
   flushed = λ other before. flushed before;
@@ -24,7 +26,8 @@ leaves_sound contents old new outcome wrote flushed bounded sound = record {
 }
 
 module _ {R : Type 0} (remaining : R → Option (List ℕ)) (reader next : Reader R) where
-  pub unread_sound : (end : End) → ExplainsEnd remaining reader next end → Ended end ≡ Ended WriteFault → ⊥
+  pub unread_sound : (end : End) → ExplainsEnd remaining reader next end
+      → Ended end ≡ Ended WriteFault → ⊥
   unread_sound Memory why is = cc
   unread_sound ReadFault why is = cc
   unread_sound Store why is = why
@@ -32,7 +35,8 @@ module _ {R : Type 0} (remaining : R → Option (List ℕ)) (reader next : Reade
   unread_sound WriteFault why is = why
   unread_sound BadHeader why is = why
 
-  pub no_header_sound : (end : End) → ExplainsNoHeader remaining reader next end → Ended end ≡ Ended WriteFault → ⊥
+  pub no_header_sound : (end : End) → ExplainsNoHeader remaining reader next end
+      → Ended end ≡ Ended WriteFault → ⊥
   no_header_sound Memory why is = cc
   no_header_sound ReadFault why is = cc
   no_header_sound Store why is = why
@@ -41,18 +45,22 @@ module _ {R : Type 0} (remaining : R → Option (List ℕ)) (reader next : Reade
   no_header_sound BadHeader why is = cc
 
   module _ {S : Type 0} (g : Ghosts S) (old new : Desk S g) (goes : GoesOn old new) where
-    pub unread_leaves : (end : End) → ExplainsEnd remaining reader next end → LeavesDesk old new (Ended end)
+    pub unread_leaves : (end : End) → ExplainsEnd remaining reader next end
+        → LeavesDesk old new (Ended end)
     unread_leaves Memory why = leaves_going g old new (Ended Memory) (λ is. cc) (λ is. cc) goes
-    unread_leaves ReadFault why = leaves_going g old new (Ended ReadFault) (λ is. cc) (λ is. cc) goes
+    unread_leaves ReadFault why =
+        leaves_going g old new (Ended ReadFault) (λ is. cc) (λ is. cc) goes
     unread_leaves Store why = absurd why
     unread_leaves Broken why = absurd why
     unread_leaves WriteFault why = absurd why
     unread_leaves BadHeader why = absurd why
 
-    pub no_header_leaves : (end : End) → ExplainsNoHeader remaining reader next end → LeavesDesk old new (Ended end)
+    pub no_header_leaves : (end : End) → ExplainsNoHeader remaining reader next end
+        → LeavesDesk old new (Ended end)
     no_header_leaves Memory why = unread_leaves Memory why
     no_header_leaves ReadFault why = unread_leaves ReadFault why
     no_header_leaves Store why = absurd why
     no_header_leaves Broken why = absurd why
     no_header_leaves WriteFault why = absurd why
-    no_header_leaves BadHeader why = leaves_going g old new (Ended BadHeader) (λ is. cc) (λ is. cc) goes
+    no_header_leaves BadHeader why =
+        leaves_going g old new (Ended BadHeader) (λ is. cc) (λ is. cc) goes

@@ -1,5 +1,6 @@
 -- A table that was written, or a front of it: its head, its lines, its foot.
-use Rattle.std.proofs.Common.{◌≡◌, ◌≢◌, ℕ, List, [], ◌∷◌, ◌++◌, length, Bool, true, false, Option, Result, Ok, Err, OnOk, refl, sym, ap, subst, ◌∙◌}
+use Rattle.std.proofs.Common.{◌≡◌, ◌≢◌, ℕ, List, [], ◌∷◌, ◌++◌, length, Bool, true, false, Option}
+use Rattle.std.proofs.Common.{Result, Ok, Err, OnOk, refl, sym, ap, subst, ◌∙◌}
 use Rattle.std.specs.Prelude.{IsErrAnd}
 use Rattle.sqlite_trees.specs.declared.store.Store.{Ghosts}
 use Rattle.streams.specs.declared.watched.Watched.{Watched}
@@ -10,80 +11,81 @@ use Rattle.register_desk.specs.Rows.{all_rows}
 use Rattle.register_report.specs.declared.table.Table.{Table}
 use Rattle.register_report.specs.Table.{foot_text, head_text, lines_text, table_text}
 use Rattle.register_report.specs.Writing.{PutsRows, PutsTable, PutsText}
-use Rattle.register_report.proofs.TextLemmas.{text_longer, text_nothing, text_then}
+use Rattle.register_report.proofs.TextLemmas.{text_failed, text_longer, text_nothing, text_same, text_then}
 
 -- a fault that is not the writer's
-other_fault : {T : Type 0} (e : End) → e ≢ WriteFault → ◌≢◌ {A = Result T End} (Err e) (Err WriteFault)
+other_fault : {T : Type 0} (e : End) → e ≢ WriteFault
+    → ◌≢◌ {A = Result T End} (Err e) (Err WriteFault)
 other_fault e other is = other (let same : e ≡ WriteFault = cc in same)
 
-module _ {W S : Type 0} (contents : W → Option (List ℕ)) (g : Ghosts S) (table : Table) (a : Watched W) (i : ℕ) (start : KeyRows S g) where
-  pub no_head : (e : End) → e ≢ WriteFault → PutsTable contents g a a i i start start table (Err e)
-  no_head e other = record {
+-- nothing was written
+pub no_head : {W S : Type 0} (contents : W → Option (List ℕ)) {g : Ghosts S} (table : Table)
+    → (writer : Watched W) (count : ℕ) (start : KeyRows S g) (e : End)
+    → e ≢ WriteFault → PutsTable contents g writer writer count count start start table (Err e)
+no_head contents {g} table writer count start e other = record {
+  is_all = false;
+  given = [];
+  text =
+      text_nothing contents writer count (head_text table ++ lines_text table []) e
+      (other_fault e other);
+  whole = tt;
+  are = λ h stands whole clean none. (none (all_rows h)).so_far;
+}
+
+module _ {W S : Type 0} {contents : W → Option (List ℕ)} {g : Ghosts S} (table : Table)
+    (start : KeyRows S g) {a b : Watched W} {i j : ℕ} where
+  pub part_of_head : {e : End} → PutsText {T = Unit {0}} contents a b i j (head_text table) (Err e)
+      → PutsTable contents g a b i j start start table (Err e)
+  part_of_head {e} head = record {
     is_all = false;
     given = [];
-    text = text_nothing contents a i (head_text table ++ lines_text table []) e (other_fault e other);
+    text = text_longer (lines_text table []) head;
     whole = tt;
     are = λ h stands whole clean none. (none (all_rows h)).so_far;
   }
 
-  module _ (b : Watched W) (j : ℕ) where
-    pub part_of_head : (e : End) → PutsText {T = Unit {0}} contents a b i j (head_text table) (Err e) → PutsTable contents g a b i j start start table (Err e)
-    part_of_head e head = record {
+  module _ (head : PutsText {T = Unit {0}} contents a b i j (head_text table) (Ok tt))
+      {d : Watched W} {k : ℕ} {next : KeyRows S g} where
+    pub part_of_rows : {e : End} → PutsRows contents g b d j k start next table (Err e)
+        → PutsTable contents g a d i k start next table (Err e)
+    part_of_rows {e} rows = record {
       is_all = false;
-      given = [];
-      text = text_longer contents a b i j (head_text table) (lines_text table []) e head;
+      given = rows.given;
+      text = text_failed (text_then head rows.text);
       whole = tt;
-      are = λ h stands whole clean none. (none (all_rows h)).so_far;
+      are = rows.are;
     }
 
-    module _ (head : PutsText {T = Unit {0}} contents a b i j (head_text table) (Ok tt)) (d : Watched W) (k : ℕ) (next : KeyRows S g) where
-      pub part_of_rows : (e : End) → PutsRows contents g b d j k start next table (Err e) → PutsTable contents g a d i k start next table (Err e)
-      part_of_rows e rows = record {
-        is_all = false;
+    module _ {count : ℕ} (rows : PutsRows contents g b d j k start next table (Ok count)) where
+      pub with_foot : {f : Watched W} {l : ℕ} {r : Result (Unit {0}) End}
+          → PutsText contents d f k l (foot_text table count) r
+          → PutsTable contents g a f i l start next table r
+      with_foot {f} {l} {r} foot = record {
+        is_all = true;
         given = rows.given;
-        text = as_unit (text_then contents a b d i j k (head_text table) (lines_text table rows.given) (tt {0}) (Err e) head rows.text);
-        whole = tt;
+        text =
+            text_then head (text_then rows.text
+            (text_same (ap (foot_text table) rows.counted) foot));
+        whole = same r;
         are = rows.are;
       }
         where
-          as_unit : {text : List ℕ} → PutsText {T = ℕ} contents a d i k text (Err e) → PutsText {T = Unit {0}} contents a d i k text (Err e)
-          as_unit text = record {
-            bytes = text.bytes;
-            puts = record {
-              written = text.puts.written;
-              counted = text.puts.counted;
-              flushed = λ other before. text.puts.flushed (λ is. other (let same : e ≡ WriteFault = cc in ap Err same)) before;
-              fault = λ is. text.puts.fault (let same : e ≡ WriteFault = cc in ap Err same);
-              bounded = text.puts.bounded;
-            };
-            front = text.front;
-            whole = tt;
-          }
+          same : (r : Result (Unit {0}) End) → OnOk r (true ≡ true)
+          same (Ok x) = refl
+          same (Err e) = tt
 
-      module _ (count : ℕ) (rows : PutsRows contents g b d j k start next table (Ok count)) where
-        pub with_foot : (f : Watched W) (l : ℕ) (r : Result (Unit {0}) End) → PutsText contents d f k l (foot_text table count) r → PutsTable contents g a f i l start next table r
-        with_foot f l r foot =
-            let given = rows.given in
-            let own = subst (λ n. PutsText contents d f k l (foot_text table n) r) rows.counted foot in
-            record {
-              is_all = true;
-              given = given;
-              text = text_then contents a b f i j l (head_text table) (lines_text table given ++ foot_text table (length given)) (tt {0}) r head
-                  (text_then contents b d f j k l (lines_text table given) (foot_text table (length given)) count r rows.text own);
-              whole = same r;
-              are = rows.are;
-            }
-          where
-            same : (r : Result (Unit {0}) End) → OnOk r (true ≡ true)
-            same (Ok x) = refl
-            same (Err e) = tt
+      pub no_foot : (e : End) → e ≢ WriteFault
+          → PutsTable contents g a d i k start next table (Err e)
+      no_foot e other =
+          with_foot (text_nothing contents d k (foot_text table count) e (other_fault e other))
 
-        pub no_foot : (e : End) → e ≢ WriteFault → PutsTable contents g a d i k start next table (Err e)
-        no_foot e other = with_foot d k (Err e) (text_nothing contents d k (foot_text table count) e (other_fault e other))
-
--- the same of a failure that was passed on
-pub table_passed_on : {W S : Type 0} (contents : W → Option (List ℕ)) (g : Ghosts S) (old new : Watched W) (before after : ℕ) (rows_old rows_new : KeyRows S g) (table : Table) (e : End) (r : Result (Unit {0}) End)
-    → IsErrAnd r (λ x. x ≡ e) → PutsTable contents g old new before after rows_old rows_new table (Err e) → PutsTable contents g old new before after rows_old rows_new table r
-table_passed_on contents g old new before after rows_old rows_new table e (Ok x) failed puts = absurd failed
-table_passed_on contents g old new before after rows_old rows_new table e (Err f) same puts =
-    subst (λ x. PutsTable contents g old new before after rows_old rows_new table (Err x)) (sym same) puts
+module _ {W S : Type 0} {contents : W → Option (List ℕ)} {g : Ghosts S} {old new : Watched W}
+    {before after : ℕ} {rows_old rows_new : KeyRows S g} {table : Table} {e : End} where
+  -- the same of a failure that was passed on
+  pub table_passed_on : (r : Result (Unit {0}) End) → IsErrAnd r (λ x. x ≡ e)
+      → PutsTable contents g old new before after rows_old rows_new table (Err e)
+      → PutsTable contents g old new before after rows_old rows_new table r
+  table_passed_on (Ok x) failed puts = absurd failed
+  table_passed_on (Err f) same puts =
+      subst (λ (x : End). PutsTable contents g old new before after rows_old rows_new table (Err x))
+      (sym same) puts

@@ -1,5 +1,7 @@
 -- What is written one piece after another.
-use Rattle.std.proofs.Common.{◌≡◌, ◌≢◌, ◌≤◌, ◌+◌, ℕ, List, [], ◌∷◌, ◌++◌, length, take, drop, Bool, true, false, Option, Result, Ok, Err, OnOk, refl, sym, ap, subst, ◌∙◌, append_assoc, length-append, arith}
+use Rattle.std.proofs.Common.{◌≡◌, ◌≢◌, ◌≤◌, ◌+◌, ℕ, List, [], ◌∷◌, ◌++◌, length, take, drop, Bool}
+use Rattle.std.proofs.Common.{true, false, Option, Result, Ok, Err, IfOk, OnOk, refl, sym, ap}
+use Rattle.std.proofs.Common.{subst, ◌∙◌, append_assoc, length-append, arith}
 use Rattle.std.proofs.lemmas.List.{append-nil, take-append-drop}
 use Rattle.std.specs.Io.KnownBytes.{Appends}
 use Rattle.streams.specs.declared.watched.Watched.{Watched}
@@ -12,10 +14,16 @@ use Rattle.register_report.specs.Writing.{Puts, PutsText}
 
 -- a front of the front, and of what it begins
 pub front_of_first : (part text more : List ℕ) → IsFrontOf part text → IsFrontOf part (text ++ more)
-front_of_first part text more front = (front.0 ++ more, sym (append_assoc part front.0 more) ∙ ap (λ bytes. bytes ++ more) front.1)
+front_of_first part text more front = (
+  front.0 ++ more,
+  sym (append_assoc part front.0 more)
+      ∙ ap (λ bytes. bytes ++ more) front.1,
+)
 
-pub front_behind : (first part text : List ℕ) → IsFrontOf part text → IsFrontOf (first ++ part) (first ++ text)
-front_behind first part text front = (front.0, append_assoc first part front.0 ∙ ap (λ bytes. first ++ bytes) front.1)
+pub front_behind : (first part text : List ℕ) → IsFrontOf part text
+    → IsFrontOf (first ++ part) (first ++ text)
+front_behind first part text front =
+    (front.0, append_assoc first part front.0 ∙ ap (λ bytes. first ++ bytes) front.1)
 
 pub front_whole : (text : List ℕ) → IsFrontOf text text
 front_whole text = ([], append-nil text)
@@ -26,7 +34,8 @@ no_fault x is = cc
 
 module _ {W : Type 0} (contents : W → Option (List ℕ)) where
   -- nothing was written
-  pub puts_nothing : {T : Type 0} (writer : Watched W) (count : ℕ) (result : Result T End) → result ≢ Err WriteFault → Puts contents writer writer count count [] result
+  pub puts_nothing : {T : Type 0} (writer : Watched W) (count : ℕ) (result : Result T End)
+      → result ≢ Err WriteFault → Puts contents writer writer count count [] result
   puts_nothing writer count result sound = record {
     written = appends_none (contents writer.inner);
     counted = omega arith;
@@ -35,45 +44,92 @@ module _ {W : Type 0} (contents : W → Option (List ℕ)) where
     bounded = λ bounded. bounded;
   }
 
-  pub text_nothing : {T : Type 0} (writer : Watched W) (count : ℕ) (text : List ℕ) (e : End) → ◌≢◌ {A = Result T End} (Err e) (Err WriteFault) → PutsText {T = T} contents writer writer count count text (Err e)
-  text_nothing writer count text e sound = record { bytes = []; puts = puts_nothing writer count (Err e) sound; front = (text, refl); whole = tt }
+  pub text_nothing : {T : Type 0} (writer : Watched W) (count : ℕ) (text : List ℕ) (e : End)
+      → ◌≢◌ {A = Result T End} (Err e) (Err WriteFault)
+      → PutsText {T = T} contents writer writer count count text (Err e)
+  text_nothing writer count text e sound = record {
+    bytes = [];
+    puts = puts_nothing writer count (Err e) sound;
+    front = (text, refl);
+    whole = tt;
+  }
 
-  module _ (a b c : Watched W) (i j k : ℕ) where
+module _ {W : Type 0} {contents : W → Option (List ℕ)} {a b : Watched W} {i j : ℕ} where
+  -- what a failed call put, whatever it would have given
+  pub puts_failed : {T U : Type 0} {bytes : List ℕ} {e : End}
+      → Puts {T = T} contents a b i j bytes (Err e) → Puts {T = U} contents a b i j bytes (Err e)
+  puts_failed {T} {U} {bytes} {e} puts = record {
+    written = puts.written;
+    counted = puts.counted;
+    flushed =
+        λ other before. puts.flushed
+        (λ is. other (let same : e ≡ WriteFault = cc in ap Err same)) before;
+    fault = λ is. puts.fault (let same : e ≡ WriteFault = cc in ap Err same);
+    bounded = puts.bounded;
+  }
+
+  pub text_failed : {T U : Type 0} {text : List ℕ} {e : End}
+      → PutsText {T = T} contents a b i j text (Err e)
+      → PutsText {T = U} contents a b i j text (Err e)
+  text_failed {T} {U} {text} {e} one = record {
+    bytes = one.bytes;
+    puts = puts_failed one.puts;
+    front = one.front;
+    whole = tt;
+  }
+
+  -- a text that was not written whole is a front of a longer one
+  pub text_longer : {T : Type 0} {text : List ℕ} (more : List ℕ) {e : End}
+      → PutsText {T = T} contents a b i j text (Err e)
+      → PutsText {T = T} contents a b i j (text ++ more) (Err e)
+  text_longer {T} {text} more {e} one = record {
+    bytes = one.bytes;
+    puts = one.puts;
+    front = front_of_first one.bytes text more one.front;
+    whole = tt;
+  }
+
+  -- the same of a text that is equal
+  pub text_same : {T : Type 0} {put text : List ℕ} {r : Result T End} → put ≡ text
+      → PutsText contents a b i j put r → PutsText contents a b i j text r
+  text_same {T} {put} {text} {r} same one =
+      subst (λ (t : List ℕ). PutsText {T = T} contents a b i j t r) same one
+
+  module _ {c : Watched W} {k : ℕ} where
     -- what went well, and what came behind it
-    pub puts_then : {T U : Type 0} (xs ys : List ℕ) (x : T) (r : Result U End) → Puts {T = T} contents a b i j xs (Ok x) → Puts contents b c j k ys r → Puts contents a c i k (xs ++ ys) r
-    puts_then {T} {U} xs ys x r one two = record {
-      written = appends_then (contents a.inner) (contents b.inner) (contents c.inner) xs ys one.written two.written;
+    pub puts_then : {T U : Type 0} {xs ys : List ℕ} {x : T} {r : Result U End}
+        → Puts {T = T} contents a b i j xs (Ok x) → Puts contents b c j k ys r
+        → Puts contents a c i k (xs ++ ys) r
+    puts_then {T} {U} {xs} {ys} {x} {r} one two = record {
+      written =
+          appends_then (contents a.inner) (contents b.inner) (contents c.inner) xs ys
+          one.written two.written;
       counted = let more = length-append xs ys in omega (arith, one.counted, two.counted, more);
       flushed = λ other before. two.flushed other (one.flushed (no_fault x) before);
       fault = two.fault;
       bounded = λ bounded. two.bounded (one.bounded bounded);
     }
 
-    pub text_then : {T U : Type 0} (first next : List ℕ) (x : T) (r : Result U End) → PutsText {T = T} contents a b i j first (Ok x) → PutsText contents b c j k next r → PutsText contents a c i k (first ++ next) r
-    text_then {T} {U} first next x r one two =
+    pub text_then : {T U : Type 0} {first next : List ℕ} {x : T} {r : Result U End}
+        → PutsText {T = T} contents a b i j first (Ok x) → PutsText contents b c j k next r
+        → PutsText contents a c i k (first ++ next) r
+    text_then {T} {U} {first} {next} {x} {r} one two =
         let same : one.bytes ≡ first = one.whole in
+        let front = front_behind first two.bytes next two.front in
         record {
           bytes = one.bytes ++ two.bytes;
-          puts = puts_then one.bytes two.bytes x r one.puts two.puts;
-          front = subst (λ bytes. IsFrontOf (bytes ++ two.bytes) (first ++ next)) (sym same) (front_behind first two.bytes next two.front);
+          puts = puts_then one.puts two.puts;
+          front = subst (λ bytes. IsFrontOf (bytes ++ two.bytes) (first ++ next)) (sym same) front;
           whole = both r two.whole;
         }
       where
-        both : (r : Result U End) → OnOk r (two.bytes ≡ next) → OnOk r (one.bytes ++ two.bytes ≡ first ++ next)
-        both (Ok y) is = ap (λ bytes. bytes ++ two.bytes) one.whole ∙ ap (λ bytes. first ++ bytes) is
+        both : (r : Result U End) → OnOk r (two.bytes ≡ next)
+            → OnOk r (one.bytes ++ two.bytes ≡ first ++ next)
+        both (Ok y) is =
+            ap (λ bytes. bytes ++ two.bytes) one.whole ∙ ap (λ bytes. first ++ bytes) is
         both (Err e) is = tt
 
-  -- a text that was not written whole is a front of a longer one
-  pub text_longer : {T U : Type 0} (a b : Watched W) (i j : ℕ) (text more : List ℕ) (e : End) → PutsText {T = T} contents a b i j text (Err e) → PutsText {T = U} contents a b i j (text ++ more) (Err e)
-  text_longer {T} {U} a b i j text more e one = record {
-    bytes = one.bytes;
-    puts = record {
-      written = one.puts.written;
-      counted = one.puts.counted;
-      flushed = λ other before. one.puts.flushed (λ is. other (let same : e ≡ WriteFault = cc in ap Err same)) before;
-      fault = λ is. one.puts.fault (let same : e ≡ WriteFault = cc in ap Err same);
-      bounded = one.puts.bounded;
-    };
-    front = front_of_first one.bytes text more one.front;
-    whole = tt;
-  }
+-- what holds of a result's value
+pub value_so : {V E : Type 0} {r : Result V E} {v : V} → r ≡ Ok v → (P : V → Type 0) → IfOk r P
+    → P v
+value_so {V} {E} {r} {v} is P holds = subst (λ (x : Result V E). IfOk x P) is holds

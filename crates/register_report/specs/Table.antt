@@ -1,5 +1,5 @@
--- The two texts that a register is written out as, piece by piece: the export of all keys, and the report on those that are
--- due for rotation.
+-- The two texts that a register is written out as, piece by piece: the export of all keys, and the
+-- report on those that are due for rotation.
 use Rattle.std.specs.Prelude.{ℕ, List, [], ◌++◌, length, flat_map}
 use Rattle.key_rows.specs.declared.key_row.KeyRow.{KeyRow}
 use Rattle.key_rows.specs.Export.{export_header, export_row}

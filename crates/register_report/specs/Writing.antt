@@ -1,5 +1,6 @@
 -- What is written of a text, and what of a table whose rows are given one at a time.
-use Rattle.std.specs.Prelude.{◌≡◌, ◌≢◌, ℕ, ◌+◌, ◌≤◌, Bool, true, false, List, [], ◌++◌, length, Option, None, Some, Result, Ok, Err, IfOk, OnOk, is_ok}
+use Rattle.std.specs.Prelude.{◌≡◌, ◌≢◌, ℕ, ◌+◌, ◌≤◌, Bool, true, false, List, [], ◌++◌, length}
+use Rattle.std.specs.Prelude.{Option, None, Some, Result, Ok, Err, IfOk, OnOk, is_ok}
 use Rattle.std.specs.Io.KnownBytes.{Appends}
 use Rattle.sqlite_trees.specs.declared.store.Store.{Ghosts}
 use Rattle.streams.specs.declared.watched.Watched.{Watched}
@@ -22,9 +23,10 @@ use Rattle.register_report.specs.Table.{head_text, lines_text, table_text}
 
 -- ---- a writer
 
--- These bytes were written and counted, and flushed unless a write failed, which is the writer's own fault or the bound on its
--- idle turns.
-pub record Puts {W T : Type 0} (contents : W → Option (List ℕ)) (old new : Watched W) (before after : ℕ) (bytes : List ℕ) (result : Result T End) : Type 0 where
+-- These bytes were written and counted, and flushed unless a write failed, which is the writer's
+-- own fault or the bound on its idle turns.
+pub record Puts {W T : Type 0} (contents : W → Option (List ℕ)) (old new : Watched W)
+    (before after : ℕ) (bytes : List ℕ) (result : Result T End) : Type 0 where
   pub written : Appends (contents old.inner) (contents new.inner) bytes
   pub counted : after ≡ before + length bytes
   pub flushed : result ≢ Err WriteFault → old.unflushed ≡ false → new.unflushed ≡ false
@@ -32,7 +34,8 @@ pub record Puts {W T : Type 0} (contents : W → Option (List ℕ)) (old new : W
   pub bounded : old.idle ≤ max_idle_turns → new.idle ≤ max_idle_turns
 
 -- a front of the text was, and the whole of it where the call went well
-pub record PutsText {W T : Type 0} (contents : W → Option (List ℕ)) (old new : Watched W) (before after : ℕ) (text : List ℕ) (result : Result T End) : Type 0 where
+pub record PutsText {W T : Type 0} (contents : W → Option (List ℕ)) (old new : Watched W)
+    (before after : ℕ) (text : List ℕ) (result : Result T End) : Type 0 where
   pub bytes : List ℕ
   pub puts : Puts contents old new before after bytes result
   pub front : IsFrontOf bytes text
@@ -45,13 +48,19 @@ abbrev pub AreUpTo : Bool → Option ℕ → List KeyRow → List KeyRow → Typ
 AreUpTo false until all given = AreSoFar until all given
 AreUpTo true until all given = AreAll until all given
 
--- a call over rows that had given none wrote of these, which are the first of the rows that the desk has, or all of them
-abbrev pub GivesRows : {S : Type 0} → (g : Ghosts S) → KeyRows S g → KeyRows S g → Bool → List KeyRow → Type 0
+-- a call over rows that had given none wrote of these, which are the first of the rows that the
+-- desk has, or all of them
+abbrev pub GivesRows : {S : Type 0} → (g : Ghosts S) → KeyRows S g → KeyRows S g → Bool
+    → List KeyRow → Type 0
 GivesRows g old new is_all given =
-    (h : List Request) → StandsFor g old.desk.now h → IsWhole old.desk.now → IsClean g new.desk.now → ((all : List KeyRow) → HaveGiven old all []) → AreUpTo is_all (until_of old) (all_rows h) given
+    (h : List Request) → StandsFor g old.desk.now h → IsWhole old.desk.now → IsClean g new.desk.now
+    → ((all : List KeyRow) → HaveGiven old all [])
+    → AreUpTo is_all (until_of old) (all_rows h) given
 
 -- the lines of the rows that came were written, and counted where the call went well
-pub record PutsRows {W S : Type 0} (contents : W → Option (List ℕ)) (g : Ghosts S) (old new : Watched W) (before after : ℕ) (rows_old rows_new : KeyRows S g) (table : Table) (result : Result ℕ End) : Type 0 where
+pub record PutsRows {W S : Type 0} (contents : W → Option (List ℕ)) (g : Ghosts S)
+    (old new : Watched W) (before after : ℕ) (rows_old rows_new : KeyRows S g) (table : Table)
+    (result : Result ℕ End) : Type 0 where
   pub given : List KeyRow
   pub text : PutsText contents old new before after (lines_text table given) result
   pub counted : IfOk result (λ count. count ≡ length given)
@@ -63,7 +72,9 @@ text_up_to false table given = head_text table ++ lines_text table given
 text_up_to true table given = table_text table given
 
 -- the table of the rows that came was written, or a front of it
-pub record PutsTable {W S : Type 0} (contents : W → Option (List ℕ)) (g : Ghosts S) (old new : Watched W) (before after : ℕ) (rows_old rows_new : KeyRows S g) (table : Table) (result : Result (Unit {0}) End) : Type 0 where
+pub record PutsTable {W S : Type 0} (contents : W → Option (List ℕ)) (g : Ghosts S)
+    (old new : Watched W) (before after : ℕ) (rows_old rows_new : KeyRows S g) (table : Table)
+    (result : Result (Unit {0}) End) : Type 0 where
   pub is_all : Bool
   pub given : List KeyRow
   pub text : PutsText contents old new before after (text_up_to is_all table given) result
@@ -81,12 +92,19 @@ abbrev pub until_in : Table → Option ℕ
 until_in Export = None
 until_in (Report latest until) = Some until
 
--- a front of the table of the rows that the desk has was written, and the whole of it where the call went well
-pub record PutsAll {W S : Type 0} (contents : W → Option (List ℕ)) (g : Ghosts S) (old new : Watched W) (before after : ℕ) (desk_old desk_new : Desk S g) (table : Table) (result : Result (Unit {0}) End) : Type 0 where
+-- a front of the table of the rows that the desk has was written, and the whole of it where the
+-- call went well
+pub record PutsAll {W S : Type 0} (contents : W → Option (List ℕ)) (g : Ghosts S)
+    (old new : Watched W) (before after : ℕ) (desk_old desk_new : Desk S g) (table : Table)
+    (result : Result (Unit {0}) End) : Type 0 where
   pub bytes : List ℕ
   pub puts : Puts contents old new before after bytes result
-  pub front : (h : List Request) (rows : List KeyRow) → StandsFor g desk_old h → IsWhole desk_old → IsClean g desk_new → AreAll (until_in table) (all_rows h) rows → IsFrontOf bytes (table_text table rows)
-  pub whole : (h : List Request) (rows : List KeyRow) → StandsFor g desk_old h → IsWhole desk_old → IsClean g desk_new → AreAll (until_in table) (all_rows h) rows → OnOk result (bytes ≡ table_text table rows)
+  pub front : (h : List Request) (rows : List KeyRow) → StandsFor g desk_old h → IsWhole desk_old
+      → IsClean g desk_new → AreAll (until_in table) (all_rows h) rows
+      → IsFrontOf bytes (table_text table rows)
+  pub whole : (h : List Request) (rows : List KeyRow) → StandsFor g desk_old h → IsWhole desk_old
+      → IsClean g desk_new → AreAll (until_in table) (all_rows h) rows
+      → OnOk result (bytes ≡ table_text table rows)
 
 -- the text was written, or a front of it where the call ended before
 abbrev pub WritesText : List ℕ → Finish → Option (List ℕ) → Option (List ℕ) → Type 0
@@ -106,9 +124,10 @@ abbrev pub EndsAs : Finish → Type 0
 EndsAs (AtEnd rest) = rest ≡ 0
 EndsAs (Ended end) = IsEndOfWriting end
 
--- What such a call leaves of its desk: nothing changes, not even where the database refused a row, and a broken desk is told
--- as such.
-pub record LeavesAlone {S : Type 0} (g : Ghosts S) (old new : Desk S g) (end : Finish) : Type 0 where
+-- What such a call leaves of its desk: nothing changes, not even where the database refused a row,
+-- and a broken desk is told as such.
+pub record LeavesAlone {S : Type 0} (g : Ghosts S) (old new : Desk S g)
+    (end : Finish) : Type 0 where
   pub reads : ChangesNothing g old new
   pub mark : new.is_broken ≡ old.is_broken
   pub broken : IsBroken old → end ≡ Ended Broken

@@ -79,14 +79,15 @@ fn put_due_keys<W: Write, S: Alter>(
 }
 
 /// Writes all keys as CSV (RFC 4180), as of the latest accepted moment: the header row
-/// `number,type,owner,activation,protect_stop,deactivation,state,initial,destroyed,compromised,occurrence,purpose`, then
-/// one row for each key, by number. A moment stands as `YYYY-MM-DDTHH:MM:SSZ`, a date that is not set as an empty field. It
-/// changes nothing, and holds one row at a time.
+/// `number,type,owner,activation,protect_stop,deactivation,state,initial,destroyed,compromised,occurrence,purpose`,
+/// then one row for each key, by number. A moment stands as `YYYY-MM-DDTHH:MM:SSZ`, a date that is
+/// not set as an empty field. It changes nothing, and holds one row at a time.
 ///
 /// # Errors
-/// The outcome's end is [`End::Store`] where the database refused, or a row is one that no register holds, and the desk goes
-/// on; [`End::Broken`] on a broken desk; [`End::Memory`] where there is no memory for a row; [`End::WriteFault`] where the
-/// writer failed. What was written before any of these is a front of the export.
+/// The outcome's end is [`End::Store`] where the database refused, or a row is one that no register
+/// holds, and the desk goes on; [`End::Broken`] on a broken desk; [`End::Memory`] where there is no
+/// memory for a row; [`End::WriteFault`] where the writer failed. What was written before any of
+/// these is a front of the export.
 pub fn export<W: Write, S: Alter>(
     alloc: Global,
     desk: &mut Desk<S>,
@@ -107,9 +108,9 @@ pub fn export<W: Write, S: Alter>(
     outcome(written, done)
 }
 
-/// Writes the report on the keys that are due for rotation in so many days from the latest accepted moment: the Active
-/// keys with a Protect Stop Date up to the horizon, by that date and then by number, with `overdue` where it is reached. It
-/// changes nothing, and holds one row at a time.
+/// Writes the report on the keys that are due for rotation in so many days from the latest accepted
+/// moment: the Active keys with a Protect Stop Date up to the horizon, by that date and then by
+/// number, with `overdue` where it is reached. It changes nothing, and holds one row at a time.
 ///
 /// # Errors
 /// As of [`export`].

@@ -128,21 +128,23 @@ fn serve_rows<R: Read, W: Write, S: Alter>(
     }
 }
 
-/// Registers a key for each row of a table, at this moment and of this caller: the first row behind the header row
-/// under the number `first`, each other under the next. Each row's reply line is written and flushed before the next
-/// row is applied. A row that asks for no registration, or under a number that no request has, is answered
-/// `refused 1 BadLine`. A row that was accepted before, under the same caller and number, is answered as then.
+/// Registers a key for each row of a table, at this moment and of this caller: the first row behind
+/// the header row under the number `first`, each other under the next. Each row's reply line is
+/// written and flushed before the next row is applied. A row that asks for no registration, or
+/// under a number that no request has, is answered `refused 1 BadLine`. A row that was accepted
+/// before, under the same caller and number, is answered as then.
 ///
 /// The input is CSV (RFC 4180), as `csv` reads it by default: its first record is the header row
-/// `type,owner,activation,protect_stop,deactivation,purpose`, and each other has these six fields, a date as
-/// `YYYY-MM-DDTHH:MM:SSZ` or empty. The outcome's `read` and `rest` are 0.
+/// `type,owner,activation,protect_stop,deactivation,purpose`, and each other has these six fields,
+/// a date as `YYYY-MM-DDTHH:MM:SSZ` or empty. The outcome's `read` and `rest` are 0.
 ///
 /// # Errors
-/// The outcome's end is [`End::BadHeader`] where the input does not begin with its header row: nothing was registered
-/// and nothing written. It is [`End::ReadFault`] where the reader failed or was interrupted, where a record is no
-/// UTF-8, and where more than [`MAX_ROWS`] rows come; [`End::Memory`] where there is no memory for a row or for its
-/// request; and [`End::Store`], [`End::Broken`] and [`End::WriteFault`] as of a run. What was answered before any of
-/// these stands, and the same import may be sent again.
+/// The outcome's end is [`End::BadHeader`] where the input does not begin with its header row:
+/// nothing was registered and nothing written. It is [`End::ReadFault`] where the reader failed or
+/// was interrupted, where a record is no UTF-8, and where more than [`MAX_ROWS`] rows come;
+/// [`End::Memory`] where there is no memory for a row or for its request; and [`End::Store`],
+/// [`End::Broken`] and [`End::WriteFault`] as of a run. What was answered before any of these
+/// stands, and the same import may be sent again.
 pub fn import<R: Read + Drop, W: Write, S: Alter>(
     alloc: Global,
     desk: &mut Desk<S>,
@@ -154,14 +156,15 @@ pub fn import<R: Read + Drop, W: Write, S: Alter>(
 ) -> Outcome
     requires first { IsNumber first }
     requires writer { writer.old.failed ≡ false }
-    // Behind its header row, an import is a run over the items of its rows. The disk is to have given back what was
-    // written, and the reader's bytes are to be known, here and below.
+    // Behind its header row, an import is a run over the items of its rows. The disk is to have
+    // given back what was written, and the reader's bytes are to be known, here and below.
     ensures agrees { (h : List Request) (bytes : List ℕ) (items : List (Option Request)) →
         StandsFor S.Store desk.old h → IsClean S.Store desk.new →
         R.remaining reader ≡ Some bytes → HasRowItems moment caller.now first bytes items →
         RunsOver S.Store h items [] result.end result.replies
         (W.contents writer.old.inner) (W.contents writer.new.inner) desk.new }
-    // However it ends, a stop leaves the history of the items that were answered, or of one item more.
+    // However it ends, a stop leaves the history of the items that were answered, or of one item
+    // more.
     ensures leaves { (h : List Request) (bytes : List ℕ) (items : List (Option Request)) →
         StandsFor S.Store desk.old h → IsWhole desk.old → IsClean S.Store desk.new →
         R.remaining reader ≡ Some bytes → HasRowItems moment caller.now first bytes items →

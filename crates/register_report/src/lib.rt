@@ -1,5 +1,5 @@
-//! Tables of the register's keys, in and out: the import of rows of CSV, the export of all keys, and the report on those
-//! that are due for rotation.
+//! Tables of the register's keys, in and out: the import of rows of CSV, the export of all keys,
+//! and the report on those that are due for rotation.
 //!
 //! ```
 //! let outcome = import(alloc, &mut desk, moment, &caller, 1, input, &mut Watched::new(output));

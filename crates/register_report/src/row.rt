@@ -85,7 +85,8 @@ fn date_in(field: &[u8]) -> Option<Option<Moment>>
     Some(Some(Moment::read(field)?))
 }
 
-/// The registration that a row with these fields asks for under this number, or `None` where it asks for none.
+/// The registration that a row with these fields asks for under this number, or `None` where it
+/// asks for none.
 fn registration(moment: Moment, caller: Name, number: u64, fields: &Fields<'_>) -> Option<Request>
     ensures { IsRowItem moment caller number (texts fields.now) result }
 {
@@ -111,7 +112,8 @@ fn registration(moment: Moment, caller: Name, number: u64, fields: &Fields<'_>) 
     })
 }
 
-/// What a row stands for under this number: the registration that it asks for, or `None` where it asks for none.
+/// What a row stands for under this number: the registration that it asks for, or `None` where it
+/// asks for none.
 pub fn row_item(moment: Moment, caller: Name, number: u64, row: &StringRecord) -> Option<Request>
     ensures item { IsRowItem moment caller number (fields_of row.now) result }
     ensures in_range { IfSome result IsRequest }

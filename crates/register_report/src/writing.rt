@@ -22,10 +22,11 @@ fn formed(text: Result<Vec<u8>, AllocError>) -> Result<Vec<u8>, End>
     }
 }
 
-/// Writes the text and flushes it, and counts what was written of it. A count that has no room for the text is want of
-/// memory, and nothing of it is written.
+/// Writes the text and flushes it, and counts what was written of it. A count that has no room for
+/// the text is want of memory, and nothing of it is written.
 fn put_text<W: Write>(writer: &mut Watched<W>, written: &mut u64, text: &[u8]) -> Result<(), End>
-    ensures puts { PutsText W.contents writer.old writer.new written.old written.new text.now result }
+    ensures puts { PutsText W.contents writer.old writer.new written.old written.new
+        text.now result }
     ensures end { IfErr result IsEndOfWriting }
     ensures sound { IfErr result (λ end. end ≢ End.Broken) }
 {

@@ -16,4 +16,5 @@ returns c =
     } in
     let row = c.in_ok-put_row.ensures empty in
     if_ok_mapped _ _ c.into_inner.result _ c.map_err.ensures.cases c.map_err.ensures.variant
-    (IfOk-weaker c.into_inner.result _ _ (λ bytes keeps. subst (λ o. Keeps o (Some bytes.items)) row keeps) c.into_inner.ensures.ok)
+    (IfOk-weaker c.into_inner.result _ _
+    (λ bytes keeps. subst (λ o. Keeps o (Some bytes.items)) row keeps) c.into_inner.ensures.ok)

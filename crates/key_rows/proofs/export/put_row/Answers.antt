@@ -12,8 +12,10 @@ unfolding export_row
 returns c =
     let key = c.args.key.now in
     let dates = key.row.dates in
-    let same : c.format.result.now ∷ c.text.result.now ∷ c.text-2.result.now ∷ c.as_str.result.now ∷ c.as_str-2.result.now ∷ c.as_str-3.result.now
-    ∷ c.text-3.result.now ∷ c.as_str-4.result.now ∷ c.as_str-5.result.now ∷ c.as_str-6.result.now ∷ c.as_str-7.result.now ∷ c.text-4.result.now ∷ [] ≡ export_fields key =
+    let same : c.format.result.now ∷ c.text.result.now ∷ c.text-2.result.now ∷ c.as_str.result.now
+    ∷ c.as_str-2.result.now ∷ c.as_str-3.result.now
+    ∷ c.text-3.result.now ∷ c.as_str-4.result.now ∷ c.as_str-5.result.now ∷ c.as_str-6.result.now
+    ∷ c.as_str-7.result.now ∷ c.text-4.result.now ∷ [] ≡ export_fields key =
     cc (
       c.format.ensures.text,
       c.text.ensures,
@@ -52,5 +54,7 @@ returns c =
     let has-10 = c.in_ok-put_field-10.ensures _ (omega arith) has-9 in
     let has-11 = c.in_ok-put_field-11.ensures _ (omega arith) has-10 in
     let has-12 = c.in_ok-put_field-12.ensures _ (omega arith) has-11 in
-    row_ended c.put_field-12.new.row c.end_record.new.self c.put_field-12.new.row.wrote ended (export_fields key) (omega arith) printable (subst (HasFields c.put_field-12.new.row) same has-12))
+    let has = subst (HasFields c.put_field-12.new.row) same has-12 in
+    row_ended c.put_field-12.new.row c.end_record.new.self c.put_field-12.new.row.wrote ended
+    (export_fields key) (omega arith) printable has)
     c.end_record.ensures.bytes

@@ -5,7 +5,6 @@ use Rattle.key_rows.specs.Report.{horizon, report_text}
 use Rattle.register_core.specs.History.{latest}
 use Rattle.register_desk.specs.declared.runs.Outcome.{Outcome}
 use Rattle.register_desk.specs.Rows.{all_rows}
-use Rattle.register_report.specs.declared.table.Table.TheVariants.{Report}
 use Rattle.register_report.proofs.WholeTable.{agrees, report_is}
 use Rattle.register_report.proofs.exporting.rotation.Goals as goal
 
@@ -13,8 +12,9 @@ pub returns-clause-agrees : goal.returns-clause-agrees
 returns-clause-agrees g c h due stands whole clean all =
     let at = c.latest-latest.ensures h stands in
     let until = c.horizon-until.ensures ∙ ap (λ t. horizon t c.args.days) at in
-    agrees g.W.Write.contents g.S.Store c.args.writer.now.inner c.begin.new.self c.put_due_keys-done.new.writer c.put_due_keys-done.new.written c.args.desk.now c.put_due_keys-done.new.desk
-    (Report c.latest-latest.result c.horizon-until.result) c.put_due_keys-done.result
-    c.outcome.result.end (ap (λ (w : Watched _). w.inner) c.begin.ensures) (ap (λ (o : Outcome). o.end) c.outcome.ensures) c.put_due_keys-done.ensures.puts
-    (report_text (latest h) (horizon (latest h) c.args.days) due) h due (report_is c.latest-latest.result c.horizon-until.result due ∙ ap₂ (λ now last. report_text now last due) at until)
-    stands whole clean (subst (λ last. AreDue (all_rows h) last due) (sym until) all)
+    let text = report_is c.latest-latest.result c.horizon-until.result due in
+    let same = ap₂ (λ now last. report_text now last due) at until in
+    let inner = ap (λ (w : Watched _). w.inner) c.begin.ensures in
+    let end = ap (λ (o : Outcome). o.end) c.outcome.ensures in
+    agrees c.put_due_keys-done.ensures.puts inner end due (text ∙ same) stands whole clean
+    (subst (λ last. AreDue (all_rows h) last due) (sym until) all)

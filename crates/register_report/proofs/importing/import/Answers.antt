@@ -4,7 +4,7 @@ use Rattle.register_desk.specs.declared.runs.Finish.TheVariants.{Ended}
 use Rattle.register_desk.specs.Run.{RunsOver}
 use Rattle.register_desk.proofs.Found.{leaves_next}
 use Rattle.register_report.specs.Import.{ImportsBroken}
-use Rattle.register_report.proofs.HeaderLemmas.{begins_so, known_source, no_header_over, no_header_refused, rows_behind}
+use Rattle.register_report.proofs.HeaderLemmas.{begins_so, no_header_over, no_header_refused, reads_input, rows_behind}
 use Rattle.register_report.proofs.ImportLemmas.{broken_so, clean_so, over_so, some_so, texts_so}
 use Rattle.register_report.proofs.importing.import.Goals as goal
 
@@ -12,82 +12,103 @@ use Rattle.register_report.proofs.importing.import.Goals as goal
 
 pub returns-in-Ok-clause-agrees : goal.returns-in-Ok-clause-agrees
 returns-in-Ok-clause-agrees g c h bytes items stands clean known has =
-    let remaining = g.R.Read.remaining in
     let made = c.from_reader-reader.ensures in
     let config : reader_config c.from_reader-reader.result ≡ default_config = search rules in
-    let source = known_source remaining c.from_reader-reader.result c.args.reader bytes made.source known in
-    let behind = rows_behind remaining c.from_reader-reader.result c.skip_header.new.reader bytes config source made.state has.rows c.in-Ok.ensures.reads has.has in
-    let over = over_so g.S.Store remaining c.args.moment c.args.caller.now c.args.first c.skip_header.new.reader behind.0 behind.1 has.rows behind.2 (g.W.Write.contents c.begin.new.self.inner) _
-    c.args.desk.now c.serve_rows.new.desk c.serve_rows.result.replies items has.each h stands clean c.serve_rows.result.end c.serve_rows.ensures.serves in
-    subst (λ (old : Option (List ℕ)). RunsOver g.S.Store h items [] c.serve_rows.result.end c.serve_rows.result.replies old (g.W.Write.contents c.serve_rows.new.writer.inner) c.serve_rows.new.desk)
+    let reads = reads_input g.R.Read.remaining c.from_reader-reader.result c.args.reader bytes
+    config made.state made.source known in
+    let behind = rows_behind reads c.skip_header.new.reader has.rows c.in-Ok.ensures.reads
+    has.has in
+    let over = over_so g.S.Store g.R.Read.remaining c.args.moment c.args.caller.now c.args.first
+    c.skip_header.new.reader (g.W.Write.contents c.begin.new.self.inner) _ c.args.desk.now
+    c.serve_rows.new.desk c.serve_rows.result.replies behind items has.each h stands clean
+    c.serve_rows.result.end c.serve_rows.ensures.serves in
+    subst (λ (old : Option (List ℕ)). RunsOver g.S.Store h items [] c.serve_rows.result.end
+    c.serve_rows.result.replies old (g.W.Write.contents c.serve_rows.new.writer.inner)
+    c.serve_rows.new.desk)
     (ap (λ w. g.W.Write.contents w.inner) c.begin.ensures) over
 
 pub returns-in-Ok-clause-leaves : goal.returns-in-Ok-clause-leaves
 returns-in-Ok-clause-leaves g c h bytes items stands whole clean known has =
-    leaves_next g.S.Store h items c.serve_rows.result.replies c.serve_rows.new.desk clean [] c.serve_rows.result.end _ _ c.args.desk.now whole c.serve_rows.ensures.desk
+    leaves_next g.S.Store h items c.serve_rows.result.replies c.serve_rows.new.desk clean []
+    c.serve_rows.result.end _ _ c.args.desk.now whole c.serve_rows.ensures.desk
     (returns-in-Ok-clause-agrees g c h bytes items stands clean known has)
 
 pub returns-in-Ok-clause-some : goal.returns-in-Ok-clause-some
 returns-in-Ok-clause-some g c h stands clean =
-    some_so g.S.Store g.R.Read.remaining c.args.moment c.args.caller.now c.args.first c.skip_header.new.reader (g.W.Write.contents c.begin.new.self.inner) (g.W.Write.contents c.serve_rows.new.writer.inner)
-    c.args.desk.now c.serve_rows.new.desk c.serve_rows.result.replies h stands clean c.serve_rows.result.end c.serve_rows.ensures.serves
+    some_so g.S.Store g.R.Read.remaining c.args.moment c.args.caller.now c.args.first
+    c.skip_header.new.reader _ _ c.args.desk.now c.serve_rows.new.desk
+    c.serve_rows.result.replies h stands clean c.serve_rows.result.end
+    c.serve_rows.ensures.serves
 
 pub returns-in-Ok-clause-broken : goal.returns-in-Ok-clause-broken
 returns-in-Ok-clause-broken g c bytes items broken known has =
-    let remaining = g.R.Read.remaining in
     let made = c.from_reader-reader.ensures in
     let config : reader_config c.from_reader-reader.result ≡ default_config = search rules in
-    let source = known_source remaining c.from_reader-reader.result c.args.reader bytes made.source known in
-    let behind = rows_behind remaining c.from_reader-reader.result c.skip_header.new.reader bytes config source made.state has.rows c.in-Ok.ensures.reads has.has in
-    let runs = broken_so g.S.Store remaining c.args.moment c.args.caller.now c.args.first c.skip_header.new.reader behind.0 behind.1 has.rows behind.2 (g.W.Write.contents c.begin.new.self.inner) _
-    c.args.desk.now c.serve_rows.new.desk c.serve_rows.result.replies items has.each broken c.serve_rows.result.end c.serve_rows.ensures.desk c.serve_rows.ensures.serves in
-    subst (λ (old : Option (List ℕ)). ImportsBroken items c.serve_rows.result.end c.serve_rows.result.replies old (g.W.Write.contents c.serve_rows.new.writer.inner))
+    let reads = reads_input g.R.Read.remaining c.from_reader-reader.result c.args.reader bytes
+    config made.state made.source known in
+    let behind = rows_behind reads c.skip_header.new.reader has.rows c.in-Ok.ensures.reads
+    has.has in
+    let runs = broken_so g.S.Store g.R.Read.remaining c.args.moment c.args.caller.now c.args.first
+    c.skip_header.new.reader (g.W.Write.contents c.begin.new.self.inner) _ c.args.desk.now
+    c.serve_rows.new.desk c.serve_rows.result.replies behind items has.each broken
+    c.serve_rows.result.end c.serve_rows.ensures.desk c.serve_rows.ensures.serves in
+    subst (λ (old : Option (List ℕ)). ImportsBroken items c.serve_rows.result.end
+    c.serve_rows.result.replies old (g.W.Write.contents c.serve_rows.new.writer.inner))
     (ap (λ w. g.W.Write.contents w.inner) c.begin.ensures) runs
 
 pub returns-in-Ok-clause-texts : goal.returns-in-Ok-clause-texts
 returns-in-Ok-clause-texts g c bytes rows known has =
-    let remaining = g.R.Read.remaining in
     let made = c.from_reader-reader.ensures in
     let config : reader_config c.from_reader-reader.result ≡ default_config = search rules in
-    let source = known_source remaining c.from_reader-reader.result c.args.reader bytes made.source known in
-    let behind = rows_behind remaining c.from_reader-reader.result c.skip_header.new.reader bytes config source made.state rows c.in-Ok.ensures.reads has in
-    texts_so g.S.Store remaining c.args.moment c.args.caller.now c.args.first c.skip_header.new.reader behind.0 behind.1 rows behind.2 _ _ c.args.desk.now c.serve_rows.new.desk c.serve_rows.result.replies
-    c.serve_rows.result.end c.serve_rows.ensures.serves
+    let reads = reads_input g.R.Read.remaining c.from_reader-reader.result c.args.reader bytes
+    config made.state made.source known in
+    let behind = rows_behind reads c.skip_header.new.reader rows c.in-Ok.ensures.reads has in
+    texts_so g.S.Store g.R.Read.remaining c.args.moment c.args.caller.now c.args.first
+    c.skip_header.new.reader _ _ c.args.desk.now c.serve_rows.new.desk
+    c.serve_rows.result.replies behind c.serve_rows.result.end c.serve_rows.ensures.serves
 
 pub returns-in-Ok-clause-without : goal.returns-in-Ok-clause-without
 returns-in-Ok-clause-without g c bytes known without =
-    let remaining = g.R.Read.remaining in
     let made = c.from_reader-reader.ensures in
     let config : reader_config c.from_reader-reader.result ≡ default_config = search rules in
-    let source = known_source remaining c.from_reader-reader.result c.args.reader bytes made.source known in
-    absurd (without (begins_so remaining c.from_reader-reader.result c.skip_header.new.reader bytes config source made.state c.in-Ok.ensures.reads))
+    let reads = reads_input g.R.Read.remaining c.from_reader-reader.result c.args.reader bytes
+    config made.state made.source known in
+    absurd (without (begins_so reads c.skip_header.new.reader c.in-Ok.ensures.reads))
 
 pub returns-in-Ok-clause-uncounted : goal.returns-in-Ok-clause-uncounted
 returns-in-Ok-clause-uncounted g c = c.serve_rows.ensures.uncounted
 
 pub returns-in-Ok-clause-clean : goal.returns-in-Ok-clause-clean
 returns-in-Ok-clause-clean g c clean =
-    clean_so g.S.Store g.R.Read.remaining c.args.moment c.args.caller.now c.args.first c.skip_header.new.reader _ _ c.args.desk.now c.serve_rows.new.desk c.serve_rows.result.replies c.serve_rows.result.end
+    clean_so g.S.Store g.R.Read.remaining c.args.moment c.args.caller.now c.args.first
+    c.skip_header.new.reader _ _ c.args.desk.now c.serve_rows.new.desk
+    c.serve_rows.result.replies c.serve_rows.result.end
     c.serve_rows.ensures.serves clean
 
 -- ---- no header row was read
 
 pub returns-clause-agrees : goal.returns-clause-agrees
 returns-clause-agrees g c h bytes items stands clean known has =
-    let remaining = g.R.Read.remaining in
     let made = c.from_reader-reader.ensures in
     let config : reader_config c.from_reader-reader.result ≡ default_config = search rules in
-    let source = known_source remaining c.from_reader-reader.result c.args.reader bytes made.source known in
-    let over = no_header_over remaining c.from_reader-reader.result c.skip_header.new.reader bytes config source made.state has.rows has.has g.S.Store c.args.desk.now items
+    let reads = reads_input g.R.Read.remaining c.from_reader-reader.result c.args.reader bytes
+    config made.state made.source known in
+    let over = no_header_over reads c.skip_header.new.reader has.rows has.has g.S.Store
+    c.args.desk.now items
     (g.W.Write.contents c.args.writer.now.inner) c.in-Err.end c.in-Err.ensures.end h stands clean in
-    subst (λ (new : Option (List ℕ)). RunsOver g.S.Store h items [] (Ended c.in-Err.end) 0 (g.W.Write.contents c.args.writer.now.inner) new c.args.desk.now) (sym (ap (λ w. g.W.Write.contents w.inner) c.begin.ensures)) over
+    subst (λ (new : Option (List ℕ)). RunsOver g.S.Store h items [] (Ended c.in-Err.end) 0
+    (g.W.Write.contents c.args.writer.now.inner) new c.args.desk.now)
+    (sym (ap (λ w. g.W.Write.contents w.inner) c.begin.ensures)) over
 
 pub returns-clause-broken : goal.returns-clause-broken
 returns-clause-broken g c bytes items broken known has =
-    let remaining = g.R.Read.remaining in
     let made = c.from_reader-reader.ensures in
     let config : reader_config c.from_reader-reader.result ≡ default_config = search rules in
-    let source = known_source remaining c.from_reader-reader.result c.args.reader bytes made.source known in
-    let runs = no_header_refused remaining c.from_reader-reader.result c.skip_header.new.reader bytes config source made.state has.rows has.has g.S.Store c.args.desk.now items
+    let reads = reads_input g.R.Read.remaining c.from_reader-reader.result c.args.reader bytes
+    config made.state made.source known in
+    let runs = no_header_refused reads c.skip_header.new.reader has.rows has.has g.S.Store
+    c.args.desk.now items
     (g.W.Write.contents c.args.writer.now.inner) c.in-Err.end c.in-Err.ensures.end broken in
-    subst (λ (new : Option (List ℕ)). ImportsBroken items (Ended c.in-Err.end) 0 (g.W.Write.contents c.args.writer.now.inner) new) (sym (ap (λ w. g.W.Write.contents w.inner) c.begin.ensures)) runs
+    subst (λ (new : Option (List ℕ)). ImportsBroken items (Ended c.in-Err.end) 0
+    (g.W.Write.contents c.args.writer.now.inner) new)
+    (sym (ap (λ w. g.W.Write.contents w.inner) c.begin.ensures)) runs

@@ -11,7 +11,9 @@ use Rattle.register_report.proofs.importing.serve_rows.Goals as goal
 
 pub loop-row-init : goal.loop-row-init
 loop-row-init g c = record {
-  served = rows_none g.S.Store g.R.Read.remaining c.args.moment c.args.caller c.args.first c.args.reader.now (g.W.Write.contents c.args.writer.now.inner) c.args.desk.now;
+  served =
+      rows_none g.S.Store g.R.Read.remaining c.args.moment c.args.caller c.args.first
+      c.args.reader.now (g.W.Write.contents c.args.writer.now.inner) c.args.desk.now;
   wrote = wrote_begin (g.W.Write.contents c.args.writer.now.inner);
   plain = c.requires.plain;
   flexible = c.requires.flexible;
@@ -31,9 +33,14 @@ loop-row-preserved g c =
     let row = rw c.in-Ok-true.field-0-test at next.reads in
     let not_full = c.if-replies-eq-MAX_ROWS.false in
     record {
-      served = rows_then g.S.Store g.R.Read.remaining c.args.moment c.args.caller c.args.first c.args.reader.now c.loop-row.reader c.next_row.new.reader _ _ _ c.args.desk.now c.loop-row.desk c.answer_item.new.desk
-          c.loop-row.replies c.in-Ok.count (fields_of c.next_row.new.row) c.row_item-item.result invariant.served invariant.config row next.text c.row_item-item.ensures.item c.in-Ok.ensures.serves c.in-Ok.ensures.goes_on;
-      wrote = wrote_item g.S.Store _ _ _ c.loop-row.desk c.answer_item.new.desk c.row_item-item.result c.loop-row.written c.in-Ok.count invariant.wrote c.in-Ok.ensures.serves;
+      served =
+          rows_then c.next_row.new.reader
+          (fields_of c.next_row.new.row) invariant.served invariant.config row next.text
+          c.row_item-item.ensures.item c.in-Ok.ensures.serves c.in-Ok.ensures.goes_on;
+      wrote =
+          wrote_item g.S.Store _ _ _ c.loop-row.desk c.answer_item.new.desk
+          c.row_item-item.result c.loop-row.written c.in-Ok.count invariant.wrote
+          c.in-Ok.ensures.serves;
       plain = next.plain;
       flexible = next.flexible;
       ready = next.ready;
@@ -42,28 +49,38 @@ loop-row-preserved g c =
       short = omega (arith, invariant.short, c.in-Ok.ensures.short);
       idle_bounded = c.in-Ok.ensures.bounded invariant.idle_bounded;
       flushed = λ before. c.in-Ok.ensures.flushed;
-      goes_on = goes_then g.S.Store c.args.desk.now c.loop-row.desk c.answer_item.new.desk invariant.goes_on c.in-Ok.ensures.goes_on;
+      goes_on =
+          goes_then g.S.Store c.args.desk.now c.loop-row.desk
+          c.answer_item.new.desk invariant.goes_on c.in-Ok.ensures.goes_on;
     }
 
 -- ---- a row too many
 
-pub returns-then-replies-eq-MAX_ROWS-clause-serves : goal.returns-then-replies-eq-MAX_ROWS-clause-serves
-returns-then-replies-eq-MAX_ROWS-clause-serves g c = record { reader = c.loop-row.reader; served = c.loop-row.invariant.served }
+pub returns-then-replies-eq-MAX_ROWS-clause-serves
+    : goal.returns-then-replies-eq-MAX_ROWS-clause-serves
+returns-then-replies-eq-MAX_ROWS-clause-serves g c = record {
+  reader = c.loop-row.reader;
+  served = c.loop-row.invariant.served;
+}
 
-pub returns-then-replies-eq-MAX_ROWS-clause-writer : goal.returns-then-replies-eq-MAX_ROWS-clause-writer
+pub returns-then-replies-eq-MAX_ROWS-clause-writer
+    : goal.returns-then-replies-eq-MAX_ROWS-clause-writer
 returns-then-replies-eq-MAX_ROWS-clause-writer g c =
     let invariant = c.loop-row.invariant in
-    leaves_sound g.W.Write.contents c.args.writer.now c.loop-row.writer _ invariant.wrote invariant.flushed invariant.idle_bounded (λ is. cc)
+    leaves_sound g.W.Write.contents c.args.writer.now c.loop-row.writer
+    _ invariant.wrote invariant.flushed invariant.idle_bounded (λ is. cc)
 
 pub returns-then-replies-eq-MAX_ROWS-clause-desk : goal.returns-then-replies-eq-MAX_ROWS-clause-desk
-returns-then-replies-eq-MAX_ROWS-clause-desk g c = leaves_going g.S.Store c.args.desk.now c.loop-row.desk (Ended ReadFault) (λ is. cc) (λ is. cc) c.loop-row.invariant.goes_on
+returns-then-replies-eq-MAX_ROWS-clause-desk g c =
+    leaves_going g.S.Store c.args.desk.now c.loop-row.desk (Ended ReadFault) (λ is. cc) (λ is. cc)
+    c.loop-row.invariant.goes_on
 
 -- ---- a row whose item ended it
 
 pub returns-in-Err-answer_item-clause-serves : goal.returns-in-Err-answer_item-clause-serves
 returns-in-Err-answer_item-clause-serves g c =
     let row = rw c.in-Ok-true.field-0-test at c.in-Ok-true.ensures.reads in
-    row_stops g.S.Store g.R.Read.remaining c.args.moment c.args.caller c.args.first c.args.reader.now _ _ c.args.desk.now c.answer_item.new.desk c.loop-row.replies c.in-Err-answer_item.stop.end (record {
+    row_stops c.in-Err-answer_item.stop.end (record {
       reader = c.loop-row.reader;
       next = c.next_row.new.reader;
       so_far = g.W.Write.contents c.loop-row.writer.inner;
@@ -83,15 +100,22 @@ returns-in-Err-answer_item-clause-writer g c =
     let invariant = c.loop-row.invariant in
     let stop = c.in-Err-answer_item.ensures in
     record {
-      wrote = wrote_part g.S.Store _ _ _ c.loop-row.desk c.answer_item.new.desk c.row_item-item.result c.in-Err-answer_item.stop.end c.loop-row.written c.in-Err-answer_item.stop.written invariant.wrote stop.stop;
-      flushed = λ other before. ap (λ x. x.unflushed) (stop.untouched (λ fault. other (ap (λ (end : End). Ended end) fault))) ∙ invariant.flushed before;
+      wrote =
+          wrote_part g.S.Store _ _ _ c.loop-row.desk c.answer_item.new.desk
+          c.row_item-item.result c.in-Err-answer_item.stop.end c.loop-row.written
+          c.in-Err-answer_item.stop.written invariant.wrote stop.stop;
+      flushed =
+          λ other before. ap (λ x. x.unflushed)
+          (stop.untouched (λ fault. other (ap (λ (end : End). Ended end) fault)))
+          ∙ invariant.flushed before;
       fault = λ is. let same : c.in-Err-answer_item.stop.end ≡ WriteFault = cc in stop.cause same;
       bounded = stop.bounded invariant.idle_bounded;
     }
 
 pub returns-in-Err-answer_item-clause-desk : goal.returns-in-Err-answer_item-clause-desk
 returns-in-Err-answer_item-clause-desk g c =
-    leaves_stopped g.S.Store c.args.desk.now c.loop-row.desk c.answer_item.new.desk c.in-Err-answer_item.stop.end c.loop-row.invariant.goes_on c.in-Err-answer_item.ensures.ends
+    leaves_stopped g.S.Store c.args.desk.now c.loop-row.desk c.answer_item.new.desk
+    c.in-Err-answer_item.stop.end c.loop-row.invariant.goes_on c.in-Err-answer_item.ensures.ends
 
 -- ---- no further row
 
@@ -112,24 +136,30 @@ returns-in-Ok-false-clause-serves g c =
 pub returns-in-Ok-false-clause-writer : goal.returns-in-Ok-false-clause-writer
 returns-in-Ok-false-clause-writer g c =
     let invariant = c.loop-row.invariant in
-    leaves_sound g.W.Write.contents c.args.writer.now c.loop-row.writer _ invariant.wrote invariant.flushed invariant.idle_bounded (λ is. cc)
+    leaves_sound g.W.Write.contents c.args.writer.now c.loop-row.writer
+    _ invariant.wrote invariant.flushed invariant.idle_bounded (λ is. cc)
 
 pub returns-in-Ok-false-clause-desk : goal.returns-in-Ok-false-clause-desk
-returns-in-Ok-false-clause-desk g c = leaves_going g.S.Store c.args.desk.now c.loop-row.desk (AtEnd 0) (λ is. cc) (λ is. cc) c.loop-row.invariant.goes_on
+returns-in-Ok-false-clause-desk g c =
+    leaves_going g.S.Store c.args.desk.now c.loop-row.desk
+    (AtEnd 0) (λ is. cc) (λ is. cc) c.loop-row.invariant.goes_on
 
 -- ---- a row that could not be read
 
 pub returns-in-Err-clause-serves : goal.returns-in-Err-clause-serves
 returns-in-Err-clause-serves g c =
-    unread_at g.S.Store g.R.Read.remaining c.args.moment c.args.caller c.args.first c.args.reader.now c.loop-row.reader c.next_row.new.reader _ _ c.args.desk.now c.loop-row.desk c.loop-row.replies c.in-Err.end
-    c.loop-row.invariant.served c.in-Err.ensures.end
+    unread_at c.next_row.new.reader c.loop-row.invariant.served c.in-Err.end c.in-Err.ensures.end
 
 pub returns-in-Err-clause-writer : goal.returns-in-Err-clause-writer
 returns-in-Err-clause-writer g c =
     let invariant = c.loop-row.invariant in
-    leaves_sound g.W.Write.contents c.args.writer.now c.loop-row.writer _ invariant.wrote invariant.flushed invariant.idle_bounded
-    (unread_sound g.R.Read.remaining c.loop-row.reader c.next_row.new.reader c.in-Err.end c.in-Err.ensures.end)
+    leaves_sound g.W.Write.contents c.args.writer.now c.loop-row.writer
+    _ invariant.wrote invariant.flushed invariant.idle_bounded
+    (unread_sound g.R.Read.remaining c.loop-row.reader c.next_row.new.reader c.in-Err.end
+    c.in-Err.ensures.end)
 
 pub returns-in-Err-clause-desk : goal.returns-in-Err-clause-desk
 returns-in-Err-clause-desk g c =
-    unread_leaves g.R.Read.remaining c.loop-row.reader c.next_row.new.reader g.S.Store c.args.desk.now c.loop-row.desk c.loop-row.invariant.goes_on c.in-Err.end c.in-Err.ensures.end
+    unread_leaves g.R.Read.remaining c.loop-row.reader c.next_row.new.reader g.S.Store
+    c.args.desk.now c.loop-row.desk c.loop-row.invariant.goes_on c.in-Err.end
+    c.in-Err.ensures.end

@@ -11,9 +11,12 @@ use Rattle.register_report.proofs.importing.serve_rows.Given as goal
 
 abbrev pub invariant-loop-row : goal.invariant-loop-row
 invariant-loop-row g l = record {
-  served : ServedRows g.S.Store g.R.Read.remaining l.fn.moment l.fn.caller l.fn.first l.fn.reader l.reader
-      (g.W.Write.contents l.fn.writer.inner) (g.W.Write.contents l.writer.inner) l.fn.desk l.desk l.replies;
-  wrote : Wrote (g.W.Write.contents l.fn.writer.inner) (g.W.Write.contents l.writer.inner) l.written;
+  served :
+      ServedRows g.S.Store g.R.Read.remaining l.fn.moment l.fn.caller l.fn.first l.fn.reader
+      l.reader (g.W.Write.contents l.fn.writer.inner) (g.W.Write.contents l.writer.inner)
+      l.fn.desk l.desk l.replies;
+  wrote :
+      Wrote (g.W.Write.contents l.fn.writer.inner) (g.W.Write.contents l.writer.inner) l.written;
   plain : reader_trim l.reader ≡ trim.None;
   flexible : is_flexible l.reader ≡ true;
   ready : Ready l.reader;
