@@ -16,7 +16,7 @@ use register_core::{
     RequestNumber, View, decide,
 };
 use register_store::{
-    Counted, DuePlace, StoreError, check, create, each_due, each_key, find_request, find_row,
+    Counted, DuePlace, StoreError, Tie, check, create, each_due, each_key, find_request, find_row,
     load_key,
 };
 use sqlite::{Alter, Connection};
@@ -471,7 +471,8 @@ impl<S: Alter> Desk<S> {
             return Err(End::Broken);
         }
         let stop = Moment::new(0).unwrap();
-        Ok(self.rows(Walk::ByStop(until, DuePlace { stop, number: 0 })))
+        let first = DuePlace { stop, number: 0 };
+        Ok(self.rows(Walk::ByStop(until, first, Tie::Alone)))
     }
 
     /// Lends the desk to rows.
@@ -497,7 +498,7 @@ impl<S: Alter> Desk<S> {
     {
         match walk {
             Walk::ByNumber(last) => self.next_by_number(last),
-            Walk::ByStop(until, last) => self.next_by_stop(until, last),
+            Walk::ByStop(until, last, tie) => self.next_by_stop(until, last, tie),
         }
     }
 
@@ -518,13 +519,18 @@ impl<S: Alter> Desk<S> {
     }
 
     /// The row of the first key that is due behind this place, or `None` behind the last.
-    fn next_by_stop(&mut self, until: Moment, last: DuePlace) -> Result<Option<KeyRow>, StoreError>
+    fn next_by_stop(
+        &mut self,
+        until: Moment,
+        last: DuePlace,
+        tie: Tie,
+    ) -> Result<Option<KeyRow>, StoreError>
         ensures reads { ChangesNothing S.Store self.old self.new }
         ensures mark { self.new.is_broken ≡ self.old.is_broken }
         ensures next { (h : List Request) → StandsFor S.Store self.old h → IsWhole self.old
-            → IsClean S.Store self.new → IfOk result (HasNextRow (Walk.ByStop until last) (tables h)) }
+            → IsClean S.Store self.new → IfOk result (HasNextRow (Walk.ByStop until last tie) (tables h)) }
     {
-        match each_due(&mut self.connection, until, last)? {
+        match each_due(&mut self.connection, until, last, tie)? {
             Some((number, key)) => match u32::try_from(number) {
                 Ok(number) => Ok(Some(key_row(number, key))),
                 Err(_) => Err(StoreError::NoRegister),

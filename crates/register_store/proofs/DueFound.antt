@@ -1,6 +1,5 @@
 -- What the searches for the next key that is due find.
-use Rattle.std.proofs.Common.{◌≡◌, ◌⊎◌, ◌<◌, ◌≤◌, ◌==◌, ◌&&◌, inl, inr, not, nat_le, ℕ, ◌+◌, pos, List, [], ◌∷◌, codes, map, filter, slice_get, Bool, true, false, Option, Some, None, Result, Ok, Err, IfOk, IfErr, refl, sym, ap, ap₂, subst, ◌∙◌, arith}
-use Rattle.std.proofs.Math.Bool.{and-true}
+use Rattle.std.proofs.Common.{◌≡◌, ◌⊎◌, ◌<◌, ◌≤◌, inl, inr, ℕ, pos, List, [], ◌∷◌, codes, map, slice_get, Bool, true, false, Option, Some, None, Result, Ok, Err, IfOk, IfErr, refl, sym, ap, subst, ◌∙◌, arith}
 use Rattle.std.proofs.lemmas.Bool.{cases_lt}
 use Rattle.std.proofs.lemmas.Int.{ints}
 use Rattle.std.specs.Cmp.{int_ranks}
@@ -14,7 +13,7 @@ use Rattle.sqlite.specs.declared.types.Value.TheVariants.{Int}
 use Rattle.sqlite.specs.Collation.TheVariants.{Binary}
 use Rattle.sqlite.specs.Command.TheVariants.{Select}
 use Rattle.sqlite.specs.Listing.{understood, reads_listing}
-use Rattle.sqlite.specs.Order.{Row as Cells, value_cmp}
+use Rattle.sqlite.specs.Order.{Row as Cells}
 use Rattle.sqlite.specs.Program.{overlay}
 use Rattle.sqlite.specs.Query.{output_cmp}
 use Rattle.sqlite.specs.State.{State, HasCleanDisk, QueriesRow, Survives, CommitsShowing}
@@ -24,14 +23,13 @@ use Rattle.sqlite.proofs.Callers.{IsPlain, command_of}
 use Rattle.sqlite_resolve.specs.Compile.{first}
 use Rattle.sqlite_rules.specs.Lists.{Has}
 use Rattle.sqlite_schema.specs.declared.schema.Index.{Index}
-use Rattle.sqlite_sql.specs.declared.ops.BinaryOp.TheVariants.{Compare}
-use Rattle.sqlite_sql.specs.declared.ops.CompareOp.TheVariants.{Eq, Gt, Le}
+use Rattle.sqlite_sql.specs.declared.ops.BinaryOp.TheVariants.{Compare, Or}
+use Rattle.sqlite_sql.specs.declared.ops.CompareOp.TheVariants.{Eq, Ge, Gt, Le}
 use Rattle.sqlite_tied.specs.Compute.{everything}
 use Rattle.sqlite_trees.proofs.ListLemmas.{filter-map}
 use Rattle.sqlite_value.proofs.OrderLemmas.{value_cmp-Int}
 use Rattle.sqlite_value.specs.Keys.{ascending}
 use Rattle.sqlite_value.specs.declared.keys.Key as sorted_by
-use Rattle.sql_steps.proofs.Comparing.{equal_numbers, more_numbers, most_numbers}
 use Rattle.sql_steps.proofs.Firsts.{ShowsLeast, gives_first, gives_no_row, ordered_by, out_of, passing}
 use Rattle.sql_steps.proofs.Members.{from_picked, to_picked}
 use Rattle.sql_steps.proofs.Statements.{is_picked}
@@ -40,15 +38,14 @@ use Rattle.row_tests.proofs.Selects.{IsSelect, select_plain}
 use Rattle.register_core.specs.declared.key.Key.{Key}
 use Rattle.register_store.specs.declared.error.StoreError.{StoreError}
 use Rattle.register_store.specs.declared.error.StoreError.TheVariants.{Memory, NoRegister}
-use Rattle.register_store.specs.declared.key_walk.DuePlace.{DuePlace}
 use Rattle.register_store.specs.declared.table.TableName.TheVariants.{Keys}
 use Rattle.register_store.specs.KeyWalk.{IsBehind}
 use Rattle.register_store.specs.Reading.{IsRowOf, ReadsBy, ShowsAt, ShowsNone}
-use Rattle.register_store.specs.Schema.{Holds, rows_of, schema_with}
-use Rattle.register_store.specs.Stops.{HasFirst, IsFirst, IsNumbered, cell_place, is_later, is_same, stop_cell}
-use Rattle.register_store.specs.Tables.{IsKey, Tables, key_cells, key_row, numbered, tree_of}
+use Rattle.register_store.specs.Schema.{Holds, schema_with}
+use Rattle.register_store.specs.Stops.{HasFirst, IsFirst, IsNumbered, cell_place, stop_cell}
+use Rattle.register_store.specs.Tables.{Tables, key_row, numbered, tree_of}
 use Rattle.register_store.proofs.Asked.{names_of_table, shown_of_table}
-use Rattle.register_store.proofs.Decoding.{same_key, same_number, one_key}
+use Rattle.register_store.proofs.Decoding.{same_number, one_key}
 use Rattle.register_store.proofs.KeyFound.{at_number, in_range_at}
 use Rattle.register_store.proofs.RowFound.{answer_read}
 
@@ -60,6 +57,9 @@ same_text = codes "SELECT kind, owner, purpose, state, initial, activation, prot
 abbrev pub later_text : List ℕ
 later_text = codes "SELECT kind, owner, purpose, state, initial, activation, protect_stop, deactivation, destroyed, compromised, occurrence, number FROM keys WHERE state = 2 AND protect_stop > ?1 AND protect_stop <= ?2 ORDER BY protect_stop, number"
 
+abbrev pub past_text : List ℕ
+past_text = codes "SELECT kind, owner, purpose, state, initial, activation, protect_stop, deactivation, destroyed, compromised, occurrence, number FROM keys WHERE state = 2 AND protect_stop >= ?1 AND protect_stop <= ?2 AND (protect_stop > ?1 OR number > ?3) ORDER BY protect_stop, number"
+
 abbrev pub passes_same : List Term
 passes_same =
     op2 (Compare Eq Binary) (col 1 5) (lit (Int (pos 2))) ∷ op2 (Compare Eq Binary) (col 1 8) (col 0 0) ∷ op2 (Compare Le Binary) (col 1 8) (col 0 1)
@@ -67,6 +67,11 @@ passes_same =
 
 abbrev pub passes_later : List Term
 passes_later = op2 (Compare Eq Binary) (col 1 5) (lit (Int (pos 2))) ∷ op2 (Compare Gt Binary) (col 1 8) (col 0 0) ∷ op2 (Compare Le Binary) (col 1 8) (col 0 1) ∷ []
+
+abbrev pub passes_past : List Term
+passes_past =
+    op2 (Compare Eq Binary) (col 1 5) (lit (Int (pos 2))) ∷ op2 (Compare Ge Binary) (col 1 8) (col 0 0) ∷ op2 (Compare Le Binary) (col 1 8) (col 0 1)
+    ∷ op2 Or (op2 (Compare Gt Binary) (col 1 8) (col 0 0)) (op2 (Compare Gt Binary) (col 1 0) (col 0 2)) ∷ []
 
 abbrev pub shown : List Term
 shown = shown_of_table Keys
@@ -95,6 +100,13 @@ later_select = (_, _, refl, refl, refl)
 pub later_query : IsQuery later_text
 later_query = select_plain later_text later_select
 
+past_select : IsSelect past_text
+unfolding everything first
+past_select = (_, _, refl, refl, refl)
+
+pub past_query : IsQuery past_text
+past_query = select_plain past_text past_select
+
 pub same_is : IsDueSearch same_text passes_same
 unfolding understood everything
 same_is = record { is = λ more. refl; plain = λ more. (refl, refl); unlisted = λ more. refl; low = λ db. refl }
@@ -102,6 +114,10 @@ same_is = record { is = λ more. refl; plain = λ more. (refl, refl); unlisted =
 pub later_is : IsDueSearch later_text passes_later
 unfolding understood everything
 later_is = record { is = λ more. refl; plain = λ more. (refl, refl); unlisted = λ more. refl; low = λ db. refl }
+
+pub past_is : IsDueSearch past_text passes_past
+unfolding understood everything
+past_is = record { is = λ more. refl; plain = λ more. (refl, refl); unlisted = λ more. refl; low = λ db. refl }
 
 -- ---- places
 

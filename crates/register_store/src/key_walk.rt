@@ -3,10 +3,11 @@ ghost use Rattle.std.specs.Prelude.{◌≡◌, ◌≢◌, ◌+◌, ◌≤◌, �
 ghost use Rattle.moment_core.specs.Moment.{IsMoment};
 ghost use Rattle.register_core.specs.declared.key.Key.{Key};
 ghost use Rattle.register_core.specs.Verdict.{max_keys};
-ghost use Rattle.register_store.specs.KeyWalk.{HasNextDue};
+ghost use Rattle.register_store.specs.KeyWalk.{HasNextDue, next_tie};
 ghost use Rattle.register_store.specs.Reading.{seen, Calls, HasRow, IsRowOf, KeepsSight, Reads};
 ghost use Rattle.register_store.specs.Reading.{ShowsAt, ShowsNone};
-ghost use Rattle.register_store.specs.Stops.{HasFirst, IsNumbered, is_later, is_same};
+ghost use Rattle.register_store.specs.Stops.{HasFirst, IsNumbered, is_later, is_past, is_same};
+ghost use Rattle.register_store.specs.declared.key_walk.Tie.{Tie};
 
 use crate::cell::{MomentCell, number_in};
 use crate::counted::Counted;
@@ -28,11 +29,41 @@ const FIND_LATER_STOP: &str =
     destroyed, compromised, occurrence, number FROM keys WHERE state = 2 AND protect_stop > ?1 \
     AND protect_stop <= ?2 ORDER BY protect_stop, number";
 
+/// The search for the first of the keys that are due behind a place, whatever its date. It goes by the index from the first key
+/// with the date of the place, and so past each of those up to its number.
+const FIND_PAST: &str =
+    "SELECT kind, owner, purpose, state, initial, activation, protect_stop, deactivation, \
+    destroyed, compromised, occurrence, number FROM keys WHERE state = 2 AND protect_stop >= ?1 \
+    AND protect_stop <= ?2 AND (protect_stop > ?1 OR number > ?3) ORDER BY protect_stop, number";
+
 /// A place in the order of the keys that are due: a Protect Stop Date, and among the keys that have it a number.
 #[derive(Clone, Copy, Debug, PartialEq, Eq)]
 pub struct DuePlace {
     pub stop: Moment,
     pub number: u32,
+}
+
+/// How the key at a place stands among those with its Protect Stop Date. What is found behind the place is the same either way:
+/// it says by which search that costs the least.
+#[derive(Clone, Copy, Debug, PartialEq, Eq)]
+pub enum Tie {
+    /// It is the first of them, so one search goes past it alone.
+    Alone,
+    /// Others of them came before it. A search past all of these again would cost more with each key that has this date.
+    Tied,
+}
+
+impl DuePlace {
+    /// How the key stands that comes next behind this place, by its Protect Stop Date.
+    pub fn next_tie(self, stop: Moment) -> Tie
+        ensures { result ≡ next_tie self stop }
+    {
+        if stop == self.stop {
+            Tie::Tied
+        } else {
+            Tie::Alone
+        }
+    }
 }
 
 /// The key in the cells, with its number in the last of them.
@@ -96,6 +127,43 @@ fn find_later_stop<S: Alter>(
     ))
 }
 
+/// The first of the keys that are due behind this place.
+fn find_past<S: Alter>(
+    connection: &mut Counted<S>,
+    until: Moment,
+    last: DuePlace,
+) -> Result<Option<(u64, Key)>, StoreError>
+    ensures counted { Calls 2 connection.old connection.new }
+    ensures sight { KeepsSight (seen S.Store connection.old) (seen S.Store connection.new) }
+    ensures reads { Reads S.Store (HasFirst (is_past until last))
+        connection.old connection.new result }
+    ensures moment { IsMoment until }
+{
+    numbered_of(connection.query_row(
+        FIND_PAST,
+        params![MomentCell(last.stop), MomentCell(until), last.number],
+    ))
+}
+
+/// The same by the two searches that go past no key: among those with the date of this place, and where there is none
+/// behind it, among those with a later one.
+fn find_behind_tied<S: Alter>(
+    connection: &mut Counted<S>,
+    until: Moment,
+    last: DuePlace,
+) -> Result<Option<(u64, Key)>, StoreError>
+    ensures counted { Calls 4 connection.old connection.new }
+    ensures sight { KeepsSight (seen S.Store connection.old) (seen S.Store connection.new) }
+    ensures reads { Reads S.Store (HasNextDue until last) connection.old connection.new result }
+{
+    let stop = last.stop;
+    let found = find_same_stop(connection, until, last)?;
+    if found.is_some() {
+        return Ok(found);
+    }
+    find_later_stop(connection, until, stop)
+}
+
 /// The key behind the one with this number, in the order of numbers, or `None` behind the last. It changes nothing.
 ///
 /// # Errors
@@ -111,7 +179,8 @@ pub fn each_key<S: Alter>(connection: &mut Counted<S>, last: u32) -> Result<Opti
 }
 
 /// The first key behind this place that is Active with a Protect Stop Date up to `until`, in the order of these dates and
-/// then of numbers, with its number; `None` behind the last. It changes nothing.
+/// then of numbers, with its number; `None` behind the last. It changes nothing. Behind a place that is [`Tie::Alone`] it asks
+/// the database once.
 ///
 /// # Errors
 /// As [`each_key`].
@@ -119,15 +188,15 @@ pub fn each_due<S: Alter>(
     connection: &mut Counted<S>,
     until: Moment,
     last: DuePlace,
+    tie: Tie,
 ) -> Result<Option<(u64, Key)>, StoreError>
     ensures counted { Calls 4 connection.old connection.new }
+    ensures once { tie ≡ Tie.Alone → Calls 2 connection.old connection.new }
     ensures sight { KeepsSight (seen S.Store connection.old) (seen S.Store connection.new) }
     ensures reads { Reads S.Store (HasNextDue until last) connection.old connection.new result }
 {
-    let stop = last.stop;
-    let found = find_same_stop(connection, until, last)?;
-    if found.is_some() {
-        return Ok(found);
+    match tie {
+        Tie::Alone => find_past(connection, until, last),
+        Tie::Tied => find_behind_tied(connection, until, last),
     }
-    find_later_stop(connection, until, stop)
 }
