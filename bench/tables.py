@@ -13,12 +13,13 @@ date of the one before it. The same rows are read by
     bare             the program below: one SELECT given to the kit's `sqlite`, whose cells it adds up and does not write
     python           the same SELECT by its `sqlite3`, and `csv` for an export: it writes what `keyreg` does, in large pieces
     python, flushed  the same, each line flushed before the next row is read
+    python, tested   as python, over a register that it opens as `opened.py` does: all rows are put to the tests first
 
 each into a file. What Python writes, by the formats, is to be what `keyreg` writes, byte for byte, and the sum of the bare
 program's cells the one that SQLite's own library gives.
 
 *Whole* is the run of a program from its start to its end. `keyreg` and the bare program read the whole file when they open it,
-and `keyreg` tests each row; Python does neither. *Behind the opening* is the whole without what the same run had used when its
+and `keyreg` tests each row; Python does neither, but for *python, tested*, which tests each row. *Behind the opening* is the whole without what the same run had used when its
 first byte was in the file: that is the header of the export, the head of the report, or the bare program's line `opened`, each
 written and flushed where the file is open and no row is read. So the program's start, its words and its opening are taken away,
 and its end is not. That byte is looked for some four times a millisecond; the program is then stopped, its clock of processor
@@ -49,6 +50,7 @@ HERE = os.path.dirname(os.path.abspath(__file__))
 sys.path.insert(0, os.path.join(HERE, "..", "checks"))
 import registers  # noqa: E402
 from measuring import built, measured, measured_behind, table  # noqa: E402
+from opened import opened  # noqa: E402
 from registers import INDEXES, STATES, TABLES, TYPES, UNSET, all_rows, expect, keyreg  # noqa: E402
 
 # What is read of the keys, by the bare program and by Python.
@@ -185,13 +187,13 @@ def write_report(connection, written, is_flushed, days):
     written.write(f"total {count}\n")
 
 
-def write_by_python(table_name, flushing, file, days):
-    connection = sqlite3.connect(file)
+def write_by_python(table_name, name, file, days):
+    connection = opened(file) if name == "python, tested" else sqlite3.connect(file)
     sys.stdout.reconfigure(encoding="utf-8", newline="\n")
     if table_name == "export":
-        write_export(connection, sys.stdout, flushing == "flushed")
+        write_export(connection, sys.stdout, name == "python, flushed")
     else:
-        write_report(connection, sys.stdout, flushing == "flushed", int(days))
+        write_report(connection, sys.stdout, name == "python, flushed", int(days))
     connection.close()
 
 
@@ -280,7 +282,8 @@ def cell_sum(file, table_name, until):
 # ---- exports and reports
 
 
-BESIDE = ("keyreg", "bare", "python", "python, flushed")
+BY_PYTHON = ("python", "python, flushed", "python, tested")
+BESIDE = ("keyreg", "bare", *BY_PYTHON)
 
 
 def words_of(name, table_name, file, days):
@@ -291,13 +294,12 @@ def words_of(name, table_name, file, days):
     if name == "bare":
         until = [str(horizon(LATEST, days))] if table_name == "report" else []
         return [built("bare_tables", BARE_SOURCE), file, *until]
-    flushing = "flushed" if name == "python, flushed" else "buffered"
-    return [sys.executable, os.path.abspath(__file__), "--python", table_name, flushing, file, str(days)]
+    return [sys.executable, os.path.abspath(__file__), "--python", table_name, name, file, str(days)]
 
 
 def expect_written(written, table_name, file, days):
     """Each program's output is to be what it has to be."""
-    for name in ("python", "python, flushed"):
+    for name in BY_PYTHON:
         expect(filecmp.cmp(written["keyreg"], written[name], shallow=False), f"{table_name}: {name} writes other bytes")
     with open(written["bare"], encoding="utf-8") as told:
         wanted = cell_sum(file, table_name, horizon(LATEST, days))

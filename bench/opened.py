@@ -1,0 +1,184 @@
+"""A register opened by Python: the five tables of docs/SPECIFICATION.md are read and put to the tests of an opening, row by
+row, as `keyreg` puts them. Where one fails the program ends.
+
+That a cell holds a whole number or a text is left to the tables, which are STRICT, and the pages of the file are not audited, as
+the kit's `sqlite` audits them whenever it opens one."""
+import calendar
+import os
+import re
+import sqlite3
+import sys
+import time
+
+sys.path.insert(0, os.path.join(os.path.dirname(os.path.abspath(__file__)), "..", "checks"))
+from registers import STATES, TYPES, UNSET, expect  # noqa: E402
+
+# The months of each type's originator use, and of its recipient use behind that.
+MONTHS = {1: (24, 36), 2: (24, 36), 3: (24, 36), 4: (36, 0), 5: (24, 0), 6: (24, 0), 7: (12, 0)}
+MAX_KEYS, MAX_CUSTODIANS, MAX_REQUEST = 1_000_000, 8, 2**53 - 1
+COMPROMISES = ("2", "3")
+
+NAME = re.compile(r"[A-Za-z0-9._@-]{1,64}")
+PURPOSE = re.compile(r"(?! )[^\x00-\x1f\x7f]+(?<! )")
+NUMBER = re.compile(r"0|[1-9][0-9]{0,15}")
+
+
+# ---- the ranges of cells and of a command's fields
+
+
+def is_name(text):
+    return NAME.fullmatch(text) is not None
+
+
+def is_purpose(text):
+    return PURPOSE.fullmatch(text) is not None and len(text.encode()) <= 200
+
+
+def is_number(text, least, most):
+    return NUMBER.fullmatch(text) is not None and least <= int(text) <= most
+
+
+def is_key(text):
+    return is_number(text, 1, 2**32 - 1)
+
+
+def is_date(text):
+    return text == "-" or is_number(text, 0, UNSET - 1)
+
+
+def is_edit(text):
+    return text == "=" or is_date(text)
+
+
+def is_type(text):
+    return text in TYPES.values()
+
+
+def is_reason(text):
+    return is_number(text, 1, 7)
+
+
+# What each field of a command's text is to be, behind its first word.
+FIELDS = {
+    "register": (is_type, is_name, is_date, is_date, is_date, is_purpose), "activate": (is_key,),
+    "set": (is_key, is_edit, is_edit, is_edit), "revoke": (is_key, is_reason, is_date), "assign": (is_key, is_name),
+    "add-custodian": (is_key, is_name), "remove-custodian": (is_key, is_name), "approve": (is_key,), "withdraw": (is_key,),
+    "destroy": (is_key,), "advance": (),
+}
+
+
+def is_command(text):
+    word, *fields = text.split(" ", 6)
+    tests = FIELDS.get(word)
+    if tests is None or len(fields) != len(tests) or not all(test(field) for test, field in zip(tests, fields)):
+        return False
+    return word != "revoke" or fields[2] == "-" or fields[1] in COMPROMISES
+
+
+# ---- a key
+
+
+def after_months(second, months):
+    """The second so many months later, or the last of all where that is past the range."""
+    at = time.gmtime(second)
+    years, month = divmod(at.tm_mon - 1 + months, 12)
+    year, month = at.tm_year + years, month + 1
+    if year > 9999:
+        return UNSET - 1
+    day = min(at.tm_mday, calendar.monthrange(year, month)[1])
+    return calendar.timegm((year, month, day, at.tm_hour, at.tm_min, at.tm_sec))
+
+
+def fit(kind, activation, stop, deactivation):
+    """Whether the dates fit the type, and the last two are set where the first is."""
+    if activation == UNSET:
+        return deactivation == UNSET or stop == UNSET or stop <= deactivation <= after_months(stop, MONTHS[kind][1])
+    if UNSET in (stop, deactivation):
+        return False
+    originator, recipient = MONTHS[kind]
+    return activation <= stop <= deactivation <= after_months(stop, recipient) and stop <= after_months(activation, originator)
+
+
+def are_past(latest, initial, destroyed, compromised, occurrence):
+    """Whether the dates are those of a key whose latest request was at this moment or before."""
+    past = initial <= latest and all(date == UNSET or date <= latest for date in (destroyed, compromised))
+    return past and (occurrence == UNSET) == (compromised == UNSET) and occurrence <= compromised
+
+
+def state_at(moment, activation, deactivation, destroyed, compromised):
+    if destroyed != UNSET:
+        return 5 if compromised == UNSET else 6
+    if compromised != UNSET:
+        return 4
+    if activation > moment:
+        return 1
+    return 3 if deactivation <= moment else 2
+
+
+def is_sound(latest, row):
+    kind, owner, purpose, state, initial, activation, stop, deactivation, destroyed, compromised, occurrence = row
+    dates = (initial, activation, stop, deactivation, destroyed, compromised, occurrence)
+    return (kind in TYPES and is_name(owner) and is_purpose(purpose) and min(dates) >= 0 and max(dates) <= UNSET
+            and fit(kind, activation, stop, deactivation) and are_past(latest, initial, destroyed, compromised, occurrence)
+            and state == state_at(latest, activation, deactivation, destroyed, compromised))
+
+
+# ---- the tests of the tables
+
+
+def counts_of(connection):
+    """The latest moment and the number of keys."""
+    rows = connection.execute("SELECT id, version, latest, key_count FROM meta ORDER BY id").fetchall()
+    expect(len(rows) == 1 and rows[0][:2] == (1, 1), "meta")
+    _, _, latest, keys = rows[0]
+    expect(0 <= latest < UNSET and 0 <= keys <= MAX_KEYS, "meta")
+    return latest, keys
+
+
+def owners_of(connection, latest, keys):
+    """The owners of the keys, by number."""
+    owners = []
+    for *row, number in connection.execute(
+            "SELECT kind, owner, purpose, state, initial, activation, protect_stop, deactivation, destroyed, compromised, "
+            "occurrence, number FROM keys ORDER BY number"):
+        owners.append(row[1])
+        expect(number == len(owners) and is_sound(latest, row), f"key {number}")
+    expect(len(owners) == keys, "keys")
+    return owners
+
+
+def custodians_of(connection, owners):
+    """The custodians of each key that has some."""
+    custodians = {}
+    for key, name in connection.execute("SELECT key_no, name FROM custodian"):
+        names = custodians.setdefault(key, [])
+        names.append(name)
+        expect(0 < key <= len(owners) and is_name(name) and name != owners[key - 1], f"custodian of {key}")
+        expect(len(names) <= MAX_CUSTODIANS, f"custodians of {key}")
+    return custodians
+
+
+def test_approvals(connection, custodians):
+    for key, name in connection.execute("SELECT key_no, name FROM approval"):
+        expect(name in custodians.get(key, ()), f"approval of {key}")
+
+
+def is_kept(latest, keys, row):
+    command, key, state, moment, caller, number = row
+    is_reply = key == state == 0 if command == "advance" else 0 < key <= keys and state in STATES and state != 0
+    return (is_reply and is_command(command) and 0 <= moment <= latest and is_name(caller) and 0 < number <= MAX_REQUEST)
+
+
+def test_requests(connection, latest, keys):
+    for row in connection.execute("SELECT command, key_no, state, moment, caller, number FROM request"):
+        expect(is_kept(latest, keys, row), f"request {row[5]} of {row[4]}")
+
+
+def opened(file):
+    """The register in the file, put to its tests."""
+    connection = sqlite3.connect(file)
+    latest, keys = counts_of(connection)
+    custodians = custodians_of(connection, owners_of(connection, latest, keys))
+    test_approvals(connection, custodians)
+    test_requests(connection, latest, keys)
+    return connection
