@@ -1,8 +1,8 @@
 """A register opened by Python: the five tables of docs/SPECIFICATION.md are read and put to the tests of an opening, row by
 row, as `keyreg` puts them. Where one fails the program ends.
 
-That a cell holds a whole number or a text is left to the tables, which are STRICT, and the pages of the file are not audited, as
-the kit's `sqlite` audits them whenever it opens one."""
+That a cell holds a whole number or a text is left to the tables, which are STRICT. The pages of the file are not audited, as the
+kit's `sqlite` audits them at each opening."""
 import calendar
 import os
 import re
@@ -96,7 +96,8 @@ def fit(kind, activation, stop, deactivation):
     if UNSET in (stop, deactivation):
         return False
     originator, recipient = MONTHS[kind]
-    return activation <= stop <= deactivation <= after_months(stop, recipient) and stop <= after_months(activation, originator)
+    in_order = activation <= stop <= deactivation
+    return in_order and stop <= after_months(activation, originator) and deactivation <= after_months(stop, recipient)
 
 
 def are_past(latest, initial, destroyed, compromised, occurrence):
@@ -166,7 +167,7 @@ def test_approvals(connection, custodians):
 def is_kept(latest, keys, row):
     command, key, state, moment, caller, number = row
     is_reply = key == state == 0 if command == "advance" else 0 < key <= keys and state in STATES and state != 0
-    return (is_reply and is_command(command) and 0 <= moment <= latest and is_name(caller) and 0 < number <= MAX_REQUEST)
+    return is_reply and is_command(command) and 0 <= moment <= latest and is_name(caller) and 0 < number <= MAX_REQUEST
 
 
 def test_requests(connection, latest, keys):
