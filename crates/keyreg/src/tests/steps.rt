@@ -1,10 +1,11 @@
 //! How many steps of the database each command takes: its calls, and the rows that they hand out.
-use super::fresh_run::desk_after;
+use super::fresh_run::{desk_after, desk_of};
 use super::openings::run_over;
 use super::repeats::DAY;
 use super::worked_rows::WorkedRow;
 use crate::act::create_in_memory;
-use register_desk::Desk;
+use register_desk::{Desk, Watched};
+use register_report::rotation;
 use sqlite::MemStore;
 use std::alloc::Global;
 use std::test::Fail;
@@ -85,6 +86,46 @@ fn no_more_is_asked_than_is_needed(rt: HostRuntime) -> Result<(), Fail> {
     let mut desk = full_custody(rt.alloc())?;
     for (line, steps) in &BEHIND {
         assert_eq!(rt; steps_of(rt.alloc(), &mut desk, line)?, *steps, "{line}");
+    }
+    Ok(())
+}
+
+/// Protect Stop Dates of keys that are due, and the steps of a report on them: for each row a search and the row, one
+/// search more behind the last row of each date that several have, and the search that finds none.
+const REPORTS: [(&[u64], u64); 5] = [
+    (&[], 1),
+    (&[700, 500, 600], 7),
+    (&[500, 500], 6),
+    (&[500, 500, 500, 600], 10),
+    (&[500, 600, 600, 700], 10),
+];
+
+/// A desk with an Active key for each of these Protect Stop Dates.
+fn desk_with(alloc: Global, stops: &[u64]) -> Result<Desk<MemStore>, Fail> {
+    let mut lines = String::new(alloc);
+    for (place, stop) in stops.iter().enumerate() {
+        let line = format!(in alloc;
+            "100 ann {} register data-encryption bob 0 {stop} 1000 disks\n",
+            place + 1
+        )?;
+        lines.push_str(line.as_str())?;
+    }
+    desk_of(alloc, lines.as_bytes())
+}
+
+/// How many steps a report takes.
+fn report_steps(alloc: Global, desk: &mut Desk<MemStore>) -> u64 {
+    let before = desk.steps();
+    let _ = rotation(alloc, desk, 1, &mut Watched::new(Vec::new(alloc)));
+    desk.steps().saturating_sub(before)
+}
+
+#[test]
+fn each_due_row_takes_one_search(rt: HostRuntime) -> Result<(), Fail> {
+    for (stops, steps) in &REPORTS {
+        let mut desk = desk_with(rt.alloc(), stops)?;
+        let took = report_steps(rt.alloc(), &mut desk);
+        assert_eq!(rt; took, *steps, "{}", stops.len());
     }
     Ok(())
 }
