@@ -1,0 +1,71 @@
+-- What is known of the parts of a head is known of the head.
+use Rattle.std.proofs.Common.{◌≡◌, ◌≢◌, ℕ, List, Bool, true, false, map, take, Option, Some, None, subst, sym, ap, refl, ◌∙◌}
+use Rattle.std.specs.Prelude.{IsTrue, not}
+use Rattle.std.specs.Str.{bytes_eq}
+use Rattle.std.proofs.lemmas.Slice.Eq.{bytes_eq-Decides}
+use Rattle.httparse.specs.Grammar.{RequestHead}
+use Rattle.httparse.specs.declared.spans.HeaderSpan.{HeaderSpan}
+use Rattle.httparse.specs.declared.spans.RequestSpans.{RequestSpans}
+use Rattle.httparse.specs.Spans.{IsRequestAt, header_bytes, span_bytes}
+use Rattle.http_messages.specs.declared.route.Route.{Route}
+use Rattle.http_messages.specs.declared.route.Route.TheVariants.{Requests, Show, Usage}
+use Rattle.http_messages.specs.Route.{IsRouteOf, method_of}
+use Rattle.http_messages.specs.Exchange.{Lines, HasHost, lines_of, AsksPost, AsksBehind, no_host, no_path, no_method, show, usage, post}
+use Rattle.http_messages.specs.declared.asked.Asked.{Asked}
+use Rattle.http_messages.specs.declared.asked.Asked.TheVariants.{Reject, ShowKey, ShowUsage}
+use Rattle.http_messages.specs.declared.asked.Rejection.TheVariants.{BadRequest, NoRoute, MethodNotAllowed}
+
+differ : (xs ys : List ℕ) → true ≡ not (bytes_eq xs ys) → xs ≢ ys
+differ xs ys other e = let hit : bytes_eq xs ys ≡ true = (bytes_eq-Decides xs ys).1 e in absurd (cc)
+
+agree_by : (v : Bool) (P : Type 0) → (v ≡ true → P) → false ≡ not v → P
+agree_by true P p e = p refl
+agree_by false P p e = absurd (cc)
+
+agree : (xs ys : List ℕ) → false ≡ not (bytes_eq xs ys) → xs ≡ ys
+agree xs ys e = agree_by (bytes_eq xs ys) (xs ≡ ys) (bytes_eq-Decides xs ys).0 e
+
+no_truth : (v : Bool) → v ≡ false → IsTrue v → ⊥
+no_truth v e p = let both = sym e ∙ p in absurd (cc)
+
+module _ (front : List ℕ) (headers : List HeaderSpan) (spans : RequestSpans) (h : RequestHead) (at : IsRequestAt front headers spans h) where
+  abbrev lines : Lines
+  lines = map (header_bytes front) (take spans.headers headers)
+
+  host_is : HasHost spans.version lines → HasHost h.minor (lines_of h)
+  host_is p = subst (HasHost h.minor) at.fields (subst (λ v. HasHost v lines) at.version p)
+
+  host_was : HasHost h.minor (lines_of h) → HasHost spans.version lines
+  host_was p = subst (HasHost spans.version) (sym at.fields) (subst (λ v. HasHost v (lines_of h)) (sym at.version) p)
+
+  route_is : (target : List ℕ) (o : Option Route) → target ≡ span_bytes front spans.path → IsRouteOf target o → IsRouteOf h.target o
+  route_is target o e p = subst (λ t. IsRouteOf t o) (e ∙ at.path) p
+
+  pub asks_no_host : (v : Bool) (rest : List ℕ) → v ≡ false → (HasHost spans.version lines → IsTrue v) → AsksBehind h rest (Reject BadRequest)
+  asks_no_host v rest e f = no_host (λ p. let hit = f (host_was p) in no_truth v e hit)
+
+  pub asks_no_path : (target : List ℕ) (rest : List ℕ) → HasHost spans.version lines → target ≡ span_bytes front spans.path → IsRouteOf target None → AsksBehind h rest (Reject NoRoute)
+  asks_no_path target rest p e q = no_path (host_is p) (route_is target None e q)
+
+  pub asks_no_method : (target method text : List ℕ) (r : Route) (rest : List ℕ) → HasHost spans.version lines → target ≡ span_bytes front spans.path → IsRouteOf target (Some r)
+      → method ≡ span_bytes front spans.method → text ≡ method_of r → true ≡ not (bytes_eq method text) → AsksBehind h rest (Reject (MethodNotAllowed r))
+  asks_no_method target method text r rest p e q f m other =
+      no_method r (host_is p) (route_is target (Some r) e q) (λ same. differ method text other (f ∙ at.method ∙ same ∙ sym m))
+
+  pub method_is : (method text : List ℕ) (r : Route) → method ≡ span_bytes front spans.method → text ≡ method_of r → false ≡ not (bytes_eq method text) → h.method ≡ method_of r
+  method_is method text r f m same = sym (f ∙ at.method) ∙ agree method text same ∙ m
+
+  pub asks_show : (target method text : List ℕ) (r : Route) (key : ℕ) (rest : List ℕ) → r ≡ Show key → HasHost spans.version lines → target ≡ span_bytes front spans.path → IsRouteOf target (Some r)
+      → method ≡ span_bytes front spans.method → text ≡ method_of r → false ≡ not (bytes_eq method text) → AsksBehind h rest (ShowKey key)
+  asks_show target method text r key rest is p e q f m same =
+      show key (host_is p) (subst (λ w. IsRouteOf h.target (Some w)) is (route_is target (Some r) e q)) (method_is method text r f m same ∙ ap method_of is)
+
+  pub asks_usage : (target method text : List ℕ) (r : Route) (key : ℕ) (rest : List ℕ) → r ≡ Usage key → HasHost spans.version lines → target ≡ span_bytes front spans.path → IsRouteOf target (Some r)
+      → method ≡ span_bytes front spans.method → text ≡ method_of r → false ≡ not (bytes_eq method text) → AsksBehind h rest (ShowUsage key)
+  asks_usage target method text r key rest is p e q f m same =
+      usage key (host_is p) (subst (λ w. IsRouteOf h.target (Some w)) is (route_is target (Some r) e q)) (method_is method text r f m same ∙ ap method_of is)
+
+  pub asks_post : (target method text : List ℕ) (r : Route) (rest : List ℕ) (a : Asked) → r ≡ Requests → HasHost spans.version lines → target ≡ span_bytes front spans.path → IsRouteOf target (Some r)
+      → method ≡ span_bytes front spans.method → text ≡ method_of r → false ≡ not (bytes_eq method text) → AsksPost lines rest a → AsksBehind h rest a
+  asks_post target method text r rest a is p e q f m same asked =
+      post a (host_is p) (subst (λ w. IsRouteOf h.target (Some w)) is (route_is target (Some r) e q)) (method_is method text r f m same ∙ ap method_of is) (subst (λ ls. AsksPost ls rest a) at.fields asked)

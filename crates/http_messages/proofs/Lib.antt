@@ -1,0 +1,9 @@
+pub mod Fronts
+pub mod Routing
+pub mod Lines
+pub mod Judging
+pub mod Answering
+pub mod Inputs
+pub mod HeadLaws
+pub mod InOrder
+pub mod NoFloats

@@ -1,0 +1,15 @@
+-- What is held is what stood behind the head, and then what came; each read brings a byte.
+use Rattle.std.proofs.Common.{◌≡◌, ◌-◌, ◌≤◌, ◌++◌, List, ℕ, length, take}
+use Rattle.std.specs.Io.KnownBytes.{Consumes}
+use Rattle.http_messages.proofs.content.read_body.Given as goal
+
+abbrev pub invariant-reads : goal.invariant-reads
+invariant-reads g l = record {
+  got : (more : List ℕ) × Consumes (g.R.Read.remaining l.fn.reader.inner) (g.R.Read.remaining l.reader.inner) more
+      × (l.body.items ≡ take l.length l.behind ++ more) × (length more ≡ l.read);
+  few : length l.body.items ≤ l.length;
+  counted : l.read ≤ length l.body.items;
+}
+
+abbrev pub decreases-reads : goal.decreases-reads
+decreases-reads g l = l.length - length l.body.items

@@ -1,0 +1,34 @@
+-- The header lines of a name, without regard to case, and what their values say.
+use Rattle.std.specs.Prelude.{◌≡◌, ℕ, ◌<◌, ◌≤◌, List, [], ◌∷◌, length, map, Bool, if◌then◌else◌}
+use Rattle.std.specs.Str.{bytes_eq}
+use Rattle.std.specs.Str.Parse.{digits_value}
+use Rattle.std.specs.Char.{to_ascii_lowercase, is_ascii_digit}
+use Rattle.httparse.specs.Grammar.{RequestHead, AllPass}
+use Rattle.httparse.specs.Spans.{name_and_value}
+use Rattle.http_messages.specs.declared.fields.Values.{Values}
+use Rattle.http_messages.specs.declared.fields.Values.TheVariants as found
+
+-- whether the name is this one, which is given in lower case
+abbrev pub is_named : List ℕ → List ℕ → Bool
+is_named name given = bytes_eq (map to_ascii_lowercase given) name
+
+-- the values of the header lines of this name, in order
+abbrev pub values_of : List ℕ → List (List ℕ × List ℕ) → List (List ℕ)
+values_of name [] = []
+values_of name (line ∷ lines) = if is_named name line.0 then line.1 ∷ values_of name lines else values_of name lines
+
+-- the values of a head's header lines of this name, without the spaces and tabs at both ends
+abbrev pub values : List ℕ → RequestHead → List (List ℕ)
+values name h = values_of name (map name_and_value h.fields)
+
+-- how many values there are, and which it is where there is one
+abbrev pub AreFound : List (List ℕ) → Values → Type 0
+AreFound vs found.None = vs ≡ []
+AreFound vs (found.One v) = vs ≡ v.now ∷ []
+AreFound vs found.Several = 2 ≤ length vs
+
+-- the text is one digit or more, and writes this number
+pub record IsLength (text : List ℕ) (n : ℕ) : Type 0 where
+  pub some : 0 < length text
+  pub digits : AllPass is_ascii_digit text
+  pub value : digits_value 10 text ≡ n

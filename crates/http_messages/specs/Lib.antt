@@ -1,0 +1,14 @@
+pub mod CommandValue
+pub mod Head
+pub mod Found
+pub mod Route
+pub mod Fields
+pub mod Body
+pub mod Reply
+pub mod Exchange
+pub mod Rejection
+pub mod Judged
+pub mod Content
+pub mod HeadLaws
+pub mod AnswerValue
+pub mod Answer

@@ -1,0 +1,12 @@
+-- The reply of each refusal.
+use Rattle.http_messages.specs.declared.asked.Rejection.{Rejection}
+use Rattle.http_messages.specs.declared.asked.Rejection.TheVariants.{BadRequest, NoRoute, MethodNotAllowed, LengthRequired, TooLarge}
+use Rattle.http_messages.specs.Route.{method_of}
+use Rattle.http_messages.specs.Reply.{Reply, bad_request, no_route, not_allowed, length_required, too_large}
+
+abbrev pub reply_of : Rejection → Reply
+reply_of BadRequest = bad_request
+reply_of NoRoute = no_route
+reply_of (MethodNotAllowed r) = not_allowed (method_of r)
+reply_of LengthRequired = length_required
+reply_of TooLarge = too_large

@@ -1,0 +1,50 @@
+-- The routes, by the text of each.
+use Rattle.std.specs.Prelude.{◌≡◌, ◌≢◌, ℕ, List, [], ◌∷◌, ◌++◌, Option, Some, None, codes, decimal}
+use Rattle.matchit.specs.Rows.{RowsOf}
+use Rattle.matchit.specs.Router.{RouteOf}
+use Rattle.register_core.specs.Request.{IsKeyNumber}
+use Rattle.http_messages.specs.declared.route.Route.{Route}
+use Rattle.http_messages.specs.declared.route.Route.TheVariants.{Requests, Show, Usage}
+use Rattle.http_messages.specs.declared.route.Place.{Place}
+use Rattle.http_messages.specs.declared.route.Place.TheVariants as place
+
+-- the target that a route is spelled by
+abbrev pub route_text : Route → List ℕ
+route_text Requests = codes "/requests"
+route_text (Show key) = codes "/keys/" ++ (decimal key ++ codes "")
+route_text (Usage key) = codes "/keys/" ++ (decimal key ++ codes "/usage")
+
+abbrev pub IsRoute : Route → Type 0
+IsRoute Requests = Unit {0}
+IsRoute (Show key) = IsKeyNumber key
+IsRoute (Usage key) = IsKeyNumber key
+
+-- the route that the target spells, or none where it spells none
+abbrev pub IsRouteOf : List ℕ → Option Route → Type 0
+IsRouteOf target None = (r : Route) → IsRoute r → target ≢ route_text r
+IsRouteOf target (Some r) = IsRoute r × (target ≡ route_text r)
+
+-- the method that a route takes
+abbrev pub method_of : Route → List ℕ
+method_of Requests = codes "POST"
+method_of (Show key) = codes "GET"
+method_of (Usage key) = codes "GET"
+
+-- the place that the router keeps for a route
+abbrev pub place_of : Route → Place
+place_of Requests = place.Requests
+place_of (Show key) = place.Key
+place_of (Usage key) = place.Usage
+
+-- the rows of the router
+abbrev pub key_row : RouteOf Place
+key_row = record { pattern = codes "/keys/" ++ 256 ∷ []; text = codes "/keys/{n}"; names = (7, 8) ∷ []; value = place.Key }
+
+abbrev pub usage_row : RouteOf Place
+usage_row = record { pattern = codes "/keys/" ++ 256 ∷ codes "/usage"; text = codes "/keys/{n}/usage"; names = (7, 8) ∷ []; value = place.Usage }
+
+abbrev pub requests_row : RouteOf Place
+requests_row = record { pattern = codes "/requests"; text = codes "/requests"; names = []; value = place.Requests }
+
+abbrev pub routes : RowsOf (RouteOf Place)
+routes = (usage_row.pattern, usage_row) ∷ (key_row.pattern, key_row) ∷ (requests_row.pattern, requests_row) ∷ []

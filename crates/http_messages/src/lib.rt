@@ -1,0 +1,30 @@
+//! The messages of one HTTP exchange: what a request asks of the register, as its whole input has
+//! it, and the text of the reply. The register itself is not asked here.
+//!
+//! ```
+//! let asking = ask(alloc, &mut reader);
+//! let text = outcome_text(alloc, &outcome)?;
+//! ```
+#![tactic(auto)]
+
+mod answer_text;
+mod answer_value;
+mod asked;
+mod asking;
+mod command_value;
+mod content;
+mod fields;
+mod head;
+mod judge;
+pub mod laws;
+mod members;
+mod reply;
+mod route;
+
+pub use answer_text::{key_text, outcome_text, usage_text};
+pub use asked::{AskFault, Asked, Rejection, Sent};
+pub use asking::{Asking, ask};
+pub use head::{MAX_EXCHANGE_READS, MAX_HEAD_LENGTH, MAX_HEADERS};
+pub use judge::MAX_BODY_LENGTH;
+pub use reply::rejection_text;
+pub use route::Route;

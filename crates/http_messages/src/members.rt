@@ -1,0 +1,155 @@
+//! The members of a JSON object, read in their order, and what the value of each stands for.
+ghost use Rattle.std.specs.Prelude.{◌≡◌, ◌≢◌, ◌↔◌, ℕ, List, Option, IsTrue, IfSome, IfNone};
+ghost use Rattle.serde_json.specs.Data.{Data, Members, string, member, no_members};
+ghost use Rattle.serde_json.specs.View.{view, members_view};
+ghost use Rattle.lifecycle_core.specs.declared.reason.Reason.{Reason};
+ghost use Rattle.lifecycle_core.specs.Reason.{reason_code};
+ghost use Rattle.period_core.specs.declared.key_type.KeyType.{KeyType};
+ghost use Rattle.period_core.specs.KeyType.{key_type_text};
+ghost use Rattle.moment_core.specs.Moment.{IsMoment};
+ghost use Rattle.register_core.specs.Name.{IsName};
+ghost use Rattle.register_core.specs.Purpose.{IsPurpose};
+ghost use Rattle.register_core.specs.Request.{IsDate, IsEdit, IsKeyNumber};
+ghost use Rattle.register_core.specs.declared.request.Edit.{Edit};
+ghost use Rattle.http_messages.specs.CommandValue.{number_data, date_data, edit_data};
+
+use lifecycle_core::Reason;
+use moment_core::Moment;
+use period_core::KeyType;
+use register_core::{Edit, Name, Purpose};
+use serde_json::Value;
+use std::collections::btree_map::Iter;
+
+/// The value of the next member, if it has this name.
+pub(crate) fn next_named<'v>(members: &mut Iter<'v, String, Value>, name: &str) -> Option<&'v Value>
+    ensures found { IfSome result (λ value.
+        members_view members.old ≡ member name.now (view value.now) (members_view members.new)) }
+    ensures none { IfNone result ((d : Data) (rest : Members) →
+        members_view members.old ≢ member name.now d rest) }
+{
+    match members.next() {
+        Some((key, value)) => {
+            if key.as_str() == name {
+                Some(value)
+            } else {
+                None
+            }
+        }
+        None => None,
+    }
+}
+
+/// The value of the last member, if there is one member left and it has this name.
+pub(crate) fn last_named<'v>(members: &mut Iter<'v, String, Value>, name: &str) -> Option<&'v Value>
+    ensures found { IfSome result (λ value.
+        members_view members.old ≡ member name.now (view value.now) no_members) }
+    ensures none { IfNone result ((d : Data) →
+        members_view members.old ≢ member name.now d no_members) }
+{
+    let value = next_named(members, name)?;
+    if members.next().is_none() {
+        Some(value)
+    } else {
+        None
+    }
+}
+
+/// The number of a key that the value is.
+pub(crate) fn key_of(value: &Value) -> Option<u32>
+    ensures found { IfSome result (λ key. IsKeyNumber key × (view value.now ≡ number_data key)) }
+    ensures none { IfNone result ((key : ℕ) → IsKeyNumber key → view value.now ≢ number_data key) }
+{
+    let key = u32::try_from(value.as_u64()?).ok()?;
+    if key > 0 { Some(key) } else { None }
+}
+
+/// The moment that the value is.
+fn moment_of(value: &Value) -> Option<Moment>
+    ensures found { IfSome result (λ date. view value.now ≡ number_data date) }
+    ensures none { IfNone result ((date : ℕ) → IsMoment date → view value.now ≢ number_data date) }
+{
+    Moment::new(value.as_u64()?)
+}
+
+/// The date that the value is, null for none.
+pub(crate) fn date_of(value: &Value) -> Option<Option<Moment>>
+    ensures found { IfSome result (λ date. IsDate date × (view value.now ≡ date_data date)) }
+    ensures none { IfNone result ((date : Option ℕ) → IsDate date →
+        view value.now ≢ date_data date) }
+{
+    if value.is_null() {
+        return Some(None);
+    }
+    let date = moment_of(value)?;
+    Some(Some(date))
+}
+
+/// The text that the value is.
+pub(crate) fn text_of(value: &Value) -> Option<&str>
+    ensures found { IfSome result (λ text. view value.now ≡ string text.now) }
+    ensures none { IfNone result ((text : List ℕ) → view value.now ≢ string text) }
+{
+    value.as_str()
+}
+
+/// Whether the value is this text.
+pub(crate) fn is_text(value: &Value, text: &str) -> bool
+    ensures { IsTrue result ↔ (view value.now ≡ string text.now) }
+{
+    match text_of(value) {
+        Some(found) => found == text,
+        None => false,
+    }
+}
+
+/// What becomes of a date: null unsets it, and the text "keep" leaves it.
+pub(crate) fn edit_of(value: &Value) -> Option<Edit>
+    ensures found { IfSome result (λ edit. IsEdit edit × (view value.now ≡ edit_data edit)) }
+    ensures none { IfNone result ((edit : Edit) → IsEdit edit → view value.now ≢ edit_data edit) }
+{
+    if is_text(value, "keep") {
+        return Some(Edit::Keep);
+    }
+    match date_of(value) {
+        Some(Some(date)) => Some(Edit::Set(date)),
+        Some(None) => Some(Edit::Clear),
+        None => None,
+    }
+}
+
+/// The name that the value is.
+pub(crate) fn name_of(value: &Value) -> Option<Name>
+    ensures found { IfSome result (λ name. IsName name × (view value.now ≡ string name)) }
+    ensures none { IfNone result ((name : List ℕ) → IsName name → view value.now ≢ string name) }
+{
+    Name::new(text_of(value)?.as_bytes())
+}
+
+/// The purpose that the value is.
+pub(crate) fn purpose_of(value: &Value) -> Option<Purpose>
+    ensures found { IfSome result (λ purpose.
+        IsPurpose purpose × (view value.now ≡ string purpose)) }
+    ensures none { IfNone result ((purpose : List ℕ) → IsPurpose purpose →
+        view value.now ≢ string purpose) }
+{
+    Purpose::new(text_of(value)?.as_bytes())
+}
+
+/// The type of key whose text the value is.
+pub(crate) fn key_type_of(value: &Value) -> Option<KeyType>
+    ensures found { IfSome result (λ kind. view value.now ≡ string (key_type_text kind)) }
+    ensures none { IfNone result ((kind : KeyType) →
+        view value.now ≢ string (key_type_text kind)) }
+{
+    KeyType::from_text(text_of(value)?.as_bytes())
+}
+
+/// The reason whose code the value is.
+pub(crate) fn reason_of(value: &Value) -> Option<Reason>
+    ensures found { IfSome result (λ reason. view value.now ≡ number_data (reason_code reason)) }
+    ensures none { IfNone result ((reason : Reason) →
+        view value.now ≢ number_data (reason_code reason)) }
+{
+    let code = u8::try_from(value.as_u64()?).ok()?;
+    Reason::from_code(code)
+}

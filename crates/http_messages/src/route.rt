@@ -1,0 +1,128 @@
+//! What is asked for, by the target of a request.
+ghost use Rattle.std.specs.Prelude.{◌≡◌, ◌≢◌, ◌<◌, ◌^◌, ◌++◌, ℕ, List, decimal, IfOk, IfSome, IfNone};
+ghost use Rattle.http_messages.specs.Route.{routes, route_text, place_of, IsRoute, IsRouteOf};
+ghost use Rattle.register_core.specs.Request.{IsKeyNumber};
+
+use matchit::{InsertError, Router};
+use register_core::read_decimal;
+use std::alloc::Global;
+use std::str;
+
+/// What a request is for.
+#[derive(Clone, Copy, Debug, PartialEq, Eq)]
+pub enum Route {
+    Requests,
+    Show(u32),
+    Usage(u32),
+}
+
+/// A route without the number of its key.
+#[derive(Clone, Copy, Debug, PartialEq, Eq)]
+pub(crate) enum Place {
+    Requests,
+    Key,
+    Usage,
+}
+
+/// The router of the three routes.
+pub(crate) fn make_router(alloc: Global) -> Result<Router<Place>, InsertError>
+    ensures { IfOk result (λ router. router ≡ routes) }
+{
+    let mut router = Router::new(alloc);
+    router.insert("/requests", Place::Requests)?;
+    router.insert("/keys/{n}", Place::Key)?;
+    router.insert("/keys/{n}/usage", Place::Usage)?;
+    Ok(router)
+}
+
+/// The number of a key that the field writes.
+fn key_number(field: &[u8]) -> Option<u32>
+    ensures found { IfSome result (λ n. (field.now ≡ decimal n) × IsKeyNumber n) }
+    ensures none { IfNone result ((n : ℕ) → IsKeyNumber n → field.now ≢ decimal n) }
+{
+    let Some(number) = read_decimal(field) else {
+        return None;
+    };
+    if number >= 1 && number <= u64::from(u32::MAX) {
+        Some(number as u32)
+    } else {
+        None
+    }
+}
+
+/// What stands between the front and the back.
+fn between<'t>(target: &'t [u8], front: &[u8], back: &[u8]) -> Option<&'t [u8]>
+    ensures found { IfSome result (λ field. target.now ≡ front.now ++ (field.now ++ back.now)) }
+    ensures none { IfNone result ((field : List ℕ) → target.now ≢ front.now ++ (field ++ back.now)) }
+{
+    match target.strip_prefix(front) {
+        Some(rest) => match rest.strip_suffix(back) {
+            Some(field) => Some(field),
+            None => None,
+        },
+        None => None,
+    }
+}
+
+/// The number of a key that stands between the front and the back.
+fn number_between(target: &[u8], front: &[u8], back: &[u8]) -> Option<u32>
+    ensures found { IfSome result (λ n. (target.now ≡ front.now ++ (decimal n ++ back.now)) × IsKeyNumber n) }
+    ensures none { IfNone result ((n : ℕ) → IsKeyNumber n → target.now ≢ front.now ++ (decimal n ++ back.now)) }
+{
+    match between(target, front, back) {
+        Some(field) => match key_number(field) {
+            Some(number) => Some(number),
+            None => None,
+        },
+        None => None,
+    }
+}
+
+/// The place to which the router leads the target.
+fn place_at(router: &Router<Place>, target: &[u8]) -> Option<Place>
+    requires { router.now ≡ routes }
+    ensures { (r : Route) → IsRoute r → target.now ≡ route_text r → result ≡ Some (place_of r) }
+{
+    let Ok(text) = str::from_utf8(target) else {
+        return None;
+    };
+    match router.at(text) {
+        Ok(found) => Some(*found.value),
+        Err(_) => None,
+    }
+}
+
+/// The route of this place that the target spells.
+fn route_at(place: Place, target: &[u8]) -> Option<Route>
+    ensures found { IfSome result (λ r. IsRoute r × (target.now ≡ route_text r)) }
+    ensures none { IfNone result ((r : Route) → IsRoute r → place_of r ≡ place → target.now ≢ route_text r) }
+{
+    match place {
+        Place::Requests => {
+            if target == b"/requests".as_slice() {
+                Some(Route::Requests)
+            } else {
+                None
+            }
+        }
+        Place::Key => match number_between(target, b"/keys/", b"") {
+            Some(number) => Some(Route::Show(number)),
+            None => None,
+        },
+        Place::Usage => match number_between(target, b"/keys/", b"/usage") {
+            Some(number) => Some(Route::Usage(number)),
+            None => None,
+        },
+    }
+}
+
+/// The route that the target spells.
+pub(crate) fn route_of(router: &Router<Place>, target: &[u8]) -> Option<Route>
+    requires { router.now ≡ routes }
+    ensures { IsRouteOf target.now result }
+{
+    match place_at(router, target) {
+        Some(place) => route_at(place, target),
+        None => None,
+    }
+}
