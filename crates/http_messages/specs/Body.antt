@@ -1,8 +1,13 @@
--- Which command a body is.
+-- Which command a body is, and the ranges of what is sent.
 use Rattle.std.specs.Prelude.{◌≡◌, ℕ, List, Some, IsUtf8}
 use Rattle.serde_json.specs.Read.{read}
 use Rattle.register_core.specs.declared.request.Command.{Command}
+use Rattle.register_core.specs.Name.{IsName}
+use Rattle.register_core.specs.Number.{IsNumber}
 use Rattle.register_core.specs.Request.{IsCommand}
+use Rattle.http_messages.specs.declared.asked.Asked.{Asked}
+use Rattle.http_messages.specs.declared.asked.Asked.TheVariants.{Reject, ShowKey, ShowUsage, Apply}
+use Rattle.http_messages.specs.declared.asked.Sent.{Sent}
 use Rattle.http_messages.specs.CommandValue.{command_data}
 
 -- the body is JSON, and its value is the command's
@@ -10,3 +15,16 @@ pub record IsBodyOf (body : List ℕ) (c : Command) : Type 0 where
   pub command : IsCommand c
   pub text : IsUtf8 body
   pub value : read body ≡ Some (command_data c)
+
+-- what is sent is in the ranges of a request
+pub record IsSent (sent : Sent) : Type 0 where
+  pub caller : IsName sent.caller
+  pub number : IsNumber sent.number
+  pub command : IsCommand sent.command
+
+-- and so is what is asked, where it is a request
+abbrev pub IsInRange : Asked → Type 0
+IsInRange (Reject rejection) = Unit {0}
+IsInRange (ShowKey key) = Unit {0}
+IsInRange (ShowUsage key) = Unit {0}
+IsInRange (Apply sent) = IsSent sent

@@ -1,9 +1,10 @@
 //! Reads what an input asks for. The register is not asked here.
 ghost use Rattle.std.specs.Prelude.{◌≡◌, ◌+◌, ◌<◌, ◌≤◌, ◌^◌, ◌++◌, ℕ, List, []};
-ghost use Rattle.std.specs.Prelude.{length, take, drop, Some, Ok, Err, IfOk, IfErr};
+ghost use Rattle.std.specs.Prelude.{length, take, drop, Some, Ok, Err, IfOk, IfErr, IfSome};
 ghost use Rattle.httparse.specs.Grammar.{RequestHead};
 ghost use Rattle.httparse.specs.Spans.{IsRequestAt, IsRequestWithin};
 ghost use Rattle.streams.specs.Watched.{IsFaulted};
+ghost use Rattle.http_messages.specs.Body.{IsInRange};
 ghost use Rattle.http_messages.specs.Content.{HasRead};
 ghost use Rattle.http_messages.specs.Exchange.{AsksFor, AsksBody, AsksBehind};
 ghost use Rattle.http_messages.specs.Judged.{Judges};
@@ -57,6 +58,7 @@ impl BodyAsking {
 fn ask_body(alloc: Global, post: Post, body: &[u8]) -> Result<Asked, AskFault>
     ensures asks { (behind : List ℕ) (n : ℕ) → n ≤ length behind → body.now ≡ take n behind →
         IfOk result (AsksBody n post.sender.caller post.sender.number behind) }
+    ensures in_range { IfOk result IsInRange }
     ensures err { IfErr result (λ fault. fault ≡ AskFault.Memory) }
 {
     match value_of(alloc, body) {
@@ -85,6 +87,7 @@ fn ask_post<R: Read>(
     ensures read { HasRead (R.remaining reader.old.inner) (R.remaining reader.new.inner)
         result.read }
     ensures few { result.read < 2 ^ 32 }
+    ensures in_range { IfOk result.asked IsInRange }
     ensures fault { IfErr result.asked (λ fault. fault ≡ AskFault.ReadFault
         → IsFaulted reader.new.failed MAX_EXCHANGE_READS reader.new.turns) }
 {
@@ -138,6 +141,7 @@ fn ask_head<R: Read>(
     ensures read { HasRead (R.remaining reader.old.inner) (R.remaining reader.new.inner)
         result.read }
     ensures few { result.read < 2 ^ 32 }
+    ensures in_range { IfOk result.asked IsInRange }
     ensures fault { IfErr result.asked (λ fault. fault ≡ AskFault.ReadFault
         → IsFaulted reader.new.failed MAX_EXCHANGE_READS reader.new.turns) }
 {
@@ -170,6 +174,7 @@ fn ask_behind<R: Read>(alloc: Global, front: &mut Front, reader: &mut Watched<R>
     ensures read { HasRead (R.remaining reader.old.inner) (R.remaining reader.new.inner)
         (length front.new + result.read) }
     ensures few { result.read < 2 ^ 32 }
+    ensures in_range { IfOk result.asked (λ asked. IfSome asked IsInRange) }
     ensures fault { IfErr result.asked (λ fault. fault ≡ AskFault.ReadFault
         → IsFaulted reader.new.failed MAX_EXCHANGE_READS reader.new.turns) }
 {
@@ -196,6 +201,7 @@ pub fn ask<R: Read>(alloc: Global, reader: &mut Watched<R>) -> Asking
         IfOk result.asked (AsksFor input) }
     ensures read { HasRead (R.remaining reader.old.inner) (R.remaining reader.new.inner)
         result.read }
+    ensures in_range { IfOk result.asked (λ asked. IfSome asked IsInRange) }
     ensures fault { IfErr result.asked (λ fault. fault ≡ AskFault.ReadFault
         → IsFaulted reader.new.failed MAX_EXCHANGE_READS reader.new.turns) }
 {

@@ -1,0 +1,2 @@
+mod ActingLemmas
+mod ServingLemmas

@@ -1,0 +1,4 @@
+pub mod Answering
+pub mod Acting
+pub mod Sending
+pub mod Exchange

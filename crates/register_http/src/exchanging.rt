@@ -1,0 +1,178 @@
+//! One exchange: a request is read, the register asked once, and a reply written.
+ghost use Rattle.std.specs.Prelude.{◌≡◌, false, Err, IfOk, IfSome};
+ghost use Rattle.http_messages.specs.Body.{IsInRange};
+ghost use Rattle.register_http.specs.Exchange.{Exchanges, LeavesReader, LeavesWriter, Serves};
+ghost use Rattle.register_http.specs.Exchange.{KeepsWriter, ServesAsked};
+ghost use Rattle.register_http.specs.Sending.{Sends, end_reply};
+
+use crate::acting::act;
+use http_messages::{AskFault, Asked, ask};
+use moment_core::Moment;
+use register_desk::{Desk, End, Finish, MAX_IDLE_TURNS, Outcome, Watched};
+use sqlite::Alter;
+use std::alloc::Global;
+use std::io::{Read, Write};
+
+/// What was written of a reply.
+#[derive(Clone, Copy)]
+struct Sending {
+    /// How many bytes.
+    written: u64,
+    /// 1 where it was written whole.
+    replies: u64,
+}
+
+/// The reply to an end, which takes no memory.
+fn end_reply(end: End) -> &'static str
+    ensures { result.now ≡ end_reply end }
+{
+    match end {
+        End::Memory => {
+            "HTTP/1.1 503 Service Unavailable\r\nContent-Type: application/json\r\nContent-Length: 26\r\nConnection: close\r\n\r\n{\"end\":30,\"name\":\"Memory\"}"
+        }
+        End::Store => {
+            "HTTP/1.1 500 Internal Server Error\r\nContent-Type: application/json\r\nContent-Length: 25\r\nConnection: close\r\n\r\n{\"end\":31,\"name\":\"Store\"}"
+        }
+        End::Broken => {
+            "HTTP/1.1 500 Internal Server Error\r\nContent-Type: application/json\r\nContent-Length: 26\r\nConnection: close\r\n\r\n{\"end\":32,\"name\":\"Broken\"}"
+        }
+        End::ReadFault | End::WriteFault | End::BadHeader => "",
+    }
+}
+
+/// Writes a reply.
+fn send<W: Write>(writer: &mut Watched<W>, reply: &[u8]) -> Sending
+    ensures sends { Sends reply.now (W.contents writer.old.inner) (W.contents writer.new.inner)
+        result.written result.replies }
+    ensures keeps { KeepsWriter writer.old writer.new result.replies }
+{
+    match writer.write_flushed(MAX_IDLE_TURNS, reply) {
+        Ok(()) => Sending {
+            written: reply.len() as u64,
+            replies: 1,
+        },
+        Err(fault) => Sending {
+            written: fault.written as u64,
+            replies: 0,
+        },
+    }
+}
+
+/// Does what is asked, and writes the reply.
+fn serve<W: Write, S: Alter>(
+    alloc: Global,
+    desk: &mut Desk<S>,
+    moment: Moment,
+    asked: &Asked,
+    writer: &mut Watched<W>,
+) -> Outcome
+    requires { IsInRange asked.now }
+    ensures serves { Serves S.Store moment asked.now desk.old desk.new
+        (W.contents writer.old.inner) (W.contents writer.new.inner) result }
+    ensures keeps { KeepsWriter writer.old writer.new result.replies }
+    ensures unread { result.read ≡ 0 }
+{
+    match act(alloc, desk, moment, asked) {
+        Ok(text) => {
+            let sending = send(writer, text.as_bytes());
+            Outcome {
+                read: 0,
+                written: sending.written,
+                replies: sending.replies,
+                end: if sending.replies == 1 {
+                    Finish::AtEnd { rest: 0 }
+                } else {
+                    Finish::Ended(End::WriteFault)
+                },
+            }
+        }
+        Err(end) => refuse(end, writer),
+    }
+}
+
+/// Answers nothing but the fixed reply to an end.
+fn refuse<W: Write>(end: End, writer: &mut Watched<W>) -> Outcome
+    ensures sends { Sends (end_reply end) (W.contents writer.old.inner)
+        (W.contents writer.new.inner) result.written result.replies }
+    ensures ends { result.end ≡ Finish.Ended end }
+    ensures keeps { KeepsWriter writer.old writer.new result.replies }
+    ensures unread { result.read ≡ 0 }
+{
+    let sending = send(writer, end_reply(end).as_bytes());
+    Outcome {
+        read: 0,
+        written: sending.written,
+        replies: sending.replies,
+        end: Finish::Ended(end),
+    }
+}
+
+/// What an exchange did that wrote nothing.
+fn silent(end: Finish) -> Outcome
+    ensures { result ≡ record { read = 0; written = 0; replies = 0; end = end } }
+{
+    Outcome {
+        read: 0,
+        written: 0,
+        replies: 0,
+        end,
+    }
+}
+
+/// Serves what came of reading.
+fn serve_asked<W: Write, S: Alter>(
+    alloc: Global,
+    desk: &mut Desk<S>,
+    moment: Moment,
+    asked: &Result<Option<Asked>, AskFault>,
+    writer: &mut Watched<W>,
+) -> Outcome
+    requires in_range { IfOk asked.now (λ o. IfSome o IsInRange) }
+    requires idle { writer.old.idle ≡ 0 }
+    ensures serves { ServesAsked S.Store moment asked.now desk.old desk.new
+        (W.contents writer.old.inner) (W.contents writer.new.inner) result }
+    ensures writer { LeavesWriter writer.new result }
+    ensures read_fault { result.end ≡ Finish.Ended End.ReadFault
+        → asked.now ≡ Err AskFault.ReadFault }
+    ensures unread { result.read ≡ 0 }
+{
+    match asked {
+        Ok(Some(asked)) => serve(alloc, desk, moment, asked, writer),
+        Ok(None) => silent(Finish::AtEnd { rest: 0 }),
+        Err(AskFault::Memory) => refuse(End::Memory, writer),
+        Err(AskFault::ReadFault) => silent(Finish::Ended(End::ReadFault)),
+    }
+}
+
+/// One exchange at this moment: reads one request, asks the register once, and writes one reply.
+/// Where the reader gives no byte it does nothing. Bytes behind the request are no request.
+///
+/// Its end is that behind a 503 or 500 reply, [`End::Memory`], [`End::Store`] or [`End::Broken`],
+/// even where writing that fails; else [`End::ReadFault`] or [`End::WriteFault`] where a stream
+/// failed or a bound on its turns was met, else the end of what there is to do. At
+/// [`End::ReadFault`] nothing was written, and the register was not asked.
+pub fn exchange<R: Read, W: Write, S: Alter>(
+    alloc: Global,
+    desk: &mut Desk<S>,
+    moment: Moment,
+    reader: &mut Watched<R>,
+    writer: &mut Watched<W>,
+) -> Outcome
+    requires reader { reader.old.failed ≡ false }
+    requires writer { writer.old.failed ≡ false }
+    ensures exchanges { Exchanges S.Store moment (R.remaining reader.old.inner) desk.old desk.new
+        (W.contents writer.old.inner) (W.contents writer.new.inner) result }
+    ensures reader { LeavesReader R.remaining reader.old reader.new result }
+    ensures writer { LeavesWriter writer.new result }
+{
+    reader.begin();
+    writer.begin();
+    let asking = ask(alloc, reader);
+    let served = serve_asked(alloc, desk, moment, &asking.asked, writer);
+    Outcome {
+        read: asking.read as u64,
+        written: served.written,
+        replies: served.replies,
+        end: served.end,
+    }
+}

@@ -1,0 +1,13 @@
+//! One HTTP exchange over the register: a request is read, the register asked once, and a reply
+//! written.
+//!
+//! ```
+//! let outcome = exchange(alloc, &mut desk, moment, &mut reader, &mut writer);
+//! ```
+#![tactic(auto)]
+
+mod acting;
+mod exchanging;
+
+pub use exchanging::exchange;
+pub use http_messages::{MAX_BODY_LENGTH, MAX_EXCHANGE_READS, MAX_HEAD_LENGTH, MAX_HEADERS};
