@@ -91,40 +91,21 @@ fn names_value(alloc: Global, names: &[Name]) -> Result<Value, AllocError>
 fn date_members(alloc: Global, dates: &Dates) -> Result<Map<String, Value>, AllocError>
     ensures { IfOk result (λ m. members_view m.entries ≡ date_members dates.now) }
 {
+    let activation = date_value(dates.activation);
+    let compromised = date_value(dates.compromise);
+    let deactivation = date_value(dates.deactivation);
+    let destroyed = date_value(dates.destroy);
     let initial = Value::from(dates.initial.seconds());
+    let occurrence = date_value(dates.compromise_occurrence);
+    let protect_stop = date_value(dates.protect_stop);
     let mut members = Map::new(alloc);
-    put(
-        &mut members,
-        alloc,
-        "activation",
-        date_value(dates.activation),
-    )?;
-    put(
-        &mut members,
-        alloc,
-        "compromised",
-        date_value(dates.compromise),
-    )?;
-    put(
-        &mut members,
-        alloc,
-        "deactivation",
-        date_value(dates.deactivation),
-    )?;
-    put(&mut members, alloc, "destroyed", date_value(dates.destroy))?;
+    put(&mut members, alloc, "activation", activation)?;
+    put(&mut members, alloc, "compromised", compromised)?;
+    put(&mut members, alloc, "deactivation", deactivation)?;
+    put(&mut members, alloc, "destroyed", destroyed)?;
     put(&mut members, alloc, "initial", initial)?;
-    put(
-        &mut members,
-        alloc,
-        "occurrence",
-        date_value(dates.compromise_occurrence),
-    )?;
-    put(
-        &mut members,
-        alloc,
-        "protect_stop",
-        date_value(dates.protect_stop),
-    )?;
+    put(&mut members, alloc, "occurrence", occurrence)?;
+    put(&mut members, alloc, "protect_stop", protect_stop)?;
     Ok(members)
 }
 
