@@ -283,7 +283,8 @@ def commands():
             ("bob", 3, ("set", 7, now, "=", "="), 8),
             ("bob", 3, ("set", 7, None, "=", "="), 8),
             ("bob", 3, ("set", 7, "=", None, None), None),
-            ("bob", 4, ("set", 7, "=", now + DAY, "="), None),
+            ("bob", 4, ("set", 7, "=", now + DAY, "="), 10),
+            ("bob", 4, ("set", 7, "=", now + DAY, None), None),
             ("bob", 5, ("set", 7, "=", now + DAY, now + DAY - 1), 9),
             ("bob", 5, ("set", 7, "=", now + 20 * YEAR, now + 20 * YEAR), 10),
             # Its Protect Stop is past.
