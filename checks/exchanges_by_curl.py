@@ -103,6 +103,10 @@ def look_at_rules():
 # ---- exchanges
 
 
+class Ended(Exception):
+    """The program ended within a part."""
+
+
 def parts(given):
     """The lines of a reply's head, and its body."""
     head, _, body = given.partition(b"\r\n\r\n")
@@ -144,6 +148,8 @@ class Office:
             one, other = (lines[place] if place < len(lines) else None for lines in (theirs, ours))
             if one != other:
                 print(f"    is        {one}\n    should be {other}", flush=True)
+        if self.served.has_ended():
+            raise Ended
 
     def curl(self, path, *words, given=None):
         place = f"http://127.0.0.1:{self.served.port}{path}"
@@ -408,11 +414,12 @@ def routes_and_methods():
         for key in (2, 99, 4294967295):
             office.get(key)
         for path in [
-            "/", "//", "/nothing", "/requests/", "/requests?", "/requests?x=1", "/Requests", "/request", "/requestss", "//requests", "/keys",
-            "/keys/", "/keys//", "/keys/0", "/keys/01", "/keys/00", "/keys/1/", "/keys/1?", "/keys/1?x=1", "/keys/4294967296", "/keys/4294967297",
-            "/keys/18446744073709551617", "/keys/" + "9" * 300, "/keys/+1", "/keys/-1", "/keys/1.0", "/keys/1e0", "/keys/0x1", "/keys/x",
-            "/keys/%31", "/%6beys/1", "/keys/1%2fusage", "/Keys/1", "/keys/1/Usage", "/keys/1/usage/", "/keys/1/usage?", "/keys/1/usage?x", "/keys/1/use",
-            "/keys/1/usages", "/keys/0/usage", "/keys/01/usage", "/keys/4294967296/usage", "/keys//usage", "/keys/usage", "/keys/1//usage",
+            "/", "//", "/nothing", "/requests/", "/requests?", "/requests?x=1", "/Requests", "/request", "/requestss", "//requests",
+            "/keys", "/keys/", "/keys//", "/keys/0", "/keys/01", "/keys/00", "/keys/1/", "/keys/1?", "/keys/1?x=1",
+            "/keys/4294967296", "/keys/4294967297", "/keys/18446744073709551617", "/keys/" + "9" * 300, "/keys/+1", "/keys/-1",
+            "/keys/1.0", "/keys/1e0", "/keys/0x1", "/keys/x", "/keys/%31", "/%6beys/1", "/keys/1%2fusage", "/Keys/1",
+            "/keys/1/Usage", "/keys/1/usage/", "/keys/1/usage?", "/keys/1/usage?x", "/keys/1/use", "/keys/1/usages",
+            "/keys/0/usage", "/keys/01/usage", "/keys/4294967296/usage", "/keys//usage", "/keys/usage", "/keys/1//usage",
             "/keys/./1", "/keys/1/../1", "/./keys/1", "/keys/1/usage/usage", "/keys/1;a", "/keys/1,2",
         ]:
             office.agree(f"GET {path}", lambda: office.curl(path), NO_ROUTE)
@@ -719,11 +726,10 @@ def refused_store():
     register, lines = with_a_key()
     with Served(lines=lines, file_limit=256 * 1024) as served:
         office = Office("a file that may not grow", served, register)
-        number = 1
+        begun = int(time.time())
         for number in range(2, 2000):
-            body = compact(request_object(("register", "master", "bob", None, None, None, f"key {number} " + "x" * 150)))
             command = ("register", "master", "bob", None, None, None, f"key {number} " + "x" * 150)
-            found = []
+            body, found = compact(request_object(command)), []
 
             def send():
                 found.append(office.posted("raw", "ann", number, body))
@@ -744,13 +750,11 @@ def refused_store():
         with Served(file=served.file) as again:
             office = Office("opened again", again, office.register)
             office.get(len(office.register.keys))
-            # Either it acted or it acts now: a moment within the exchange would show the second.
-            found = again.raw(post(body, "Caller: ann", f"Request-Number: {number}"))
-            moment = json.loads(found.partition(b"\r\n\r\n")[2]).get("moment", 0)
-            trial = office.register
-            office.raw("the same request", post(body, "Caller: ann", f"Request-Number: {number}"),
-                       lambda register, _: post_reply(register, moment, "ann", number, command))
-            expect(trial is not office.register, "the rules' register")
+            # It acted, or acts now: either way its key is the next, and the same request gives the same reply from here on.
+            asked = post(body, "Caller: ann", f"Request-Number: {number}")
+            moment = json.loads(again.raw(asked).partition(b"\r\n\r\n")[2]).get("moment", 0)
+            expect(begun <= moment <= time.time(), f"{office.name}: a moment of {moment}")
+            office.raw("the same request", asked, lambda kept, _: post_reply(kept, moment, "ann", number, command))
             office.get(len(office.register.keys))
             office.look_at_tables()
 
@@ -925,7 +929,10 @@ def main():
     look_at_rules()
     for part in (commands, behind, routes_and_methods, heads, lengths_and_callers, bodies, own_end, refused_store, left_clients, several_at_once):
         before = Office.sent
-        part()
+        try:
+            part()
+        except (Ended, ConnectionError):
+            Office.fail(f"{part.__name__.replace('_', ' ')}: the program ended, and what is behind was not asked")
         print(f"{part.__name__.replace('_', ' ')}: {Office.sent - before} exchanges", flush=True)
     stalled(told.bound, told.stalls)
     if told.full:

@@ -65,7 +65,7 @@ class Served:
         )
         late = time.monotonic() + PATIENCE
         while not listens(self.port):
-            if self.process.poll() is not None:
+            if self.has_ended():
                 expect(False, f"serve ended with status {self.process.returncode}: {self.process.stderr.read()}")
             expect(time.monotonic() < late, f"nothing listens at port {self.port}")
             time.sleep(0.002)
@@ -83,9 +83,12 @@ class Served:
                     connection.sendall(given[place:place + step])
                 if ends:
                     connection.shutdown(socket.SHUT_WR)
-            except (BrokenPipeError, ConnectionResetError, OSError):
+            except OSError:
                 pass
             return received(connection)
+
+    def has_ended(self):
+        return self.process.poll() is not None
 
     def ended(self, status=0, told=b""):
         """Waits for the program's own end, with this status and these bytes on standard error."""
@@ -98,7 +101,7 @@ class Served:
         return None if found == (status, b"", told) else f"serve ended with {found}, not {(status, b'', told)}"
 
     def close(self):
-        if self.process.poll() is None:
+        if not self.has_ended():
             self.process.kill()
         self.process.wait()
         for stream in (self.process.stdout, self.process.stderr):
