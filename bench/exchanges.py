@@ -103,7 +103,8 @@ class Bare(http.server.BaseHTTPRequestHandler):
         command = f"register {given['type']} {given['owner']} {dates[0]} {dates[1]} {dates[2]} {given['purpose']}"
         database = self.connection_of_file
         database.execute("BEGIN")
-        kept = database.execute("SELECT command, key_no, state, moment FROM request WHERE caller = ? AND number = ?", (caller, number)).fetchone()
+        searched = "SELECT command, key_no, state, moment FROM request WHERE caller = ? AND number = ?"
+        kept = database.execute(searched, (caller, number)).fetchone()
         if kept:
             database.execute("COMMIT")
             if kept[0] != command:
@@ -112,7 +113,8 @@ class Bare(http.server.BaseHTTPRequestHandler):
         latest, count = database.execute("SELECT latest, key_count FROM meta").fetchone()
         if moment < latest or list(dates) != sorted(dates):
             database.execute("COMMIT")
-            return self.answer(409, {"name": "MomentBehind" if moment < latest else "DateOrder", "refused": 3 if moment < latest else 9})
+            refused = {"latest": latest, "name": "MomentBehind", "refused": 3} if moment < latest else {"name": "DateOrder", "refused": 9}
+            return self.answer(409, refused)
         state = 1 if dates[0] > moment else 3 if dates[2] <= moment else 2
         if moment > latest:
             database.execute("UPDATE keys SET state = 2 WHERE state = 1 AND activation <= ?", (moment,))
@@ -146,6 +148,9 @@ def serve_bare(file, port):
     BareServer(("127.0.0.1", port), Bare).serve_forever()
 
 
+FIXED = b"HTTP/1.1 200 OK\r\nContent-Type: application/json\r\nContent-Length: 2\r\nConnection: close\r\n\r\n{}"
+
+
 def serve_floor(port):
     """Reads what comes first and answers fixed bytes."""
     with socket.socket() as listener:
@@ -155,7 +160,7 @@ def serve_floor(port):
         while True:
             connection, _ = listener.accept()
             connection.recv(65536)
-            connection.sendall(b"HTTP/1.1 200 OK\r\nContent-Type: application/json\r\nContent-Length: 2\r\nConnection: close\r\n\r\n{}")
+            connection.sendall(FIXED)
             connection.close()
 
 
@@ -185,8 +190,8 @@ def post_bytes(caller, number):
         "deactivation": END, "purpose": f"backup volume {number}",
     }
     body = json.dumps(value, separators=(",", ":")).encode()
-    head = f"POST /requests HTTP/1.1\r\nHost: localhost\r\nCaller: {caller}\r\nRequest-Number: {number}\r\nContent-Length: {len(body)}\r\n\r\n"
-    return head.encode() + body
+    fields = f"Host: localhost\r\nCaller: {caller}\r\nRequest-Number: {number}\r\nContent-Length: {len(body)}"
+    return f"POST /requests HTTP/1.1\r\n{fields}\r\n\r\n".encode() + body
 
 
 def exchange(address, given):
@@ -291,13 +296,14 @@ def main():
         return serve_bare(told.bare[0], int(told.bare[1]))
     if told.floor:
         return serve_floor(int(told.floor))
-    expect(2 * told.rounds * told.exchanges <= 1_000_000 - told.keys, "more exchanges than a run serves, or more keys than a register has")
+    expect(2 * told.rounds * told.exchanges <= 1_000_000 - told.keys, "more exchanges than are served, or more keys than there may be")
     me = [sys.executable, os.path.abspath(__file__)]
     with tempfile.TemporaryDirectory(dir=told.directory) as folder:
         file, copied = (os.path.join(folder, name) for name in ("office.keyreg", "python.keyreg"))
         keyreg(["init", "--file", file])
         keyreg(["run", "--file", file], [
-            f"{MOMENT} ann {n} register data-encryption office {date_of(n)} {STOP} {END} backup volume {n}" for n in range(1, told.keys + 1)
+            f"{MOMENT} ann {n} register data-encryption office {date_of(n)} {STOP} {END} backup volume {n}"
+            for n in range(1, told.keys + 1)
         ])
         shutil.copy(file, copied)
         ports = []
@@ -336,30 +342,29 @@ def main():
     report(servers, floor, told)
 
 
+def figures(seen):
+    """Of some rounds: the median and the greatest of the exchanges a second, the median and the least of the microseconds."""
+    rates, used = [rate for rate, _ in seen], [1e6 * seconds for _, seconds in seen]
+    return statistics.median(rates), max(rates), statistics.median(used), min(used)
+
+
+def cells(kind, name, found, *ratios):
+    return [kind, name, *(f"{value:.0f}" for value in found[:2]), *(f"{value:.1f}" for value in found[2:]), *(ratios or ("", ""))]
+
+
 def report(servers, floor, told):
-    lines = []
-    ratios = {}
+    lines, verdicts = [], []
     for kind in ("GET of a key", "POST of a registration"):
-        rates = {}
-        for server in servers[:2]:
-            seen = server.seen[kind]
-            rates[server.name] = statistics.median(rate for rate, _ in seen), max(rate for rate, _ in seen)
-            used = [1e6 * used for _, used in seen]
-            told_ratio = rates["keyreg"][0] / rates[server.name][0]
-            lines.append([
-                kind, server.name, f"{rates[server.name][0]:.0f}", f"{rates[server.name][1]:.0f}", f"{statistics.median(used):.1f}",
-                f"{min(used):.1f}", "" if server.name == "keyreg" else f"{told_ratio:.2f}",
-            ])
-        ratios[kind] = rates["keyreg"][0] / rates["python"][0]
-    seen = floor.seen["floor"]
-    lines.append([
-        "fixed bytes", "floor", f"{statistics.median(rate for rate, _ in seen):.0f}", f"{max(rate for rate, _ in seen):.0f}",
-        f"{1e6 * statistics.median(used for _, used in seen):.1f}", f"{1e6 * min(used for _, used in seen):.1f}", "",
-    ])
-    print(f"{told.rounds} rounds of {told.exchanges} exchanges by {told.clients} clients over a register of {told.keys} keys at first")
-    table(["exchange", "server", "a second, median", "best", "processor us, median", "least", "keyreg to it"], lines)
-    for kind, ratio in ratios.items():
-        print(f"{kind}: {ratio:.2f} times Python's exchanges a second; the mark of {MARK} is {'met' if ratio >= MARK else 'missed'}")
+        ours, python = (figures(server.seen[kind]) for server in servers[:2])
+        rate, used = ours[0] / python[0], ours[2] / python[2]
+        lines += [cells(kind, "keyreg", ours), cells(kind, "python", python, f"{rate:.2f}", f"{used:.2f}")]
+        met = "met" if rate >= MARK else "missed"
+        verdicts.append(f"{kind}: {rate:.2f} times Python's exchanges a second; the mark of {MARK} is {met}")
+    lines.append(cells("fixed bytes", "floor", figures(floor.seen["floor"])))
+    print(f"{told.rounds} rounds of {told.exchanges} exchanges; clients: {told.clients}; keys at first: {told.keys}")
+    head = ["exchange", "server", "a second, median", "best", "processor us, median", "least"]
+    table([*head, "a second, keyreg to it", "processor, keyreg to it"], lines)
+    print("\n".join(verdicts))
 
 
 main()
