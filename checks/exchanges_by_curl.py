@@ -1,0 +1,969 @@
+#!/usr/bin/env python3
+"""Every route, method, command, refusal and status of `keyreg serve`, asked with curl, and with raw bytes where curl cannot make
+them: the status line, each header and the body are compared byte for byte with what the rules give.
+
+    checks/exchanges_by_curl.py [--full] [--ab] [--stalls] [--bound SECONDS]
+
+What is expected comes of the rules as checks/rules.py states them, which are first put to worked rows of
+docs/SPECIFICATION.md; nothing is taken from the program but the second at which it served, which has to lie within the
+exchange. Each difference is printed, and a last line says how many exchanges agreed; the status is 1 where not all did. Behind
+each part the file's own tables are read by SQLite and compared too.
+
+--full    also a register of 1000000 keys, which refuses one more (it takes a minute)
+--ab      also a thousand exchanges of each kind by ApacheBench, where `ab` is installed
+--stalls  also clients that stall before their first byte and within the body, not within the head alone
+--bound   so long a stalled client may hold the next one up; 120 seconds where nothing is said
+
+It needs Linux and curl. Build the program first: ./keyreg </dev/null
+"""
+import argparse
+import http.client
+import json
+import os
+import shutil
+import socket
+import sqlite3
+import subprocess
+import sys
+import threading
+import time
+
+from registers import INDEXES, STATES, TABLES, UNSET, expect, keyreg
+from rules import (
+    BAD, GREATEST_NUMBER, LAST, LENGTH_REQUIRED, MEMBERS, NO_ROUTE, STORE, TOO_LARGE, UNKNOWN, Register, compact, get_reply, line,
+    not_allowed, plus_months, post_reply, refusal_reply, reply, reply_line, request_object,
+)
+from serving import Served, listens
+
+DAY, YEAR = 86400, 365 * 86400
+MOST_HEAD, MOST_FIELDS, MOST_BODY = 8192, 64, 65536
+ADVANCE = b'{"kind":"advance"}'
+# Behind every moment of the machine's clock.
+FAR = 4_000_000_000
+
+WORKED_ROWS = [
+    [((100, "ann", 1, ("register", "data-encryption", "bob", 0, 500, 1000, "payroll disks")), "ok 1 Active 100"),
+     ((999, "ann", 2, ("advance",)), "ok 0 - 999"),
+     ((1000, "ann", 3, ("register", "data-encryption", "bob", 0, 500, 1000, "old disks")), "ok 2 Deactivated 1000"),
+     ((999, "ann", 4, ("advance",)), "refused 3 MomentBehind latest=1000")],
+    [((100, "ann", 1, ("register", "data-encryption", "bob", 0, 63072001, None, "x")), "refused 10 PeriodTooLong limit=63072000"),
+     ((100, "ann", 1, ("register", "data-encryption", "bob", 0, 63072000, None, "x")), "ok 1 Active 100"),
+     ((50, "ann", 1, ("register", "data-encryption", "bob", 0, 63072000, None, "x")), "ok 1 Active 100"),
+     ((50, "ann", 1, ("register", "data-encryption", "bob", 0, 63072000, None, "y")), "refused 2 RequestReused"),
+     ((157766399, "ann", 3, ("advance",)), "ok 0 - 157766399"),
+     ((157766400, "bob", 1, ("activate", 1)), "refused 7 WrongState state=Deactivated")],
+    [((100, "ann", 1, ("register", "master", "bob", None, None, None, "spare")), "ok 1 Pre-Active 100"),
+     ((101, "bob", 1, ("add-custodian", 1, "cat")), "ok 1 Pre-Active 101"),
+     ((102, "bob", 2, ("add-custodian", 1, "dan")), "ok 1 Pre-Active 102"),
+     ((103, "cat", 1, ("approve", 1)), "ok 1 Pre-Active 103"),
+     ((104, "dan", 1, ("approve", 1)), "ok 1 Pre-Active 104"),
+     ((105, "bob", 3, ("remove-custodian", 1, "dan")), "ok 1 Pre-Active 105"),
+     ((106, "bob", 4, ("destroy", 1)), "refused 18 ApprovalsMissing have=1 need=2"),
+     ((106, "bob", 4, ("add-custodian", 1, "dan")), "ok 1 Pre-Active 106"),
+     ((107, "dan", 2, ("approve", 1)), "ok 1 Pre-Active 107"),
+     ((108, "bob", 5, ("destroy", 1)), "ok 1 Destroyed 108"),
+     ((109, "zed", 1, ("revoke", 1, 2, None)), "ok 1 Destroyed-Compromised 109")],
+    [((LAST, "ann", 1, ("register", "data-encryption", "bob", LAST, None, None, "x")), "refused 11 DateRange"),
+     ((LAST, "ann", 1, ("register", "data-encryption", "bob", LAST, LAST, LAST, "x")), f"ok 1 Deactivated {LAST}")],
+    [((100, "ann", 1, ("register", "master", "bob", 1000, 2000, 2000, "x")), "ok 1 Pre-Active 100"),
+     ((200, "bob", 1, ("set", 1, "=", 3000, None)), "ok 1 Pre-Active 200"),
+     ((1000, "bob", 2, ("set", 1, 1200, "=", "=")), "refused 8 DateFrozen"),
+     ((3000, "bob", 2, ("set", 1, "=", 3500, None)), "refused 7 WrongState state=Deactivated")],
+    [((100, "ann", 1, ("register", "data-encryption", "bob", 1000, None, None, "x")), "ok 1 Pre-Active 100"),
+     ((400, "bob", 1, ("activate", 1)), "ok 1 Active 400"),
+     ((400, "zed", 1, ("revoke", 1, 2, 401)), "refused 19 OccurrenceLater"),
+     ((400, "zed", 1, ("assign", 1, "zed")), "refused 5 NotOwner"),
+     ((400, "zed", 1, ("approve", 1)), "refused 6 NotCustodian"),
+     ((400, "zed", 1, ("activate", 9)), "refused 4 UnknownKey")],
+]
+
+
+def look_at_rules():
+    for row in WORKED_ROWS:
+        register = Register()
+        for request, wanted in row:
+            found = reply_line(register, *request)
+            expect(found == wanted, f"the rules give {found} for {request}")
+    wanted = (
+        b"HTTP/1.1 200 OK\r\nContent-Type: application/json\r\nContent-Length: 35\r\nConnection: close\r\n\r\n"
+        b'{"key":0,"moment":100,"state":null}'
+    )
+    expect(post_reply(Register(), 100, "ann", 1, ("advance",)) == wanted, "the rules' reply")
+    register = Register()
+    register.apply(100, "ann", 1, ("register", "data-encryption", "bob", 0, None, None, "payroll disks"))
+    shown = (
+        b'{"activation":0,"approvals":[],"compromised":null,"custodians":[],"deactivation":157766400,"destroyed":null,'
+        b'"initial":100,"number":1,"occurrence":null,"owner":"bob","protect_stop":63072000,"purpose":"payroll disks",'
+        b'"state":"Active","type":"data-encryption"}'
+    )
+    expect(compact(register.shown(1)) == shown, "the rules' record")
+    expect(compact(register.usage(1)) == b'{"process":"yes","protect":true}', "the rules' usage")
+
+
+# ---- exchanges
+
+
+class Ended(Exception):
+    """The program ended within a part."""
+
+
+def parts(given):
+    """The lines of a reply's head, and its body."""
+    head, _, body = given.partition(b"\r\n\r\n")
+    return [*head.split(b"\r\n"), body]
+
+
+class Office:
+    """A served register beside the register of the rules, which is given what it is given."""
+    sent = agreed = failures = 0
+
+    def __init__(self, name, served, register=None):
+        self.name, self.served, self.register = name, served, register or Register()
+
+    @classmethod
+    def fail(cls, told):
+        cls.failures += 1
+        print(told, flush=True)
+
+    def agree(self, name, send, answer):
+        """One exchange: `answer` gives the bytes of the reply, of a register and a moment, or is these bytes."""
+        Office.sent += 1
+        before = int(time.time())
+        found = send()
+        after = int(time.time())
+        trials = []
+        for moment in [before] if isinstance(answer, bytes) else range(before, after + 1):
+            trial = self.register if isinstance(answer, bytes) else self.register.copy()
+            wanted = answer if isinstance(answer, bytes) else answer(trial, moment)
+            trials.append((wanted, trial))
+            if wanted == found:
+                break
+        wanted, self.register = trials[-1]
+        if wanted == found:
+            Office.agreed += 1
+            return
+        self.fail(f"{self.name}, {name}:")
+        theirs, ours = parts(found), parts(wanted)
+        for place in range(max(len(theirs), len(ours))):
+            one, other = (lines[place] if place < len(lines) else None for lines in (theirs, ours))
+            if one != other:
+                print(f"    is        {one}\n    should be {other}", flush=True)
+        if self.served.has_ended():
+            raise Ended
+
+    def curl(self, path, *words, given=None):
+        place = f"http://127.0.0.1:{self.served.port}{path}"
+        told = ["curl", "--silent", "--include", "--raw", "--http1.1", "--noproxy", "*", "--path-as-is", "--max-time", "60"]
+        return subprocess.run([*told, *words, place], input=given, capture_output=True, check=False).stdout
+
+    def python(self, method, path, body=None, headers=None):
+        """The reply as http.client reads it."""
+        connection = http.client.HTTPConnection("127.0.0.1", self.served.port, timeout=60)
+        connection.request(method, path, body, headers or {})
+        answer = connection.getresponse()
+        body = answer.read()
+        connection.close()
+        head = [f"HTTP/1.{answer.version - 10} {answer.status} {answer.reason}", *(f"{k}: {v}" for k, v in answer.getheaders())]
+        return "\r\n".join([*head, "", ""]).encode() + body
+
+    def posted(self, way, caller, number, body):
+        told = {"Caller": caller, "Request-Number": str(number)}
+        if way == "curl":
+            words = [word for name, value in told.items() for word in ("--header", f"{name}: {value}")]
+            return self.curl("/requests", "--header", "Expect:", *words, "--data-binary", "@-", given=body)
+        if way == "python":
+            return self.python("POST", "/requests", body, told)
+        return self.served.raw(post(body, f"Caller: {caller}", f"Request-Number: {number}"), pieces=1 if way == "bytes" else None)
+
+    def post(self, caller, number, command, said=None, way="curl"):
+        """A request with a command; `said` is the number of its refusal, None for one that is accepted."""
+        def answer(register, moment):
+            wanted = post_reply(register, moment, caller, number, command)
+            refused = json.loads(wanted.partition(b"\r\n\r\n")[2]).get("refused")
+            expect(refused == said, f"the rules refuse {caller} {number} {command} with {refused}, not with {said}")
+            return wanted
+
+        body = json.dumps(request_object(command), ensure_ascii=False).encode()
+        self.agree(f"{caller} {number} {command} by {way}", lambda: self.posted(way, caller, number, body), answer)
+
+    def get(self, key, way="curl"):
+        """A key and its usage."""
+        for of_usage in (False, True):
+            path = f"/keys/{key}" + "/usage" * of_usage
+            send = {"curl": lambda: self.curl(path), "python": lambda: self.python("GET", path)}.get(
+                way, lambda: self.served.raw(get(path)))
+            self.agree(f"GET {path} by {way}", send, lambda register, _: get_reply(register, key, of_usage))
+
+    def raw(self, name, given, answer, **how):
+        self.agree(name, lambda: self.served.raw(given, **how), answer)
+
+    def look_at_tables(self):
+        """Ends the program and compares the tables with the rules' register."""
+        self.served.process.kill()
+        self.served.process.wait()
+        register = self.register
+        codes = {state: code for code, state in STATES.items()}
+        connection = sqlite3.connect(self.served.file)
+        found = connection.execute("SELECT caller, number, command, key_no, state, moment FROM request").fetchall()
+        wanted = []
+        for (caller, number), (command, (key, state, moment)) in register.kept.items():
+            text = line(moment, caller, number, command).split(" ", 3)[3]
+            wanted.append((caller, number, text, key, codes[state or "-"], moment))
+        if sorted(found) != sorted(wanted):
+            self.fail(f"{self.name}: the kept requests\n    are       {sorted(found)}\n    should be {sorted(wanted)}")
+        found = connection.execute("SELECT * FROM meta").fetchall()
+        if found != [(1, 1, register.latest, len(register.keys))]:
+            self.fail(f"{self.name}: meta is {found}, latest {register.latest}, keys {len(register.keys)}")
+        found = connection.execute("SELECT number, state, owner FROM keys ORDER BY number").fetchall()
+        wanted = [(n, codes[key.state(register.latest)], key.owner) for n, key in enumerate(register.keys, 1)]
+        if found != wanted:
+            self.fail(f"{self.name}: the keys\n    are       {found}\n    should be {wanted}")
+        connection.close()
+
+
+# ---- bytes of requests
+
+
+def head(first, *fields):
+    return "\r\n".join([first, *fields, "", ""]).encode()
+
+
+def get(path, *fields):
+    return head(f"GET {path} HTTP/1.1", "Host: localhost", *fields)
+
+
+def post(body, *fields, length=None):
+    length = len(body) if length is None else length
+    return head("POST /requests HTTP/1.1", "Host: localhost", *fields, f"Content-Length: {length}") + body
+
+
+ANN = ("Caller: ann", "Request-Number: 1")
+
+
+# ---- the parts
+
+
+def commands():
+    """All commands and the refusals 2 and 4 to 19, each by curl or by one of the other ways, and the keys behind each."""
+    now = int(time.time())
+    with Served() as served:
+        office = Office("commands", served)
+        purpose = 'payroll disks, "site A" \\ \u03b2\u2028\U0001f511'
+        first = ("register", "data-encryption", "bob", now - DAY, None, None, purpose)
+        office.get(1)
+        asked = [
+            ("ann", 1, first, None),
+            ("ann", 1, first, None),
+            ("ann", 1, ("register", "data-encryption", "bob", now - DAY, None, None, "other"), 2),
+            ("ann", 1, ("advance",), 2),
+            ("bob", 1, first, None),
+            ("ann", 2, ("register", "master", "bob", None, None, None, "spare"), None),
+            ("ann", 3, ("register", "data-encryption", "bob", now - 900 * DAY, None, None, "x" * 200), None),
+            ("ann", 4, ("register", "private-signature", "eve", 0, 500, 500, "\u00e9" * 100), None),
+            ("ann", 5, ("register", "private-authentication", "b" * 64, now + 10 * YEAR, None, None, "later"), None),
+            ("ann", 6, ("register", "key-wrapping", "bob", None, now + 20 * YEAR, now + 22 * YEAR, "trimmed"), None),
+            ("ann", 7, ("register", "private-transport", "bob", now, None, None, "today"), None),
+            ("ann", 8, ("register", "authentication", "A.-_@9", LAST - DAY, LAST, LAST, "end of days"), None),
+            ("ann", GREATEST_NUMBER, ("register", "master", "bob", now, None, now + DAY, "a day"), None),
+            ("ann", 9, ("register", "master", "bob", 500, 400, 600, "x"), 9),
+            ("ann", 9, ("register", "master", "bob", 500, None, 400, "x"), 9),
+            ("ann", 9, ("register", "master", "bob", None, 401, 400, "x"), 9),
+            ("ann", 9, ("register", "data-encryption", "bob", 0, 63072001, None, "x"), 10),
+            ("ann", 9, ("register", "data-encryption", "bob", None, 0, 94694401, "x"), 10),
+            ("ann", 9, ("register", "data-encryption", "bob", LAST, None, None, "x"), 11),
+            ("ann", 9, ("register", "data-encryption", "bob", LAST, None, LAST, "x"), None),
+            ("bob", 2, ("activate", 4294967295), 4),
+            ("bob", 2, ("destroy", 12), 4),
+            ("zed", 1, ("activate", 7), 5),
+            ("zed", 1, ("set", 7, "=", "=", "="), 5),
+            ("zed", 1, ("revoke", 7, 1, None), 5),
+            ("zed", 1, ("assign", 7, "zed"), 5),
+            ("zed", 1, ("add-custodian", 7, "zed"), 5),
+            ("zed", 1, ("remove-custodian", 7, "zed"), 5),
+            ("zed", 1, ("destroy", 7), 5),
+            ("zed", 1, ("approve", 3), 6),
+            ("bob", 2, ("withdraw", 3), 6),
+            # The key that is trimmed as it is activated.
+            ("bob", 2, ("activate", 7), None),
+            ("bob", 3, ("activate", 7), 7),
+            ("bob", 3, ("set", 7, now, "=", "="), 8),
+            ("bob", 3, ("set", 7, None, "=", "="), 8),
+            ("bob", 3, ("set", 7, "=", None, None), None),
+            ("bob", 4, ("set", 7, "=", now + DAY, "="), 10),
+            ("bob", 4, ("set", 7, "=", now + DAY, None), None),
+            ("bob", 5, ("set", 7, "=", now + DAY, now + DAY - 1), 9),
+            ("bob", 5, ("set", 7, "=", now + 20 * YEAR, now + 20 * YEAR), 10),
+            # Its Protect Stop is past.
+            ("bob", 5, ("set", 4, "=", now + DAY, "="), 8),
+            ("bob", 5, ("set", 4, "=", None, "="), 8),
+            ("bob", 5, ("set", 4, "=", "=", now + DAY), None),
+            ("eve", 1, ("set", 5, "=", "=", "="), 7),
+            ("b" * 64, 1, ("set", 6, now + 9 * YEAR, None, None), None),
+            ("b" * 64, 2, ("set", 6, None, None, None), None),
+            ("b" * 64, 3, ("set", 6, LAST, None, None), 11),
+            ("bob", 6, ("add-custodian", 3, "cat"), None),
+            ("bob", 7, ("add-custodian", 3, "cat"), 12),
+            ("bob", 7, ("add-custodian", 3, "bob"), 15),
+            ("bob", 7, ("assign", 3, "cat"), 15),
+            ("bob", 7, ("remove-custodian", 3, "dan"), 13),
+            ("bob", 7, ("destroy", 3), 18),
+            ("cat", 1, ("withdraw", 3), 17),
+            ("cat", 1, ("approve", 3), None),
+            ("cat", 2, ("approve", 3), 16),
+            ("bob", 7, ("destroy", 3), 18),
+            ("bob", 7, ("add-custodian", 3, "dan"), None),
+            ("dan", 1, ("approve", 3), None),
+            ("dan", 2, ("withdraw", 3), None),
+            ("dan", 3, ("withdraw", 3), 17),
+            ("bob", 8, ("remove-custodian", 3, "dan"), None),
+            ("bob", 9, ("add-custodian", 3, "dan"), None),
+            ("bob", 10, ("destroy", 3), 18),
+            ("dan", 3, ("approve", 3), None),
+            ("bob", 10, ("assign", 3, "eve"), None),
+            ("bob", 11, ("destroy", 3), 5),
+            ("eve", 1, ("destroy", 3), None),
+            ("eve", 1, ("destroy", 3), None),
+            ("eve", 2, ("destroy", 3), 7),
+            ("eve", 2, ("remove-custodian", 3, "dan"), 7),
+            ("dan", 4, ("approve", 3), 7),
+            ("dan", 4, ("withdraw", 3), 7),
+            ("eve", 2, ("add-custodian", 3, "ulf"), None),
+            ("zed", 1, ("revoke", 3, 3, LAST), 19),
+            ("zed", 1, ("revoke", 3, 3, 17), None),
+            ("zed", 2, ("revoke", 3, 3, None), 7),
+            *(("eve", 10 + n, ("add-custodian", 5, f"c{n}"), None) for n in range(8)),
+            ("eve", 20, ("add-custodian", 5, "c8"), 14),
+            ("eve", 20, ("add-custodian", 5, "c7"), 12),
+            ("eve", 20, ("add-custodian", 5, "eve"), 14),
+            ("c3", 1, ("approve", 5), None),
+            ("c1", 1, ("approve", 5), None),
+            ("zed", 2, ("revoke", 5, 2, None), None),
+            ("eve", 20, ("destroy", 5), 18),
+            ("c1", 2, ("approve", 5), None),
+            ("bob", 11, ("revoke", 6, 5, None), 5),
+            ("b" * 64, 3, ("revoke", 6, 5, None), 7),
+            ("zed", 3, ("revoke", 6, 2, now), None),
+            *(("bob", 20 + reason, ("revoke", key, reason, None), None) for key, reason in ((1, 1), (2, 4), (4, 5), (7, 6), (8, 7))),
+            ("bob", 30, ("revoke", 1, 1, None), 7),
+            ("ann", 30, ("advance",), None),
+            ("ann", 30, ("advance",), None),
+            ("ann", 1, first, None),
+        ]
+        ways = ["curl", "curl", "raw", "curl", "python", "bytes"]
+        for place, (caller, number, command, said) in enumerate(asked):
+            office.post(caller, number, command, said, ways[place % len(ways)])
+            if len(command) > 1 and command[0] != "register" and command[1] <= len(office.register.keys):
+                office.get(command[1], ways[place % 5])
+        for key in range(1, len(office.register.keys) + 2):
+            office.get(key)
+        # Dates that the clock reaches: a key is shown as of the latest accepted moment.
+        now = int(time.time())
+        office.post("ann", 40, ("register", "master", "bob", now + 2, None, now + 4, "soon"))
+        key = len(office.register.keys)
+        office.get(key)
+        for number, state in ((41, "Active"), (42, "Deactivated")):
+            time.sleep(max(0, now + (2 if number == 41 else 4) - time.time()) + 0.05)
+            office.get(key)
+            office.post("ann", number, ("advance",))
+            office.get(key)
+            expect(office.register.keys[key - 1].state(office.register.latest) == state, "the clock and the rules differ")
+        office.look_at_tables()
+
+
+def behind():
+    """A register whose latest moment is ahead of the clock: 3, and what comes before it and behind it."""
+    register, lines, wanted = Register(), [], []
+    for request in [
+        (FAR - DAY, "ann", 1, ("register", "data-encryption", "bob", FAR - 5, None, FAR + 5, "far")),
+        (FAR, "ann", 2, ("advance",)),
+    ]:
+        lines.append(line(*request))
+        wanted.append(reply_line(register, *request))
+    with Served(lines=lines) as served:
+        office = Office("a latest moment ahead", served, register)
+        if served.replies != wanted:
+            office.fail(f"run gave {served.replies}, not {wanted}")
+        office.get(1)
+        office.get(2)
+        office.post("ann", 3, ("advance",), 3)
+        office.post("ann", 3, ("advance",), 3, "raw")
+        office.post("ann", 2, ("advance",))
+        office.post("ann", 1, ("register", "data-encryption", "bob", FAR - 5, None, FAR + 5, "far"), None, "python")
+        office.post("ann", 1, ("advance",), 2)
+        office.post("zed", 1, ("activate", 9), 3)
+        office.post("zed", 1, ("destroy", 1), 3)
+        office.get(1)
+        office.look_at_tables()
+
+
+def with_a_key():
+    """A register with one key, Active."""
+    register = Register()
+    request = (100, "bob", 1, ("register", "data-encryption", "bob", None, None, None, "payroll disks"))
+    register.apply(*request)
+    return register, [line(*request)]
+
+
+def routes_and_methods():
+    register, lines = with_a_key()
+    with Served(lines=lines) as served:
+        office = Office("routes", served, register)
+        office.get(1)
+        office.get(1, "python")
+        office.get(1, "raw")
+        for key in (2, 99, 4294967295):
+            office.get(key)
+        for path in [
+            "/", "//", "/nothing", "/requests/", "/requests?", "/requests?x=1", "/Requests", "/request", "/requestss", "//requests",
+            "/keys", "/keys/", "/keys//", "/keys/0", "/keys/01", "/keys/00", "/keys/1/", "/keys/1?", "/keys/1?x=1",
+            "/keys/4294967296", "/keys/4294967297", "/keys/18446744073709551617", "/keys/" + "9" * 300, "/keys/+1", "/keys/-1",
+            "/keys/1.0", "/keys/1e0", "/keys/0x1", "/keys/x", "/keys/%31", "/%6beys/1", "/keys/1%2fusage", "/Keys/1",
+            "/keys/1/Usage", "/keys/1/usage/", "/keys/1/usage?", "/keys/1/usage?x", "/keys/1/use", "/keys/1/usages",
+            "/keys/0/usage", "/keys/01/usage", "/keys/4294967296/usage", "/keys//usage", "/keys/usage", "/keys/1//usage",
+            "/keys/./1", "/keys/1/../1", "/./keys/1", "/keys/1/usage/usage", "/keys/1;a", "/keys/1,2",
+        ]:
+            office.agree(f"GET {path}", lambda: office.curl(path), NO_ROUTE)
+            office.agree(f"POST {path}", lambda: office.curl(path, "--data-binary", "x"), NO_ROUTE)
+        for target in ["http://localhost/keys/1", "localhost:80", "*", "keys/1", "/keys/1#a", "/requests#", "/keys/\u0661"]:
+            for method in ("GET", "POST", "DELETE"):
+                office.raw(f"{method} {target}", head(f"{method} {target} HTTP/1.1", "Host: localhost"), NO_ROUTE)
+        for method in ["PUT", "DELETE", "PATCH", "OPTIONS", "BREW", "get", "Get", "GETS", "post"]:
+            for path, allowed in (("/requests", "POST"), ("/keys/1", "GET"), ("/keys/2", "GET"), ("/keys/1/usage", "GET")):
+                office.agree(f"{method} {path}", lambda: office.curl(path, "--request", method), not_allowed(allowed))
+        for path, allowed in (("/requests", "POST"), ("/keys/1", "GET"), ("/keys/9/usage", "GET")):
+            for method in ("HEAD", "TRACE", "CONNECT"):
+                office.raw(f"{method} {path}", head(f"{method} {path} HTTP/1.1", "Host: localhost"), not_allowed(allowed))
+            shown = not_allowed(allowed)[:-len(b'{"name":"MethodNotAllowed"}')]
+            office.agree(f"HEAD {path} by curl", lambda: office.curl(path, "--head"), shown)
+            office.agree(f"PUT {path} by http.client", lambda: office.python("PUT", path, b"{}"), not_allowed(allowed))
+        office.agree("GET /requests", lambda: office.curl("/requests"), not_allowed("POST"))
+        for path in ("/keys/1", "/keys/9", "/keys/1/usage"):
+            office.agree(f"POST {path}", lambda: office.curl(path, "--data-binary", "@-", given=ADVANCE), not_allowed("GET"))
+        # The route comes before the method, and both before what only a POST is asked for.
+        office.raw("PUT /nothing", head("PUT /nothing HTTP/1.1", "Host: localhost"), NO_ROUTE)
+        office.raw("no Host, no route", head("GET /nothing HTTP/1.1"), BAD)
+        office.raw("no Host, no method", head("PUT /requests HTTP/1.1"), BAD)
+        office.look_at_tables()
+
+
+def heads():
+    """What a head may be: Host, versions, sizes, and what is none."""
+    register, lines = with_a_key()
+    shown = get_reply(register, 1, False)
+    with Served(lines=lines) as served:
+        office = Office("heads", served, register)
+        agree = office.raw
+        agree("nothing", b"", b"")
+        agree("HTTP/1.0 without Host", b"GET /keys/1 HTTP/1.0\r\n\r\n", shown)
+        office.agree("HTTP/1.0 by curl", lambda: office.curl("/keys/1", "--http1.0"), shown)
+        agree("HTTP/1.0, two Hosts", head("GET /keys/1 HTTP/1.0", "Host: a", "Host: b"), shown)
+        agree("no Host", b"GET /keys/1 HTTP/1.1\r\n\r\n", BAD)
+        agree("two Hosts", head("GET /keys/1 HTTP/1.1", "Host: a", "Host: a"), BAD)
+        agree("two Hosts, one in capitals", head("GET /keys/1 HTTP/1.1", "HOST: a", "host: b"), BAD)
+        agree("an empty Host", head("GET /keys/1 HTTP/1.1", "Host:"), shown)
+        office.agree("no Host by curl", lambda: office.curl("/keys/1", "--header", "Host:"), BAD)
+        for name in ("host", "HOST", "hOsT"):
+            agree(name, head("GET /keys/1 HTTP/1.1", f"{name}: localhost"), shown)
+        agree("GET with a body", get("/keys/1", "Content-Length: 5") + b"hello", shown)
+        agree("GET with a length that is none", get("/keys/1", "Content-Length: x", "Content-Length: y"), shown)
+        agree("GET with Transfer-Encoding", get("/keys/1", "Transfer-Encoding: chunked"), shown)
+        agree("two requests at once", get("/keys/1") + get("/keys/2"), shown)
+        agree("a byte at a time", get("/keys/1", "X: y"), shown, pieces=1)
+        agree("open to the reply", get("/keys/1"), shown, ends=False)
+        agree("an empty line first", b"\r\n" + get("/keys/1"), shown)
+        agree("lines that end with LF", get("/keys/1").replace(b"\r\n", b"\n"), shown)
+        # Sizes.
+        fields = [f"F{n}: {n}" for n in range(MOST_FIELDS - 1)]
+        agree("64 headers", get("/keys/1", *fields), shown)
+        agree("65 headers", get("/keys/1", *fields, "Last: 1"), BAD)
+        agree("65 headers, no end", get("/keys/1", *fields, "Last: 1", "More: 2")[:-2], BAD)
+        agree("200 headers", get("/keys/1", *fields, *fields, *fields), BAD)
+        spare = MOST_HEAD - len(get("/keys/1", "Fill: "))
+        agree("a head of 8192 bytes", get("/keys/1", "Fill: " + "x" * spare), shown)
+        agree("and its body's bytes behind", get("/keys/1", "Fill: " + "x" * spare) + b"x" * 5000, shown)
+        agree("a head of 8193 bytes", get("/keys/1", "Fill: " + "x" * (spare + 1)), TOO_LARGE)
+        agree("8192 bytes without an end", get("/keys/1", "Fill: " + "x" * (spare + 4))[:MOST_HEAD], TOO_LARGE)
+        agree("the same, open", get("/keys/1", "Fill: " + "x" * (spare + 4))[:MOST_HEAD], TOO_LARGE, ends=False)
+        agree("8191 bytes without an end", get("/keys/1", "Fill: " + "x" * (spare + 4))[:MOST_HEAD - 1], BAD)
+        agree("a long head without an end", get("/keys/1", "Fill: " + "x" * 30000), TOO_LARGE)
+        agree("a long value by a byte at a time", get("/keys/1", "Fill: " + "x" * 9000), TOO_LARGE, pieces=1)
+        office.agree("a long header by curl", lambda: office.curl("/keys/1", "--header", "Fill: " + "x" * 9000), TOO_LARGE)
+        # Every front of a head.
+        whole = get("/keys/1")
+        for length in range(1, len(whole)):
+            agree(f"{length} bytes of a head", whole[:length], BAD)
+        for name, given in [
+            ("no version", b"GET /keys/1\r\n\r\n"), ("no target", b"GET\r\n\r\n"), ("no method", b" /keys/1 HTTP/1.1\r\n\r\n"),
+            ("HTTP/2.0", head("GET /keys/1 HTTP/2.0", "Host: a")), ("HTTP/1.2", head("GET /keys/1 HTTP/1.2", "Host: a")),
+            ("HTTP/0.9", head("GET /keys/1 HTTP/0.9", "Host: a")), ("http/1.1", head("GET /keys/1 http/1.1", "Host: a")),
+            ("HTTP/1.10", head("GET /keys/1 HTTP/1.10", "Host: a")), ("words behind", head("GET /keys/1 HTTP/1.1 x", "Host: a")),
+            ("a space in the target", head("GET /keys/ 1 HTTP/1.1", "Host: a")),
+            ("a header without a colon", get("/keys/1", "Header")), ("a header without a name", get("/keys/1", ": x")),
+            ("a space before the colon", get("/keys/1", "Name : x")), ("a space in a name", get("/keys/1", "Na me: x")),
+            ("a folded line", get("/keys/1", "Name: x", " y")), ("a name that is no token", get("/keys/1", "N(m: x")),
+            ("a zero in a value", get("/keys/1", "Name: a\0b")), ("a zero in a name", get("/keys/1", "Na\0me: b")),
+            ("a method that is no token", head("G(T /keys/1 HTTP/1.1", "Host: a")), ("a CR in a value", get("/keys/1", "Name: a\rb")),
+            ("zeros", b"\0" * 100), ("TLS", b"\x16\x03\x01\x02\x00\x01\x00\x01\xfc\x03\x03" + b"\r\n\r\n"),
+            ("a request line", b"100 ann 1 advance\n\r\n\r\n"),
+        ]:
+            agree(name, given, BAD)
+        office.look_at_tables()
+
+
+def accepted(caller, number, command):
+    return lambda register, moment: post_reply(register, moment, caller, number, command)
+
+
+def lengths_and_callers():
+    """Transfer-Encoding, Content-Length, Caller, Request-Number and bodies by their length."""
+    register, lines = with_a_key()
+    advance = ("advance",)
+    with Served(lines=lines) as served:
+        office = Office("lengths and callers", served, register)
+        agree = office.raw
+        first = "POST /requests HTTP/1.1"
+
+        def asked(*fields, body=ADVANCE):
+            return head(first, "Host: localhost", *fields) + body
+
+        agree("no length", asked(*ANN), LENGTH_REQUIRED)
+        agree("no length, no body, no caller", asked(body=b""), LENGTH_REQUIRED)
+        agree("no length in HTTP/1.0", head("POST /requests HTTP/1.0", *ANN) + ADVANCE, LENGTH_REQUIRED)
+        office.agree("no length by curl", lambda: office.curl("/requests", "--request", "POST"), LENGTH_REQUIRED)
+        words = ["--header", "Transfer-Encoding: chunked", "--header", "Caller: ann", "--header", "Request-Number: 1"]
+        words += ["--data-binary", "@-"]
+        office.agree("chunked by curl", lambda: office.curl("/requests", *words, given=ADVANCE), LENGTH_REQUIRED)
+        for coding in ("chunked", "identity", "", "gzip, chunked"):
+            field = f"Transfer-Encoding: {coding}"
+            agree(field, asked(*ANN, field), LENGTH_REQUIRED)
+            agree(f"{field}, and a length", asked(*ANN, field, "Content-Length: 18"), LENGTH_REQUIRED)
+        lengths = ("Content-Length: 18", "Content-Length: 18")
+        agree("Transfer-Encoding beside two lengths", asked(*ANN, *lengths, "TRANSFER-ENCODING: x"), LENGTH_REQUIRED)
+        for name, length in [
+            ("twice", "18\r\nContent-Length: 18"), ("twice, in small letters", "18\r\ncontent-length: 18"), ("empty", ""),
+            ("word", "x"), ("minus", "-18"), ("plus", "+18"), ("list", "18, 18"), ("space within", "1 8"), ("hex", "0x12"),
+            ("point", "18.0"), ("semicolon", "18;"), ("blank", " \t "), ("exponent", "1e1"), ("quoted", '"18"'),
+            ("underscore", "1_8"), ("digits of another script", "\u0661\u0668"),
+        ]:
+            agree(f"length {name}", asked(*ANN, f"Content-Length: {length}"), BAD)
+        for length in ("65537", "00065537", "100000000", "9" * 19, "9" * 20, "9" * 400, "4294967314", "18446744073709551634"):
+            agree(f"length {length[:30]}", asked(*ANN, f"Content-Length: {length}"), TOO_LARGE)
+            agree(f"length {length[:30]}, no caller", asked(f"Content-Length: {length}"), TOO_LARGE)
+        for length in ("0", "00", "1", "17"):
+            agree(f"length {length}", asked(*ANN, f"Content-Length: {length}"), BAD)
+        for length in (19, 20, 65535, 65536):
+            agree(f"length {length}, body cut short", asked(*ANN, f"Content-Length: {length}"), BAD)
+        for cut in range(len(ADVANCE)):
+            agree(f"{cut} bytes of a body", asked(*ANN, "Content-Length: 18", body=ADVANCE[:cut]), BAD)
+        for name, fields in [
+            ("no Caller", ["Request-Number: 1"]), ("no Request-Number", ["Caller: ann"]), ("neither", []),
+            ("two Callers", [*ANN, "Caller: ann"]), ("two Callers, cases", [*ANN, "CALLER: bob"]),
+            ("two Request-Numbers", [*ANN, "Request-Number: 1"]), ("two Request-Numbers, cases", [*ANN, "request-number: 2"]),
+        ]:
+            agree(name, post(ADVANCE, *fields), BAD)
+        for caller in ("", " ", "a b", "a/b", "a,b", "ann\t2", "\u00e4nn", "a" * 65, '"ann"', "ann;", "a:b", "*"):
+            agree(f"Caller {caller!r}", post(ADVANCE, f"Caller: {caller}", "Request-Number: 1"), BAD)
+        for number in [
+            "", "0", "00", "01", "+1", "-1", "1.0", "1e0", "0x1", "1 2", "1,2", "x", "\u0661", '"1"', "9007199254740992", "9" * 20,
+            "18446744073709551617", "9" * 300,
+        ]:
+            agree(f"Request-Number {number[:30]!r}", post(ADVANCE, "Caller: ann", f"Request-Number: {number}"), BAD)
+        words = ["--header", "Caller: ann", "--header", "Request-Number: 01", "--data-binary", "@-"]
+        office.agree("Request-Number 01 by curl", lambda: office.curl("/requests", *words, given=ADVANCE), BAD)
+        # A refusal of the head comes before one of the body, and 413 and 411 before the caller.
+        agree("no caller, no JSON", post(b"x"), BAD)
+        agree("no caller, no body", head(first, "Host: localhost", "Content-Length: 18"), BAD, ends=False)
+        # None of these was applied: the number is still free, and the key as it was.
+        office.post("ann", 1, ("advance",))
+        office.get(1)
+        numbers = iter(range(2, 1000))
+
+        def accepts(name, given, number, caller="ann", **how):
+            agree(name, given, accepted(caller, number, advance), **how)
+
+        for name, template in [
+            ("018", "Caller: ann|Request-Number: {}|Content-Length: 018"),
+            ("a long row of zeros", "Caller: ann|Request-Number: {}|Content-Length: " + "0" * 40 + "18"),
+            ("names in small letters", "caller: ann|request-number: {}|content-length: 18"),
+            ("names in capitals", "CALLER: ann|REQUEST-NUMBER: {}|CONTENT-LENGTH: 18"),
+            ("names in any case", "cAlLeR: ann|rEQUEST-nUMBER: {}|CoNtEnT-lEnGtH: 18"),
+            ("spaces and tabs around", "Caller: \t ann \t |Request-Number:\t {}\t |Content-Length:  \t18 \t"),
+            ("no space behind the colon", "Caller:ann|Request-Number:{}|Content-Length:18"),
+            ("other headers between", "Content-Length: 18|Accept: */*|Caller: ann|X-Caller: bob|Request-Number: {}|Callers: zed"),
+            ("Expect", "Caller: ann|Request-Number: {}|Content-Length: 18|Expect: 100-continue"),
+            ("Connection and type", "Caller: ann|Request-Number: {}|Content-Length: 18|Connection: keep-alive|Content-Type: x"),
+        ]:
+            number = next(numbers)
+            accepts(name, asked(*template.format(number).split("|")), number)
+            number = next(numbers)
+            accepts(f"{name}, HTTP/1.0", head("POST /requests HTTP/1.0", *template.format(number).split("|")) + ADVANCE, number)
+        number = next(numbers)
+        asked_whole = post(ADVANCE, "Caller: ann", f"Request-Number: {number}")
+        accepts("bytes behind the body", asked_whole + get("/keys/1") + b"x" * 9000, number)
+        number = next(numbers)
+        accepts("open to the reply", post(ADVANCE, "Caller: ann", f"Request-Number: {number}"), number, ends=False)
+        number = next(numbers)
+        accepts("a byte at a time", post(ADVANCE, "Caller: ann", f"Request-Number: {number}"), number, pieces=1)
+        number = next(numbers)
+        accepts("a body of 65536 bytes", post(ADVANCE.ljust(MOST_BODY), "Caller: ann", f"Request-Number: {number}"), number)
+        number = next(numbers)
+        accepts("that in pieces", post(ADVANCE.rjust(MOST_BODY), "Caller: ann", f"Request-Number: {number}"), number, pieces=1009)
+        longer = ADVANCE.ljust(MOST_BODY + 1)
+        agree("a body of 65537 bytes", post(longer, "Caller: ann", f"Request-Number: {next(numbers)}"), TOO_LARGE)
+        office.agree("that by curl", lambda: office.posted("curl", "ann", 900, longer), TOO_LARGE)
+        number = next(numbers)
+        given = ADVANCE.ljust(MOST_BODY)
+        office.agree("65536 by curl", lambda: office.posted("curl", "ann", number, given), accepted("ann", number, advance))
+        accepts("a caller of 64 bytes", post(ADVANCE, "Caller: " + "a" * 64, "Request-Number: 1"), 1, "a" * 64)
+        accepts("a caller of signs", post(ADVANCE, "Caller: -_.@", f"Request-Number: {GREATEST_NUMBER}"), GREATEST_NUMBER, "-_.@")
+        fields = [f"F{n}: {n}" for n in range(MOST_FIELDS - 4)]
+        number = next(numbers)
+        accepts("64 headers", post(ADVANCE, "Caller: ann", f"Request-Number: {number}", *fields), number)
+        agree("65 headers", post(ADVANCE, "Caller: ann", f"Request-Number: {next(numbers)}", "Z: z", *fields), BAD)
+        office.look_at_tables()
+
+
+# A good command of each kind, of callers that may give it while the key is Pre-Active.
+SAMPLES = [
+    ("register", "master", "bob", 5, 6, 7, "spare"), ("activate", 1), ("set", 1, 5, 6, 7), ("revoke", 1, 2, 5), ("assign", 1, "bob"),
+    ("add-custodian", 1, "cat"), ("remove-custodian", 1, "cat"), ("approve", 1), ("withdraw", 1), ("destroy", 1), ("advance",),
+]
+# What no member may be; a number is written into the text as it stands here.
+NO_MOMENT = [
+    "1.0", "1e0", "5E2", "-0", "-1", "253402300800", "18446744073709551616", "1" * 40, "true", "[]", "{}", '"5"', '""', '"Keep"',
+    '" keep"',
+]
+NO_KEY = ["0", "4294967296", "1.0", "1e0", "-1", "-0", "18446744073709551617", "null", "false", '"1"', "[1]", "{}"]
+NO_NAME = ["null", "1", "true", '""', '"a b"', '"' + "a" * 65 + '"', '"\u00e4"', '"a\\u0000"', '"a\\n"', "[]", "{}", '"a/b"', '" a"']
+NO_PURPOSE = [
+    "null", "1", '""', '" x"', '"x "', '" "', '"' + "x" * 201 + '"', '"' + "\u00e9" * 101 + '"', '"a\\nb"', '"a\\u0000b"',
+    '"a\\tb"', '"\\u007f"', '"\\u001f"', '"\\ud800"', '"\\udc00\\ud800"', "[]", "{}", "true",
+]
+NO_TYPE = ["null", "1", '""', '"Master"', '"master "', '"data encryption"', '"public"', "[]", "{}", "true"]
+NO_REASON = ["0", "8", "2.0", "2e0", "-2", "null", '"2"', "true", "258", "4294967298"]
+WRONG = {
+    "key": NO_KEY, "owner": NO_NAME, "name": NO_NAME, "purpose": NO_PURPOSE, "type": NO_TYPE, "reason": NO_REASON,
+    "activation": NO_MOMENT, "protect_stop": NO_MOMENT, "deactivation": NO_MOMENT, "occurrence": [*NO_MOMENT, '"keep"'],
+    "kind": ["null", "1", '""', '"Advance"', '"advance "', '"setdates"', '"add_custodian"', '"list"', "[]", "{}", '["advance"]'],
+}
+
+
+def body_text(members):
+    return ("{" + ",".join(f'"{name}":{value}' for name, value in members.items()) + "}").encode()
+
+
+def bodies():
+    """What a body may be and what it may not, member by member."""
+    register, lines = with_a_key()
+    with Served(lines=lines) as served:
+        office = Office("bodies", served, register)
+
+        def refused(name, body):
+            office.raw(f"{name}: {body[:120]}", post(body, *ANN), BAD)
+
+        for name, body in [
+            ("empty", b""), ("space", b"  \r\n\t"), ("word", b"advance"), ("text", b'"advance"'), ("null", b"null"), ("number", b"1"),
+            ("list", b'[{"kind":"advance"}]'), ("empty object", b"{}"), ("cut", b'{"kind":"advance"'), ("two", ADVANCE + ADVANCE),
+            ("words behind", ADVANCE + b"x"), ("comma", b'{"kind":"advance",}'), ("single quotes", b"{'kind':'advance'}"),
+            ("comment", ADVANCE + b"// x"), ("byte order mark", b"\xef\xbb\xbf" + ADVANCE), ("brackets", b"[" * 1000),
+            ("deep", b"[" * 1000 + b"]" * 1000), ("deep in a member", b'{"kind":' + b"[" * 1000 + b"]" * 1000 + b"}"),
+            ("braces", b'{"a":' * 1000), ("no UTF-8", b'{"kind":"advance\xff"}'), ("no UTF-8 behind", ADVANCE + b"\xff"),
+            ("zero behind", ADVANCE + b"\0"), ("name in capitals", b'{"Kind":"advance"}'), ("no name", b'{"":"advance"}'),
+            ("UTF-16", ADVANCE.decode().encode("utf-16")), ("a control character", b'{"kind":"adv\nance"}'),
+            ("last kind counts", b'{"kind":"advance","kind":"x"}'), ("a request line", b"100 ann 1 advance\n"),
+        ]:
+            refused(name, body)
+        for command in SAMPLES:
+            sample = {name: json.dumps(value) for name, value in request_object(command).items()}
+            kind = command[0]
+            for name in sample:
+                refused(f"{kind} without {name}", body_text({other: value for other, value in sample.items() if other != name}))
+                for wrong in WRONG[name]:
+                    refused(f"{kind} with {name}", body_text({**sample, name: wrong}))
+            others = {name for names in MEMBERS.values() for name in names} - set(sample)
+            for name in sorted(others) + ["moment", "caller", "number", "Kind", ""]:
+                refused(f"{kind} with a member more", body_text({**sample, name: "1"}))
+                refused(f"{kind} with a member more", body_text({name: "null", **sample}))
+        for name in ("activation", "protect_stop", "deactivation"):
+            sample = {name: json.dumps(value) for name, value in request_object(SAMPLES[0]).items()}
+            refused("register keeps nothing", body_text({**sample, name: '"keep"'}))
+        for reason in (1, 4, 5, 6, 7):
+            refused("an occurrence without a compromise", compact({"kind": "revoke", "key": 1, "reason": reason, "occurrence": 5}))
+        office.get(1)
+        # What is another spelling of the same value.
+        spare = ("register", "master", "bob", None, 6, 7, "a\u00e9\"\\/b")
+        number = 1
+        for name, body, command in [
+            ("spaces", b' \t\r\n{ "kind" :\n"advance" } \r\n', ("advance",)),
+            ("a member twice, the last counts", b'{"kind":"destroy","kind":"advance"}', ("advance",)),
+            ("a wrong member twice", b'{"kind":"assign","key":"x","owner":7,"owner":"bob","key":1}', ("assign", 1, "bob")),
+            ("escapes", b'{"\\u006bind":"adv\\u0061nce"}', ("advance",)),
+            ("another order", '{"purpose":"a\\u00e9\\"\\\\\\/b","deactivation":7,"type":"master","protect_stop":6,"owner":"b\\u006fb","activation":null,'
+             '"kind":"register"}'.encode(), spare),
+            ("its purpose as it stands", '{"kind":"register","type":"master","owner":"bob","activation":null,"protect_stop":6,"deactivation":7,'
+             '"purpose":"\u2028\u0085\U0001f511\u05d0"}'.encode(), ("register", "master", "bob", None, 6, 7, "\u2028\u0085\U0001f511\u05d0")),
+            ("a pair of surrogates", b'{"kind":"register","type":"master","owner":"bob","activation":null,"protect_stop":6,"deactivation":7,'
+             b'"purpose":"\\ud83d\\udd11"}', ("register", "master", "bob", None, 6, 7, "\U0001f511")),
+            ("keep and null", b'{"kind":"set","key":1,"activation":"keep","protect_stop":null,"deactivation":"k\\u0065ep"}',
+             ("set", 1, "=", None, "=")),
+            ("the greatest key", b'{"kind":"activate","key":4294967295}', ("activate", 4294967295)),
+            ("moment 0", b'{"kind":"set","key":1,"activation":null,"protect_stop":0,"deactivation":0}', ("set", 1, None, 0, 0)),
+            ("an occurrence of 0", b'{"kind":"revoke","key":1,"reason":2,"occurrence":0}', ("revoke", 1, 2, 0)),
+        ]:
+            fields = ("Caller: bob", f"Request-Number: {number + 1}")
+            number += 1
+            office.raw(name, post(body, *fields), accepted("bob", number, command))
+            office.raw(f"{name}, again", post(compact(request_object(command)), *fields), accepted("bob", number, command))
+        for key in range(1, len(office.register.keys) + 1):
+            office.get(key)
+        office.look_at_tables()
+
+
+def own_end():
+    """The program ends behind its last exchange, whatever the exchanges were."""
+    register, lines = with_a_key()
+    with Served(exchanges=5, lines=lines) as served:
+        office = Office("the end", served, register)
+        office.raw("nothing", b"", b"")
+        office.raw("no head", b"GET\r\n\r\n", BAD)
+        office.post("ann", 1, ("advance",))
+        office.get(1)
+        told = served.ended()
+        if told or listens(served.port):
+            office.fail(f"the end: {told or 'the port still listens'}")
+        office.look_at_tables()
+        with Served(exchanges=1, file=served.file) as again:
+            office = Office("served again", again, office.register)
+            office.post("ann", 1, ("advance",))
+            told = again.ended()
+            if told:
+                office.fail(told)
+
+
+def refused_store():
+    """A file that may not grow: at some request 500, then the program's end; opened again, the request is there whole or not."""
+    register, lines = with_a_key()
+    with Served(lines=lines, file_limit=256 * 1024) as served:
+        office = Office("a file that may not grow", served, register)
+        begun = int(time.time())
+        for number in range(2, 2000):
+            command = ("register", "master", "bob", None, None, None, f"key {number} " + "x" * 150)
+            body, found = compact(request_object(command)), []
+
+            def send():
+                found.append(office.posted("raw", "ann", number, body))
+                return found[0]
+
+            def answer(kept, moment):
+                return STORE if found[0] == STORE else post_reply(kept, moment, "ann", number, command)
+
+            office.agree(f"key {number}", send, answer)
+            if found[0] == STORE or served.process.poll() is not None:
+                break
+        else:
+            office.fail("a file that may not grow grew")
+            return
+        told = served.ended(3, b"keyreg: Store\n")
+        if told:
+            office.fail(f"{office.name}: {told}")
+        with Served(file=served.file) as again:
+            office = Office("opened again", again, office.register)
+            office.get(len(office.register.keys))
+            # It acted, or acts now: either way its key is the next, and the same request gives the same reply from here on.
+            asked = post(body, "Caller: ann", f"Request-Number: {number}")
+            moment = json.loads(again.raw(asked).partition(b"\r\n\r\n")[2]).get("moment", 0)
+            expect(begun <= moment <= time.time(), f"{office.name}: a moment of {moment}")
+            office.raw("the same request", asked, lambda kept, _: post_reply(kept, moment, "ann", number, command))
+            office.get(len(office.register.keys))
+            office.look_at_tables()
+
+
+def stalled(bound, all_places):
+    """A client that stalls is given up, and the next one served; nothing is written to it, and nothing was applied."""
+    whole = post(ADVANCE, "Caller: zed", "Request-Number: 1")
+    places = {"within the head": whole[:30]}
+    if all_places:
+        places |= {"before the first byte": b"", "within the body": whole[:-5]}
+    for name, given in places.items():
+        register, lines = with_a_key()
+        with Served(lines=lines) as served, served.connected(bound + 10) as quiet:
+            office = Office(f"a client that stalls {name}", served, register)
+            quiet.sendall(given)
+            begun = time.monotonic()
+            with served.connected(bound) as following:
+                following.sendall(get("/keys/1"))
+                try:
+                    pieces = []
+                    while piece := following.recv(65536):
+                        pieces.append(piece)
+                except (socket.timeout, ConnectionResetError):
+                    pass
+                found = b"".join(pieces)
+            office.agree("the next client", lambda: found, get_reply(register, 1, False))
+            print(f"a client that stalled {name} held the next one up for {time.monotonic() - begun:.1f} s")
+            if found:
+                quiet.settimeout(10)
+                try:
+                    rest = quiet.recv(65536)
+                except ConnectionResetError:
+                    rest = b""
+                except socket.timeout:
+                    rest = "no end"
+                if rest != b"":
+                    office.fail(f"{office.name}: it was given {rest}")
+                office.post("ann", 1, ("advance",))
+                office.look_at_tables()
+
+
+def left_clients():
+    """Clients that leave: at once, within the head, within the body, and before they read the reply."""
+    register, lines = with_a_key()
+    whole = post(ADVANCE, "Caller: zed", "Request-Number: 1")
+    with Served(lines=lines) as served:
+        office = Office("clients that leave", served, register)
+        for given in (b"", whole[:10], whole[:-5]):
+            for linger in (False, True):
+                connection = served.connected()
+                if linger:
+                    # The connection is reset, not closed in order.
+                    connection.setsockopt(socket.SOL_SOCKET, socket.SO_LINGER, b"\1\0\0\0\0\0\0\0")
+                connection.sendall(given)
+                connection.close()
+                office.get(1)
+        # The request was sent whole, and acts once, whether or not its reply was read.
+        connection = served.connected()
+        connection.sendall(whole)
+        connection.close()
+        before = int(time.time()) - 1
+        found = served.raw(whole)
+        moment = json.loads(found.partition(b"\r\n\r\n")[2]).get("moment", 0)
+        expect(before <= moment <= time.time(), f"a moment of {moment}")
+        office.raw("sent again", whole, lambda kept, _: post_reply(kept, moment, "zed", 1, ("advance",)))
+        office.look_at_tables()
+
+
+def several_at_once():
+    """Clients that come at once are served one after the other, each with its own reply."""
+    with Served() as served:
+        office = Office("clients at once", served)
+        replies = {}
+
+        def send(place):
+            body = compact(request_object(("register", "master", f"owner-{place}", None, None, None, f"key of {place}")))
+            replies[place] = served.raw(post(body, f"Caller: caller-{place}", "Request-Number: 1"))
+
+        threads = [threading.Thread(target=send, args=(place,)) for place in range(32)]
+        for thread in threads:
+            thread.start()
+        for thread in threads:
+            thread.join()
+        told = {place: json.loads(found.partition(b"\r\n\r\n")[2]) for place, found in replies.items()}
+        expect(all("key" in one for one in told.values()), f"clients at once: {told}")
+        for place in sorted(told, key=lambda place: told[place]["key"]):
+            command = ("register", "master", f"owner-{place}", None, None, None, f"key of {place}")
+            moment = told[place]["moment"]
+            office.agree(f"client {place}", lambda: replies[place],
+                         lambda register, _: post_reply(register, moment, f"caller-{place}", 1, command))
+        for key in range(1, 33):
+            office.get(key, "raw")
+        office.look_at_tables()
+
+
+def full():
+    """A register of 1000000 keys, written by SQLite's own library: one more is refused, and all else goes on."""
+    most, year = 1_000_000, plus_months(0, 12)
+    register, lines = with_a_key()
+    with Served(lines=lines, exchanges=1) as served:
+        served.raw(b"")
+        served.ended()
+        file = served.file + ".full"
+        connection = sqlite3.connect(file)
+        connection.executescript("PRAGMA synchronous = OFF; PRAGMA journal_mode = OFF;" + TABLES)
+        connection.execute("INSERT INTO meta VALUES (1, 1, 100, ?)", (most,))
+        connection.executemany(
+            "INSERT INTO keys VALUES (?, 7, 'office', ?, 2, 100, 0, ?, ?, ?, ?, ?)",
+            ((k, f"backup volume {k}", year, year, UNSET, UNSET, UNSET) for k in range(1, most + 1)),
+        )
+        connection.executemany(
+            "INSERT INTO request VALUES ('ann', ?, ?, ?, 2, 100)",
+            ((k, f"register master office 0 - - backup volume {k}", k) for k in range(1, most + 1)),
+        )
+        connection.executescript(INDEXES)
+        connection.commit()
+        connection.close()
+        with Served(file=file) as again:
+            office = Office("a full register", again)
+
+            def posted(name, number, command, answer):
+                body = compact(request_object(command))
+                office.raw(name, post(body, "Caller: ann", f"Request-Number: {number}"), answer)
+
+            kept = ("register", "master", "office", 0, None, None, f"backup volume {most}")
+            posted("the last key's request again", most, kept, reply(200, {"key": most, "moment": 100, "state": "Active"}))
+            posted("dates in disorder", most + 1, ("register", "master", "bob", 5, 4, 6, "x"), refusal_reply(9))
+            posted("one more", most + 1, ("register", "master", "bob", None, None, None, "x"), refusal_reply(20))
+            posted("the key behind", most + 1, ("activate", most + 1), UNKNOWN)
+            for key, answer in ((most, True), (most + 1, False)):
+                shown = {
+                    "activation": 0, "approvals": [], "compromised": None, "custodians": [], "deactivation": year, "destroyed": None,
+                    "initial": 100, "number": key, "occurrence": None, "owner": "office", "protect_stop": year,
+                    "purpose": f"backup volume {key}", "state": "Active", "type": "master",
+                }
+                office.agree(f"key {key}", lambda: office.curl(f"/keys/{key}"), reply(200, shown) if answer else UNKNOWN)
+
+
+def by_ab():
+    """ApacheBench, one connection at a time: no exchange fails."""
+    if not shutil.which("ab"):
+        print("ab is not installed; nothing was asked with it")
+        return
+    register, lines = with_a_key()
+    with Served(lines=lines, exchanges=2000) as served:
+        body = os.path.join(served.folder.name, "advance.json")
+        with open(body, "wb") as file:
+            file.write(ADVANCE)
+        place = f"http://127.0.0.1:{served.port}"
+        post_words = ["-p", body, "-T", "application/json", "-H", "Caller: ann", "-H", "Request-Number: 1", place + "/requests"]
+        for name, words in (("GET", [place + "/keys/1"]), ("POST", post_words)):
+            done = subprocess.run(["ab", "-q", "-n", "1000", "-c", "1", *words], capture_output=True, text=True, check=False)
+            names = ("Complete", "Failed", "Non-2xx", "Write errors", "Requests per")
+            told = [row for row in done.stdout.splitlines() if row.startswith(names)]
+            print(f"ab, {name}: " + "; ".join(" ".join(row.split()) for row in told))
+            figures = {row.split(":")[0]: row.split(":")[1].split()[0] for row in told}
+            is_whole = figures.get("Complete requests") == "1000" and figures.get("Failed requests") == "0"
+            if done.returncode or not is_whole or "Non-2xx responses" in figures:
+                Office.fail(f"ab, {name}: status {done.returncode}, {done.stderr}")
+        told = served.ended()
+        if told:
+            Office.fail(f"ab: {told}")
+
+
+def main():
+    words = argparse.ArgumentParser()
+    words.add_argument("--full", action="store_true")
+    words.add_argument("--ab", action="store_true")
+    words.add_argument("--stalls", action="store_true")
+    words.add_argument("--bound", type=float, default=120)
+    told = words.parse_args()
+    expect(shutil.which("curl"), "curl is not installed")
+    look_at_rules()
+    for part in [
+        commands, behind, routes_and_methods, heads, lengths_and_callers, bodies, own_end, refused_store, left_clients,
+        several_at_once,
+    ]:
+        before = Office.sent
+        try:
+            part()
+        except (Ended, ConnectionError):
+            Office.fail(f"{part.__name__.replace('_', ' ')}: the program ended, and what is behind was not asked")
+        print(f"{part.__name__.replace('_', ' ')}: {Office.sent - before} exchanges", flush=True)
+    stalled(told.bound, told.stalls)
+    if told.full:
+        full()
+    if told.ab:
+        by_ab()
+    print(f"{Office.agreed} of {Office.sent} exchanges agreed" + (f"; {Office.failures} differences" if Office.failures else ""))
+    sys.exit(1 if Office.failures else 0)
+
+
+main()
