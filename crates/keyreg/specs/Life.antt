@@ -1,5 +1,5 @@
 -- A life of a register in files: it is opened, something is done over it, and it may be stopped.
-use Rattle.std.specs.Prelude.{◌≡◌, ◌+◌, ℕ, List, Option, take}
+use Rattle.std.specs.Prelude.{◌≡◌, ◌+◌, ◌≤◌, ◌++◌, ℕ, List, length, Option, take}
 use Rattle.sqlite_disk.specs.declared.Disk.{Ghosts}
 use Rattle.sqlite_store.specs.declared.store.FileStore.{FileStore}
 use Rattle.sqlite_store.specs.FileStore.{state}
@@ -36,3 +36,12 @@ pub record EndsUnbegun {D : Type 0} {g : Ghosts D} (h : List Request) (outcome :
 pub record WritesOut {D : Type 0} {g : Ghosts D} (h : List Request) (text : List ℕ) (outcome : Outcome) (old new : Option (List ℕ)) (store : FileStore D g) : Type 0 where
   pub writes : WritesText text outcome.end old new
   pub leaves : LeavesInFiles h h store
+
+-- Exchanges were served, and whatever a stop leaves in the files holds the register with some items behind its history, or
+-- with one more of them: as many as there were exchanges at most.
+pub record ServesInFiles {D : Type 0} {g : Ghosts D} (h : List Request) (most : ℕ) (store : FileStore D g) : Type 0 where
+  pub items : List (Option Request)
+  pub next : List (Option Request)
+  pub one : length next ≤ 1
+  pub few : length (items ++ next) ≤ most
+  pub leaves : LeavesInFiles (history h items) (history h (items ++ next)) store

@@ -1,9 +1,11 @@
--- The values among the program's words. Their forms are those of the fields of a request line; the bound on days is this
--- register's own.
+-- The values among the program's words. Their forms are those of the fields of a request line; the bounds on days and
+-- exchanges are this register's own.
 use Rattle.std.specs.Prelude.{◌≡◌, ◌≤◌, ℕ, List, decimal, Option, None, Some}
 use Rattle.moment_core.specs.Moment.{last_second}
 use Rattle.register_core.specs.Name.{IsName}
 use Rattle.register_core.specs.Number.{IsNumber}
+use Rattle.keyreg.specs.declared.values.Bounds.{Bounds}
+use Rattle.keyreg.specs.declared.values.GivenBounds.{GivenBounds}
 use Rattle.keyreg.specs.declared.values.GivenTerms.{GivenTerms}
 use Rattle.keyreg.specs.declared.values.Terms.{Terms}
 
@@ -22,6 +24,21 @@ IsFirst text number = (text ≡ decimal number) × IsNumber number
 
 abbrev pub IsDays : List ℕ → ℕ → Type 0
 IsDays text days = (text ≡ decimal days) × (days ≤ max_days)
+
+-- a port of TCP
+abbrev pub IsPort : List ℕ → ℕ → Type 0
+IsPort text port = (text ≡ decimal port) × (1 ≤ port) × (port ≤ 65_535)
+
+-- how many exchanges are served at most
+abbrev pub max_exchanges : ℕ
+max_exchanges = 1_000_000
+
+abbrev pub IsExchanges : List ℕ → ℕ → Type 0
+IsExchanges text exchanges = (text ≡ decimal exchanges) × (1 ≤ exchanges) × (exchanges ≤ max_exchanges)
+
+pub record AreBounds (given : GivenBounds) (bounds : Bounds) : Type 0 where
+  pub port : IsPort given.port.now bounds.port
+  pub exchanges : IsExchanges given.exchanges.now bounds.exchanges
 
 pub record AreTerms (given : GivenTerms) (terms : Terms) : Type 0 where
   pub moment : IsMoment given.moment.now terms.moment

@@ -7,7 +7,9 @@ ghost use Rattle.register_desk.specs.Register.{StandsFor};
 ghost use Rattle.register_desk.specs.End.{exit_status};
 ghost use Rattle.keyreg.specs.Act.{unopened_status, status_of, Acts};
 
-use crate::register_file::{Life, export_file, import_file, init_file, report_file, run_file};
+use crate::register_file::{
+    Life, export_file, import_file, init_file, report_file, run_file, serve_file,
+};
 use crate::values::read_days;
 use crate::words::{Task, read_words};
 use clap::error::ErrorKind;
@@ -159,6 +161,10 @@ pub fn act<R: Read + Drop, W: Write>(
         Ok(Task::Export { file }) => end_life(export_file(rt, file, Wary, writer), faults),
         Ok(Task::Report { file, days }) => match read_days(days) {
             Some(days) => end_life(report_file(rt, file, Wary, days, writer), faults),
+            None => report_bad_value(faults),
+        },
+        Ok(Task::Serve { file, bounds }) => match bounds.read() {
+            Some(bounds) => end_life(serve_file(rt, file, Wary, &bounds), faults),
             None => report_bad_value(faults),
         },
         Err(error) => report_words(&error, faults),

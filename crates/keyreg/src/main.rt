@@ -1,9 +1,10 @@
 //! The register's program: it reads request lines or rows of CSV from standard input, and writes reply lines, an export or a
-//! report to standard output, over the register in a file, or over a new one in memory.
+//! report to standard output, or serves HTTP exchanges, over the register in a file, or over a new one in memory.
 #![tactic(auto)]
 
 mod act;
 mod register_file;
+mod serving;
 mod values;
 mod words;
 

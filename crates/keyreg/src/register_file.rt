@@ -19,9 +19,11 @@ ghost use Rattle.register_desk.specs.Opening.{RefusesNoTable};
 ghost use Rattle.register_desk.specs.Register.{HasCommitted, StandsFor, tables};
 ghost use Rattle.register_desk.specs.Rows.{all_rows};
 ghost use Rattle.register_report.specs.Rows.{BeginsWithHeader, HasRowItems};
-ghost use Rattle.keyreg.specs.Life.{EndsUnbegun, LeavesInFiles, LivesOver, WritesOut};
+ghost use Rattle.keyreg.specs.Life.{EndsUnbegun, LeavesInFiles, LivesOver};
+ghost use Rattle.keyreg.specs.Life.{ServesInFiles, WritesOut};
 
-use crate::values::Terms;
+use crate::serving::serve_at;
+use crate::values::{Bounds, Terms};
 use register_desk::{Desk, OpenRefusal, Outcome, Watched, run};
 use register_report::{export, import, rotation};
 use sqlite::{Connection, Error, ErrorCode, FileFrom, FileStore, Start};
@@ -239,6 +241,35 @@ pub fn report_file<S: Start, W: Write>(
     let outcome = rotation(rt.alloc(), &mut desk, days, writer);
     Ok(Life {
         outcome,
+        store: into_files(desk),
+    })
+}
+
+/// Opens the register in the file, and serves exchanges, as [`serve_at`].
+///
+/// # Errors
+/// As [`open_file`]; no connection was accepted then.
+pub fn serve_file<S: Start>(
+    rt: &HostRuntime,
+    file: &str,
+    start: S,
+    bounds: &Bounds,
+) -> Result<Life<FileFrom<S>>, OpenRefusal>
+    // Where the files held the register of a history, whatever a stop leaves in them holds that of at most one item more
+    // for each exchange.
+    ensures lives { (h : List Request) → IsLawful h → HoldsRegister h (image_at S.Start) →
+        IfOk result (λ life. IsCleanStore (view life.store)
+        → ServesInFiles h bounds.now.exchanges life.store) }
+{
+    let mut desk = open_file(rt, file, start)?;
+    let end = serve_at(rt, &mut desk, bounds.port, bounds.exchanges);
+    Ok(Life {
+        outcome: Outcome {
+            read: 0,
+            written: 0,
+            replies: 0,
+            end,
+        },
         store: into_files(desk),
     })
 }

@@ -1,11 +1,18 @@
 //! The values among the program's words, each read as a field of a request line is.
-ghost use Rattle.keyreg.specs.Values.{AreTerms, IsCaller, IsDays, IsFirst, IsMoment, Reads};
+ghost use Rattle.keyreg.specs.Values.{AreBounds, AreTerms, IsCaller, IsDays, IsExchanges};
+ghost use Rattle.keyreg.specs.Values.{IsFirst, IsMoment, IsPort, Reads};
 
 use moment_core::Moment;
 use register_core::{Name, RequestNumber, read_decimal};
 
 /// For how many days a report looks ahead at most.
 pub const MAX_DAYS: u64 = 36_500;
+
+/// The greatest port.
+const MAX_PORT: u64 = 65_535;
+
+/// How many exchanges are served at most.
+pub const MAX_EXCHANGES: u64 = 1_000_000;
 
 /// What is said of the rows of an import, as it was given.
 #[derive(Clone, Copy, Debug, PartialEq, Eq)]
@@ -53,6 +60,62 @@ impl GivenTerms<'_> {
             moment: read_moment(self.moment)?,
             caller: read_caller(self.caller)?,
             first: read_first(self.first)?,
+        })
+    }
+}
+
+/// Where and how often exchanges are served, as it was given.
+#[derive(Clone, Copy, Debug, PartialEq, Eq)]
+pub struct GivenBounds<'a> {
+    pub port: &'a str,
+    pub exchanges: &'a str,
+}
+
+/// Where and how often exchanges are served.
+#[derive(Clone, Copy)]
+pub struct Bounds {
+    /// The port, from 1.
+    pub port: u16,
+    /// How many connections, from 1 to [`MAX_EXCHANGES`].
+    pub exchanges: u32,
+}
+
+/// The port that the text writes in decimal.
+fn read_port(text: &str) -> Option<u16>
+    ensures { Reads IsPort text.now result }
+{
+    let port = read_decimal(text.as_bytes())?;
+    if port < 1 {
+        return None;
+    }
+    if port > MAX_PORT {
+        return None;
+    }
+    Some(port as u16)
+}
+
+/// The number of exchanges that the text writes in decimal.
+fn read_exchanges(text: &str) -> Option<u32>
+    ensures { Reads IsExchanges text.now result }
+{
+    let exchanges = read_decimal(text.as_bytes())?;
+    if exchanges < 1 {
+        return None;
+    }
+    if exchanges > MAX_EXCHANGES {
+        return None;
+    }
+    Some(exchanges as u32)
+}
+
+impl GivenBounds<'_> {
+    /// The bounds, where each text is a value.
+    pub fn read(&self) -> Option<Bounds>
+        ensures { Reads AreBounds self.now result }
+    {
+        Some(Bounds {
+            port: read_port(self.port)?,
+            exchanges: read_exchanges(self.exchanges)?,
         })
     }
 }

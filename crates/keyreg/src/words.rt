@@ -1,7 +1,7 @@
 //! What the program's words ask for.
 ghost use Rattle.std.specs.Prelude.{◌≡◌, ◌≤◌, length, Ok};
 
-use crate::values::GivenTerms;
+use crate::values::{GivenBounds, GivenTerms};
 use clap::error::ErrorKind;
 use clap::{Arg, ArgAction, ArgMatches, Command, Error};
 use std::alloc::{AllocError, Global};
@@ -33,6 +33,11 @@ pub enum Task<'a> {
         file: &'a str,
         days: &'a str,
     },
+    /// HTTP exchanges over the register in the file, within these bounds.
+    Serve {
+        file: &'a str,
+        bounds: GivenBounds<'a>,
+    },
 }
 
 const ABOUT: &str = "The register of cryptographic keys: owners, purposes and lifecycles";
@@ -45,6 +50,8 @@ const IMPORT: &str =
     "Registers a key for each row of the CSV of standard input, and writes the reply lines";
 
 const EXPORT: &str = "Writes all keys as CSV";
+
+const SERVE: &str = "Serves HTTP exchanges on 127.0.0.1, one connection after the other";
 
 const REPORT: &str = "Writes which keys are due for rotation";
 
@@ -95,6 +102,17 @@ fn report_command<'a>(alloc: Global) -> Result<Command<'a>, AllocError> {
     ))
 }
 
+fn serve_command<'a>(alloc: Global) -> Result<Command<'a>, AllocError> {
+    file_command(alloc, "serve", SERVE)?
+        .arg(needed(alloc, "port", "PORT", "The port, from 1 to 65535"))?
+        .arg(needed(
+            alloc,
+            "exchanges",
+            "NUMBER",
+            "How many connections it serves, up to 1000000",
+        ))
+}
+
 fn command<'a>(alloc: Global) -> Result<Command<'a>, AllocError> {
     Command::new(alloc, "keyreg")
         .about(ABOUT)
@@ -106,7 +124,8 @@ fn command<'a>(alloc: Global) -> Result<Command<'a>, AllocError> {
         .subcommand(file_command(alloc, "run", RUN)?)?
         .subcommand(import_command(alloc)?)?
         .subcommand(file_command(alloc, "export", EXPORT)?)?
-        .subcommand(report_command(alloc)?)
+        .subcommand(report_command(alloc)?)?
+        .subcommand(serve_command(alloc)?)
 }
 
 /// What a command asks for, with the values of its options.
@@ -127,6 +146,13 @@ fn task_of<'a>(command: &str, options: &ArgMatches<'a>) -> Option<Task<'a>> {
         "report" => Some(Task::Report {
             file,
             days: options.get_str("days")?,
+        }),
+        "serve" => Some(Task::Serve {
+            file,
+            bounds: GivenBounds {
+                port: options.get_str("port")?,
+                exchanges: options.get_str("exchanges")?,
+            },
         }),
         _ => None,
     }
