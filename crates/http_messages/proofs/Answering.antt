@@ -1,5 +1,6 @@
 -- What answers a body answers the input that it stands in.
-use Rattle.std.proofs.Common.{◌≡◌, ◌≢◌, ℕ, ◌+◌, ◌≤◌, List, ◌++◌, length, take, Option, Some, None, sym, ap, subst, ◌∙◌, arith, append_assoc, length-append}
+use Rattle.std.proofs.Common.{◌≡◌, ◌≢◌, ℕ, ◌+◌, ◌≤◌, List, ◌++◌, length, take, Option, Some, None}
+use Rattle.std.proofs.Common.{sym, ap, subst, ◌∙◌, arith, append_assoc, length-append}
 use Rattle.std.specs.Prelude.{IsUtf8}
 use Rattle.std.specs.Io.KnownBytes.{Consumes, IsAtEnd}
 use Rattle.std.proofs.lemmas.List.{take-append-le, append-nil}
@@ -25,25 +26,36 @@ some_is : (xs ys : List ℕ) → Some xs ≡ Some ys → xs ≡ ys
 some_is xs ys e = cc
 
 module _ (n : ℕ) (caller : List ℕ) (serial : ℕ) (behind : List ℕ) where
-  pub no_value : (body : List ℕ) → n ≤ length behind → body ≡ take n behind → ((v : Data) → IsUtf8 body → read body ≢ Some v) → AsksBody n caller serial behind (Reject BadRequest)
-  no_value body within e none = no_command within (λ q b. none (command_data q) (subst IsUtf8 (sym e) b.text) (ap read e ∙ b.value))
+  pub no_value : (body : List ℕ) → n ≤ length behind → body ≡ take n behind
+      → ((v : Data) → IsUtf8 body → read body ≢ Some v) → AsksBody n caller serial behind (Reject BadRequest)
+  no_value body within e none =
+      no_command within (λ q b. none (command_data q) (subst IsUtf8 (sym e) b.text) (ap read e ∙ b.value))
 
-  pub other_value : (body : List ℕ) (v : Data) → n ≤ length behind → body ≡ take n behind → read body ≡ Some v → ((q : Command) → IsCommand q → v ≢ command_data q) → AsksBody n caller serial behind (Reject BadRequest)
-  other_value body v within e is_v none = no_command within (λ q b. none q b.command (one_value v (command_data q) (sym is_v ∙ ap read e ∙ b.value)))
+  pub other_value : (body : List ℕ) (v : Data) → n ≤ length behind → body ≡ take n behind → read body ≡ Some v
+      → ((q : Command) → IsCommand q → v ≢ command_data q) → AsksBody n caller serial behind (Reject BadRequest)
+  other_value body v within e is_v none =
+      no_command within (λ q b. none q b.command (one_value v (command_data q) (sym is_v ∙ ap read e ∙ b.value)))
 
   pub command_handed : (body : List ℕ) (q : Command) (v : Data) → n ≤ length behind → body ≡ take n behind
-      → IsUtf8 body → read body ≡ Some v → IsCommand q → v ≡ command_data q → AsksBody n caller serial behind (Apply (record { caller = caller; number = serial; command = q }))
+      → IsUtf8 body → read body ≡ Some v → IsCommand q → v ≡ command_data q
+      → AsksBody n caller serial behind (Apply (record { caller = caller; number = serial; command = q }))
   command_handed body q v within e utf8 is_v is_q same =
-      command q within (record { command = is_q; text = subst IsUtf8 e utf8; value = sym (ap read e) ∙ is_v ∙ ap (λ w. Some w) same })
+      command q within (record {
+        command = is_q;
+        text = subst IsUtf8 e utf8;
+        value = sym (ap read e) ∙ is_v ∙ ap (λ w. Some w) same;
+      })
 
 -- ---- a body of which a part was read with the head
 
-pub left_is : (old new : Option (List ℕ)) (more left : List ℕ) → old ≡ Some left → Consumes old new more → (rest : List ℕ) × (left ≡ more ++ rest)
+pub left_is : (old new : Option (List ℕ)) (more left : List ℕ) → old ≡ Some left → Consumes old new more
+    → (rest : List ℕ) × (left ≡ more ++ rest)
 left_is None new more left e p = absurd (cc)
 left_is (Some xs) None more left e p = absurd p
 left_is (Some xs) (Some ys) more left e p = (ys, some_is left xs (sym e) ∙ p)
 
-pub left_at_end : (old new : Option (List ℕ)) (more left : List ℕ) → old ≡ Some left → Consumes old new more → IsAtEnd new → left ≡ more
+pub left_at_end : (old new : Option (List ℕ)) (more left : List ℕ) → old ≡ Some left → Consumes old new more
+    → IsAtEnd new → left ≡ more
 left_at_end None new more left e p q = absurd (cc)
 left_at_end (Some xs) None more left e p q = absurd p
 left_at_end (Some xs) (Some ys) more left e p q = some_is left xs (sym e) ∙ p ∙ ap (λ l. more ++ l) q ∙ append-nil more
@@ -52,11 +64,17 @@ left_at_end (Some xs) (Some ys) more left e p q = some_is left xs (sym e) ∙ p 
 pub body_is : (n : ℕ) (behind more left rest : List ℕ) → left ≡ more ++ rest → n ≤ length (behind ++ more)
     → (n ≤ length (behind ++ left)) × (take n (behind ++ more) ≡ take n (behind ++ left))
 body_is n behind more left rest e within =
-    let whole : behind ++ left ≡ (behind ++ more) ++ rest = ap (λ l. behind ++ l) e ∙ sym (append_assoc behind more rest) in
-    let long : length (behind ++ left) ≡ length (behind ++ more) + length rest = ap length whole ∙ length-append (behind ++ more) rest in
+    let whole : behind ++ left ≡ (behind ++ more) ++ rest =
+    ap (λ l. behind ++ l) e ∙ sym (append_assoc behind more rest) in
+    let long : length (behind ++ left) ≡ length (behind ++ more) + length rest =
+    ap length whole ∙ length-append (behind ++ more) rest in
     (omega arith, sym (ap (take n) whole ∙ take-append-le n (behind ++ more) rest within))
 
 -- ---- what a head asks for
 
-pub head_posts : (h : RequestHead) (behind left : List ℕ) (p : post.Post) (a : Asked) → Judges h (Judged.Post p) → AsksBody p.length p.sender.caller p.sender.number (behind ++ left) a → AsksBehind h (behind ++ left) a
-head_posts h behind left p a (host, path, method, says) asks = rule.post a host path method (sent p.length p.sender.number p.sender.caller a says.plain says.length says.short says.sender asks)
+pub head_posts : (h : RequestHead) (behind left : List ℕ) (p : post.Post) (a : Asked)
+    → Judges h (Judged.Post p) → AsksBody p.length p.sender.caller p.sender.number (behind ++ left) a
+    → AsksBehind h (behind ++ left) a
+head_posts h behind left p a (host, path, method, says) asks =
+    let whole = sent p.length p.sender.number p.sender.caller a says.plain says.length says.short says.sender asks in
+    rule.post a host path method whole

@@ -11,4 +11,5 @@ take-refilled held new filled k count within some =
     let after = post_of filled k held in
     let long : length (take filled held) ≡ filled = length-take-le filled held within in
     ap (λ n. take (n + count) (take filled held ++ (new ++ after))) (sym long)
-    ∙ take-append-add (take filled held) (new ++ after) count ∙ ap (λ l. take filled held ++ l) (take-append-le count new after some)
+    ∙ take-append-add (take filled held) (new ++ after) count
+    ∙ ap (λ l. take filled held ++ l) (take-append-le count new after some)

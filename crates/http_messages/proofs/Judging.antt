@@ -1,5 +1,6 @@
 -- What is known of the parts of a head is known of the head.
-use Rattle.std.proofs.Common.{◌≡◌, ◌≢◌, ℕ, List, Bool, true, false, map, take, Option, Some, None, subst, sym, ap, refl, ◌∙◌}
+use Rattle.std.proofs.Common.{◌≡◌, ◌≢◌, ℕ, List, Bool, true, false, map, take, Option, Some, None}
+use Rattle.std.proofs.Common.{subst, sym, ap, refl, ◌∙◌}
 use Rattle.std.specs.Prelude.{IsTrue, not}
 use Rattle.std.specs.Str.{bytes_eq}
 use Rattle.std.proofs.lemmas.Slice.Eq.{bytes_eq-Decides}
@@ -10,7 +11,8 @@ use Rattle.httparse.specs.Spans.{IsRequestAt, header_bytes, span_bytes}
 use Rattle.http_messages.specs.declared.route.Route.{Route}
 use Rattle.http_messages.specs.declared.route.Route.TheVariants.{Requests, Show, Usage}
 use Rattle.http_messages.specs.Route.{IsRouteOf, method_of}
-use Rattle.http_messages.specs.Exchange.{Lines, HasHost, lines_of, AsksPost, AsksBehind, no_host, no_path, no_method, show, usage, post}
+use Rattle.http_messages.specs.Exchange.{Lines, HasHost, lines_of, AsksPost, AsksBehind, no_host}
+use Rattle.http_messages.specs.Exchange.{no_path, no_method, show, usage, post}
 use Rattle.http_messages.specs.declared.asked.Asked.{Asked}
 use Rattle.http_messages.specs.declared.asked.Asked.TheVariants.{Reject, ShowKey, ShowUsage}
 use Rattle.http_messages.specs.declared.asked.Rejection.TheVariants.{BadRequest, NoRoute, MethodNotAllowed}
@@ -28,7 +30,8 @@ agree xs ys e = agree_by (bytes_eq xs ys) (xs ≡ ys) (bytes_eq-Decides xs ys).0
 no_truth : (v : Bool) → v ≡ false → IsTrue v → ⊥
 no_truth v e p = let both = sym e ∙ p in absurd (cc)
 
-module _ (front : List ℕ) (headers : List HeaderSpan) (spans : RequestSpans) (h : RequestHead) (at : IsRequestAt front headers spans h) where
+module _ (front : List ℕ) (headers : List HeaderSpan) (spans : RequestSpans) (h : RequestHead)
+    (at : IsRequestAt front headers spans h) where
   abbrev lines : Lines
   lines = map (header_bytes front) (take spans.headers headers)
 
@@ -38,34 +41,55 @@ module _ (front : List ℕ) (headers : List HeaderSpan) (spans : RequestSpans) (
   host_was : HasHost h.minor (lines_of h) → HasHost spans.version lines
   host_was p = subst (HasHost spans.version) (sym at.fields) (subst (λ v. HasHost v (lines_of h)) (sym at.version) p)
 
-  route_is : (target : List ℕ) (o : Option Route) → target ≡ span_bytes front spans.path → IsRouteOf target o → IsRouteOf h.target o
+  route_is : (target : List ℕ) (o : Option Route) → target ≡ span_bytes front spans.path → IsRouteOf target o
+      → IsRouteOf h.target o
   route_is target o e p = subst (λ t. IsRouteOf t o) (e ∙ at.path) p
 
-  pub asks_no_host : (v : Bool) (rest : List ℕ) → v ≡ false → (HasHost spans.version lines → IsTrue v) → AsksBehind h rest (Reject BadRequest)
+  route_leads : (target : List ℕ) (r s : Route) → r ≡ s → target ≡ span_bytes front spans.path
+      → IsRouteOf target (Some r) → IsRouteOf h.target (Some s)
+  route_leads target r s is e p = subst (λ w. IsRouteOf h.target (Some w)) is (route_is target (Some r) e p)
+
+  pub asks_no_host : (v : Bool) (rest : List ℕ) → v ≡ false → (HasHost spans.version lines → IsTrue v)
+      → AsksBehind h rest (Reject BadRequest)
   asks_no_host v rest e f = no_host (λ p. let hit = f (host_was p) in no_truth v e hit)
 
-  pub asks_no_path : (target : List ℕ) (rest : List ℕ) → HasHost spans.version lines → target ≡ span_bytes front spans.path → IsRouteOf target None → AsksBehind h rest (Reject NoRoute)
+  pub asks_no_path : (target : List ℕ) (rest : List ℕ) → HasHost spans.version lines
+      → target ≡ span_bytes front spans.path → IsRouteOf target None → AsksBehind h rest (Reject NoRoute)
   asks_no_path target rest p e q = no_path (host_is p) (route_is target None e q)
 
-  pub asks_no_method : (target method text : List ℕ) (r : Route) (rest : List ℕ) → HasHost spans.version lines → target ≡ span_bytes front spans.path → IsRouteOf target (Some r)
-      → method ≡ span_bytes front spans.method → text ≡ method_of r → true ≡ not (bytes_eq method text) → AsksBehind h rest (Reject (MethodNotAllowed r))
+  pub asks_no_method : (target method text : List ℕ) (r : Route) (rest : List ℕ) → HasHost spans.version lines
+      → target ≡ span_bytes front spans.path → IsRouteOf target (Some r)
+      → method ≡ span_bytes front spans.method → text ≡ method_of r → true ≡ not (bytes_eq method text)
+      → AsksBehind h rest (Reject (MethodNotAllowed r))
   asks_no_method target method text r rest p e q f m other =
-      no_method r (host_is p) (route_is target (Some r) e q) (λ same. differ method text other (f ∙ at.method ∙ same ∙ sym m))
+      no_method r (host_is p) (route_is target (Some r) e q)
+      (λ same. differ method text other (f ∙ at.method ∙ same ∙ sym m))
 
-  pub method_is : (method text : List ℕ) (r : Route) → method ≡ span_bytes front spans.method → text ≡ method_of r → false ≡ not (bytes_eq method text) → h.method ≡ method_of r
+  pub method_is : (method text : List ℕ) (r : Route) → method ≡ span_bytes front spans.method
+      → text ≡ method_of r → false ≡ not (bytes_eq method text) → h.method ≡ method_of r
   method_is method text r f m same = sym (f ∙ at.method) ∙ agree method text same ∙ m
 
-  pub asks_show : (target method text : List ℕ) (r : Route) (key : ℕ) (rest : List ℕ) → r ≡ Show key → HasHost spans.version lines → target ≡ span_bytes front spans.path → IsRouteOf target (Some r)
-      → method ≡ span_bytes front spans.method → text ≡ method_of r → false ≡ not (bytes_eq method text) → AsksBehind h rest (ShowKey key)
+  pub asks_show : (target method text : List ℕ) (r : Route) (key : ℕ) (rest : List ℕ) → r ≡ Show key
+      → HasHost spans.version lines → target ≡ span_bytes front spans.path → IsRouteOf target (Some r)
+      → method ≡ span_bytes front spans.method → text ≡ method_of r → false ≡ not (bytes_eq method text)
+      → AsksBehind h rest (ShowKey key)
   asks_show target method text r key rest is p e q f m same =
-      show key (host_is p) (subst (λ w. IsRouteOf h.target (Some w)) is (route_is target (Some r) e q)) (method_is method text r f m same ∙ ap method_of is)
+      show key (host_is p) (route_leads target r (Show key) is e q)
+      (method_is method text r f m same ∙ ap method_of is)
 
-  pub asks_usage : (target method text : List ℕ) (r : Route) (key : ℕ) (rest : List ℕ) → r ≡ Usage key → HasHost spans.version lines → target ≡ span_bytes front spans.path → IsRouteOf target (Some r)
-      → method ≡ span_bytes front spans.method → text ≡ method_of r → false ≡ not (bytes_eq method text) → AsksBehind h rest (ShowUsage key)
+  pub asks_usage : (target method text : List ℕ) (r : Route) (key : ℕ) (rest : List ℕ) → r ≡ Usage key
+      → HasHost spans.version lines → target ≡ span_bytes front spans.path → IsRouteOf target (Some r)
+      → method ≡ span_bytes front spans.method → text ≡ method_of r → false ≡ not (bytes_eq method text)
+      → AsksBehind h rest (ShowUsage key)
   asks_usage target method text r key rest is p e q f m same =
-      usage key (host_is p) (subst (λ w. IsRouteOf h.target (Some w)) is (route_is target (Some r) e q)) (method_is method text r f m same ∙ ap method_of is)
+      usage key (host_is p) (route_leads target r (Usage key) is e q)
+      (method_is method text r f m same ∙ ap method_of is)
 
-  pub asks_post : (target method text : List ℕ) (r : Route) (rest : List ℕ) (a : Asked) → r ≡ Requests → HasHost spans.version lines → target ≡ span_bytes front spans.path → IsRouteOf target (Some r)
-      → method ≡ span_bytes front spans.method → text ≡ method_of r → false ≡ not (bytes_eq method text) → AsksPost lines rest a → AsksBehind h rest a
+  pub asks_post : (target method text : List ℕ) (r : Route) (rest : List ℕ) (a : Asked) → r ≡ Requests
+      → HasHost spans.version lines → target ≡ span_bytes front spans.path → IsRouteOf target (Some r)
+      → method ≡ span_bytes front spans.method → text ≡ method_of r → false ≡ not (bytes_eq method text)
+      → AsksPost lines rest a → AsksBehind h rest a
   asks_post target method text r rest a is p e q f m same asked =
-      post a (host_is p) (subst (λ w. IsRouteOf h.target (Some w)) is (route_is target (Some r) e q)) (method_is method text r f m same ∙ ap method_of is) (subst (λ ls. AsksPost ls rest a) at.fields asked)
+      post a (host_is p) (route_leads target r Requests is e q)
+      (method_is method text r f m same ∙ ap method_of is)
+      (subst (λ ls. AsksPost ls rest a) at.fields asked)

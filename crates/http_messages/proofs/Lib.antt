@@ -7,3 +7,5 @@ pub mod Inputs
 pub mod HeadLaws
 pub mod InOrder
 pub mod NoFloats
+pub mod CommandValues
+pub mod OneAnswer

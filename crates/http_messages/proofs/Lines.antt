@@ -1,5 +1,6 @@
 -- The values of one line more.
-use Rattle.std.proofs.Common.{◌≡◌, ℕ, ◌+◌, ◌<◌, List, [], ◌∷◌, ◌++◌, Bool, true, false, cond, map, length, take, get_or, refl, ap, ◌∙◌}
+use Rattle.std.proofs.Common.{◌≡◌, ℕ, ◌+◌, ◌<◌, List, [], ◌∷◌, ◌++◌, Bool, true, false, cond, map}
+use Rattle.std.proofs.Common.{length, take, get_or, refl, ap, ◌∙◌}
 use Rattle.std.proofs.lemmas.List.{take_more, map-append, append-nil}
 use Rattle.httparse.specs.declared.spans.HeaderSpan.{HeaderSpan}
 use Rattle.httparse.specs.Spans.{header_bytes}
@@ -12,7 +13,8 @@ split_cond : (v : Bool) (x : List ℕ) (xs : List (List ℕ)) → cond v (x ∷ 
 split_cond true x xs = refl
 split_cond false x xs = refl
 
-front_cond : (v : Bool) (x : List ℕ) (xs ys : List (List ℕ)) → cond v (x ∷ (xs ++ ys)) (xs ++ ys) ≡ cond v (x ∷ xs) xs ++ ys
+front_cond : (v : Bool) (x : List ℕ) (xs ys : List (List ℕ))
+    → cond v (x ∷ (xs ++ ys)) (xs ++ ys) ≡ cond v (x ∷ xs) xs ++ ys
 front_cond true x xs ys = refl
 front_cond false x xs ys = refl
 

@@ -1,5 +1,8 @@
 -- The router finds each route by its text.
-use Rattle.std.proofs.Common.{◌≡◌, ℕ, zero, suc, ◌+◌, ◌-◌, ◌<◌, ◌≤◌, ◌^◌, List, [], ◌∷◌, ◌++◌, Bool, true, false, cond, ◌&&◌, length, take, drop, Option, Some, None, refl, sym, ap, ◌∙◌, arith, codes, length-append, take-append-drop, ◌/◌, ◌%◌, lit<}
+use Rattle.std.proofs.Common.{◌≡◌, ℕ, zero, suc, ◌+◌, ◌-◌, ◌<◌, ◌≤◌, ◌^◌, List, [], ◌∷◌, ◌++◌, Bool}
+use Rattle.std.proofs.Common.{true, false, cond, ◌&&◌, length, take, drop, Option, Some, None, refl}
+use Rattle.std.proofs.Common.{sym, ap, ◌∙◌, arith, codes, length-append, take-append-drop, ◌/◌, ◌%◌}
+use Rattle.std.proofs.Common.{lit<}
 use Rattle.std.specs.Prelude.{◌==◌, decimal, ltb, nat_eq, IsUtf8}
 use Rattle.std.specs.List.{AllByRecursion}
 use Rattle.std.specs.Str.{bytes_eq}
@@ -10,7 +13,8 @@ use Rattle.std.proofs.lemmas.List.{drop_at, take_at, append-nil}
 use Rattle.std.proofs.lemmas.Fmt.{decimal_by_steps, IsAscii-decimal}
 use Rattle.matchit.specs.Rows.{RowsOf}
 use Rattle.matchit.specs.Router.{RouteOf}
-use Rattle.matchit.specs.Seek.{first, seek, step, own, or_else, param_step, longest_suffix, segment, has_slash, cuts, better, with_suffix}
+use Rattle.matchit.specs.Seek.{first, seek, step, own, or_else, param_step, longest_suffix, segment}
+use Rattle.matchit.specs.Seek.{has_slash, cuts, better, with_suffix}
 use Rattle.http_messages.specs.declared.route.Route.{Route}
 use Rattle.http_messages.specs.declared.route.Route.TheVariants.{Requests, Show, Usage}
 use Rattle.http_messages.specs.declared.route.Place.{Place}
@@ -27,9 +31,16 @@ or_else-None : {K : Type 0} (x : Option K) → or_else x None ≡ x
 or_else-None None = refl
 or_else-None (Some x) = refl
 
+-- what is found behind what a parameter took
+abbrev go_on : {K : Type 0} → ℕ × RowsOf K → List ℕ → Option K
+go_on r path = seek (r.0 - 1) r.1 path
+
+abbrev no_row_by : {K : Type 0} → Bool → ℕ → ℕ × RowsOf K
+no_row_by {K} v m = cond {A = ℕ × RowsOf K} v (0, []) (m, [])
+
 -- what follows a parameter where no row goes on
 nothing : {K : Type 0} (path : List ℕ) (v : Bool) (m : ℕ) → ((n : ℕ) → seek {K = K} n [] path ≡ None)
-    → or_else (seek {K = K} ((cond {A = ℕ × RowsOf K} v (0, []) (m, [])).0 - 1) (cond {A = ℕ × RowsOf K} v (0, []) (m, [])).1 path) None ≡ None
+    → or_else (go_on (no_row_by {K = K} v m) path) None ≡ None
 nothing path true m none = ap (λ x. or_else x None) (none (0 - 1))
 nothing path false m none = ap (λ x. or_else x None) (none (m - 1))
 
@@ -39,18 +50,21 @@ unfolding seek param_step
 seek-nil n [] = refl
 seek-nil (suc n) (b ∷ path) = seek-nil n path
 seek-nil {K} zero (b ∷ path) =
-    ap (λ x. or_else x (or_else (seek {K = K} ((cond {A = ℕ × RowsOf K} (has_slash (b ∷ path)) (0, []) (suc (length path), [])).0 - 1) (cond {A = ℕ × RowsOf K} (has_slash (b ∷ path)) (0, []) (suc (length path), [])).1 path) None)) (seek-nil {K = K} zero path)
+    let none = no_row_by {K = K} (has_slash (b ∷ path)) (suc (length path)) in
+    ap (λ x. or_else x (or_else (go_on none path) None)) (seek-nil {K = K} zero path)
     ∙ nothing {K = K} path (has_slash (b ∷ path)) (suc (length path)) (λ n. seek-nil {K = K} n path)
 
 -- a byte, where no parameter and no catch-all may stand
-pub seek-byte : {K : Type 0} (rs : RowsOf K) (b : ℕ) (path : List ℕ) → step 256 rs ≡ [] → step 257 rs ≡ [] → seek 0 rs (b ∷ path) ≡ seek 0 (step b rs) path
+pub seek-byte : {K : Type 0} (rs : RowsOf K) (b : ℕ) (path : List ℕ) → step 256 rs ≡ [] → step 257 rs ≡ []
+    → seek 0 rs (b ∷ path) ≡ seek 0 (step b rs) path
 unfolding seek param_step
 seek-byte {K} rs b path p q =
-    let none : or_else (seek ((param_step (step 256 rs) (b ∷ path)).0 - 1) (param_step (step 256 rs) (b ∷ path)).1 path) (own (step 257 rs)) ≡ None =
-    ap (λ w. or_else (seek ((param_step (step 256 rs) (b ∷ path)).0 - 1) (param_step (step 256 rs) (b ∷ path)).1 path) (own w)) q
-    ∙ or_else-None (seek ((param_step (step 256 rs) (b ∷ path)).0 - 1) (param_step (step 256 rs) (b ∷ path)).1 path)
-    ∙ ap (λ w. seek ((param_step w (b ∷ path)).0 - 1) (param_step w (b ∷ path)).1 path) p
-    ∙ sym (ap (λ x. or_else x (or_else (seek ((param_step {K = K} [] (b ∷ path)).0 - 1) (param_step {K = K} [] (b ∷ path)).1 path) None)) (seek-nil 0 path) ∙ or_else-None (seek ((param_step {K = K} [] (b ∷ path)).0 - 1) (param_step {K = K} [] (b ∷ path)).1 path))
+    let behind = go_on (param_step (step 256 rs) (b ∷ path)) path in
+    let behind_none = go_on (param_step {K = K} [] (b ∷ path)) path in
+    let none : or_else behind (own (step 257 rs)) ≡ None =
+    ap (λ w. or_else behind (own w)) q ∙ or_else-None behind
+    ∙ ap (λ w. go_on (param_step w (b ∷ path)) path) p
+    ∙ sym (ap (λ x. or_else x (or_else behind_none None)) (seek-nil 0 path) ∙ or_else-None behind_none)
     ∙ seek-nil {K = K} 0 (b ∷ path) in
     ap (or_else (seek 0 (step b rs) path)) none ∙ or_else-None (seek 0 (step b rs) path)
 
@@ -74,7 +88,8 @@ no_last b p = grind arith
 -- digits have no slash
 segment-digits : (y : List ℕ) → AreDigits y → segment y ≡ y
 segment-digits [] p = refl
-segment-digits (b ∷ y) p = ap (λ v. cond v (b ∷ []) (b ∷ segment y)) (no_slash b p.0) ∙ ap (λ l. b ∷ l) (segment-digits y p.1)
+segment-digits (b ∷ y) p =
+    ap (λ v. cond v (b ∷ []) (b ∷ segment y)) (no_slash b p.0) ∙ ap (λ l. b ∷ l) (segment-digits y p.1)
 
 has_slash-digits : (y : List ℕ) → AreDigits y → has_slash y ≡ false
 has_slash-digits [] p = refl
@@ -83,7 +98,9 @@ has_slash-digits (b ∷ y) p = ap (λ v. cond v true (has_slash y)) (no_slash b 
 -- the segment of digits with a slash behind them
 segment-slash : (y z : List ℕ) → AreDigits y → segment (y ++ 47 ∷ z) ≡ y ++ 47 ∷ []
 segment-slash [] z p = refl
-segment-slash (b ∷ y) z p = ap (λ v. cond v (b ∷ []) (b ∷ segment (y ++ 47 ∷ z))) (no_slash b p.0) ∙ ap (λ l. b ∷ l) (segment-slash y z p.1)
+segment-slash (b ∷ y) z p =
+    ap (λ v. cond v (b ∷ []) (b ∷ segment (y ++ 47 ∷ z))) (no_slash b p.0)
+    ∙ ap (λ l. b ∷ l) (segment-slash y z p.1)
 
 -- digits do not end in a slash
 last-digits : (y : List ℕ) (n : ℕ) → length y ≡ suc n → AreDigits y → pointwise nat_eq (47 ∷ []) (drop n y) ≡ false
@@ -123,33 +140,48 @@ module _ {K : Type 0} (u k q : K) where
   suffix_by seg = kept_suffix seg (cond (cuts seg (47 ∷ [])) (47 ∷ []) [])
 
   abbrev param_by : List ℕ → List ℕ → ℕ × RowsOf K
-  param_by y ls = cond (ltb 0 (length ls)) (length (segment y) - length ls, with_suffix ls after) (cond (has_slash y) (0, []) (length y, after))
+  param_by y ls =
+      cond (ltb 0 (length ls)) (length (segment y) - length ls, with_suffix ls after)
+      (cond (has_slash y) (0, []) (length y, after))
 
   param_step-digits : (y : List ℕ) → 0 < length y → AreDigits y → param_step after y ≡ (length y, after)
   unfolding param_step
   param_step-digits y some p =
       let long : length y ≡ suc (length y - 1) = omega arith in
-      let uncut : cuts y (47 ∷ []) ≡ false = ap (λ v. ltb 1 (length y) && v) (last-digits y (length y - 1) long p) ∙ and_false (ltb 1 (length y)) in
-      let none : longest_suffix (segment y) after ≡ [] = ap (λ seg. longest_suffix seg after) (segment-digits y p) ∙ suffix_by y ∙ ap (λ v. cond v (47 ∷ []) []) uncut in
+      let uncut : cuts y (47 ∷ []) ≡ false =
+      ap (λ v. ltb 1 (length y) && v) (last-digits y (length y - 1) long p) ∙ and_false (ltb 1 (length y)) in
+      let none : longest_suffix (segment y) after ≡ [] =
+      ap (λ seg. longest_suffix seg after) (segment-digits y p) ∙ suffix_by y
+      ∙ ap (λ v. cond v (47 ∷ []) []) uncut in
       ap (param_by y) none ∙ ap (λ v. cond {A = ℕ × RowsOf K} v (0, []) (length y, after)) (has_slash-digits y p)
 
-  param_step-slash : (y z : List ℕ) → 0 < length y → AreDigits y → param_step after (y ++ 47 ∷ z) ≡ (length y, (codes "/usage", u) ∷ [])
+  param_step-slash : (y z : List ℕ) → 0 < length y → AreDigits y
+      → param_step after (y ++ 47 ∷ z) ≡ (length y, (codes "/usage", u) ∷ [])
   unfolding param_step
   param_step-slash y z some p =
       let seg = y ++ 47 ∷ [] in
       let long : length seg ≡ length y + 1 = length-append y (47 ∷ []) in
       let place : length seg - 1 ≡ length y = omega arith in
-      let ends : pointwise nat_eq (47 ∷ []) (drop (length seg - 1) seg) ≡ true = ap (λ n. pointwise nat_eq (47 ∷ []) (drop n seg)) place ∙ ap (pointwise nat_eq (47 ∷ [])) (drop_at y (47 ∷ []) (length y) refl) in
-      let cut : cuts seg (47 ∷ []) ≡ true = ap (λ n. ltb 1 n && pointwise nat_eq (47 ∷ []) (drop (length seg - 1) seg)) long ∙ ap (λ v. v && pointwise nat_eq (47 ∷ []) (drop (length seg - 1) seg)) (one_below (length y) some) ∙ ends in
-      let one : longest_suffix (segment (y ++ 47 ∷ z)) after ≡ 47 ∷ [] = ap (λ s. longest_suffix s after) (segment-slash y z p) ∙ suffix_by seg ∙ ap (λ v. cond v (47 ∷ []) []) cut in
-      let taken : length (segment (y ++ 47 ∷ z)) - 1 ≡ length y = ap (λ s. length s - 1) (segment-slash y z p) ∙ place in
+      let ends : pointwise nat_eq (47 ∷ []) (drop (length seg - 1) seg) ≡ true =
+      ap (λ n. pointwise nat_eq (47 ∷ []) (drop n seg)) place
+      ∙ ap (pointwise nat_eq (47 ∷ [])) (drop_at y (47 ∷ []) (length y) refl) in
+      let cut : cuts seg (47 ∷ []) ≡ true =
+      ap (λ n. ltb 1 n && pointwise nat_eq (47 ∷ []) (drop (length seg - 1) seg)) long
+      ∙ ap (λ v. v && pointwise nat_eq (47 ∷ []) (drop (length seg - 1) seg)) (one_below (length y) some) ∙ ends in
+      let one : longest_suffix (segment (y ++ 47 ∷ z)) after ≡ 47 ∷ [] =
+      ap (λ s. longest_suffix s after) (segment-slash y z p) ∙ suffix_by seg ∙ ap (λ v. cond v (47 ∷ []) []) cut in
+      let taken : length (segment (y ++ 47 ∷ z)) - 1 ≡ length y =
+      ap (λ s. length s - 1) (segment-slash y z p) ∙ place in
       ap (param_by (y ++ 47 ∷ z)) one ∙ ap (λ n. (n, (codes "/usage", u) ∷ [])) taken
 
   abbrev stepped : Bool → RowsOf K
-  stepped v = cond {A = RowsOf K} v ((codes "/usage", u) ∷ cond {A = RowsOf K} v (([], k) ∷ []) []) (cond {A = RowsOf K} v (([], k) ∷ []) [])
+  stepped v =
+      let key_alone = cond {A = RowsOf K} v (([], k) ∷ []) [] in
+      cond {A = RowsOf K} v ((codes "/usage", u) ∷ key_alone) key_alone
 
   -- a digit goes to the parameter
-  to_param : (b : ℕ) (path : List ℕ) → IsDigit b → seek 0 at_param (b ∷ path) ≡ seek ((param_step after (b ∷ path)).0 - 1) (param_step after (b ∷ path)).1 path
+  to_param : (b : ℕ) (path : List ℕ) → IsDigit b
+      → seek 0 at_param (b ∷ path) ≡ seek ((param_step after (b ∷ path)).0 - 1) (param_step after (b ∷ path)).1 path
   unfolding seek
   to_param b path p =
       let goes = seek ((param_step after (b ∷ path)).0 - 1) (param_step after (b ∷ path)).1 path in
@@ -169,14 +201,17 @@ module _ {K : Type 0} (u k q : K) where
   seek-key (b ∷ y) some p =
       let left : suc (length y) - 1 ≡ length y = omega arith in
       to_param b y p.0 ∙ ap (λ (r : ℕ × RowsOf K). seek (r.0 - 1) r.1 y) (param_step-digits (b ∷ y) some p)
-      ∙ ap (λ n. seek n after y) left ∙ ap (seek (length y) after) (sym (append-nil y)) ∙ seek-skipped after y [] ∙ ends_at_key
+      ∙ ap (λ n. seek n after y) left ∙ ap (seek (length y) after) (sym (append-nil y)) ∙ seek-skipped after y []
+      ∙ ends_at_key
 
   pub seek-usage : (y : List ℕ) → 0 < length y → AreDigits y → seek 0 at_param (y ++ codes "/usage") ≡ Some u
   seek-usage [] some p = absurd (omega arith)
   seek-usage (b ∷ y) some p =
       let left : suc (length y) - 1 ≡ length y = omega arith in
-      to_param b (y ++ codes "/usage") p.0 ∙ ap (λ (r : ℕ × RowsOf K). seek (r.0 - 1) r.1 (y ++ codes "/usage")) (param_step-slash (b ∷ y) (codes "usage") some p)
-      ∙ ap (λ n. seek n ((codes "/usage", u) ∷ []) (y ++ codes "/usage")) left ∙ seek-skipped ((codes "/usage", u) ∷ []) y (codes "/usage") ∙ ends_at_usage
+      to_param b (y ++ codes "/usage") p.0
+      ∙ ap (λ (r : ℕ × RowsOf K). go_on r (y ++ codes "/usage")) (param_step-slash (b ∷ y) (codes "usage") some p)
+      ∙ ap (λ n. seek n ((codes "/usage", u) ∷ []) (y ++ codes "/usage")) left
+      ∙ seek-skipped ((codes "/usage", u) ∷ []) y (codes "/usage") ∙ ends_at_usage
 
   pub to_keys : (path : List ℕ) → seek 0 rows (codes "/keys/" ++ path) ≡ seek 0 at_param path
   to_keys path =
@@ -209,36 +244,48 @@ one_digit : (n : ℕ) → n < 10 → IsText n ((48 + n) ∷ [])
 one_digit n small = (((omega arith, omega arith), tt), lit< tt)
 
 more_digits : (n : ℕ) (ds : List ℕ) → 10 ≤ n → IsText (n / 10) ds → IsText n (ds ++ ((48 + n % 10) ∷ []))
-more_digits n ds big p = (digits_more ds (48 + n % 10) p.0 (omega arith, omega arith), omega (arith, p.1, length-append ds ((48 + n % 10) ∷ [])))
+more_digits n ds big p =
+    let long = length-append ds ((48 + n % 10) ∷ []) in
+    (digits_more ds (48 + n % 10) p.0 (omega arith, omega arith), omega (arith, p.1, long))
 
 pub decimal-digits : (n : ℕ) → n < 2 ^ 64 → AreDigits (decimal n) × (0 < length (decimal n))
 decimal-digits n small = decimal_by_steps IsText one_digit more_digits n small
 
 -- ---- what stands between a front and a back
 
-pub cut_front : (front rest target : List ℕ) → target ≡ front ++ rest → bytes_eq (take (length front) target) front ≡ false → ⊥
+pub cut_front : (front rest target : List ℕ) → target ≡ front ++ rest
+    → bytes_eq (take (length front) target) front ≡ false → ⊥
 cut_front front rest target e miss =
-    let same : take (length front) target ≡ front = ap (take (length front)) e ∙ take_at front rest (length front) refl in
+    let same : take (length front) target ≡ front =
+    ap (take (length front)) e ∙ take_at front rest (length front) refl in
     let hit = (bytes_eq-Decides (take (length front) target) front).1 same in
     absurd (cc)
 
-pub front_joins : (front rest target : List ℕ) → bytes_eq (take (length front) target) front ≡ true → rest ≡ drop (length front) target → target ≡ front ++ rest
+pub front_joins : (front rest target : List ℕ) → bytes_eq (take (length front) target) front ≡ true
+    → rest ≡ drop (length front) target → target ≡ front ++ rest
 front_joins front rest target hit e =
-    sym (take-append-drop (length front) target) ∙ ap (λ l. l ++ drop (length front) target) ((bytes_eq-Decides (take (length front) target) front).0 hit) ∙ ap (λ l. front ++ l) (sym e)
+    sym (take-append-drop (length front) target)
+    ∙ ap (λ l. l ++ drop (length front) target) ((bytes_eq-Decides (take (length front) target) front).0 hit)
+    ∙ ap (λ l. front ++ l) (sym e)
 
-pub rest_is : (front rest target more : List ℕ) → target ≡ front ++ more → rest ≡ drop (length front) target → rest ≡ more
+pub rest_is : (front rest target more : List ℕ) → target ≡ front ++ more → rest ≡ drop (length front) target
+    → rest ≡ more
 rest_is front rest target more e r = r ∙ ap (drop (length front)) e ∙ drop_at front more (length front) refl
 
-pub back_joins : (field back rest : List ℕ) → bytes_eq (drop (length rest - length back) rest) back ≡ true → field ≡ take (length rest - length back) rest → rest ≡ field ++ back
+pub back_joins : (field back rest : List ℕ) → bytes_eq (drop (length rest - length back) rest) back ≡ true
+    → field ≡ take (length rest - length back) rest → rest ≡ field ++ back
 back_joins field back rest hit e =
     let n = length rest - length back in
-    sym (take-append-drop n rest) ∙ ap (λ l. take n rest ++ l) ((bytes_eq-Decides (drop n rest) back).0 hit) ∙ ap (λ l. l ++ back) (sym e)
+    sym (take-append-drop n rest) ∙ ap (λ l. take n rest ++ l) ((bytes_eq-Decides (drop n rest) back).0 hit)
+    ∙ ap (λ l. l ++ back) (sym e)
 
-pub cut_back : (field back rest : List ℕ) → rest ≡ field ++ back → bytes_eq (drop (length rest - length back) rest) back ≡ false → ⊥
+pub cut_back : (field back rest : List ℕ) → rest ≡ field ++ back
+    → bytes_eq (drop (length rest - length back) rest) back ≡ false → ⊥
 cut_back field back rest e miss =
     let long : length rest ≡ length field + length back = ap length e ∙ length-append field back in
     let here : length rest - length back ≡ length field = omega arith in
-    let same : drop (length rest - length back) rest ≡ back = ap (λ n. drop n rest) here ∙ ap (drop (length field)) e ∙ drop_at field back (length field) refl in
+    let same : drop (length rest - length back) rest ≡ back =
+    ap (λ n. drop n rest) here ∙ ap (drop (length field)) e ∙ drop_at field back (length field) refl in
     let hit = (bytes_eq-Decides (drop (length rest - length back) rest) back).1 same in
     absurd (cc)
 
@@ -259,10 +306,12 @@ finds_route Requests p = seek-requests usage_row key_row requests_row
 finds_route (Show key) p =
     let text = decimal-digits key (fits_number key p) in
     ap (λ l. first routes (codes "/keys/" ++ l)) (append-nil (decimal key))
-    ∙ to_keys usage_row key_row requests_row (decimal key) ∙ seek-key usage_row key_row requests_row (decimal key) text.1 text.0
+    ∙ to_keys usage_row key_row requests_row (decimal key)
+    ∙ seek-key usage_row key_row requests_row (decimal key) text.1 text.0
 finds_route (Usage key) p =
     let text = decimal-digits key (fits_number key p) in
-    to_keys usage_row key_row requests_row (decimal key ++ codes "/usage") ∙ seek-usage usage_row key_row requests_row (decimal key) text.1 text.0
+    to_keys usage_row key_row requests_row (decimal key ++ codes "/usage")
+    ∙ seek-usage usage_row key_row requests_row (decimal key) text.1 text.0
 
 pub value_is : (r : Route) → (row_of r).value ≡ place_of r
 value_is Requests = refl
@@ -279,11 +328,16 @@ some_is a b e = cc
 pub utf8_of_route : (r : Route) → IsRoute r → IsUtf8 (route_text r)
 unfolding lib.Utf8.encode
 utf8_of_route Requests p = (codes "/requests", (refl, refl))
-utf8_of_route (Show key) p = IsUtf8-append (codes "/keys/") (decimal key ++ codes "") (codes "/keys/", (refl, refl)) (IsUtf8-append (decimal key) (codes "") (digits_text key p) ([], (refl, refl)))
-utf8_of_route (Usage key) p = IsUtf8-append (codes "/keys/") (decimal key ++ codes "/usage") (codes "/keys/", (refl, refl)) (IsUtf8-append (decimal key) (codes "/usage") (digits_text key p) (codes "/usage", (refl, refl)))
+utf8_of_route (Show key) p =
+    IsUtf8-append (codes "/keys/") (decimal key ++ codes "") (codes "/keys/", (refl, refl))
+    (IsUtf8-append (decimal key) (codes "") (digits_text key p) ([], (refl, refl)))
+utf8_of_route (Usage key) p =
+    IsUtf8-append (codes "/keys/") (decimal key ++ codes "/usage") (codes "/keys/", (refl, refl))
+    (IsUtf8-append (decimal key) (codes "/usage") (digits_text key p) (codes "/usage", (refl, refl)))
 
 -- the row that is found for the text of a route has its place
-pub place_found : (r : Route) (rs : RowsOf (RouteOf Place)) (text : List ℕ) (row : RouteOf Place) → IsRoute r → rs ≡ routes → text ≡ route_text r
+pub place_found : (r : Route) (rs : RowsOf (RouteOf Place)) (text : List ℕ) (row : RouteOf Place) → IsRoute r
+    → rs ≡ routes → text ≡ route_text r
     → first rs text ≡ Some row → row.value ≡ place_of r
 place_found r rs text row p same e found =
     let wanted = finds_route r p in
@@ -292,7 +346,8 @@ place_found r rs text row p same e found =
     ap (λ (w : RouteOf Place). w.value) one ∙ value_is r
 
 -- some row is found for the text of a route
-pub some_found : (r : Route) (rs : RowsOf (RouteOf Place)) (text : List ℕ) → IsRoute r → rs ≡ routes → text ≡ route_text r → first rs text ≡ None → ⊥
+pub some_found : (r : Route) (rs : RowsOf (RouteOf Place)) (text : List ℕ) → IsRoute r → rs ≡ routes
+    → text ≡ route_text r → first rs text ≡ None → ⊥
 some_found r rs text p same e none =
     let wanted = finds_route r p in
     let here : first rs text ≡ first routes (route_text r) = ap (λ w. first w text) same ∙ ap (first routes) e in

@@ -1,5 +1,5 @@
--- The replies with which the register answers, as JSON. The statuses are RFC 9110's, section 15; which refusal has which is
--- this register's own.
+-- The replies with which the register answers, as JSON. The statuses are RFC 9110's, section 15;
+-- which refusal has which is this register's own.
 use Rattle.std.specs.Prelude.{ℕ, List, None, Result, Ok, Err}
 use Rattle.serde_json.specs.Data.{Data}
 use Rattle.serde_json.specs.Written.{compact_text}

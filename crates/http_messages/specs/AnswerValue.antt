@@ -8,7 +8,8 @@ use Rattle.lifecycle_core.specs.Usage.{process_text}
 use Rattle.period_core.specs.KeyType.{key_type_text}
 use Rattle.register_core.specs.declared.reply.Reply.{Reply}
 use Rattle.register_core.specs.declared.reply.Refusal.{Refusal}
-use Rattle.register_core.specs.declared.reply.Refusal.TheVariants.{MomentBehind, WrongState, PeriodTooLong, ApprovalsMissing}
+use Rattle.register_core.specs.declared.reply.Refusal.TheVariants.{MomentBehind, WrongState}
+use Rattle.register_core.specs.declared.reply.Refusal.TheVariants.{PeriodTooLong, ApprovalsMissing}
 use Rattle.register_core.specs.Reply.{refusal_name, refusal_number}
 use Rattle.key_rows.specs.declared.key_row.KeyRow.{KeyRow}
 use Rattle.serde_json.specs.Data.{Data, null, boolean, string, array, object, Members, member, no_members}

@@ -1,6 +1,7 @@
 -- What an input asks for, rule by rule; each rule is reached where none before it holds. It speaks of the whole input,
 -- and of no step in which it is read.
-use Rattle.std.specs.Prelude.{◌≡◌, ◌≢◌, ℕ, ◌<◌, ◌≤◌, List, [], ◌∷◌, length, take, map, codes, decimal, Option, Some, None}
+use Rattle.std.specs.Prelude.{◌≡◌, ◌≢◌, ℕ, ◌<◌, ◌≤◌, List, [], ◌∷◌, length, take, map, codes}
+use Rattle.std.specs.Prelude.{decimal, Option, Some, None}
 use Rattle.httparse.specs.Grammar.{RequestHead}
 use Rattle.httparse.specs.Spans.{name_and_value}
 use Rattle.http_messages.specs.Head.{HasHead, HasBadHead, HasLargeHead}
@@ -11,7 +12,9 @@ use Rattle.http_messages.specs.Fields.{values_of, IsLength}
 use Rattle.http_messages.specs.Body.{IsBodyOf}
 use Rattle.http_messages.specs.declared.asked.Asked.{Asked}
 use Rattle.http_messages.specs.declared.asked.Asked.TheVariants.{Reject, ShowKey, ShowUsage, Apply}
-use Rattle.http_messages.specs.declared.asked.Rejection.TheVariants.{BadRequest, NoRoute, MethodNotAllowed, LengthRequired, TooLarge}
+use Rattle.http_messages.specs.declared.asked.Rejection.TheVariants.{BadRequest, NoRoute}
+use Rattle.http_messages.specs.declared.asked.Rejection.TheVariants.{MethodNotAllowed}
+use Rattle.http_messages.specs.declared.asked.Rejection.TheVariants.{LengthRequired, TooLarge}
 use Rattle.http_messages.specs.declared.route.Route.{Route}
 use Rattle.http_messages.specs.declared.route.Route.TheVariants.{Requests, Show, Usage}
 use Rattle.register_core.specs.declared.request.Command.{Command}
@@ -36,6 +39,10 @@ HasHost minor lines = minor ≡ 1 → length (values_of (codes "host") lines) �
 abbrev pub IsOneValue : List ℕ → Lines → List ℕ → Type 0
 IsOneValue name lines v = values_of name lines ≡ v ∷ []
 
+-- no transfer coding is named
+abbrev pub IsPlain : Lines → Type 0
+IsPlain lines = values_of (codes "transfer-encoding") lines ≡ []
+
 -- the body is announced to have this many bytes
 abbrev pub Announces : Lines → ℕ → Type 0
 Announces lines n = (v : List ℕ) × IsOneValue (codes "content-length") lines v × IsLength v n
@@ -52,26 +59,38 @@ pub record IsFrom (lines : Lines) (caller : List ℕ) (number : ℕ) : Type 0 wh
 -- a body whose head announces n bytes and names its sender
 pub data AsksBody (n : ℕ) (caller : List ℕ) (number : ℕ) (rest : List ℕ) : Asked → Type 0 where
   cut_short : length rest < n → AsksBody n caller number rest (Reject BadRequest)
-  no_command : n ≤ length rest → ((q : Command) → IsBodyOf (take n rest) q → ⊥) → AsksBody n caller number rest (Reject BadRequest)
-  command : (q : Command) → n ≤ length rest → IsBodyOf (take n rest) q → AsksBody n caller number rest (Apply (record { caller = caller; number = number; command = q }))
+  no_command : n ≤ length rest → ((q : Command) → IsBodyOf (take n rest) q → ⊥)
+      → AsksBody n caller number rest (Reject BadRequest)
+  command : (q : Command) → n ≤ length rest → IsBodyOf (take n rest) q
+      → AsksBody n caller number rest (Apply (record { caller = caller; number = number; command = q }))
 
 -- a request with the method POST for the route of requests
 pub data AsksPost (lines : Lines) (rest : List ℕ) : Asked → Type 0 where
-  encoded : values_of (codes "transfer-encoding") lines ≢ [] → AsksPost lines rest (Reject LengthRequired)
+  encoded : (IsPlain lines → ⊥) → AsksPost lines rest (Reject LengthRequired)
   no_length : values_of (codes "content-length") lines ≡ [] → AsksPost lines rest (Reject LengthRequired)
-  bad_length : values_of (codes "transfer-encoding") lines ≡ [] → values_of (codes "content-length") lines ≢ [] → ((n : ℕ) → Announces lines n → ⊥) → AsksPost lines rest (Reject BadRequest)
-  large_body : (n : ℕ) → values_of (codes "transfer-encoding") lines ≡ [] → Announces lines n → max_body_length < n → AsksPost lines rest (Reject TooLarge)
-  no_sender : (n : ℕ) → values_of (codes "transfer-encoding") lines ≡ [] → Announces lines n → n ≤ max_body_length → ((caller : List ℕ) (number : ℕ) → IsFrom lines caller number → ⊥) → AsksPost lines rest (Reject BadRequest)
-  sent : (n number : ℕ) (caller : List ℕ) (a : Asked) → values_of (codes "transfer-encoding") lines ≡ [] → Announces lines n → n ≤ max_body_length → IsFrom lines caller number → AsksBody n caller number rest a → AsksPost lines rest a
+  bad_length : IsPlain lines → values_of (codes "content-length") lines ≢ []
+      → ((n : ℕ) → Announces lines n → ⊥) → AsksPost lines rest (Reject BadRequest)
+  large_body : (n : ℕ) → IsPlain lines → Announces lines n → max_body_length < n
+      → AsksPost lines rest (Reject TooLarge)
+  no_sender : (n : ℕ) → IsPlain lines → Announces lines n → n ≤ max_body_length
+      → ((caller : List ℕ) (number : ℕ) → IsFrom lines caller number → ⊥)
+      → AsksPost lines rest (Reject BadRequest)
+  sent : (n number : ℕ) (caller : List ℕ) (a : Asked) → IsPlain lines → Announces lines n
+      → n ≤ max_body_length → IsFrom lines caller number → AsksBody n caller number rest a
+      → AsksPost lines rest a
 
 -- a whole head with the rest of the input behind it
 pub data AsksBehind (h : RequestHead) (rest : List ℕ) : Asked → Type 0 where
   no_host : (HasHost h.minor (lines_of h) → ⊥) → AsksBehind h rest (Reject BadRequest)
   no_path : HasHost h.minor (lines_of h) → IsRouteOf h.target None → AsksBehind h rest (Reject NoRoute)
-  no_method : (r : Route) → HasHost h.minor (lines_of h) → IsRouteOf h.target (Some r) → h.method ≢ method_of r → AsksBehind h rest (Reject (MethodNotAllowed r))
-  show : (key : ℕ) → HasHost h.minor (lines_of h) → IsRouteOf h.target (Some (Show key)) → h.method ≡ codes "GET" → AsksBehind h rest (ShowKey key)
-  usage : (key : ℕ) → HasHost h.minor (lines_of h) → IsRouteOf h.target (Some (Usage key)) → h.method ≡ codes "GET" → AsksBehind h rest (ShowUsage key)
-  post : (a : Asked) → HasHost h.minor (lines_of h) → IsRouteOf h.target (Some Requests) → h.method ≡ codes "POST" → AsksPost (lines_of h) rest a → AsksBehind h rest a
+  no_method : (r : Route) → HasHost h.minor (lines_of h) → IsRouteOf h.target (Some r) → h.method ≢ method_of r
+      → AsksBehind h rest (Reject (MethodNotAllowed r))
+  show : (key : ℕ) → HasHost h.minor (lines_of h) → IsRouteOf h.target (Some (Show key))
+      → h.method ≡ codes "GET" → AsksBehind h rest (ShowKey key)
+  usage : (key : ℕ) → HasHost h.minor (lines_of h) → IsRouteOf h.target (Some (Usage key))
+      → h.method ≡ codes "GET" → AsksBehind h rest (ShowUsage key)
+  post : (a : Asked) → HasHost h.minor (lines_of h) → IsRouteOf h.target (Some Requests)
+      → h.method ≡ codes "POST" → AsksPost (lines_of h) rest a → AsksBehind h rest a
 
 pub data Asks (input : List ℕ) : Asked → Type 0 where
   bad_head : HasBadHead input → Asks input (Reject BadRequest)

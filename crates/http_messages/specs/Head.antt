@@ -1,6 +1,7 @@
 -- What the front of an input is as the head of a request. The grammar of a head is `httparse`'s.
 use Rattle.std.specs.Prelude.{ℕ, ◌<◌, ◌≤◌, ◌⊎◌, List, length, take}
-use Rattle.httparse.specs.Grammar.{RequestHead, print_request, ReadsRequest, HasNoRequest, NeverHasRequest, MayBecomeRequest}
+use Rattle.httparse.specs.Grammar.{RequestHead, print_request, ReadsRequest, HasNoRequest}
+use Rattle.httparse.specs.Grammar.{NeverHasRequest, MayBecomeRequest}
 use Rattle.httparse.specs.Spans.{RequestExceeds, RequestOverflows}
 
 -- how many bytes a head has at most, and how many header lines
@@ -31,7 +32,8 @@ pub record HasManyLines (bytes : List ℕ) : Type 0 where
   pub lines : RequestExceeds max_headers bytes
   pub over : RequestOverflows max_headers bytes
 
--- no head that is taken can stand here: whatever follows the front, it is none; or it has too many header lines; or it breaks off
+-- no head that is taken can stand here: whatever follows the front, it is none; or it has too many
+-- header lines; or it breaks off
 abbrev pub HasBadHead : List ℕ → Type 0
 HasBadHead input = NeverHasRequest (front input) ⊎ HasManyLines (front input) ⊎ BreaksOff input
 

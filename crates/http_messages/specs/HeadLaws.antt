@@ -6,11 +6,15 @@ use Rattle.http_messages.specs.Exchange.{Asks}
 use Rattle.http_messages.specs.Head.{front, HasHead, HasBadHead, HasLargeHead, HasManyLines}
 
 pub record TellsHeads : Type 0 where
-  pub one : (input : List ℕ) (h k : RequestHead) (rest q : List ℕ) → HasHead input h rest → HasHead input k q → (h ≡ k) × (rest ≡ q)
+  pub one : (input : List ℕ) (h k : RequestHead) (rest q : List ℕ) → HasHead input h rest → HasHead input k q
+      → (h ≡ k) × (rest ≡ q)
   pub not_bad : (input : List ℕ) (h : RequestHead) (rest : List ℕ) → HasHead input h rest → HasBadHead input → ⊥
   pub not_large : (input : List ℕ) (h : RequestHead) (rest : List ℕ) → HasHead input h rest → HasLargeHead input → ⊥
-  pub open_place : (input : List ℕ) → HasBadHead input → HasLargeHead input → EndsInTarget (front input) ⊎ HasManyLines (front input)
+  pub open_place : (input : List ℕ) → HasBadHead input → HasLargeHead input
+      → EndsInTarget (front input) ⊎ HasManyLines (front input)
 
 -- two answers to one input are the same, unless its front ends within the target or holds too many header lines
 abbrev pub GivesOneAnswer : Type 0
-GivesOneAnswer = (input : List ℕ) (a b : Asked) → Asks input a → Asks input b → (a ≡ b) ⊎ (EndsInTarget (front input) ⊎ HasManyLines (front input))
+GivesOneAnswer =
+    (input : List ℕ) (a b : Asked) → Asks input a → Asks input b
+    → (a ≡ b) ⊎ (EndsInTarget (front input) ⊎ HasManyLines (front input))

@@ -1,10 +1,10 @@
 -- What a head asks for, as far as the head tells.
-use Rattle.std.specs.Prelude.{◌≡◌, ℕ, ◌≤◌, List, [], Some, codes}
+use Rattle.std.specs.Prelude.{◌≡◌, ℕ, ◌≤◌, List, Some, codes}
 use Rattle.httparse.specs.Grammar.{RequestHead}
 use Rattle.http_messages.specs.Route.{IsRouteOf}
-use Rattle.http_messages.specs.Fields.{values_of}
 use Rattle.http_messages.specs.declared.asked.Asked.TheVariants.{Reject, ShowKey, ShowUsage}
-use Rattle.http_messages.specs.Exchange.{Lines, lines_of, HasHost, Announces, IsFrom, AsksBehind, max_body_length}
+use Rattle.http_messages.specs.Exchange.{Lines, lines_of, HasHost, IsPlain, Announces, IsFrom}
+use Rattle.http_messages.specs.Exchange.{AsksBehind, max_body_length}
 use Rattle.http_messages.specs.declared.route.Route.TheVariants as route
 use Rattle.http_messages.specs.declared.judge.Judged.{Judged}
 use Rattle.http_messages.specs.declared.judge.Judged.TheVariants.{Rejected, Show, Usage, Post}
@@ -12,7 +12,7 @@ use Rattle.http_messages.specs.declared.judge.Post as post
 
 -- the header lines of a POST say this
 pub record Says (lines : Lines) (p : post.Post) : Type 0 where
-  pub plain : values_of (codes "transfer-encoding") lines ≡ []
+  pub plain : IsPlain lines
   pub length : Announces lines p.length
   pub short : p.length ≤ max_body_length
   pub sender : IsFrom lines p.sender.caller p.sender.number
@@ -22,4 +22,5 @@ Judges h (Rejected r) = (rest : List ℕ) → AsksBehind h rest (Reject r)
 Judges h (Show key) = (rest : List ℕ) → AsksBehind h rest (ShowKey key)
 Judges h (Usage key) = (rest : List ℕ) → AsksBehind h rest (ShowUsage key)
 Judges h (Post p) =
-    HasHost h.minor (lines_of h) × IsRouteOf h.target (Some route.Requests) × (h.method ≡ codes "POST") × Says (lines_of h) p
+    HasHost h.minor (lines_of h) × IsRouteOf h.target (Some route.Requests) × (h.method ≡ codes "POST")
+    × Says (lines_of h) p

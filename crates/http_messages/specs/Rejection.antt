@@ -1,6 +1,8 @@
 -- The reply of each refusal.
 use Rattle.http_messages.specs.declared.asked.Rejection.{Rejection}
-use Rattle.http_messages.specs.declared.asked.Rejection.TheVariants.{BadRequest, NoRoute, MethodNotAllowed, LengthRequired, TooLarge}
+use Rattle.http_messages.specs.declared.asked.Rejection.TheVariants.{BadRequest, NoRoute}
+use Rattle.http_messages.specs.declared.asked.Rejection.TheVariants.{MethodNotAllowed}
+use Rattle.http_messages.specs.declared.asked.Rejection.TheVariants.{LengthRequired, TooLarge}
 use Rattle.http_messages.specs.Route.{method_of}
 use Rattle.http_messages.specs.Reply.{Reply, bad_request, no_route, not_allowed, length_required, too_large}
 

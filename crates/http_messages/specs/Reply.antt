@@ -18,7 +18,8 @@ allow_line (Some method) = codes "Allow: " ++ (method ++ crlf)
 -- status_text gives the code and its phrase, as `http` spells it
 abbrev pub reply_bytes : Reply → List ℕ
 reply_bytes r =
-    codes "HTTP/1.1 " ++ (status_text r.status ++ (codes "\r\nContent-Type: application/json\r\nContent-Length: " ++ (decimal (length r.body)
+    codes "HTTP/1.1 " ++ (status_text r.status
+    ++ (codes "\r\nContent-Type: application/json\r\nContent-Length: " ++ (decimal (length r.body)
     ++ (crlf ++ (allow_line r.allow ++ (codes "Connection: close\r\n\r\n" ++ r.body))))))
 
 abbrev pub bad_request : Reply

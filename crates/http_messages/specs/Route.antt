@@ -38,10 +38,17 @@ place_of (Usage key) = place.Usage
 
 -- the rows of the router
 abbrev pub key_row : RouteOf Place
-key_row = record { pattern = codes "/keys/" ++ 256 ∷ []; text = codes "/keys/{n}"; names = (7, 8) ∷ []; value = place.Key }
+key_row =
+    record { pattern = codes "/keys/" ++ 256 ∷ []; text = codes "/keys/{n}"; names = (7, 8) ∷ []; value = place.Key }
 
 abbrev pub usage_row : RouteOf Place
-usage_row = record { pattern = codes "/keys/" ++ 256 ∷ codes "/usage"; text = codes "/keys/{n}/usage"; names = (7, 8) ∷ []; value = place.Usage }
+usage_row =
+    record {
+      pattern = codes "/keys/" ++ 256 ∷ codes "/usage";
+      text = codes "/keys/{n}/usage";
+      names = (7, 8) ∷ [];
+      value = place.Usage;
+    }
 
 abbrev pub requests_row : RouteOf Place
 requests_row = record { pattern = codes "/requests"; text = codes "/requests"; names = []; value = place.Requests }
