@@ -2,3 +2,4 @@ pub mod Answering
 pub mod Acting
 pub mod Sending
 pub mod Exchange
+pub mod Items

@@ -1,8 +1,12 @@
 //! One exchange: a request is read, the register asked once, and a reply written.
-ghost use Rattle.std.specs.Prelude.{◌≡◌, false, Err, IfOk, IfSome};
+ghost use Rattle.std.specs.Prelude.{◌≡◌, List, false, Err, IfOk, IfSome};
+ghost use Rattle.register_core.specs.declared.request.Request.{Request};
+ghost use Rattle.register_desk.specs.Leaving.{IsClean, IsWhole};
+ghost use Rattle.register_desk.specs.Register.{StandsFor};
 ghost use Rattle.http_messages.specs.Body.{IsInRange};
 ghost use Rattle.register_http.specs.Exchange.{Exchanges, LeavesReader, LeavesWriter, Serves};
 ghost use Rattle.register_http.specs.Exchange.{KeepsWriter, ServesAsked};
+ghost use Rattle.register_http.specs.Items.{LeavesOne};
 ghost use Rattle.register_http.specs.Sending.{Sends, end_reply};
 
 use crate::acting::act;
@@ -162,6 +166,10 @@ pub fn exchange<R: Read, W: Write, S: Alter>(
     requires writer { writer.old.failed ≡ false }
     ensures exchanges { Exchanges S.Store moment (R.remaining reader.old.inner) desk.old desk.new
         (W.contents writer.old.inner) (W.contents writer.new.inner) result }
+    // Whatever the reader tells of its bytes, at most one request was handed to the register.
+    ensures leaves { (h : List Request) → StandsFor S.Store desk.old h → IsWhole desk.old
+        → IsClean S.Store desk.new → LeavesOne S.Store h desk.new result.end }
+    ensures clean { IsClean S.Store desk.new → IsClean S.Store desk.old }
     ensures reader { LeavesReader R.remaining reader.old reader.new result }
     ensures writer { LeavesWriter writer.new result }
 {

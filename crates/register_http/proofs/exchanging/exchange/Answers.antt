@@ -1,5 +1,6 @@
 use Rattle.std.proofs.Common.{ap, ◌∙◌}
 use Rattle.streams.specs.declared.watched.Watched.{Watched}
+use Rattle.register_http.proofs.ItemLemmas.{leaves_one, was_clean}
 use Rattle.register_http.proofs.ServingLemmas.{served_behind}
 use Rattle.register_http.proofs.exchanging.exchange.Goals as goal
 
@@ -10,3 +11,9 @@ returns-clause-exchanges g c = record {
   serves = served_behind g.S.Store c.args.moment c.args.desk.now c.serve_asked-served.new.desk c.ask-asking.result.asked _ (g.W.Write.contents c.args.writer.now.inner) (g.W.Write.contents c.serve_asked-served.new.writer.inner)
       c.serve_asked-served.result c.ask-asking.result.read (ap (λ (w : Watched g.row.W.Denot). g.W.Write.contents w.inner) c.begin-2.ensures) c.serve_asked-served.ensures.serves;
 }
+
+pub returns-clause-leaves : goal.returns-clause-leaves
+returns-clause-leaves g c = leaves_one g.S.Store c.args.moment c.args.desk.now c.serve_asked-served.new.desk c.ask-asking.result.asked c.serve_asked-served.result _ _ c.serve_asked-served.ensures.serves
+
+pub returns-clause-clean : goal.returns-clause-clean
+returns-clause-clean g c = was_clean g.S.Store c.args.moment c.args.desk.now c.serve_asked-served.new.desk c.ask-asking.result.asked c.serve_asked-served.result _ _ c.serve_asked-served.ensures.serves
