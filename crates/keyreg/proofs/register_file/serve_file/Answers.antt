@@ -1,4 +1,3 @@
-use Rattle.sqlite.specs.Files.{over_files}
 use Rattle.register_core.specs.Fold.{history}
 use Rattle.std.proofs.Common.{◌++◌}
 use Rattle.keyreg.proofs.register_file.serve_file.Goals as goal

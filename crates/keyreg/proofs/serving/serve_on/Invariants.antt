@@ -1,5 +1,5 @@
 -- Behind each exchange the desk is whole and of some items more.
-use Rattle.std.proofs.Common.{◌≡◌, ◌-◌, ◌≤◌, List}
+use Rattle.std.proofs.Common.{◌-◌, ◌≤◌, List}
 use Rattle.register_core.specs.declared.request.Request.{Request}
 use Rattle.register_desk.specs.Leaving.{IsClean, IsWhole}
 use Rattle.register_desk.specs.Register.{StandsFor}
