@@ -5,7 +5,7 @@ use Rattle.std.specs.Prelude.{decimal}
 use Rattle.std.specs.Str.Parse.{digits_value}
 use Rattle.std.proofs.lemmas.List.{append_cancel_left, append_cancel_right}
 use Rattle.std.proofs.lemmas.Fmt.{decimal_injective}
-use Rattle.httparse.specs.Grammar.{RequestHead, EndsInTarget}
+use Rattle.httparse.specs.Grammar.{RequestHead}
 use Rattle.matchit.specs.Seek.{first}
 use Rattle.matchit.specs.Router.{RouteOf}
 use Rattle.http_messages.specs.declared.route.Place.{Place}
@@ -15,7 +15,7 @@ use Rattle.register_core.specs.declared.request.Command.{Command}
 use Rattle.http_messages.specs.declared.asked.Asked.{Asked}
 use Rattle.http_messages.specs.declared.asked.Asked.TheVariants.{Reject, Apply}
 use Rattle.http_messages.specs.declared.asked.Rejection.TheVariants.{MethodNotAllowed}
-use Rattle.http_messages.specs.Head.{front, HasManyLines}
+use Rattle.http_messages.specs.HeadLaws.{IsLeftOpen}
 use Rattle.http_messages.specs.Route.{IsRoute, IsRouteOf, route_text, place_of, method_of, routes}
 use Rattle.http_messages.specs.Body.{IsBodyOf}
 use Rattle.http_messages.specs.Exchange.{Lines, Announces, IsFrom, Asks, AsksBehind, AsksPost}
@@ -25,7 +25,7 @@ use Rattle.http_messages.specs.Exchange.{bad_length, large_body, no_sender, sent
 use Rattle.http_messages.specs.Exchange.{no_command, command, lines_of}
 use Rattle.http_messages.proofs.CommandValues.{one_command_data}
 use Rattle.http_messages.proofs.Routing.{finds_route, value_is, row_of, fits_number}
-use Rattle.http_messages.proofs.HeadLaws.{one_head, whole_not_bad, whole_not_large, bad_or_large}
+use Rattle.http_messages.proofs.HeadLaws.{one_head, whole_not_bad, whole_not_large}
 
 -- ---- routes
 
@@ -198,11 +198,11 @@ module _ (h : RequestHead) (rest : List ℕ) where
   same_behind a b (post z p o i e) (post x q u v w) = same_post (lines_of h) rest a b e w
 
 pub one_answer : (input : List ℕ) (a b : Asked) → Asks input a → Asks input b
-    → (a ≡ b) ⊎ (EndsInTarget (front input) ⊎ HasManyLines (front input))
+    → (a ≡ b) ⊎ IsLeftOpen input
 one_answer input a b (bad_head p) (bad_head q) = inl refl
-one_answer input a b (bad_head p) (large_head q) = inr (bad_or_large input p q)
+one_answer input a b (bad_head p) (large_head q) = inr (record { bad = p; large = q })
 one_answer input a b (bad_head p) (whole_head h rest x q u) = absurd (whole_not_bad input h rest q p)
-one_answer input a b (large_head p) (bad_head q) = inr (bad_or_large input q p)
+one_answer input a b (large_head p) (bad_head q) = inr (record { bad = q; large = p })
 one_answer input a b (large_head p) (large_head q) = inl refl
 one_answer input a b (large_head p) (whole_head h rest x q u) = absurd (whole_not_large input h rest q p)
 one_answer input a b (whole_head h rest x p o) (bad_head q) = absurd (whole_not_bad input h rest p q)

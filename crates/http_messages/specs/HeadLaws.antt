@@ -13,8 +13,11 @@ pub record TellsHeads : Type 0 where
   pub open_place : (input : List ℕ) → HasBadHead input → HasLargeHead input
       → EndsInTarget (front input) ⊎ HasManyLines (front input)
 
--- two answers to one input are the same, unless its front ends within the target or holds too many header lines
+-- the one place that is left open: the rules for 400 and for 413 both hold of the head
+pub record IsLeftOpen (input : List ℕ) : Type 0 where
+  pub bad : HasBadHead input
+  pub large : HasLargeHead input
+
+-- two answers to one input are the same, but in that place
 abbrev pub GivesOneAnswer : Type 0
-GivesOneAnswer =
-    (input : List ℕ) (a b : Asked) → Asks input a → Asks input b
-    → (a ≡ b) ⊎ (EndsInTarget (front input) ⊎ HasManyLines (front input))
+GivesOneAnswer = (input : List ℕ) (a b : Asked) → Asks input a → Asks input b → (a ≡ b) ⊎ IsLeftOpen input
