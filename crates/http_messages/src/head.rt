@@ -71,10 +71,12 @@ impl Front {
     /// Reads once more, where there is room, and returns how many bytes came.
     fn refill<R: Read>(&mut self, reader: &mut Watched<R>) -> Result<usize, ReadFault>
         requires { length self.old < MAX_HEAD_LENGTH }
-        ensures bytes { IfOk result (λ n. (more : List ℕ) × (self.new ≡ self.old ++ more) × (length more ≡ n)
+        ensures bytes { IfOk result (λ n. (more : List ℕ) × (self.new ≡ self.old ++ more)
+            × (length more ≡ n)
             × Consumes (R.remaining reader.old.inner) (R.remaining reader.new.inner) more) }
         ensures end { IfOk result (λ n. n ≡ 0 → IsAtEnd (R.remaining reader.new.inner)) }
-        ensures kept { OnErr result ((self.new ≡ self.old) × Keeps (R.remaining reader.old.inner) (R.remaining reader.new.inner)) }
+        ensures kept { OnErr result ((self.new ≡ self.old)
+            × Keeps (R.remaining reader.old.inner) (R.remaining reader.new.inner)) }
         ensures later { OnOk result (reader.old.turns < reader.new.turns) }
         ensures sound { OnOk result (reader.new.failed ≡ reader.old.failed) }
         ensures err { OnErr result ((reader.new.failed ≡ true) ⊎ (MAX_EXCHANGE_READS ≤ reader.new.turns)) }

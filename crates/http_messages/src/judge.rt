@@ -64,7 +64,8 @@ fn sender_of(front: &[u8], headers: &[HeaderSpan]) -> Option<Sender>
     requires { All (IsHeaderWithin (length front.now)) headers.now }
     ensures found { IfSome result (λ sender.
         IsFrom (map (header_bytes front.now) headers.now) sender.caller sender.number) }
-    ensures none { IfNone result ((caller : List ℕ) (number : ℕ) → IsFrom (map (header_bytes front.now) headers.now) caller number → ⊥) }
+    ensures none { IfNone result ((caller : List ℕ) (number : ℕ) →
+        IsFrom (map (header_bytes front.now) headers.now) caller number → ⊥) }
 {
     let Values::One(caller) = values_named(front, headers, b"caller") else {
         return None;
@@ -88,7 +89,8 @@ fn sender_of(front: &[u8], headers: &[HeaderSpan]) -> Option<Sender>
 pub(crate) fn post_of(front: &[u8], headers: &[HeaderSpan]) -> Result<Post, Rejection>
     requires { All (IsHeaderWithin (length front.now)) headers.now }
     ensures ok { IfOk result (Says (map (header_bytes front.now) headers.now)) }
-    ensures err { IfErr result (λ r. (rest : List ℕ) → AsksPost (map (header_bytes front.now) headers.now) rest (Reject r)) }
+    ensures err { IfErr result (λ r. (rest : List ℕ) →
+        AsksPost (map (header_bytes front.now) headers.now) rest (Reject r)) }
 {
     match values_named(front, headers, b"transfer-encoding") {
         Values::None => {}

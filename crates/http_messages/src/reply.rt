@@ -15,7 +15,8 @@ pub(crate) fn reply_text(
     status: StatusCode,
     body: &str,
 ) -> Result<String, AllocError>
-    ensures { IfOk result (λ s. string_bytes s ≡ reply_bytes (record { status = status; allow = None; body = body.now })) }
+    ensures { IfOk result (λ s. string_bytes s ≡
+        reply_bytes (record { status = status; allow = None; body = body.now })) }
 {
     let length = body.len();
     format!(in alloc;
@@ -30,7 +31,8 @@ pub(crate) fn allow_text(
     method: &str,
     body: &str,
 ) -> Result<String, AllocError>
-    ensures { IfOk result (λ s. string_bytes s ≡ reply_bytes (record { status = status; allow = Some method.now; body = body.now })) }
+    ensures { IfOk result (λ s. string_bytes s ≡
+        reply_bytes (record { status = status; allow = Some method.now; body = body.now })) }
 {
     let length = body.len();
     format!(in alloc;
