@@ -1,5 +1,5 @@
 -- What a desk leaves that was asked something, by what came of its call and of the memory for the text.
-use Rattle.std.proofs.Common.{◌≡◌, ◌≢◌, inl, inr, ℕ, true, List, Option, String, Result, Ok, Err, refl, sym, subst, ◌∙◌}
+use Rattle.std.proofs.Common.{◌≡◌, ◌≢◌, inl, inr, ℕ, true, List, Option, String, Result, Ok, Err, refl, sym, subst, ap, ◌∙◌}
 use Rattle.std.specs.Prelude.{IfOk, OnErr}
 use Rattle.std.specs.declared.alloc.Global.{Global}
 use Rattle.std.specs.declared.alloc.AllocError.{AllocError}
@@ -42,6 +42,15 @@ module _ {S : Type 0} (g : Ghosts S) where
     sees = reads.rows (tables h) s.sees;
   }
 
+  -- a call of the database that a broken desk refuses ends by that
+  broken_ends : (old new : Desk S g) (end : End) → EndsBy old new end → IsBroken old → end ≡ Broken
+  broken_ends old new Memory ends broken = whole_not_broken old ends.0 broken
+  broken_ends old new Store ends broken = whole_not_broken old ends.0 broken
+  broken_ends old new Broken ends broken = refl
+  broken_ends old new ReadFault ends broken = absurd ends
+  broken_ends old new WriteFault ends broken = absurd ends
+  broken_ends old new BadHeader ends broken = absurd ends
+
   both_whole : (old new : Desk S g) → IsWhole old → IsWhole new → GoesOn old new
   both_whole old new was is = record { whole = λ _. is; broken = λ broken. whole_not_broken old was broken }
 
@@ -64,6 +73,7 @@ module _ {S : Type 0} (g : Ghosts S) where
     pub record Went : Type 0 where
       pub clean : IsClean g new → IsClean g old
       pub goes_on : GoesOn old new
+      pub whole : uses_register asked ≡ true → IsWhole old
       pub stands : (h : List Request) → StandsFor g old h → IsClean g new → StandsFor g new (history_after h moment asked)
       pub leaves : (h : List Request) → StandsFor g old h → IsWhole old → IsClean g new → LeavesEither g h (history_after h moment asked) new
 
@@ -71,6 +81,7 @@ module _ {S : Type 0} (g : Ghosts S) where
     went_reading question both reads = record {
       clean = reads.clean;
       goes_on = both_whole old new both.0 both.1;
+      whole = λ uses. both.0;
       stands = λ h s clean. subst (StandsFor g new) (sym (question.same h)) (stands_still h old new reads s);
       leaves = λ h s whole clean. subst (λ k. LeavesEither g h k new) (sym (question.same h)) (leaves_still g h old new reads s whole clean);
     }
@@ -84,6 +95,7 @@ module _ {S : Type 0} (g : Ghosts S) where
       clean = went.clean;
       ends = went.goes_on;
       uses = tt;
+      broken = λ uses broken. whole_not_broken old (went.whole uses) broken;
       rejects = rejects;
       text = text;
       stands = went.stands;
@@ -94,6 +106,7 @@ module _ {S : Type 0} (g : Ghosts S) where
       clean = went.clean;
       ends = went.goes_on;
       uses = λ other. absurd (other refl);
+      broken = λ uses broken. whole_not_broken old (went.whole uses) broken;
       rejects = λ rejection is. ((rejects rejection is).0, tt);
       text = λ h stands clean. tt;
       stands = λ h stands clean. tt;
@@ -111,6 +124,7 @@ module _ {S : Type 0} (g : Ghosts S) where
       clean = clean;
       ends = stops_by old new end ends;
       uses = λ other. uses;
+      broken = λ used broken. ap Err (broken_ends old new end ends broken);
       rejects = λ rejection same. absurd (asks rejection same);
       text = λ h s was_clean. tt;
       stands = λ h s was_clean. tt;
@@ -130,6 +144,7 @@ module _ {S : Type 0} (g : Ghosts S) where
     went_applied h' is clean both stands = record {
       clean = clean;
       goes_on = both_whole old new both.0 both.1;
+      whole = λ uses. both.0;
       stands = λ h s was_clean. subst (StandsFor g new) (sym (is h)) (stands h s was_clean);
       leaves = λ h s whole was_clean. subst (λ k. LeavesEither g h k new) (sym (is h)) (leaves_second h (h' h) new (leaves_alone g (h' h) new (stands h s was_clean) both.1 was_clean));
     }
@@ -158,6 +173,7 @@ module _ {S : Type 0} (g : Ghosts S) where
   went_unasked moment rejection desk = record {
     clean = λ clean. clean;
     goes_on = record { whole = λ whole. whole; broken = λ _. refl };
+    whole = λ uses. absurd (cc);
     stands = λ h s clean. s;
     leaves = λ h s whole clean. leaves_alone g h desk s whole clean;
   }

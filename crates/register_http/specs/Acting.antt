@@ -1,12 +1,12 @@
 -- What a desk does where it is asked something, apart from the bytes of the exchange.
-use Rattle.std.specs.Prelude.{◌≡◌, ◌≢◌, ◌⊎◌, ℕ, true, List, String, string_bytes, Result, MatchResult, IfOk, IfErr, OnOk}
+use Rattle.std.specs.Prelude.{◌≡◌, ◌≢◌, ◌⊎◌, ℕ, true, List, String, string_bytes, Result, Err, MatchResult, IfOk, IfErr, OnOk}
 use Rattle.std.specs.declared.alloc.Global.{Global}
 use Rattle.sqlite_trees.specs.declared.store.Store.{Ghosts}
 use Rattle.register_core.specs.declared.request.Request.{Request}
 use Rattle.register_desk.specs.declared.desk.Desk.{Desk}
 use Rattle.register_desk.specs.declared.end.End.{End}
 use Rattle.register_desk.specs.declared.end.End.TheVariants.{Memory, Store, Broken, ReadFault, WriteFault, BadHeader}
-use Rattle.register_desk.specs.Leaving.{EndsBy, GoesOn, IsClean, IsWhole, LeavesEither}
+use Rattle.register_desk.specs.Leaving.{EndsBy, GoesOn, IsBroken, IsClean, IsWhole, LeavesEither}
 use Rattle.register_desk.specs.Register.{StandsFor}
 use Rattle.http_messages.specs.declared.asked.Asked.{Asked}
 use Rattle.http_messages.specs.declared.asked.Asked.TheVariants.{Reject}
@@ -38,6 +38,7 @@ module _ {S : Type 0} (g : Ghosts S) where
     pub clean : IsClean g new → IsClean g old
     pub ends : MatchResult result (λ _. GoesOn old new) (StopsBy old new)
     pub uses : IfErr result (λ end. end ≢ Memory → uses_register asked ≡ true)
+    pub broken : uses_register asked ≡ true → IsBroken old → result ≡ Err Broken
     pub rejects : (rejection : Rejection) → asked ≡ Reject rejection → (new ≡ old) × IfOk result (IsTextOf (reply_of rejection))
     pub text : (h : List Request) → StandsFor g old h → IsClean g new → IfOk result (IsTextOf (reply_to h moment asked))
     pub stands : (h : List Request) → StandsFor g old h → IsClean g new → OnOk result (StandsFor g new (history_after h moment asked))

@@ -69,7 +69,10 @@ pub record KeepsWriter {W : Type 0} (old new : Watched W) (replies : ℕ) : Type
   pub fault : replies ≡ 0 → IsFaulted new.failed max_idle_turns new.idle
   pub bounded : old.idle ≤ max_idle_turns → new.idle ≤ max_idle_turns
 
+-- No reply is left out but where nothing is asked, where the reader failed, or at a fault of the writer.
 pub record LeavesWriter {W : Type 0} (new : Watched W) (outcome : Outcome) : Type 0 where
   pub flushed : outcome.replies ≡ 1 → new.unflushed ≡ false
+  pub unanswered : outcome.replies ≡ 0
+      → (outcome.end ≡ AtEnd 0) ⊎ ((outcome.end ≡ Ended ReadFault) ⊎ IsFaulted new.failed max_idle_turns new.idle)
   pub fault : outcome.end ≡ Ended WriteFault → IsFaulted new.failed max_idle_turns new.idle
   pub bounded : new.idle ≤ max_idle_turns
