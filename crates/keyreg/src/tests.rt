@@ -2,6 +2,8 @@
 
 mod acts;
 mod desks;
+mod exchange_rows;
+mod exchanges;
 mod exports;
 mod faults;
 mod files;
@@ -11,6 +13,7 @@ mod long_lines;
 mod openings;
 mod repeats;
 mod rows;
+mod served;
 mod steps;
 mod tables_in_files;
 mod worked_rows;

@@ -1,0 +1,27 @@
+//! Inputs of exchanges, and what they ask for.
+use http_messages::{Asked, Rejection, ask};
+use std::alloc::{AllocError, Global};
+use std::io::Read;
+use streams::Watched;
+
+/// What the reader's bytes ask for, or `None` where they ask nothing or could not be read.
+pub fn asked_of<R: Read + Drop>(alloc: Global, input: R) -> Option<Asked> {
+    let mut reader = Watched::new(input);
+    match ask(alloc, &mut reader).asked {
+        Ok(asked) => asked,
+        Err(_) => None,
+    }
+}
+
+/// Whether the input is rejected so.
+pub fn is_rejected(alloc: Global, input: &[u8], rejection: Rejection) -> bool {
+    asked_of(alloc, input) == Some(Asked::Reject(rejection))
+}
+
+/// A POST of this body by ann, under number 1.
+pub fn posted(alloc: Global, body: &str) -> Result<String, AllocError> {
+    format!(in alloc;
+        "POST /requests HTTP/1.1\r\nHost: localhost\r\nCaller: ann\r\nRequest-Number: 1\r\nContent-Length: {}\r\n\r\n{body}",
+        body.len()
+    )
+}

@@ -1,0 +1,246 @@
+//! The texts of replies: each status, each refusal, a key and its usage.
+use http_messages::{Rejection, Route, key_text, outcome_text, rejection_text, usage_text};
+use key_rows::KeyRow;
+use lifecycle_core::{Dates, Process, Row, State, Usage};
+use moment_core::Moment;
+use period_core::KeyType;
+use register_core::{Name, Names, Purpose, Refusal, Reply};
+use std::alloc::{AllocError, Global};
+use std::test::Fail;
+
+/// A reply with this status and body.
+fn reply_of(alloc: Global, status: &str, body: &str) -> Result<String, AllocError> {
+    format!(in alloc;
+        "HTTP/1.1 {status}\r\nContent-Type: application/json\r\nContent-Length: {}\r\nConnection: close\r\n\r\n{body}",
+        body.len()
+    )
+}
+
+const CONFLICT: &str = "409 Conflict";
+
+/// The refusals that tell no more than their names, with their statuses and bodies.
+#[rattlefmt::skip]
+const REFUSALS: [(Refusal, &str, &str); 16] = [
+    (Refusal::BadLine, "400 Bad Request", r#"{"name":"BadLine","refused":1}"#),
+    (Refusal::RequestReused, CONFLICT, r#"{"name":"RequestReused","refused":2}"#),
+    (Refusal::UnknownKey, "404 Not Found", r#"{"name":"UnknownKey","refused":4}"#),
+    (Refusal::NotOwner, CONFLICT, r#"{"name":"NotOwner","refused":5}"#),
+    (Refusal::NotCustodian, CONFLICT, r#"{"name":"NotCustodian","refused":6}"#),
+    (Refusal::DateFrozen, CONFLICT, r#"{"name":"DateFrozen","refused":8}"#),
+    (Refusal::DateOrder, CONFLICT, r#"{"name":"DateOrder","refused":9}"#),
+    (Refusal::DateRange, CONFLICT, r#"{"name":"DateRange","refused":11}"#),
+    (Refusal::AlreadyCustodian, CONFLICT, r#"{"name":"AlreadyCustodian","refused":12}"#),
+    (Refusal::NoSuchCustodian, CONFLICT, r#"{"name":"NoSuchCustodian","refused":13}"#),
+    (Refusal::TooManyCustodians, CONFLICT, r#"{"name":"TooManyCustodians","refused":14}"#),
+    (Refusal::OwnerCustodian, CONFLICT, r#"{"name":"OwnerCustodian","refused":15}"#),
+    (Refusal::AlreadyApproved, CONFLICT, r#"{"name":"AlreadyApproved","refused":16}"#),
+    (Refusal::NoApproval, CONFLICT, r#"{"name":"NoApproval","refused":17}"#),
+    (Refusal::OccurrenceLater, CONFLICT, r#"{"name":"OccurrenceLater","refused":19}"#),
+    (Refusal::Full, CONFLICT, r#"{"name":"Full","refused":20}"#),
+];
+
+/// Whether this is answered so.
+fn is_answered(
+    alloc: Global,
+    outcome: Result<Reply, Refusal>,
+    status: &str,
+    body: &str,
+) -> Result<bool, AllocError> {
+    let text = outcome_text(alloc, &outcome)?;
+    Ok(text.as_str() == reply_of(alloc, status, body)?.as_str())
+}
+
+#[test]
+fn refusals_have_their_bodies(rt: HostRuntime) -> Result<(), AllocError> {
+    for (refusal, status, body) in &REFUSALS {
+        assert!(rt;
+            is_answered(rt.alloc(), Err(*refusal), status, body)?,
+            "{body}"
+        );
+    }
+    Ok(())
+}
+
+/// Whether a refusal that tells more than its name is answered by a conflict with this body.
+fn is_refused(alloc: Global, refusal: Refusal, body: &str) -> Result<bool, AllocError> {
+    is_answered(alloc, Err(refusal), CONFLICT, body)
+}
+
+#[test]
+fn refusals_tell_what_they_met(rt: HostRuntime) -> Result<(), Fail> {
+    let alloc = rt.alloc();
+    let moment = Moment::new(253_402_300_799).ok_or("a moment")?;
+    let behind = Refusal::MomentBehind { latest: moment };
+    assert!(rt;
+        is_refused(
+            alloc,
+            behind,
+            r#"{"latest":253402300799,"name":"MomentBehind","refused":3}"#
+        )?
+    );
+    let wrong = Refusal::WrongState {
+        state: State::DestroyedCompromised,
+    };
+    assert!(rt;
+        is_refused(
+            alloc,
+            wrong,
+            r#"{"name":"WrongState","refused":7,"state":"Destroyed-Compromised"}"#
+        )?
+    );
+    let long = Refusal::PeriodTooLong { limit: moment };
+    assert!(rt;
+        is_refused(
+            alloc,
+            long,
+            r#"{"limit":253402300799,"name":"PeriodTooLong","refused":10}"#
+        )?
+    );
+    let missing = Refusal::ApprovalsMissing { have: 0, need: 2 };
+    assert!(rt;
+        is_refused(
+            alloc,
+            missing,
+            r#"{"have":0,"name":"ApprovalsMissing","need":2,"refused":18}"#
+        )?
+    );
+    Ok(())
+}
+
+#[test]
+fn accepted_requests_are_answered(rt: HostRuntime) -> Result<(), Fail> {
+    let moment = Moment::new(100).ok_or("a moment")?;
+    let advanced = Reply {
+        key: 0,
+        state: None,
+        moment,
+    };
+    assert!(rt;
+        is_answered(
+            rt.alloc(),
+            Ok(advanced),
+            "200 OK",
+            r#"{"key":0,"moment":100,"state":null}"#
+        )?
+    );
+    let changed = Reply {
+        key: u32::MAX,
+        state: Some(State::Deactivated),
+        moment,
+    };
+    assert!(rt;
+        is_answered(
+            rt.alloc(),
+            Ok(changed),
+            "200 OK",
+            r#"{"key":4294967295,"moment":100,"state":"Deactivated"}"#
+        )?
+    );
+    Ok(())
+}
+
+/// The rejections that name no method, with their statuses and bodies.
+#[rattlefmt::skip]
+const REJECTIONS: [(Rejection, &str, &str); 4] = [
+    (Rejection::BadRequest, "400 Bad Request", r#"{"name":"BadLine","refused":1}"#),
+    (Rejection::NoRoute, "404 Not Found", r#"{"name":"NoRoute"}"#),
+    (Rejection::LengthRequired, "411 Length Required", r#"{"name":"LengthRequired"}"#),
+    (Rejection::TooLarge, "413 Payload Too Large", r#"{"name":"TooLarge"}"#),
+];
+
+/// Routes, and the reply where another method is used.
+#[rattlefmt::skip]
+const OTHER_METHODS: [(Route, &str); 3] = [
+    (Route::Requests, "HTTP/1.1 405 Method Not Allowed\r\nContent-Type: application/json\r\nContent-Length: 27\r\nAllow: POST\r\nConnection: close\r\n\r\n{\"name\":\"MethodNotAllowed\"}"),
+    (Route::Show(1), "HTTP/1.1 405 Method Not Allowed\r\nContent-Type: application/json\r\nContent-Length: 27\r\nAllow: GET\r\nConnection: close\r\n\r\n{\"name\":\"MethodNotAllowed\"}"),
+    (Route::Usage(1), "HTTP/1.1 405 Method Not Allowed\r\nContent-Type: application/json\r\nContent-Length: 27\r\nAllow: GET\r\nConnection: close\r\n\r\n{\"name\":\"MethodNotAllowed\"}"),
+];
+
+#[test]
+fn rejections_have_their_replies(rt: HostRuntime) -> Result<(), AllocError> {
+    for (rejection, status, body) in &REJECTIONS {
+        let text = rejection_text(rt.alloc(), *rejection)?;
+        assert_eq!(rt; text.as_str(), reply_of(rt.alloc(), status, body)?.as_str());
+    }
+    for (route, reply) in &OTHER_METHODS {
+        let text = rejection_text(rt.alloc(), Rejection::MethodNotAllowed(*route))?;
+        assert_eq!(rt; text.as_str(), *reply);
+    }
+    Ok(())
+}
+
+/// What a key may be used for, and its body.
+#[rattlefmt::skip]
+const USAGES: [(Usage, &str); 3] = [
+    (Usage { protect: true, process: Process::Yes }, r#"{"process":"yes","protect":true}"#),
+    (Usage { protect: false, process: Process::Special }, r#"{"process":"special","protect":false}"#),
+    (Usage { protect: false, process: Process::No }, r#"{"process":"no","protect":false}"#),
+];
+
+#[test]
+fn usages_have_their_bodies(rt: HostRuntime) -> Result<(), AllocError> {
+    for (usage, body) in &USAGES {
+        let text = usage_text(rt.alloc(), usage)?;
+        assert_eq!(rt;
+            text.as_str(),
+            reply_of(rt.alloc(), "200 OK", body)?.as_str()
+        );
+    }
+    Ok(())
+}
+
+/// A key with each of its dates.
+fn key() -> Option<KeyRow> {
+    Some(KeyRow {
+        number: 12,
+        kind: KeyType::Master,
+        owner: Name::new(b"bob")?,
+        purpose: Purpose::new(b"say \"hi\" \\ \xc3\xbc")?,
+        row: Row {
+            dates: Dates {
+                initial: Moment::new(1)?,
+                activation: Moment::new(2),
+                protect_stop: Moment::new(3),
+                deactivation: Moment::new(4),
+                destroy: Moment::new(7),
+                compromise: Moment::new(6),
+                compromise_occurrence: Moment::new(5),
+            },
+            state: State::DestroyedCompromised,
+        },
+    })
+}
+
+/// A list of these names.
+fn names(alloc: Global, texts: &[&str]) -> Result<Names, AllocError> {
+    let mut names = Vec::new(alloc);
+    for text in texts {
+        if let Some(name) = Name::new(text.as_bytes()) {
+            names.push(name)?;
+        }
+    }
+    Ok(Names::from_vec(names))
+}
+
+const KEY: &str =
+    r#"{"activation":2,"approvals":["cat"],"compromised":6,"custodians":["cat","dan"],"deactivation":4,"destroyed":7,"initial":1,"number":12,"occurrence":5,"owner":"bob","protect_stop":3,"purpose":"say \"hi\" \\ "#;
+
+#[test]
+fn a_key_has_its_body(rt: HostRuntime) -> Result<(), Fail> {
+    let alloc = rt.alloc();
+    let key = key().ok_or("a key")?;
+    let text = key_text(
+        alloc,
+        &key,
+        &names(alloc, &["cat", "dan"])?,
+        &names(alloc, &["cat"])?,
+    )?;
+    let body = format!(in alloc;
+        "{KEY}\u{fc}\",\"state\":\"Destroyed-Compromised\",\"type\":\"master\"}}"
+    )?;
+    assert_eq!(rt;
+        text.as_str(),
+        reply_of(alloc, "200 OK", body.as_str())?.as_str()
+    );
+    Ok(())
+}
