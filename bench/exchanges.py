@@ -1,7 +1,7 @@
 #!/usr/bin/env python3
 """Exchanges a second of `keyreg serve`, beside a bare HTTP server in Python that does the same work.
 
-    bench/exchanges.py [--rounds N] [--exchanges N] [--keys N] [--clients N] [--directory FOLDER]
+    bench/exchanges.py [--rounds N] [--seconds N] [--exchanges N] [--keys N] [--connections N] [--directory FOLDER]
 
 Two kinds are asked: GET of a key, keys out of their order, and POST of a registration, each a new one. *python* is the standard
 library's `http.server` over `sqlite3`, on a copy of the same file: it looks a kept request up, tests what it is given, puts keys
@@ -9,21 +9,26 @@ in their states, writes the same rows in one transaction a POST, and forms the s
 they run and keep a log beside the file; both sync at each commit: the kit twice, since it trusts no checksum to refuse a
 torn write, and SQLite once (synchronous = FULL). It tests nothing as it opens the file; no start and no opening is in a figure.
 
-Both are asked in one run, in rounds that take turns, by the same clients with one connection an exchange: two processes, so that
-the next exchange waits while one is served, or as many as are named. Each reply is compared with what is expected, and behind
-the last round the rows that both left. Told are, of the rounds' median and of the best, the exchanges a second by the wall,
-and the server's processor time (user and system) for each exchange; the mark is at least three times the exchanges a second
-of Python. The floor is a server that answers fixed bytes, in Python too: what the clients and the connections alone take.
+First so many exchanges of each kind are asked one after the other, and each reply is compared with what is expected. Then both
+are timed in one run, in rounds that take turns, so many seconds for each kind, by `wrk` with two threads: each connection takes one
+exchange, and eight at once, or as many as are named, so that others wait while one is served. Each reply is to have the status
+200. Behind the last round the rows that the compared exchanges left are compared, and the number of keys with what `wrk`
+counted.
+
+Told are the exchanges a second by the wall, and the processor time (user and system) of the server and of the clients for each
+exchange; the clients bound nothing where their two threads have time for more. The mark is at least three times the exchanges
+a second of Python; each ratio is the median of those of the rounds.
 
 The folder for the files is one for temporary files where none is named; where it is a disk, a POST costs its syncs. Build the
-register's own program first: ./keyreg </dev/null. It needs Linux, for the clock of another process.
+register's own program first: ./keyreg </dev/null. It needs `wrk` (Debian's package of that name), and Linux, for the clock of
+another process.
 """
 import argparse
 import http.server
 import json
-import multiprocessing
 import os
 import re
+import resource
 import shutil
 import socket
 import sqlite3
@@ -32,6 +37,7 @@ import subprocess
 import sys
 import tempfile
 import time
+from typing import NamedTuple
 
 HERE = os.path.dirname(os.path.abspath(__file__))
 sys.path.insert(0, os.path.join(HERE, "..", "checks"))
@@ -40,6 +46,7 @@ from registers import PROGRAM, STATES, TYPES, UNSET, expect, keyreg  # noqa: E40
 from serving import free_port, listens  # noqa: E402
 
 STEP = 7919
+THREADS = 2
 MOMENT = 1_000_000
 MARK = 3
 # Behind the greatest moment of the clock in these runs: the keys stay Pre-Active.
@@ -139,6 +146,9 @@ class BareServer(http.server.HTTPServer):
         self.socket.bind(self.server_address)
         self.server_name, self.server_port = self.server_address
 
+    def handle_error(self, *_):
+        """Says nothing of a client that has left; of any other error the client sees that there is no reply."""
+
 
 def serve_bare(file, port):
     database = sqlite3.connect(file, isolation_level=None)
@@ -148,23 +158,7 @@ def serve_bare(file, port):
     BareServer(("127.0.0.1", port), Bare).serve_forever()
 
 
-FIXED = b"HTTP/1.1 200 OK\r\nContent-Type: application/json\r\nContent-Length: 2\r\nConnection: close\r\n\r\n{}"
-
-
-def serve_floor(port):
-    """Reads what comes first and answers fixed bytes."""
-    with socket.socket() as listener:
-        listener.setsockopt(socket.SOL_SOCKET, socket.SO_REUSEADDR, 1)
-        listener.bind(("127.0.0.1", port))
-        listener.listen(128)
-        while True:
-            connection, _ = listener.accept()
-            connection.recv(65536)
-            connection.sendall(FIXED)
-            connection.close()
-
-
-# ---- the clients
+# ---- the compared exchanges
 
 
 def date_of(number):
@@ -204,33 +198,6 @@ def exchange(address, given):
     return b"".join(pieces)
 
 
-def client(port, asked, start, told):
-    """Sends what is asked, one after the other, and tells when it began, when it ended, and the replies."""
-    address = ("127.0.0.1", port)
-    start.wait()
-    begun = time.monotonic()
-    replies = [exchange(address, given) for given in asked]
-    told.put((begun, time.monotonic(), replies))
-
-
-def ask(port, process, asked, clients):
-    """Exchanges a second, the server's processor seconds an exchange, and the replies, of so many clients at once."""
-    shares = [asked[place::clients] for place in range(clients)]
-    start, told = multiprocessing.Event(), multiprocessing.Queue()
-    children = [multiprocessing.Process(target=client, args=(port, share, start, told)) for share in shares]
-    for child in children:
-        child.start()
-    time.sleep(0.1)
-    used = time.clock_gettime(clock_of(process))
-    start.set()
-    done = [told.get() for _ in children]
-    used = time.clock_gettime(clock_of(process)) - used
-    for child in children:
-        child.join()
-    wall = max(end for _, end, _ in done) - min(begun for begun, _, _ in done)
-    return len(asked) / wall, used / len(asked), [reply for _, _, replies in done for reply in replies]
-
-
 def body_of(reply):
     head, _, body = reply.partition(b"\r\n\r\n")
     expect(head.split(b" ")[1:2] == [b"200"], f"reply {reply}")
@@ -250,18 +217,65 @@ def look_at_registrations(replies, first, begun):
         expect(good, f"registration {place}: {told}")
 
 
-def left(file, columns):
+def rows_left(file, caller, keys):
+    """The rows of the keys up to that number, and those of the caller's requests; and how many keys there are."""
     connection = sqlite3.connect(file)
-    rows = [sorted(connection.execute(f"SELECT {names} FROM {name}")) for name, names in columns.items()]
+    # What differs is when a request came.
+    columns = "number, kind, owner, purpose, state, activation, protect_stop, deactivation"
+    rows = connection.execute(f"SELECT {columns} FROM keys WHERE number <= ? ORDER BY number", (keys,)).fetchall()
+    rows += connection.execute("SELECT number, command, key_no, state FROM request WHERE caller = ? ORDER BY number", (caller,)).fetchall()
+    count, = connection.execute("SELECT key_count FROM meta").fetchone()
     connection.close()
-    return rows
+    return rows, count
 
 
-# ---- the run
+# ---- the timed exchanges
+
+# Its words are the kind, the front of the callers' names, and how many keys there are at first; each thread is a caller. The last
+# line of what it writes has the exchanges that got their reply, the microseconds, and how many failed or had another status.
+SCRIPT = f"""
+local kind, caller, keys, number
+local threads = 0
+local get = "GET /keys/%.0f HTTP/1.1\\r\\nHost: localhost\\r\\n\\r\\n"
+local fields = "Host: localhost\\r\\nCaller: %s\\r\\nRequest-Number: %.0f\\r\\nContent-Length: %.0f"
+local value = '{{"kind":"register","type":"data-encryption","owner":"office","activation":%.0f,"protect_stop":{STOP},'
+    .. '"deactivation":{END},"purpose":"backup volume %.0f"}}'
+
+function setup(thread)
+    threads = threads + 1
+    thread:set("place", threads)
+end
+
+function init(words)
+    kind, caller, keys, number = words[1], words[2] .. "-" .. place, tonumber(words[3]), 100000 * place
+end
+
+function request()
+    number = number + 1
+    if kind == "get" then
+        return get:format(1 + number * {STEP} % keys)
+    end
+    local body = value:format({LATER} - 1 - number * {STEP} % 1000000, number)
+    return "POST /requests HTTP/1.1\\r\\n" .. fields:format(caller, number, #body) .. "\\r\\n\\r\\n" .. body
+end
+
+function done(summary)
+    local errors = summary.errors
+    local failed = errors.connect + errors.read + errors.write + errors.timeout + errors.status
+    io.write(("%d %d %d\\n"):format(summary.requests, summary.duration, failed))
+end
+"""
 
 
-class Asked:
-    """A server with what it was seen to do."""
+class Timed(NamedTuple):
+    """What was seen of one kind in one round: exchanges a second, and the server's and the clients' processor seconds of one."""
+    rate: float
+    server: float
+    client: float
+
+
+class Server:
+    """A server, with what was seen of it."""
 
     def __init__(self, name, words, port):
         self.name, self.port = name, port
@@ -270,99 +284,117 @@ class Asked:
         while not listens(port):
             expect(self.process.poll() is None and time.monotonic() < late, f"{name} does not listen")
             time.sleep(0.01)
-        self.seen = {}
+        self.seen, self.registered = {"get": [], "post": []}, 0
 
-    def told(self, kind, asked, clients):
-        rate, used, replies = ask(self.port, self.process.pid, asked, clients)
-        self.seen.setdefault(kind, []).append((rate, used))
-        return replies
+    def replies(self, asked):
+        return [exchange(("127.0.0.1", self.port), given) for given in asked]
+
+    def time(self, script, kind, caller, told):
+        """Has `wrk` ask exchanges of this kind."""
+        words = ["wrk", f"-t{THREADS}", f"-c{told.connections}", f"-d{told.seconds}s", "-s", script, f"http://127.0.0.1:{self.port}"]
+        clocks = self.clocks()
+        done = subprocess.run([*words, "--", kind, caller, str(told.keys)], capture_output=True, text=True, check=True)
+        server, client = (now - then for now, then in zip(self.clocks(), clocks))
+        count, micros, failed = map(int, done.stdout.splitlines()[-1].split())
+        expect(count > 0 and failed == 0, f"{self.name}, {kind}: {count} exchanges, {failed} failed")
+        self.seen[kind].append(Timed(1e6 * count / micros, server / count, client / count))
+        self.registered += count if kind == "post" else 0
+
+    def clocks(self):
+        """The processor seconds of the server, and of the clients that have ended."""
+        used = resource.getrusage(resource.RUSAGE_CHILDREN)
+        return time.clock_gettime(clock_of(self.process.pid)), used.ru_utime + used.ru_stime
 
     def end(self):
         self.process.kill()
         self.process.wait()
 
 
+# ---- the run
+
+
+def compare(server, told):
+    numbers = [1 + place * STEP % told.keys for place in range(told.exchanges)]
+    look_at_keys(server.replies([get_bytes(number) for number in numbers]), numbers)
+    fresh = range(told.keys + 1, told.keys + told.exchanges + 1)
+    begun = int(time.time())
+    look_at_registrations(server.replies([post_bytes("bob", number) for number in fresh]), fresh[0], begun)
+
+
+def serve_both(told, folder):
+    """Has both servers asked, and gives them with what was seen of them."""
+    me = os.path.abspath(__file__)
+    file, copied, script = (os.path.join(folder, name) for name in ("office.keyreg", "python.keyreg", "exchanges.lua"))
+    with open(script, "w", encoding="utf-8") as target:
+        target.write(SCRIPT)
+    keyreg(["init", "--file", file])
+    keyreg(["run", "--file", file], [
+        f"{MOMENT} ann {n} register data-encryption office {date_of(n)} {STOP} {END} backup volume {n}" for n in range(1, told.keys + 1)
+    ])
+    shutil.copy(file, copied)
+    servers = []
+    try:
+        port = free_port()
+        words = [PROGRAM, "serve", "--file", file, "--port", str(port), "--exchanges", "1000000"]
+        servers.append(Server("keyreg", words, port))
+        port = free_port()
+        servers.append(Server("python", [sys.executable, me, "--bare", copied, str(port)], port))
+        for server in servers:
+            compare(server, told)
+        for turn in range(told.rounds):
+            for kind in ("get", "post"):
+                for server in servers if turn % 2 == 0 else servers[::-1]:
+                    server.time(script, kind, f"round{turn}", told)
+            print(f"round {turn + 1} of {told.rounds}", file=sys.stderr)
+    finally:
+        for server in servers:
+            server.end()
+    compared = told.keys + told.exchanges
+    (ours, ours_count), (rows, count) = (rows_left(place, "bob", compared) for place in (file, copied))
+    expect(ours == rows, "the two left other rows")
+    for server, keys in zip(servers, (ours_count, count)):
+        # At the end of a round each connection may be left without its reply.
+        more = keys - compared - server.registered
+        expect(0 <= more <= told.rounds * told.connections, f"{server.name}: {more} keys more than registrations with a reply")
+    return servers
+
+
 def main():
     words = argparse.ArgumentParser()
     words.add_argument("--rounds", type=int, default=7)
+    words.add_argument("--seconds", type=int, default=1)
     words.add_argument("--exchanges", type=int, default=1000)
     words.add_argument("--keys", type=int, default=1000)
-    words.add_argument("--clients", type=int, default=2)
+    words.add_argument("--connections", type=int, default=8)
     words.add_argument("--directory")
     words.add_argument("--bare", nargs=2, help=argparse.SUPPRESS)
-    words.add_argument("--floor", help=argparse.SUPPRESS)
     told = words.parse_args()
     if told.bare:
         return serve_bare(told.bare[0], int(told.bare[1]))
-    if told.floor:
-        return serve_floor(int(told.floor))
-    expect(2 * told.rounds * told.exchanges <= 1_000_000 - told.keys, "more exchanges than are served, or more keys than there may be")
-    me = [sys.executable, os.path.abspath(__file__)]
+    expect(shutil.which("wrk"), "wrk is not there")
     with tempfile.TemporaryDirectory(dir=told.directory) as folder:
-        file, copied = (os.path.join(folder, name) for name in ("office.keyreg", "python.keyreg"))
-        keyreg(["init", "--file", file])
-        keyreg(["run", "--file", file], [
-            f"{MOMENT} ann {n} register data-encryption office {date_of(n)} {STOP} {END} backup volume {n}"
-            for n in range(1, told.keys + 1)
-        ])
-        shutil.copy(file, copied)
-        ports = []
-        while len(ports) < 3:
-            port = free_port()
-            ports += [port] if port not in ports else []
-        servers = []
-        try:
-            serve = [PROGRAM, "serve", "--file", file, "--port", str(ports[0]), "--exchanges", "1000000"]
-            servers.append(Asked("keyreg", serve, ports[0]))
-            servers.append(Asked("python", [*me, "--bare", copied, str(ports[1])], ports[1]))
-            floor = Asked("floor", [*me, "--floor", str(ports[2])], ports[2])
-            servers.append(floor)
-            count = told.keys
-            for turn in range(told.rounds):
-                order = servers[:2] if turn % 2 == 0 else servers[1::-1]
-                numbers = [1 + (turn * told.exchanges + place) * STEP % told.keys for place in range(told.exchanges)]
-                for server in order:
-                    look_at_keys(server.told("GET of a key", [get_bytes(number) for number in numbers], told.clients), numbers)
-                fresh = [post_bytes("bob", number) for number in range(count + 1, count + told.exchanges + 1)]
-                for server in order:
-                    begun = int(time.time())
-                    look_at_registrations(server.told("POST of a registration", fresh, told.clients), count + 1, begun)
-                count += told.exchanges
-                floor.told("floor", [get_bytes(number) for number in numbers], told.clients)
-                print(f"round {turn + 1} of {told.rounds}", file=sys.stderr)
-        finally:
-            for server in servers:
-                server.end()
-        # Keys are numbered as their requests come, so of two clients' keys the numbers are not compared.
-        columns = {
-            "meta": "id, version, key_count", "keys": "kind, owner, purpose, state, activation, protect_stop, deactivation",
-            "request": "caller, number, command, state",
-        }
-        expect(left(file, columns) == left(copied, columns), "the two left other rows")
-    report(servers, floor, told)
+        report(*serve_both(told, folder), told)
 
 
 def figures(seen):
-    """Of some rounds: the median and the greatest of the exchanges a second, the median and the least of the microseconds."""
-    rates, used = [rate for rate, _ in seen], [1e6 * seconds for _, seconds in seen]
-    return statistics.median(rates), max(rates), statistics.median(used), min(used)
+    """Of some rounds: the median and the greatest of the exchanges a second, the median and the least of the server's microseconds,
+    and the median of the clients'."""
+    rates, server, client = zip(*seen)
+    found = statistics.median(rates), max(rates), 1e6 * statistics.median(server), 1e6 * min(server), 1e6 * statistics.median(client)
+    return [f"{value:.0f}" for value in found[:2]] + [f"{value:.1f}" for value in found[2:]]
 
 
-def cells(kind, name, found, *ratios):
-    return [kind, name, *(f"{value:.0f}" for value in found[:2]), *(f"{value:.1f}" for value in found[2:]), *(ratios or ("", ""))]
-
-
-def report(servers, floor, told):
+def report(keyreg_seen, python_seen, told):
     lines, verdicts = [], []
-    for kind in ("GET of a key", "POST of a registration"):
-        ours, python = (figures(server.seen[kind]) for server in servers[:2])
-        rate, used = ours[0] / python[0], ours[2] / python[2]
-        lines += [cells(kind, "keyreg", ours), cells(kind, "python", python, f"{rate:.2f}", f"{used:.2f}")]
+    for kind, name in (("get", "GET of a key"), ("post", "POST of a registration")):
+        ours, python = keyreg_seen.seen[kind], python_seen.seen[kind]
+        rate = statistics.median(mine.rate / other.rate for mine, other in zip(ours, python))
+        used = statistics.median(mine.server / other.server for mine, other in zip(ours, python))
+        lines += [[name, "keyreg", *figures(ours), "", ""], [name, "python", *figures(python), f"{rate:.2f}", f"{used:.2f}"]]
         met = "met" if rate >= MARK else "missed"
-        verdicts.append(f"{kind}: {rate:.2f} times Python's exchanges a second; the mark of {MARK} is {met}")
-    lines.append(cells("fixed bytes", "floor", figures(floor.seen["floor"])))
-    print(f"{told.rounds} rounds of {told.exchanges} exchanges; clients: {told.clients}; keys at first: {told.keys}")
-    head = ["exchange", "server", "a second, median", "best", "processor us, median", "least"]
+        verdicts.append(f"{name}: {rate:.2f} times Python's exchanges a second; the mark of {MARK} is {met}")
+    print(f"{told.rounds} rounds of {told.seconds} s for each kind; connections at once: {told.connections}; keys at first: {told.keys}")
+    head = ["exchange", "server", "a second, median", "best", "processor us, median", "least", "clients' us"]
     table([*head, "a second, keyreg to it", "processor, keyreg to it"], lines)
     print("\n".join(verdicts))
 

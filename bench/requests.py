@@ -2,18 +2,22 @@
 """What a request costs in microseconds, over a file and in memory, beside the same statements given to the kit's
 `sqlite` alone, and to Python's `sqlite3` with the same rules.
 
-    bench/requests.py [--requests N] [--rounds N] [KEYS..]
+    bench/requests.py [--over file|memory] [--requests N] [--rounds N] [KEYS..]
 
-Requests of four kinds are served by three programs over copies of one register of so many keys, half of them Pre-Active
+Requests of these kinds are served by three programs over copies of one register of so many keys, half of them Pre-Active
 and half Active, each with the request that made it:
 
-    repeat    a request that was accepted before comes again
-    assign    a key without custodians gets another owner
-    register  a new key, Pre-Active
-    advance   the moment alone; one key becomes Active
+    repeat             a request that was accepted before comes again
+    assign             a key without custodians gets another owner, each request another key
+    assign, one key    the same, of one key in all requests
+    register           a new key, Pre-Active
+    advance, none due  the moment alone
+    advance, one due   the same, and one key becomes Active
 
 The moments are *level*, all the latest one, so that no key is looked for that is due, or *rising*, each later than the
-one before it; but for an advance none is due then. Keys are taken out of their order, and each caller's numbers rise.
+one before it; but for the last kind none is due then. Keys are taken out of their order, so that each stands on another page
+of the file, but for the third kind; each caller's numbers rise. What grows with the number of keys for such keys alone comes
+of the engine's pages.
 
 `keyreg` reads lines, decides and writes replies, each before the next line is read. *python* does the same over `sqlite3`,
 with the rules that these requests meet. The *bare* program, below, gives the statements of an accepted request to the
@@ -82,6 +86,9 @@ PRE_ACTIVE, ACTIVE = 1, 2
 # Places are taken in steps of this prime.
 STEP = 7919
 
+# The numbers of the assignments of one key lie behind this one.
+BEHIND = 1_000_000_000
+
 # So many requests of a kind come before those that are counted.
 FIRST = 50
 
@@ -111,6 +118,9 @@ class Kept(NamedTuple):
 
 # ---- the requests
 
+# What the kinds are called that have other names in the table.
+NAMES = {"one": "assign, one key", "clock": "advance, none due", "advance": "advance, one due"}
+
 
 def scattered(place, places):
     return place * STEP % places
@@ -130,6 +140,11 @@ def registered(number, activation, moment):
     return Kept("ann", number, command, number, PRE_ACTIVE if activation else ACTIVE, moment)
 
 
+def assigned(key, turn, number, moment):
+    owner, other = ("branch", "office") if turn % 2 else ("office", "branch")
+    return Kept(owner, number, f"assign {key} {other}", key, PRE_ACTIVE if key % 2 else ACTIVE, moment)
+
+
 def request(span, place):
     moment = span.base + place + 1 if span.is_rising else span.base
     if span.kind == "prepare":
@@ -140,10 +155,11 @@ def request(span, place):
     if span.kind == "register":
         return registered(span.prepared + place + 1, LATER, moment)
     if span.kind == "assign":
-        key, turn = scattered(place, span.prepared) + 1, place // span.prepared % 2
-        owner, other = ("branch", "office") if turn else ("office", "branch")
-        return Kept(owner, place + 1, f"assign {key} {other}", key, PRE_ACTIVE if key % 2 else ACTIVE, moment)
-    return Kept("clock", place + 1, "advance", 0, 0, moment)
+        others = span.prepared - 1
+        return assigned(scattered(place, others) + 1, place // others, place + 1, moment)
+    if span.kind == "one":
+        return assigned(span.prepared, place, BEHIND + place + 1, moment)
+    return Kept(span.kind, place + 1, "advance", 0, 0, moment)
 
 
 def requests(span):
@@ -158,8 +174,11 @@ def spans(keys, count):
         ("repeat", False, 10 * count),
         ("assign", False, count),
         ("assign", True, count),
+        ("one", False, count),
+        ("one", True, count),
         ("register", False, few),
         ("register", True, few),
+        ("clock", True, count),
         ("advance", True, min(count // 4, keys // 2 - FIRST)),
     ):
         if kind == "advance":
@@ -350,7 +369,7 @@ EMPTY = TABLES + INDEXES + "INSERT INTO meta VALUES (1, 1, 0, 0);"
 
 def constants():
     """The statements and the numbers above as items of the bare program."""
-    numbers = ("STEP", "DUE", "LATER", "STOP", "END", "UNSET", "DATA_ENCRYPTION", "PRE_ACTIVE", "ACTIVE")
+    numbers = ("STEP", "BEHIND", "DUE", "LATER", "STOP", "END", "UNSET", "DATA_ENCRYPTION", "PRE_ACTIVE", "ACTIVE")
     return "".join((
         *(f"const {name}: {'u64' if name == 'STEP' else 'i64'} = {globals()[name]};\n" for name in numbers),
         *(f'const {name}: &str = "{text}";\n' for name, text in STATEMENTS.items()),
@@ -563,6 +582,14 @@ fn assign<S: Alter>(
     tx.commit().ok()
 }
 
+fn owners(turn: u32) -> (&'static str, &'static str) {
+    if turn % 2 == 1 {
+        ("branch", "office")
+    } else {
+        ("office", "branch")
+    }
+}
+
 fn repeat<S: Alter>(connection: &mut Connection<S>, number: i64) -> Option<()> {
     let row = connection.query_row(FIND_REQUEST, params!["ann", number]).ok()?;
     let key: i64 = row.get(1).ok()?;
@@ -571,11 +598,12 @@ fn repeat<S: Alter>(connection: &mut Connection<S>, number: i64) -> Option<()> {
 
 fn advance<S: Alter>(
     connection: &mut Connection<S>,
+    caller: &str,
     number: i64,
     keys: i64,
     moment: i64,
 ) -> Option<()> {
-    if !is_new(connection, "clock", number) || !connection.is_autocommit() {
+    if !is_new(connection, caller, number) || !connection.is_autocommit() {
         return None;
     }
     let mut tx = connection.transaction();
@@ -587,7 +615,7 @@ fn advance<S: Alter>(
         moment,
         keys,
     };
-    keep(&mut tx, "clock", "advance", kept)?;
+    keep(&mut tx, caller, "advance", kept)?;
     tx.commit().ok()
 }
 
@@ -612,17 +640,19 @@ fn serve<S: Alter>(
             register(alloc, connection, key, LATER, moment, is_later)
         }
         "assign" => {
-            let key = i64::from(scattered(place, span.prepared)?) + 1;
-            let (owner, other) = if place.checked_div(span.prepared)? % 2 == 1 {
-                ("branch", "office")
-            } else {
-                ("office", "branch")
-            };
+            let others = span.prepared.checked_sub(1)?;
+            let key = i64::from(scattered(place, others)?) + 1;
+            let (owner, other) = owners(place.checked_div(others)?);
             let keys = i64::from(span.keys);
             assign(alloc, connection, number, key, owner, other, keys, moment, is_later)
         }
-        "advance" => advance(connection, number, i64::from(span.keys), moment),
-        _ => None,
+        "one" => {
+            let key = i64::from(span.prepared);
+            let (owner, other) = owners(place);
+            let keys = i64::from(span.keys);
+            assign(alloc, connection, BEHIND + number, key, owner, other, keys, moment, is_later)
+        }
+        _ => advance(connection, kind, number, i64::from(span.keys), moment),
     }
 }
 
@@ -796,13 +826,17 @@ def in_memory(keys, count, rounds):
     return figures
 
 
-def figures_of(sizes, count, rounds):
+PLACES = {"file": over_files, "memory": in_memory}
+
+
+def figures_of(places, sizes, count, rounds):
     """What names each place, size and kind of request, with the least figures of the three programs there."""
-    for place, measure in (("file", over_files), ("memory", in_memory)):
+    for place in places:
         for keys in sizes:
-            figures = measure(keys, count, rounds)
+            figures = PLACES[place](keys, count, rounds)
             for at, (_, span) in enumerate(spans(keys, count)):
-                kind = span.kind if span.kind == "repeat" else f"{span.kind}, {'rising' if span.is_rising else 'level'}"
+                kind = NAMES.get(span.kind, span.kind)
+                kind += "" if span.kind == "repeat" else ", rising" if span.is_rising else ", level"
                 names = (place, f"{keys}", kind, f"{span.end - span.first}")
                 rounds_of = ([found[at] for found in figures[name]] for name in PROGRAMS)
                 yield names, [[min(values) for values in zip(*found)] for found in rounds_of]
@@ -812,8 +846,9 @@ def main():
     words = argparse.ArgumentParser(description="What a request costs.")
     words.add_argument("keys", nargs="*", type=int, metavar="KEYS", help="the sizes of the registers, from 200 keys on")
     words.add_argument("--requests", type=int, default=1000, metavar="N",
-                       help="so many assignments, ten times as many repeats, as many registrations but no more than a "
-                       "fourth of the keys, and a fourth as many advances")
+                       help="so many assignments and advances with no key due, ten times as many repeats, as many registrations but no "
+                       "more than a fourth of the keys, and a fourth as many advances with one")
+    words.add_argument("--over", choices=PLACES, help="both where neither is named")
     words.add_argument("--rounds", type=int, default=3, metavar="N")
     words.add_argument("--serve", help=argparse.SUPPRESS)
     asked = words.parse_args()
@@ -822,13 +857,14 @@ def main():
         return
     sizes = asked.keys or [1_000, 10_000, 100_000]
     expect(asked.requests >= 4, "too few requests")
-    expect(all(keys >= 200 and keys % STEP and (keys - keys // 2) % STEP for keys in sizes), f"sizes {sizes}")
+    fit = all(keys >= 200 and keys % STEP and (keys - 1) % STEP and (keys - keys // 2) % STEP for keys in sizes)
+    expect(fit, f"sizes {sizes}")
     built("bare_requests", BARE_SOURCE)
     print(f"SQLite {sqlite3.sqlite_version} in Python. Microseconds a request; the least of {asked.rounds}.\n")
     found = []
 
     def lines():
-        for names, figures in figures_of(sizes, asked.requests, asked.rounds):
+        for names, figures in figures_of([asked.over] if asked.over else PLACES, sizes, asked.requests, asked.rounds):
             found.append((names, figures))
             yield [*names, *(f"{x:.1f}" for figure in figures for x in figure)]
 
