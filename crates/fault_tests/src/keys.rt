@@ -6,12 +6,12 @@ use sqlite_disk::Memory;
 use std::alloc::{AllocError, Global};
 use std::test::Fail;
 
-pub const KEYS: u32 = 20;
+const KEYS: u32 = 20;
 
-pub const EXPORT_HEAD: &str =
+const EXPORT_HEAD: &str =
     "number,type,owner,activation,protect_stop,deactivation,state,initial,destroyed,compromised,occurrence,purpose\n";
 
-/// As long as a purpose may be.
+/// Nearly as long as a purpose may be.
 const PURPOSE: &str =
     "the disks of the payroll office and of the archive below it; tapes that were written before the move are kept with them until the last of them has been read back and compared with the list of a year.";
 
@@ -61,16 +61,11 @@ pub fn twenty_keys(alloc: Global) -> Result<Files<Memory>, Fail> {
     Ok(mended(into_files(desk)))
 }
 
-/// The line of a key in an export, with this owner and state.
-pub fn export_line(
-    alloc: Global,
-    number: u32,
-    owner: &str,
-    state: &str,
-) -> Result<String, AllocError> {
+/// The line of a key in an export.
+fn export_line(alloc: Global, number: u32) -> Result<String, AllocError> {
     let stop = stop_digit(number);
     format!(in alloc;
-        "{number},data-encryption,{owner},1970-01-01T00:00:00Z,1970-01-01T00:08:2{stop}Z,1970-01-01T00:16:40Z,{state},1970-01-01T00:01:40Z,,,,{PURPOSE}\n"
+        "{number},data-encryption,bob,1970-01-01T00:00:00Z,1970-01-01T00:08:2{stop}Z,1970-01-01T00:16:40Z,Active,1970-01-01T00:01:40Z,,,,{PURPOSE}\n"
     )
 }
 
@@ -87,7 +82,7 @@ pub fn export_text(alloc: Global) -> Result<String, AllocError> {
     let mut text = String::new(alloc);
     text.push_str(EXPORT_HEAD)?;
     for number in 1..=KEYS {
-        text.push_str(export_line(alloc, number, "bob", "Active")?.as_str())?;
+        text.push_str(export_line(alloc, number)?.as_str())?;
     }
     Ok(text)
 }

@@ -26,8 +26,8 @@ fn is_exported(alloc: Global, desk: &mut FaultyDesk, text: &str) -> bool {
 }
 
 impl Sent {
-    /// Whether the register in the files is as before or has the request; and has it once behind the same request, sent again
-    /// twice, which has its reply.
+    /// Whether the register in the files is as before or has the request, and has it once behind the same request, which is
+    /// sent twice more and has its reply.
     fn acts_once(&self, alloc: Global, files: &Files<Memory>) -> Result<bool, Fail> {
         let Some(mut desk) = open(alloc, files, Fault::Nowhere, 0)? else {
             return Ok(false);
@@ -61,7 +61,7 @@ impl Trial for Sent {
     }
 }
 
-/// The registration of a key more.
+/// The registration of one key more.
 fn registration(alloc: Global) -> Result<Sent, Fail> {
     let before = export_text(alloc)?;
     let mut behind = export_text(alloc)?;

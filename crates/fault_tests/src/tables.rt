@@ -25,7 +25,7 @@ enum Table {
     Report(String),
 }
 
-/// What a call with this outcome came to that wrote these bytes, of a table with this text.
+/// What came of a table with this text, by a call with this outcome that wrote these bytes.
 fn what_came(outcome: Outcome, bytes: &[u8], text: &str) -> Written {
     let is_counted = outcome.read == 0
         && outcome.replies == 0
