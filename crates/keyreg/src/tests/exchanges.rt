@@ -49,7 +49,6 @@ fn is_replied(alloc: Global, desk: &mut Desk<MemStore>, step: &Step) -> bool {
 }
 
 /// Whether it does so where each read gives a byte, each write takes three, and both are interrupted.
-/// Then it reads no byte that it does not need.
 fn is_replied_in_pieces(alloc: Global, desk: &mut Desk<MemStore>, step: &Step) -> bool {
     let (moment, input, reply) = *step;
     let mut reader = Watched::new(Interrupted::new(OneByte(input.as_bytes())));
