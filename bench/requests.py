@@ -11,6 +11,7 @@ and half Active, each with the request that made it:
     assign             a key without custodians gets another owner, each request another key
     assign, one key    the same, of one key in all requests
     register           a new key, Pre-Active
+    register, Active   a new key, Active at once: its entries are the last of each index
     advance, none due  the moment alone
     advance, one due   the same, and one key becomes Active
 
@@ -119,7 +120,10 @@ class Kept(NamedTuple):
 # ---- the requests
 
 # What the kinds are called that have other names in the table.
-NAMES = {"one": "assign, one key", "clock": "advance, none due", "advance": "advance, one due"}
+NAMES = {"one": "assign, one key", "active": "register, Active", "clock": "advance, none due", "advance": "advance, one due"}
+
+# The kinds that go on behind the places of another one.
+COUNTED_WITH = {"active": "register"}
 
 
 def scattered(place, places):
@@ -154,6 +158,8 @@ def request(span, place):
         return registered(key + 1, activation_at(key, span.prepared), START)
     if span.kind == "register":
         return registered(span.prepared + place + 1, LATER, moment)
+    if span.kind == "active":
+        return registered(span.prepared + place + 1, 0, moment)
     if span.kind == "assign":
         others = span.prepared - 1
         return assigned(scattered(place, others) + 1, place // others, place + 1, moment)
@@ -178,19 +184,22 @@ def spans(keys, count):
         ("one", True, count),
         ("register", False, few),
         ("register", True, few),
+        ("active", False, few),
+        ("active", True, few),
         ("clock", True, count),
         ("advance", True, min(count // 4, keys // 2 - FIRST)),
     ):
         if kind == "advance":
             latest = DUE
-        first = served.get(kind, 0)
+        places = COUNTED_WITH.get(kind, kind)
+        first = served.get(places, 0)
         split, end = first + FIRST, first + FIRST + counted
         base = latest - first if is_rising else latest
         yield (
             Span(kind, is_rising, base, keys, keys + made, first, split),
             Span(kind, is_rising, base, keys, keys + made, split, end),
         )
-        served[kind] = end
+        served[places] = end
         latest = base + end if is_rising else latest
         made = served.get("register", 0)
         expect(kind == "advance" or latest < DUE, "so many requests make keys due")
@@ -638,6 +647,10 @@ fn serve<S: Alter>(
         "register" => {
             let key = i64::from(span.prepared) + number;
             register(alloc, connection, key, LATER, moment, is_later)
+        }
+        "active" => {
+            let key = i64::from(span.prepared) + number;
+            register(alloc, connection, key, 0, moment, is_later)
         }
         "assign" => {
             let others = span.prepared.checked_sub(1)?;
