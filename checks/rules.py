@@ -271,6 +271,7 @@ NO_ROUTE = reply(404, {"name": "NoRoute"})
 LENGTH_REQUIRED = reply(411, {"name": "LengthRequired"})
 TOO_LARGE = reply(413, {"name": "TooLarge"})
 STORE = reply(500, {"end": 31, "name": "Store"})
+MEMORY = reply(503, {"end": 30, "name": "Memory"})
 
 
 def not_allowed(method):

@@ -44,7 +44,7 @@ def received(connection):
 class Served:
     """A served register: a new one in a folder of its own, with what the lines make of it, or that of a given file."""
 
-    def __init__(self, exchanges=1_000_000, lines=(), file=None, file_limit=None):
+    def __init__(self, exchanges=1_000_000, lines=(), file=None, file_limit=None, environment=None):
         self.folder = None if file else tempfile.TemporaryDirectory()
         self.file = file or os.path.join(self.folder.name, "office.keyreg")
         self.replies = []
@@ -61,7 +61,7 @@ class Served:
                 resource.setrlimit(resource.RLIMIT_FSIZE, (file_limit, file_limit))
 
         self.process = subprocess.Popen(
-            words, stdin=subprocess.DEVNULL, stdout=subprocess.PIPE, stderr=subprocess.PIPE, preexec_fn=limited,
+            words, stdin=subprocess.DEVNULL, stdout=subprocess.PIPE, stderr=subprocess.PIPE, preexec_fn=limited, env=environment,
         )
         late = time.monotonic() + PATIENCE
         while not listens(self.port):
