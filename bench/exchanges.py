@@ -1,17 +1,19 @@
 #!/usr/bin/env python3
-"""Exchanges a second of `keyreg serve`, beside a bare HTTP server in Python that does the same work.
+"""Exchanges a second of `keyreg serve`, beside a bare HTTP server in Python that does the same work, in each of two journal modes.
 
     bench/exchanges.py [--rounds N] [--seconds N] [--exchanges N] [--keys N] [--connections N] [--directory FOLDER]
 
 Two kinds are asked: GET of a key, keys out of their order, and POST of a registration, each a new one. *python* is the standard
 library's `http.server` over `sqlite3`, on a copy of the same file: it looks a kept request up, tests what it is given, puts keys
-in their states, writes the same rows in one transaction a POST, and forms the same JSON. Both hold the file's lock as long as
-they run and keep a log beside the file; both sync at each commit: the kit twice, since it trusts no checksum to refuse a
-torn write, and SQLite once (synchronous = FULL). It tests nothing as it opens the file; no start and no opening is in a figure.
+in their states, writes the same rows in one transaction a POST, and forms the same JSON. All hold the file's lock as long as
+they run and sync at each commit (synchronous = FULL). *python, delete* has the rollback journal that `sqlite3` has where nothing else is
+said: as the kit, it trusts no checksum to refuse a torn write, and syncs the journal, its header and the file. *python, wal* keeps a
+log beside the file, as the kit does, but syncs it once, where the kit syncs twice, and has checksums tell what was torn. Neither tests
+anything as it opens the file; no start and no opening is in a figure.
 
-First so many exchanges of each kind are asked one after the other, and each reply is compared with what is expected. Then both
+First so many exchanges of each kind are asked one after the other, and each reply is compared with what is expected. Then all
 are timed in one run, in rounds that take turns, so many seconds for each kind, by `wrk` with two threads: each connection takes one
-exchange, and eight at once, or as many as are named, so that others wait while one is served. Each reply is to have the status
+exchange, and sixteen at once, or as many as are named, so that others wait while one is served. Each reply is to have the status
 200. Behind the last round the rows that the compared exchanges left are compared, and the number of keys with what `wrk`
 counted.
 
@@ -47,6 +49,7 @@ from serving import free_port, listens  # noqa: E402
 
 STEP = 7919
 THREADS = 2
+JOURNALS = ("delete", "wal")
 MOMENT = 1_000_000
 MARK = 3
 # Behind the greatest moment of the clock in these runs: the keys stay Pre-Active.
@@ -150,9 +153,10 @@ class BareServer(http.server.HTTPServer):
         """Says nothing of a client that has left; of any other error the client sees that there is no reply."""
 
 
-def serve_bare(file, port):
+def serve_bare(file, port, journal):
     database = sqlite3.connect(file, isolation_level=None)
-    for pragma in ("locking_mode = EXCLUSIVE", "journal_mode = WAL", "synchronous = FULL", "foreign_keys = ON", "cache_size = 2000"):
+    expect(database.execute(f"PRAGMA journal_mode = {journal}").fetchone() == (journal,), f"no journal mode {journal}")
+    for pragma in ("locking_mode = EXCLUSIVE", "synchronous = FULL", "foreign_keys = ON", "cache_size = 2000"):
         database.execute(f"PRAGMA {pragma}").fetchall()
     Bare.connection_of_file = database
     BareServer(("127.0.0.1", port), Bare).serve_forever()
@@ -321,38 +325,43 @@ def compare(server, told):
     look_at_registrations(server.replies([post_bytes("bob", number) for number in fresh]), fresh[0], begun)
 
 
-def serve_both(told, folder):
-    """Has both servers asked, and gives them with what was seen of them."""
+def serve_all(told, folder):
+    """Has all servers asked, and gives them with what was seen of them, `keyreg` first."""
     me = os.path.abspath(__file__)
-    file, copied, script = (os.path.join(folder, name) for name in ("office.keyreg", "python.keyreg", "exchanges.lua"))
+    file, script = (os.path.join(folder, name) for name in ("office.keyreg", "exchanges.lua"))
     with open(script, "w", encoding="utf-8") as target:
         target.write(SCRIPT)
     keyreg(["init", "--file", file])
     keyreg(["run", "--file", file], [
         f"{MOMENT} ann {n} register data-encryption office {date_of(n)} {STOP} {END} backup volume {n}" for n in range(1, told.keys + 1)
     ])
-    shutil.copy(file, copied)
+    copies = [os.path.join(folder, f"{journal}.keyreg") for journal in JOURNALS]
+    for copied in copies:
+        shutil.copy(file, copied)
     servers = []
     try:
         port = free_port()
         words = [PROGRAM, "serve", "--file", file, "--port", str(port), "--exchanges", "1000000"]
         servers.append(Server("keyreg", words, port))
-        port = free_port()
-        servers.append(Server("python", [sys.executable, me, "--bare", copied, str(port)], port))
+        for journal, copied in zip(JOURNALS, copies):
+            port = free_port()
+            servers.append(Server(f"python, {journal}", [sys.executable, me, "--bare", copied, str(port), journal], port))
         for server in servers:
             compare(server, told)
         for turn in range(told.rounds):
             for kind in ("get", "post"):
-                for server in servers if turn % 2 == 0 else servers[::-1]:
+                first = turn % len(servers)
+                for server in servers[first:] + servers[:first]:
                     server.time(script, kind, f"round{turn}", told)
             print(f"round {turn + 1} of {told.rounds}", file=sys.stderr)
     finally:
         for server in servers:
             server.end()
     compared = told.keys + told.exchanges
-    (ours, ours_count), (rows, count) = (rows_left(place, "bob", compared) for place in (file, copied))
-    expect(ours == rows, "the two left other rows")
-    for server, keys in zip(servers, (ours_count, count)):
+    ours, _ = rows_left(file, "bob", compared)
+    for server, left in zip(servers, [file, *copies]):
+        rows, keys = rows_left(left, "bob", compared)
+        expect(rows == ours, f"{server.name} left other rows")
         # At the end of a round each connection may be left without its reply.
         more = keys - compared - server.registered
         expect(0 <= more <= told.rounds * told.connections, f"{server.name}: {more} keys more than registrations with a reply")
@@ -365,15 +374,16 @@ def main():
     words.add_argument("--seconds", type=int, default=1)
     words.add_argument("--exchanges", type=int, default=1000)
     words.add_argument("--keys", type=int, default=1000)
-    words.add_argument("--connections", type=int, default=8)
+    words.add_argument("--connections", type=int, default=16)
     words.add_argument("--directory")
-    words.add_argument("--bare", nargs=2, help=argparse.SUPPRESS)
+    words.add_argument("--bare", nargs=3, help=argparse.SUPPRESS)
     told = words.parse_args()
     if told.bare:
-        return serve_bare(told.bare[0], int(told.bare[1]))
+        file, port, journal = told.bare
+        return serve_bare(file, int(port), journal)
     expect(shutil.which("wrk"), "wrk is not there")
     with tempfile.TemporaryDirectory(dir=told.directory) as folder:
-        report(*serve_both(told, folder), told)
+        report(serve_all(told, folder), told)
 
 
 def figures(seen):
@@ -384,15 +394,18 @@ def figures(seen):
     return [f"{value:.0f}" for value in found[:2]] + [f"{value:.1f}" for value in found[2:]]
 
 
-def report(keyreg_seen, python_seen, told):
+def report(servers, told):
     lines, verdicts = [], []
     for kind, name in (("get", "GET of a key"), ("post", "POST of a registration")):
-        ours, python = keyreg_seen.seen[kind], python_seen.seen[kind]
-        rate = statistics.median(mine.rate / other.rate for mine, other in zip(ours, python))
-        used = statistics.median(mine.server / other.server for mine, other in zip(ours, python))
-        lines += [[name, "keyreg", *figures(ours), "", ""], [name, "python", *figures(python), f"{rate:.2f}", f"{used:.2f}"]]
-        met = "met" if rate >= MARK else "missed"
-        verdicts.append(f"{name}: {rate:.2f} times Python's exchanges a second; the mark of {MARK} is {met}")
+        ours = servers[0].seen[kind]
+        lines.append([name, "keyreg", *figures(ours), "", ""])
+        for server in servers[1:]:
+            python = server.seen[kind]
+            rate = statistics.median(mine.rate / other.rate for mine, other in zip(ours, python))
+            used = statistics.median(mine.server / other.server for mine, other in zip(ours, python))
+            lines.append([name, server.name, *figures(python), f"{rate:.2f}", f"{used:.2f}"])
+            met = "met" if rate >= MARK else "missed"
+            verdicts.append(f"{name}: {rate:.2f} times the exchanges a second of {server.name}; the mark of {MARK} is {met}")
     print(f"{told.rounds} rounds of {told.seconds} s for each kind; connections at once: {told.connections}; keys at first: {told.keys}")
     head = ["exchange", "server", "a second, median", "best", "processor us, median", "least", "clients' us"]
     table([*head, "a second, keyreg to it", "processor, keyreg to it"], lines)
