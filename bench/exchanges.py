@@ -7,7 +7,7 @@ Two kinds are asked: GET of a key, keys out of their order, and POST of a regist
 library's `http.server` over `sqlite3`, on a copy of the same file: it looks a kept request up, tests what it is given, puts keys
 in their states, writes the same rows in one transaction a POST, and forms the same JSON. All hold the file's lock as long as
 they run and sync at each commit (synchronous = FULL). *python, delete* has the rollback journal that `sqlite3` has where nothing else is
-said: as the kit, it trusts no checksum to refuse a torn write, and syncs the journal, its header and the file. *python, wal* keeps a
+said: as the kit, it trusts no checksum to refuse a torn write, and it syncs four times at a commit. *python, wal* keeps a
 log beside the file, as the kit does, but syncs it once, where the kit syncs twice, and has checksums tell what was torn. Neither tests
 anything as it opens the file; no start and no opening is in a figure.
 
@@ -155,9 +155,10 @@ class BareServer(http.server.HTTPServer):
 
 def serve_bare(file, port, journal):
     database = sqlite3.connect(file, isolation_level=None)
-    expect(database.execute(f"PRAGMA journal_mode = {journal}").fetchone() == (journal,), f"no journal mode {journal}")
     for pragma in ("locking_mode = EXCLUSIVE", "synchronous = FULL", "foreign_keys = ON", "cache_size = 2000"):
         database.execute(f"PRAGMA {pragma}").fetchall()
+    # Behind the lock, so that the log has its index in memory of its own.
+    expect(database.execute(f"PRAGMA journal_mode = {journal}").fetchone() == (journal,), f"no journal mode {journal}")
     Bare.connection_of_file = database
     BareServer(("127.0.0.1", port), Bare).serve_forever()
 
