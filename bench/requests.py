@@ -2,7 +2,7 @@
 """What a request costs in microseconds, over a file and in memory, beside the same statements given to the kit's
 `sqlite` alone, and to Python's `sqlite3` with the same rules.
 
-    bench/requests.py [--over file|memory] [--requests N] [--rounds N] [KEYS..]
+    bench/requests.py [--over file|memory] [--requests N] [--rounds N] [--instructions] [KEYS..]
 
 Requests of these kinds are served by three programs over copies of one register of so many keys, half of them Pre-Active
 and half Active, each with the request that made it:
@@ -33,13 +33,19 @@ answered and where the counted ones behind them are. The difference is divided b
 rounds is told. In memory the register is made by requests first. Each reply of `keyreg` and of *python* is compared
 with what is expected, and after a run over a file the rows that the three programs left.
 
+With --instructions valgrind's callgrind (Debian's package valgrind) counts what each program executes in place of time, in thousands:
+no other load changes that, but it leaves out what the system does for a program, its reads, writes and syncs above all, and some fifty
+times as long a run comes with it.
+
 The files are written by SQLite's own library from the formats of docs/SPECIFICATION.md. The bare program is proved and
 built in a folder for temporary files, where it is not there as it stands below; that takes some minutes, and so does
 the rest. Build the register's own program first: ./keyreg </dev/null. It needs Linux, for the clock of another process.
 """
 import argparse
 import calendar
+import glob
 import os
+import re
 import shutil
 import sqlite3
 import subprocess
@@ -736,6 +742,7 @@ fn main(rt: HostRuntime) -> ExitCode {
 
 class Run:
     """A run of a program, which is given its input part by part."""
+    UNIT, MEASURES = "Microseconds", ("processor", "wall")
 
     def __init__(self, words):
         self.written, self.size = tempfile.TemporaryFile(), 0
@@ -743,7 +750,7 @@ class Run:
         self.clock = clock_of(self.child.pid)
 
     def give(self, given, wanted):
-        """Gives a part of the input and waits for what is to be written for it. Gives processor and wall seconds."""
+        """Gives a part of the input and waits for what is to be written for it. Gives processor and wall microseconds."""
         used, begun = time.clock_gettime(self.clock), time.monotonic()
         try:
             self.child.stdin.write(given)
@@ -763,7 +770,7 @@ class Run:
         expect(size == len(wanted), f"{self.child.args[:2]}: wrote too much")
         self.expect_written(wanted)
         self.size += size
-        return used, wall
+        return 1e6 * used, 1e6 * wall
 
     def expect_written(self, wanted):
         written = os.pread(self.written.fileno(), len(wanted), self.size)
@@ -773,6 +780,42 @@ class Run:
         self.child.stdin.close()
         expect(self.child.wait() == 0, f"status {self.child.returncode}")
         self.written.close()
+
+
+class CountedRun(Run):
+    """The same by valgrind, which counts its instructions."""
+    UNIT, MEASURES = "Thousands of instructions", ("instructions",)
+
+    def __init__(self, words):
+        self.folder = tempfile.TemporaryDirectory()
+        count = ["valgrind", "-q", "--tool=callgrind", f"--callgrind-out-file={self.folder.name}/counts"]
+        super().__init__([*count, *words])
+
+    def give(self, given, wanted):
+        """Gives the thousands of instructions since the last part."""
+        super().give(given, wanted)
+        before = self.dumps()
+        subprocess.run(["callgrind_control", "--dump", str(self.child.pid)], check=True, capture_output=True)
+        return int(self.dumped(before)) / 1000,
+
+    def dumps(self):
+        return set(glob.glob(f"{self.folder.name}/counts*"))
+
+    def dumped(self, before):
+        """The total in the file that comes beside those of before."""
+        late = time.monotonic() + 60
+        while time.monotonic() < late:
+            for path in self.dumps() - before:
+                with open(path, encoding="utf-8") as file:
+                    found = re.search(r"^totals: (\d+)$", file.read(), re.MULTILINE)
+                if found:
+                    return found[1]
+            time.sleep(0.01)
+        sys.exit("FAILED: callgrind wrote no count")
+
+    def end(self):
+        super().end()
+        self.folder.cleanup()
 
 
 def told(span):
@@ -790,7 +833,7 @@ def words_of(name, place):
 
 
 def serve_by(name, run, span):
-    """Has the span served by a run of the program. Gives processor and wall seconds."""
+    """Has the span served by a run of the program. Gives what the run measures."""
     if name == "bare":
         return run.give(told(span), b"done\n")
     asked = requests(span)
@@ -799,15 +842,15 @@ def serve_by(name, run, span):
     return run.give(lines.encode(), replies.encode())
 
 
-def measured(name, place, keys, count):
-    """Processor and wall microseconds of a request of each kind."""
-    run = Run(words_of(name, place))
+def measured(runs, name, place, keys, count):
+    """What is measured of a request of each kind."""
+    run = runs(words_of(name, place))
     if place == ":memory:":
         serve_by(name, run, Span("prepare", False, START, keys, keys, 0, keys))
     figures = []
     for first, counted in spans(keys, count):
         serve_by(name, run, first)
-        figures.append([1e6 * seconds / (counted.end - counted.first) for seconds in serve_by(name, run, counted)])
+        figures.append([amount / (counted.end - counted.first) for amount in serve_by(name, run, counted)])
     run.end()
     return figures
 
@@ -815,7 +858,7 @@ def measured(name, place, keys, count):
 PROGRAMS = ("keyreg", "bare", "python")
 
 
-def over_files(keys, count, rounds):
+def over_files(runs, keys, count, rounds):
     """For each program the figures of each round over a file; the three files are to hold the same rows then."""
     figures = {name: [] for name in PROGRAMS}
     with tempfile.TemporaryDirectory() as folder:
@@ -825,34 +868,38 @@ def over_files(keys, count, rounds):
             files = {name: os.path.join(folder, f"{name}_{number}.keyreg") for name in PROGRAMS}
             for name, file in files.items():
                 shutil.copy(prepared, file)
-                figures[name].append(measured(name, file, keys, count))
+                figures[name].append(measured(runs, name, file, keys, count))
             wanted, *others = map(rows, files.values())
             expect(all(other == wanted for other in others), "the files hold other rows")
     return figures
 
 
-def in_memory(keys, count, rounds):
+def in_memory(runs, keys, count, rounds):
     figures = {name: [] for name in PROGRAMS}
     for _ in range(rounds):
         for name in PROGRAMS:
-            figures[name].append(measured(name, ":memory:", keys, count))
+            figures[name].append(measured(runs, name, ":memory:", keys, count))
     return figures
 
 
 PLACES = {"file": over_files, "memory": in_memory}
 
 
-def figures_of(places, sizes, count, rounds):
+def figures_of(runs, places, sizes, count, rounds):
     """What names each place, size and kind of request, with the least figures of the three programs there."""
     for place in places:
         for keys in sizes:
-            figures = PLACES[place](keys, count, rounds)
+            figures = PLACES[place](runs, keys, count, rounds)
             for at, (_, span) in enumerate(spans(keys, count)):
                 kind = NAMES.get(span.kind, span.kind)
                 kind += "" if span.kind == "repeat" else ", rising" if span.is_rising else ", level"
                 names = (place, f"{keys}", kind, f"{span.end - span.first}")
                 rounds_of = ([found[at] for found in figures[name]] for name in PROGRAMS)
                 yield names, [[min(values) for values in zip(*found)] for found in rounds_of]
+
+
+def columns(names, runs):
+    return [f"{name}: {measure}" for name in names for measure in runs.MEASURES]
 
 
 def main():
@@ -863,6 +910,7 @@ def main():
                        "more than a fourth of the keys, and a fourth as many advances with one")
     words.add_argument("--over", choices=PLACES, help="both where neither is named")
     words.add_argument("--rounds", type=int, default=3, metavar="N")
+    words.add_argument("--instructions", action="store_true", help="count instructions in place of time")
     words.add_argument("--serve", help=argparse.SUPPRESS)
     asked = words.parse_args()
     if asked.serve:
@@ -872,21 +920,22 @@ def main():
     expect(asked.requests >= 4, "too few requests")
     fit = all(keys >= 200 and keys % STEP and (keys - 1) % STEP and (keys - keys // 2) % STEP for keys in sizes)
     expect(fit, f"sizes {sizes}")
+    runs = CountedRun if asked.instructions else Run
     built("bare_requests", BARE_SOURCE)
-    print(f"SQLite {sqlite3.sqlite_version} in Python. Microseconds a request; the least of {asked.rounds}.\n")
+    print(f"SQLite {sqlite3.sqlite_version} in Python. {runs.UNIT} a request; the least of {asked.rounds}.\n")
     found = []
 
     def lines():
-        for names, figures in figures_of([asked.over] if asked.over else PLACES, sizes, asked.requests, asked.rounds):
+        places = [asked.over] if asked.over else PLACES
+        for names, figures in figures_of(runs, places, sizes, asked.requests, asked.rounds):
             found.append((names, figures))
             yield [*names, *(f"{x:.1f}" for figure in figures for x in figure)]
 
-    table(("over", "keys", "request", "counted", "keyreg: processor", "wall", "bare: processor", "wall",
-           "python: processor", "wall"), lines())
+    table(("over", "keys", "request", "counted", *columns(PROGRAMS, runs)), lines())
     print()
-    ratios = ([*names[:3], *(f"{ours[at] / other[at]:.2f}" for other in others for at in (0, 1))]
+    ratios = ([*names[:3], *(f"{mine / its:.2f}" for other in others for mine, its in zip(ours, other))]
               for names, (ours, *others) in found)
-    table(("over", "keys", "request", "keyreg / bare: processor", "wall", "keyreg / python: processor", "wall"), ratios)
+    table(("over", "keys", "request", *columns([f"keyreg / {name}" for name in PROGRAMS[1:]], runs)), ratios)
 
 
 main()

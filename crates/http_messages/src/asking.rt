@@ -14,7 +14,7 @@ use crate::command_value::command_of;
 use crate::content::{BodyRead, read_body, value_of};
 use crate::head::{Found, Front, MAX_EXCHANGE_READS, MAX_HEADERS};
 use crate::judge::{Judged, Post, judge};
-use crate::route::make_router;
+use crate::route::Routes;
 use httparse::spans::{EMPTY_HEADER_SPAN, HeaderSpan, RequestSpans};
 use std::alloc::Global;
 use std::io::Read;
@@ -83,7 +83,8 @@ fn ask_post<R: Read>(
     reader: &mut Watched<R>,
 ) -> BodyAsking
     ensures asks { (left : List ℕ) → R.remaining reader.old.inner ≡ Some left →
-        IfOk result.asked (AsksBody post.length post.sender.caller post.sender.number (behind.now ++ left)) }
+        IfOk result.asked (AsksBody post.length post.sender.caller post.sender.number
+        (behind.now ++ left)) }
     ensures read { HasRead (R.remaining reader.old.inner) (R.remaining reader.new.inner)
         result.read }
     ensures few { result.read < 2 ^ 32 }
@@ -108,9 +109,10 @@ fn ask_post<R: Read>(
     }
 }
 
-/// What the head asks for whose parts these are, by a router of the three routes.
+/// What the head asks for whose parts these are.
 fn judge_routed(
     alloc: Global,
+    routes: &mut Routes,
     bytes: &[u8],
     headers: &[HeaderSpan],
     spans: RequestSpans,
@@ -120,15 +122,16 @@ fn judge_routed(
         → IfOk result (Judges h) }
     ensures err { IfErr result (λ fault. fault ≡ AskFault.Memory) }
 {
-    match make_router(alloc) {
-        Ok(router) => Ok(judge(&router, bytes, headers, spans)),
-        Err(_) => Err(AskFault::Memory),
+    match routes.router(alloc) {
+        Ok(router) => Ok(judge(router, bytes, headers, spans)),
+        Err(fault) => Err(fault),
     }
 }
 
 /// What a head asks for that stands whole at the front of what was read.
 fn ask_head<R: Read>(
     alloc: Global,
+    routes: &mut Routes,
     bytes: &[u8],
     headers: &[HeaderSpan],
     spans: RequestSpans,
@@ -145,7 +148,7 @@ fn ask_head<R: Read>(
     ensures fault { IfErr result.asked (λ fault. fault ≡ AskFault.ReadFault
         → IsFaulted reader.new.failed MAX_EXCHANGE_READS reader.new.turns) }
 {
-    match judge_routed(alloc, bytes, headers, spans) {
+    match judge_routed(alloc, routes, bytes, headers, spans) {
         Ok(Judged::Rejected(rejection)) => BodyAsking::unread(Ok(Asked::Reject(rejection))),
         Ok(Judged::Show(key)) => BodyAsking::unread(Ok(Asked::ShowKey(key))),
         Ok(Judged::Usage(key)) => BodyAsking::unread(Ok(Asked::ShowUsage(key))),
@@ -167,7 +170,12 @@ fn some_asked(asked: Result<Asked, AskFault>) -> Result<Option<Asked>, AskFault>
 
 /// Looks for a head with this front, and reads what is asked for. What is counted as read is what
 /// was read beside the front.
-fn ask_behind<R: Read>(alloc: Global, front: &mut Front, reader: &mut Watched<R>) -> Asking
+fn ask_behind<R: Read>(
+    alloc: Global,
+    routes: &mut Routes,
+    front: &mut Front,
+    reader: &mut Watched<R>,
+) -> Asking
     requires { front.old ≡ [] }
     ensures asks { (input : List ℕ) → R.remaining reader.old.inner ≡ Some input →
         IfOk result.asked (AsksFor input) }
@@ -185,7 +193,7 @@ fn ask_behind<R: Read>(alloc: Global, front: &mut Front, reader: &mut Watched<R>
         Ok(Found::Bad) => Asking::unread(Ok(Some(Asked::Reject(Rejection::BadRequest)))),
         Ok(Found::TooLarge) => Asking::unread(Ok(Some(Asked::Reject(Rejection::TooLarge)))),
         Ok(Found::Whole(spans)) => {
-            let behind = ask_head(alloc, front.bytes(), &headers, spans, reader);
+            let behind = ask_head(alloc, routes, front.bytes(), &headers, spans, reader);
             Asking {
                 read: behind.read,
                 asked: some_asked(behind.asked),
@@ -196,7 +204,7 @@ fn ask_behind<R: Read>(alloc: Global, front: &mut Front, reader: &mut Watched<R>
 
 /// Reads what the reader's bytes ask for. It reads no more than the answer needs, but for what a
 /// read brings beyond a head.
-pub fn ask<R: Read>(alloc: Global, reader: &mut Watched<R>) -> Asking
+pub fn ask<R: Read>(alloc: Global, routes: &mut Routes, reader: &mut Watched<R>) -> Asking
     ensures asks { (input : List ℕ) → R.remaining reader.old.inner ≡ Some input →
         IfOk result.asked (AsksFor input) }
     ensures read { HasRead (R.remaining reader.old.inner) (R.remaining reader.new.inner)
@@ -206,7 +214,7 @@ pub fn ask<R: Read>(alloc: Global, reader: &mut Watched<R>) -> Asking
         → IsFaulted reader.new.failed MAX_EXCHANGE_READS reader.new.turns) }
 {
     let mut front = Front::new();
-    let behind = ask_behind(alloc, &mut front, reader);
+    let behind = ask_behind(alloc, routes, &mut front, reader);
     Asking {
         read: front.bytes().len() + behind.read,
         asked: behind.asked,

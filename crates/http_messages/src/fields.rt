@@ -17,7 +17,8 @@ pub(crate) enum Values<'b> {
 impl<'b> Values<'b> {
     /// With one more value behind these.
     fn with(self, value: &'b [u8]) -> Self
-        ensures { (vs : List (List ℕ)) → AreFound vs self.entry → AreFound (vs ++ value.now ∷ []) result }
+        ensures { (vs : List (List ℕ)) → AreFound vs self.entry
+            → AreFound (vs ++ value.now ∷ []) result }
     {
         match self {
             Values::None => Values::One(value),

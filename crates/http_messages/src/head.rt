@@ -79,7 +79,8 @@ impl Front {
             × Keeps (R.remaining reader.old.inner) (R.remaining reader.new.inner)) }
         ensures later { OnOk result (reader.old.turns < reader.new.turns) }
         ensures sound { OnOk result (reader.new.failed ≡ reader.old.failed) }
-        ensures err { OnErr result ((reader.new.failed ≡ true) ⊎ (MAX_EXCHANGE_READS ≤ reader.new.turns)) }
+        ensures err { OnErr result ((reader.new.failed ≡ true)
+            ⊎ (MAX_EXCHANGE_READS ≤ reader.new.turns)) }
         ensures turns { reader.old.turns ≤ reader.new.turns }
         ensures bound { OnOk result (reader.new.turns ≤ MAX_EXCHANGE_READS) }
     {
@@ -97,10 +98,12 @@ impl Front {
     ) -> Result<Found, ReadFault>
         requires { self.old ≡ [] }
         ensures found { IfOk result (Finds self.new headers.new (R.remaining reader.new.inner)) }
-        ensures bytes { Consumes (R.remaining reader.old.inner) (R.remaining reader.new.inner) self.new }
+        ensures bytes { Consumes (R.remaining reader.old.inner) (R.remaining reader.new.inner)
+            self.new }
         ensures short { length self.new ≤ MAX_HEAD_LENGTH }
         ensures sound { OnOk result (reader.new.failed ≡ reader.old.failed) }
-        ensures err { OnErr result ((reader.new.failed ≡ true) ⊎ (MAX_EXCHANGE_READS ≤ reader.new.turns)) }
+        ensures err { OnErr result ((reader.new.failed ≡ true)
+            ⊎ (MAX_EXCHANGE_READS ≤ reader.new.turns)) }
         ensures turns { reader.old.turns ≤ reader.new.turns }
     {
         'reads: loop {

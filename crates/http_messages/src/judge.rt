@@ -35,7 +35,8 @@ pub(crate) struct Post {
 
 /// The number that the digits write, or one past the limit where it is greater.
 fn length_of(text: &[u8]) -> Option<u32>
-    ensures found { IfSome result (λ n. (m : ℕ) × IsLength text.now m × (n ≡ min m (max_body_length + 1))) }
+    ensures found { IfSome result (λ n. (m : ℕ) × IsLength text.now m
+        × (n ≡ min m (max_body_length + 1))) }
     ensures none { IfNone result ((m : ℕ) → IsLength text.now m → ⊥) }
 {
     if text.is_empty() {

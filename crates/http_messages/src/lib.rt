@@ -2,7 +2,8 @@
 //! it, and the text of the reply. The register itself is not asked here.
 //!
 //! ```
-//! let asking = ask(alloc, &mut reader);
+//! let mut routes = Routes::new();
+//! let asking = ask(alloc, &mut routes, &mut reader);
 //! let text = outcome_text(alloc, &outcome)?;
 //! ```
 #![tactic(auto)]
@@ -27,4 +28,4 @@ pub use asking::{Asking, ask};
 pub use head::{MAX_EXCHANGE_READS, MAX_HEAD_LENGTH, MAX_HEADERS};
 pub use judge::MAX_BODY_LENGTH;
 pub use reply::rejection_text;
-pub use route::Route;
+pub use route::{Route, Routes};

@@ -1,8 +1,10 @@
 //! What is asked for, by the target of a request.
-ghost use Rattle.std.specs.Prelude.{◌≡◌, ◌≢◌, ◌<◌, ◌^◌, ◌++◌, ℕ, List, decimal, IfOk, IfSome, IfNone};
+ghost use Rattle.std.specs.Prelude.{◌≡◌, ◌≢◌, ◌<◌, ◌^◌, ◌++◌, ℕ, List, decimal, IfOk, IfErr, IfSome, IfNone};
+ghost use Rattle.std.specs.Option.{ForSome};
 ghost use Rattle.http_messages.specs.Route.{routes, route_text, place_of, IsRoute, IsRouteOf};
 ghost use Rattle.register_core.specs.Request.{IsKeyNumber};
 
+use crate::asked::AskFault;
 use matchit::{InsertError, Router};
 use register_core::read_decimal;
 use std::alloc::Global;
@@ -25,7 +27,7 @@ pub(crate) enum Place {
 }
 
 /// The router of the three routes.
-pub(crate) fn make_router(alloc: Global) -> Result<Router<Place>, InsertError>
+fn make_router(alloc: Global) -> Result<Router<Place>, InsertError>
     ensures { IfOk result (λ router. router ≡ routes) }
 {
     let mut router = Router::new(alloc);
@@ -33,6 +35,37 @@ pub(crate) fn make_router(alloc: Global) -> Result<Router<Place>, InsertError>
     router.insert("/keys/{n}", Place::Key)?;
     router.insert("/keys/{n}/usage", Place::Usage)?;
     Ok(router)
+}
+
+/// The router of the three routes, for one request after the other. It is made where it is first
+/// needed, and made again where memory gave out.
+#[derive(Drop)]
+pub struct Routes {
+    router: Option<Router<Place>>,
+    ghost made: { ForSome router (λ r. r ≡ routes) },
+}
+
+impl Routes {
+    ghost use Rattle.http_messages.specs.declared.asked.AskFault.{AskFault};
+
+    /// No router yet. It takes no memory.
+    pub fn new() -> Self {
+        Routes { router: None }
+    }
+
+    /// The router.
+    pub(crate) fn router(&mut self, alloc: Global) -> Result<&Router<Place>, AskFault>
+        ensures ok { IfOk result (λ router. router.now ≡ routes) }
+        ensures err { IfErr result (λ fault. fault ≡ AskFault.Memory) }
+    {
+        if self.router.is_none() {
+            let Ok(router) = make_router(alloc) else {
+                return Err(AskFault::Memory);
+            };
+            self.router = Some(router);
+        }
+        self.router.as_ref().ok_or(AskFault::Memory)
+    }
 }
 
 /// The number of a key that the field writes.
@@ -53,7 +86,8 @@ fn key_number(field: &[u8]) -> Option<u32>
 /// What stands between the front and the back.
 fn between<'t>(target: &'t [u8], front: &[u8], back: &[u8]) -> Option<&'t [u8]>
     ensures found { IfSome result (λ field. target.now ≡ front.now ++ (field.now ++ back.now)) }
-    ensures none { IfNone result ((field : List ℕ) → target.now ≢ front.now ++ (field ++ back.now)) }
+    ensures none { IfNone result ((field : List ℕ) →
+        target.now ≢ front.now ++ (field ++ back.now)) }
 {
     match target.strip_prefix(front) {
         Some(rest) => match rest.strip_suffix(back) {
@@ -66,8 +100,10 @@ fn between<'t>(target: &'t [u8], front: &[u8], back: &[u8]) -> Option<&'t [u8]>
 
 /// The number of a key that stands between the front and the back.
 fn number_between(target: &[u8], front: &[u8], back: &[u8]) -> Option<u32>
-    ensures found { IfSome result (λ n. (target.now ≡ front.now ++ (decimal n ++ back.now)) × IsKeyNumber n) }
-    ensures none { IfNone result ((n : ℕ) → IsKeyNumber n → target.now ≢ front.now ++ (decimal n ++ back.now)) }
+    ensures found { IfSome result (λ n.
+        (target.now ≡ front.now ++ (decimal n ++ back.now)) × IsKeyNumber n) }
+    ensures none { IfNone result ((n : ℕ) → IsKeyNumber n →
+        target.now ≢ front.now ++ (decimal n ++ back.now)) }
 {
     match between(target, front, back) {
         Some(field) => match key_number(field) {
@@ -95,7 +131,8 @@ fn place_at(router: &Router<Place>, target: &[u8]) -> Option<Place>
 /// The route of this place that the target spells.
 fn route_at(place: Place, target: &[u8]) -> Option<Route>
     ensures found { IfSome result (λ r. IsRoute r × (target.now ≡ route_text r)) }
-    ensures none { IfNone result ((r : Route) → IsRoute r → place_of r ≡ place → target.now ≢ route_text r) }
+    ensures none { IfNone result ((r : Route) → IsRoute r → place_of r ≡ place →
+        target.now ≢ route_text r) }
 {
     match place {
         Place::Requests => {

@@ -1,6 +1,6 @@
 //! Heads: routes, methods, hosts, lengths and senders, in the order of the steps.
-use super::inputs::asked_of;
-use http_messages::{Asked, Rejection, Route};
+use super::inputs::{asked_by, asked_of};
+use http_messages::{Asked, Rejection, Route, Routes};
 use std::alloc::Global;
 
 const BAD: Rejection = Rejection::BadRequest;
@@ -15,18 +15,24 @@ const OTHER_TARGETS: [&str; 22] = [
 ];
 
 /// Whether the head of this request line and a host asks for this.
-fn asks(alloc: Global, line: &str, asked: Asked) -> bool {
+fn asks(alloc: Global, routes: &mut Routes, line: &str, asked: Asked) -> bool {
     match format!(in alloc; "{line} HTTP/1.1\r\nHost: localhost\r\n\r\n") {
-        Ok(input) => asked_of(alloc, input.as_bytes()) == Some(asked),
+        Ok(input) => asked_by(alloc, routes, input.as_bytes()) == Some(asked),
         Err(_) => false,
     }
 }
 
 #[test]
 fn other_targets_have_no_route(rt: HostRuntime) {
+    let mut routes = Routes::new();
     for line in &OTHER_TARGETS {
         assert!(rt;
-            asks(rt.alloc(), line, Asked::Reject(Rejection::NoRoute)),
+            asks(
+                rt.alloc(),
+                &mut routes,
+                line,
+                Asked::Reject(Rejection::NoRoute)
+            ),
             "{line}"
         );
     }
@@ -53,8 +59,9 @@ const ROUTES: [(&str, Asked); 14] = [
 
 #[test]
 fn each_route_takes_its_method(rt: HostRuntime) {
+    let mut routes = Routes::new();
     for (line, asked) in &ROUTES {
-        assert!(rt; asks(rt.alloc(), line, *asked), "{line}");
+        assert!(rt; asks(rt.alloc(), &mut routes, line, *asked), "{line}");
     }
 }
 

@@ -1,13 +1,18 @@
 //! Inputs of exchanges, and what they ask for.
-use http_messages::{Asked, Rejection, ask};
+use http_messages::{Asked, Rejection, Routes, ask};
 use std::alloc::{AllocError, Global};
 use std::io::Read;
 use streams::Watched;
 
 /// What the reader's bytes ask for, or `None` where they ask nothing or could not be read.
 pub fn asked_of<R: Read + Drop>(alloc: Global, input: R) -> Option<Asked> {
+    asked_by(alloc, &mut Routes::new(), input)
+}
+
+/// The same by these routes.
+pub fn asked_by<R: Read + Drop>(alloc: Global, routes: &mut Routes, input: R) -> Option<Asked> {
     let mut reader = Watched::new(input);
-    match ask(alloc, &mut reader).asked {
+    match ask(alloc, routes, &mut reader).asked {
         Ok(asked) => asked,
         Err(_) => None,
     }

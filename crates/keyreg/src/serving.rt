@@ -8,7 +8,7 @@ ghost use Rattle.keyreg.specs.Serving.{LeavesSome};
 
 use moment_core::Moment;
 use register_desk::{Desk, End, Finish, Watched};
-use register_http::exchange;
+use register_http::{Routes, exchange_by};
 use sqlite::Alter;
 use std::alloc::Global;
 use std::io::{self, ErrorKind, Read, Write};
@@ -112,6 +112,7 @@ fn drain(stream: &TcpStream) {
 /// Serves one connection: one exchange at this moment.
 fn serve_one<S: Alter, C: Clock>(
     alloc: Global,
+    routes: &mut Routes,
     desk: &mut Desk<S>,
     stream: &TcpStream,
     clock: &C,
@@ -134,7 +135,7 @@ fn serve_one<S: Alter, C: Clock>(
         clock,
         start,
     });
-    let outcome = exchange(alloc, desk, moment, &mut reader, &mut writer);
+    let outcome = exchange_by(alloc, routes, desk, moment, &mut reader, &mut writer);
     drain(stream);
     outcome.end
 }
@@ -169,6 +170,7 @@ pub fn serve_on<S: Alter, C: Clock, N: Now>(
         → IsClean S.Store desk.new → LeavesSome S.Store h exchanges desk.new }
     ensures clean { IsClean S.Store desk.new → IsClean S.Store desk.old }
 {
+    let mut routes = Routes::new();
     let mut served = 0;
     'exchanges: while served < exchanges {
         let Ok((stream, _)) = listener.accept() else {
@@ -177,7 +179,7 @@ pub fn serve_on<S: Alter, C: Clock, N: Now>(
         let Some(moment) = now.now() else {
             return Finish::Ended(End::ReadFault);
         };
-        let finish = serve_one(alloc, desk, &stream, clock, moment);
+        let finish = serve_one(alloc, &mut routes, desk, &stream, clock, moment);
         if !goes_on(finish) {
             return finish;
         }

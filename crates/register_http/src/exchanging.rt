@@ -10,7 +10,7 @@ ghost use Rattle.register_http.specs.Items.{LeavesOne};
 ghost use Rattle.register_http.specs.Sending.{Sends, end_reply};
 
 use crate::acting::act;
-use http_messages::{AskFault, Asked, ask};
+use http_messages::{AskFault, Asked, Routes, ask};
 use moment_core::Moment;
 use register_desk::{Desk, End, Finish, MAX_IDLE_TURNS, Outcome, Watched};
 use sqlite::Alter;
@@ -173,9 +173,32 @@ pub fn exchange<R: Read, W: Write, S: Alter>(
     ensures reader { LeavesReader R.remaining reader.old reader.new result }
     ensures writer { LeavesWriter writer.new result }
 {
+    let mut routes = Routes::new();
+    exchange_by(alloc, &mut routes, desk, moment, reader, writer)
+}
+
+/// One exchange at this moment, as [`exchange`], by routes that serve one exchange after the other.
+pub fn exchange_by<R: Read, W: Write, S: Alter>(
+    alloc: Global,
+    routes: &mut Routes,
+    desk: &mut Desk<S>,
+    moment: Moment,
+    reader: &mut Watched<R>,
+    writer: &mut Watched<W>,
+) -> Outcome
+    requires reader { reader.old.failed ≡ false }
+    requires writer { writer.old.failed ≡ false }
+    ensures exchanges { Exchanges S.Store moment (R.remaining reader.old.inner) desk.old desk.new
+        (W.contents writer.old.inner) (W.contents writer.new.inner) result }
+    ensures leaves { (h : List Request) → StandsFor S.Store desk.old h → IsWhole desk.old
+        → IsClean S.Store desk.new → LeavesOne S.Store h desk.new result.end }
+    ensures clean { IsClean S.Store desk.new → IsClean S.Store desk.old }
+    ensures reader { LeavesReader R.remaining reader.old reader.new result }
+    ensures writer { LeavesWriter writer.new result }
+{
     reader.begin();
     writer.begin();
-    let asking = ask(alloc, reader);
+    let asking = ask(alloc, routes, reader);
     let served = serve_asked(alloc, desk, moment, &asking.asked, writer);
     Outcome {
         read: asking.read as u64,

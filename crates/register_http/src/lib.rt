@@ -9,5 +9,7 @@
 mod acting;
 mod exchanging;
 
-pub use exchanging::exchange;
-pub use http_messages::{MAX_BODY_LENGTH, MAX_EXCHANGE_READS, MAX_HEAD_LENGTH, MAX_HEADERS};
+pub use exchanging::{exchange, exchange_by};
+pub use http_messages::{
+    MAX_BODY_LENGTH, MAX_EXCHANGE_READS, MAX_HEAD_LENGTH, MAX_HEADERS, Routes,
+};
