@@ -1,0 +1,171 @@
+#!/usr/bin/env python3
+"""What the gate costs, in minutes of processor time by crate.
+
+    checks/gate_minutes.py [WORDS..]        runs `rt ci` with these words, and prints a row for each crate behind it
+    checks/gate_minutes.py --edits WORDS..  the same, with a line in seconds for each wrong body as well
+
+A crate's proof, the proof of its tests, and its wrong bodies are told apart. To those count the proof that they begin with,
+and the one more behind them, with which `rt` sees that nothing has changed. A row has what was done in this run: with
+--anew among the words, or on a machine that has nothing kept, that is all. It needs Linux, for /proc.
+"""
+import argparse
+import collections
+import filecmp
+import glob
+import os
+import subprocess
+import sys
+import threading
+import time
+
+TICKS = os.sysconf("SC_CLK_TCK")
+PARTS = ("src", "specs", "proofs")
+
+
+def stat_of(pid):
+    """The parent of a process, and the processor seconds of it and of those that it has waited for."""
+    with open(f"/proc/{pid}/stat", encoding="utf-8", errors="replace") as file:
+        fields = file.read().rpartition(")")[2].split()
+    return int(fields[1]), sum(map(int, fields[11:15])) / TICKS
+
+
+def words_of(pid):
+    with open(f"/proc/{pid}/cmdline", "rb") as file:
+        return file.read().decode(errors="replace").split("\0")
+
+
+def edited_file(crate, room):
+    """The files of the crate that are otherwise in the room."""
+    here = [path for part in PARTS for path in glob.glob(f"{part}/**", root_dir=room, recursive=True)]
+    return [
+        it
+        for it in here
+        if os.path.isfile(f"{room}/{it}")
+        and not (os.path.isfile(f"{crate}/{it}") and filecmp.cmp(f"{room}/{it}", f"{crate}/{it}", shallow=False))
+    ]
+
+
+def edit_of(crate, room):
+    """The name of the wrong body that stands in the room, or none."""
+    changed = edited_file(crate, room)
+    if not changed:
+        return None
+    for edit in sorted(glob.glob(f"{crate}/must-fail/*.edit")):
+        with open(edit, encoding="utf-8") as file:
+            lines = file.read().splitlines()
+        news = [line[5:] for line in lines if line.startswith("new: ")]
+        files = {line[6:].strip() for line in lines if line.startswith("file: ")}
+        if files == set(changed) and all(any(new in read(f"{room}/{it}") for it in files) for new in news):
+            olds = [line[5:] for line in lines if line.startswith("old: ")]
+            if all(not any(old in read(f"{room}/{it}") for it in files) or any(old in new for new in news) for old in olds):
+                return os.path.basename(edit)[: -len(".edit")]
+    return "unknown"
+
+
+def read(path):
+    with open(path, encoding="utf-8", errors="replace") as file:
+        return file.read()
+
+
+class Watch:
+    """Looks at the processes below one, again and again, and keeps what each of its checks has used."""
+
+    def __init__(self, top, pid):
+        self.top, self.pid = top, pid
+        self.labels, self.used, self.begun, self.ended = {}, {}, {}, {}
+
+    def label(self, pid):
+        """The crate and the kind of a check, and the name of a wrong body."""
+        words = words_of(pid)
+        if not words or not words[0].endswith("/rattle") or "--crate-name" not in words:
+            return None
+        crate = words[words.index("--crate-name") + 1]
+        room = os.readlink(f"/proc/{pid}/cwd")
+        if os.path.basename(room).startswith("rt-edit-"):
+            name = edit_of(f"{self.top}/crates/{crate}", room)
+            return crate, "edits", name or "(begin or end)"
+        is_test = any(word.startswith("--test") for word in words)
+        return crate, "tests" if is_test else "proof", ""
+
+    def look(self):
+        parents, used = {}, {}
+        for name in os.listdir("/proc"):
+            if name.isdigit():
+                try:
+                    parents[int(name)], used[int(name)] = stat_of(name)
+                except (OSError, ValueError, IndexError):
+                    continue
+
+        def owner(pid):
+            """The labelled process that this one is or stands below."""
+            path = []
+            while pid and pid != 1:
+                path.append(pid)
+                if pid == self.pid:
+                    return next((it for it in reversed(path) if self.labels.get(it)), None)
+                pid = parents.get(pid)
+            return None
+
+        for pid in parents:
+            if pid not in self.labels:
+                try:
+                    label = self.label(pid)
+                except OSError:
+                    continue
+                if label or used[pid] > 1:
+                    self.labels[pid] = label
+                    self.begun[pid] = time.monotonic()
+        now = collections.Counter()
+        for pid, seconds in used.items():
+            of = owner(pid)
+            if of:
+                now[of] += seconds
+        for pid, seconds in now.items():
+            self.used[pid] = max(self.used.get(pid, 0), seconds)
+            self.ended[pid] = time.monotonic()
+
+    def until(self, done):
+        while not done.is_set():
+            self.look()
+            time.sleep(0.2)
+
+
+def main():
+    top = os.path.dirname(os.path.dirname(os.path.abspath(__file__)))
+    options = argparse.ArgumentParser(add_help=False)
+    options.add_argument("--edits", action="store_true")
+    options.add_argument("--top", default=top)
+    options.add_argument("--command", default="ci")
+    given, words = options.parse_known_args()
+    child = subprocess.Popen(["rt", given.command, *words], cwd=given.top)
+    watch, done = Watch(os.path.abspath(given.top), child.pid), threading.Event()
+    thread = threading.Thread(target=watch.until, args=(done,))
+    thread.start()
+    begun = time.monotonic()
+    status = child.wait()
+    wall = time.monotonic() - begun
+    done.set()
+    thread.join()
+    minutes, edits = collections.defaultdict(collections.Counter), collections.defaultdict(list)
+    for pid, seconds in watch.used.items():
+        crate, kind, name = watch.labels[pid]
+        minutes[crate][kind] += seconds / 60
+        if kind == "edits":
+            edits[crate].append((seconds, name))
+    print("| Crate | Proof | Tests | Edits | Number |\n|---|---|---|---|---|")
+    for crate in sorted(minutes):
+        row = minutes[crate]
+        number = len({name for _, name in edits[crate] if not name.startswith("(")})
+        cells = [f"{row[kind]:.1f}" if row[kind] else "" for kind in ("proof", "tests", "edits")]
+        print(f"| `{crate}` | {' | '.join(cells)} | {number or ''} |")
+        if given.edits:
+            for seconds, name in sorted(edits[crate], reverse=True):
+                print(f"    {seconds:6.1f} {name}")
+    total = sum(sum(row.values()) for row in minutes.values())
+    used = os.times()
+    print(f"together: {total:.0f} processor minutes, {(used.children_user + used.children_system) / 60:.0f} with all that `rt` did besides, {wall / 60:.0f} by the clock")
+    return status
+
+
+if __name__ == "__main__":
+    sys.exit(main())

@@ -1,0 +1,127 @@
+//! How many steps of the database each command takes: its calls, and the rows that they hand out.
+use crate::fresh_run::{desk_after, desk_of, run_over};
+use crate::repeats::DAY;
+use register_desk::{Desk, Watched, create_in_memory};
+use register_report::rotation;
+use sqlite::MemStore;
+use std::alloc::Global;
+use std::test::Fail;
+use worked_rows::WorkedRow;
+
+/// The steps of each command of the day, by the statements that docs/SPECIFICATION.md has. A search for what is kept
+/// takes 1 where nothing is, a transaction 2, the two updates of due keys 2, the request's row and that of meta 2. A
+/// command that names a key takes 2 to read it and 1 to change it; one that looks at custody 1 more for each list and for
+/// each name in it; one that changes custody 1 more.
+const STEPS: [u64; 16] = [8, 13, 14, 15, 16, 15, 16, 17, 16, 16, 10, 10, 10, 16, 7, 10];
+
+/// How many steps a run over the line takes.
+fn steps_of(alloc: Global, desk: &mut Desk<MemStore>, line: &str) -> Result<u64, Fail> {
+    let before = desk.steps();
+    let line = format!(in alloc; "{line}\n")?;
+    let mut output = Vec::new(alloc);
+    let _ = run_over(desk, line.as_bytes(), &mut output);
+    Ok(desk.steps().saturating_sub(before))
+}
+
+/// A command of the day that takes other steps, if there is one, or where a new desk has taken any.
+pub fn command_of_other_steps(alloc: Global) -> Result<Option<&'static str>, Fail> {
+    let mut desk = create_in_memory(alloc)?;
+    if desk.steps() != 0 {
+        return Ok(Some(""));
+    }
+    for ((moment, caller, command, _), steps) in DAY.iter().zip(&STEPS) {
+        let line = format!(in alloc; "{moment} {caller} {command}")?;
+        if steps_of(alloc, &mut desk, line.as_str())? != *steps {
+            return Ok(Some(command));
+        }
+    }
+    Ok(None)
+}
+
+/// A key with eight custodians who all approve of its destruction.
+#[rattlefmt::skip]
+static FULL_CUSTODY: WorkedRow = WorkedRow {
+    name: "full custody",
+    lines: &[
+        ("100 ann 1 register master bob - - - root", ""),
+        ("100 bob 1 add-custodian 1 c1", ""), ("100 c1 1 approve 1", ""),
+        ("100 bob 2 add-custodian 1 c2", ""), ("100 c2 1 approve 1", ""),
+        ("100 bob 3 add-custodian 1 c3", ""), ("100 c3 1 approve 1", ""),
+        ("100 bob 4 add-custodian 1 c4", ""), ("100 c4 1 approve 1", ""),
+        ("100 bob 5 add-custodian 1 c5", ""), ("100 c5 1 approve 1", ""),
+        ("100 bob 6 add-custodian 1 c6", ""), ("100 c6 1 approve 1", ""),
+        ("100 bob 7 add-custodian 1 c7", ""), ("100 c7 1 approve 1", ""),
+        ("100 bob 8 add-custodian 1 c8", ""), ("100 c8 1 approve 1", ""),
+    ],
+    rest: "",
+    shown: None,
+};
+
+/// A line, and how many steps it takes behind that.
+static BEHIND: [(&str, u64); 9] = [
+    // A request that comes again, one whose number is reused, and one whose moment is behind: the look-up alone.
+    ("100 bob 1 add-custodian 1 c1", 2),
+    ("100 bob 1 advance", 2),
+    ("99 bob 9 activate 1", 1),
+    // No such key, and not the owner.
+    ("100 bob 9 activate 2", 2),
+    ("100 eve 9 activate 1", 3),
+    // No time has passed: no key is due.
+    ("100 eve 9 advance", 5),
+    ("100 bob 9 set 1 = = =", 8),
+    // Both lists are full.
+    ("101 bob 10 add-custodian 1 c9", 21),
+    ("101 bob 11 remove-custodian 1 c8", 29),
+];
+
+/// A line that asks the database for more than it needs, if there is one.
+pub fn line_of_other_steps(alloc: Global) -> Result<Option<&'static str>, Fail> {
+    let mut desk = desk_after(alloc, &FULL_CUSTODY)?;
+    for (line, steps) in &BEHIND {
+        if steps_of(alloc, &mut desk, line)? != *steps {
+            return Ok(Some(line));
+        }
+    }
+    Ok(None)
+}
+
+/// Protect Stop Dates of keys that are due, and the steps of a report on them: for each row a search and the row, one
+/// search more behind the last row of each date that several have, and the search that finds none.
+static REPORTS: [(&[u64], u64); 5] = [
+    (&[], 1),
+    (&[700, 500, 600], 7),
+    (&[500, 500], 6),
+    (&[500, 500, 500, 600], 10),
+    (&[500, 600, 600, 700], 10),
+];
+
+/// A desk with an Active key for each of these Protect Stop Dates.
+fn desk_with(alloc: Global, stops: &[u64]) -> Result<Desk<MemStore>, Fail> {
+    let mut lines = String::new(alloc);
+    for (place, stop) in stops.iter().enumerate() {
+        let line = format!(in alloc;
+            "100 ann {} register data-encryption bob 0 {stop} 1000 disks\n",
+            place + 1
+        )?;
+        lines.push_str(line.as_str())?;
+    }
+    desk_of(alloc, lines.as_bytes())
+}
+
+/// How many steps a report takes.
+fn report_steps(alloc: Global, desk: &mut Desk<MemStore>) -> u64 {
+    let before = desk.steps();
+    let _ = rotation(alloc, desk, 1, &mut Watched::new(Vec::new(alloc)));
+    desk.steps().saturating_sub(before)
+}
+
+/// How many keys a report is on that takes other steps, if there is one.
+pub fn report_of_other_steps(alloc: Global) -> Result<Option<usize>, Fail> {
+    for (stops, steps) in &REPORTS {
+        let mut desk = desk_with(alloc, stops)?;
+        if report_steps(alloc, &mut desk) != *steps {
+            return Ok(Some(stops.len()));
+        }
+    }
+    Ok(None)
+}

@@ -1,5 +1,0 @@
-use Rattle.keyreg.proofs.Served.{served_nothing}
-use Rattle.keyreg.proofs.serving.serve_at.Goals as goal
-
-pub returns-in_default-clause-leaves : goal.returns-in_default-clause-leaves
-returns-in_default-clause-leaves g c = λ h stands whole clean. served_nothing g.S.Store h c.args.exchanges _ stands whole clean

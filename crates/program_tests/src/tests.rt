@@ -1,0 +1,7 @@
+//! Each test asserts that a case is as it should be, or that none of several is otherwise.
+
+mod acting;
+mod acts;
+mod files;
+mod served;
+mod tables_in_files;

@@ -1,0 +1,26 @@
+//! A register in memory.
+ghost use Rattle.std.specs.Prelude.{List, [], IfOk};
+ghost use Rattle.sqlite.specs.Steps.{over_memory};
+ghost use Rattle.register_desk.specs.Register.{StandsFor};
+
+use crate::desk::Desk;
+use crate::opening::OpenRefusal;
+use sqlite::{Connection, MemStore};
+use std::alloc::Global;
+
+/// Makes an empty register in memory.
+///
+/// # Errors
+/// [`OpenRefusal::Memory`] where memory gave out before the database was there; else as [`Desk::create`].
+pub fn create_in_memory(alloc: Global) -> Result<Desk<MemStore>, OpenRefusal>
+    ensures { IfOk result (λ desk. StandsFor over_memory desk []) }
+{
+    let connection = match Connection::open_in_memory(alloc) {
+        Ok(connection) => connection,
+        Err(_) => return Err(OpenRefusal::Memory),
+    };
+    match Desk::create(alloc, connection) {
+        Ok(desk) => Ok(desk),
+        Err(unopened) => Err(unopened.refusal),
+    }
+}

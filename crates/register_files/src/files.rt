@@ -1,0 +1,51 @@
+//! The files of a register, whoever opens them.
+ghost use Rattle.std.specs.Prelude.{◌≡◌, List, [], false, IfOk, IfErr, IsTrue};
+ghost use Rattle.sqlite.specs.Files.{HoldsDatabase};
+ghost use Rattle.sqlite.specs.Held.{AreDatabases, state};
+ghost use Rattle.sqlite.specs.Recovery.{Image};
+ghost use Rattle.sqlite.specs.State.{HasCleanDisk};
+ghost use Rattle.sqlite.specs.Tree.{Trees};
+ghost use Rattle.register_core.specs.declared.request.Request.{Request};
+ghost use Rattle.register_desk.specs.Files.{HoldsRegister, ShowsNothing};
+ghost use Rattle.register_desk.specs.Opening.{RefusesNoTable};
+ghost use Rattle.register_desk.specs.Register.{HasCommitted, tables};
+
+use register_desk::OpenRefusal;
+use sqlite::{Alter, Connection};
+
+/// How the files of a register are opened: the database file, and its log beside it.
+pub trait Files {
+    /// The store that they are opened as.
+    type Opened: Alter + Drop;
+
+    /// What they hold before they are opened.
+    ghost start: { Image };
+
+    /// What a stop may leave in them.
+    ghost may_leave: { Self.Opened → Image → Type 0 };
+
+    /// A connection to the file, which is made where there is none.
+    ///
+    /// # Errors
+    /// [`OpenRefusal::Store`] where the file cannot be opened, or is no database; [`OpenRefusal::Memory`] where memory gave
+    /// out.
+    fn connect(self, rt: &HostRuntime, file: &str) -> Result<Connection<Self::Opened>, OpenRefusal>
+        // Where the files hold the register of a history, the connection shows its tables.
+        ensures shows { (h : List Request) → HoldsRegister h start
+            → IfOk result (λ connection. HasCleanDisk (state Self.Opened.Store connection)
+            → HasCommitted (tables h) (state Self.Opened.Store connection)) }
+        // Where the database file has no byte, it shows an empty database.
+        ensures empty { start.db ≡ []
+            → IfOk result (λ connection. HasCleanDisk (state Self.Opened.Store connection)
+            → ShowsNothing (state Self.Opened.Store connection)) }
+        ensures idle { IfOk result (λ connection. connection.in_transaction ≡ false) }
+        ensures blames_none { IfErr result RefusesNoTable };
+
+    /// Copies the log into the database file. What cannot be copied stays in the log, where the next opening finds it.
+    fn copy_log(left: Self::Opened);
+
+    /// An opening of what a stop leaves finds a database that the store may come back as.
+    ghost opens_again: { (it : Self.Opened) → IsTrue (Self.Opened.Store.view it).is_numbered
+        → AreDatabases (Self.Opened.Store.recovers it) → (left : Image) → may_leave it left
+        → ∥ ((db : Trees) × (Self.Opened.Store.recovers it db) × HoldsDatabase left db) ∥₁ };
+}

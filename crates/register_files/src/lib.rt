@@ -1,0 +1,14 @@
+//! The register in a file, whoever opens it: its lives, the serving of connections, and the values that a command is given.
+#![tactic(auto)]
+
+mod files;
+mod register_file;
+mod serving;
+mod values;
+
+pub use files::Files;
+pub use register_file::{
+    Life, export_file, import_file, init_file, open_file, report_file, run_file, serve_file,
+};
+pub use serving::{MachineClock, Now, serve_at, serve_on};
+pub use values::{Bounds, GivenBounds, GivenTerms, MAX_DAYS, MAX_EXCHANGES, Terms, read_days};

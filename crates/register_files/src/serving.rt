@@ -1,0 +1,202 @@
+//! Serves connections one after the other, one HTTP exchange each.
+ghost use Rattle.std.specs.Prelude.{◌≡◌, ◌≢◌, List, true};
+ghost use Rattle.register_core.specs.declared.request.Request.{Request};
+ghost use Rattle.register_desk.specs.Leaving.{IsClean, IsWhole};
+ghost use Rattle.register_desk.specs.Register.{StandsFor};
+ghost use Rattle.register_http.specs.Items.{LeavesOne};
+ghost use Rattle.register_files.specs.Serving.{LeavesSome};
+
+use moment_core::Moment;
+use register_desk::{Desk, End, Finish, Watched};
+use register_http::{Routes, exchange_by};
+use sqlite::Alter;
+use std::alloc::Global;
+use std::io::{self, ErrorKind, Read, Write};
+use std::net::{Ipv4Addr, Shutdown, TcpListener, TcpStream};
+use std::time::{Clock, Duration, Instant, SystemTime, UNIX_EPOCH};
+
+/// How many seconds the client of one exchange may keep it waiting in all.
+const MAX_CLIENT_SECONDS: u64 = 10;
+
+/// How many pieces of what a client has sent behind its request are taken off its connection
+/// before it is closed.
+const MAX_READS_BEHIND: usize = 256;
+
+/// Tells the moment of an exchange.
+pub trait Now {
+    /// The moment, or `None` where the clock fails or is out of the range of moments.
+    fn now(&self) -> Option<Moment>;
+}
+
+/// The machine's clock, in whole seconds.
+#[derive(Drop)]
+pub struct MachineClock<'a, C: Clock> {
+    clock: &'a C,
+}
+
+impl<'a, C: Clock> MachineClock<'a, C> {
+    /// The clock that the runtime reads.
+    pub fn new(clock: &'a C) -> Self {
+        MachineClock { clock }
+    }
+}
+
+impl<C: Clock> Now for MachineClock<'_, C> {
+    fn now(&self) -> Option<Moment> {
+        let Ok(time) = SystemTime::now(self.clock) else {
+            return None;
+        };
+        match time.duration_since(UNIX_EPOCH) {
+            Ok(since) => Moment::new(since.as_secs()),
+            Err(_) => None,
+        }
+    }
+}
+
+/// A client's connection, for as long as its exchange may take.
+#[derive(Drop)]
+struct Timed<'a, C: Clock> {
+    stream: &'a TcpStream,
+    clock: &'a C,
+    start: Instant,
+}
+
+impl<C: Clock> Timed<'_, C> {
+    /// How long the client may still keep the exchange waiting.
+    fn left(&self) -> io::Result<Duration> {
+        let elapsed = self.start.elapsed(self.clock)?;
+        match Duration::from_secs(MAX_CLIENT_SECONDS).checked_sub(elapsed) {
+            Some(left) if !left.is_zero() => Ok(left),
+            _ => Err(io::Error::from(ErrorKind::TimedOut)),
+        }
+    }
+}
+
+impl<C: Clock> Read for Timed<'_, C> {
+    fn read(&mut self, buf: &mut [u8]) -> io::Result<usize> {
+        self.stream.set_read_timeout(Some(self.left()?))?;
+        let mut stream = self.stream;
+        stream.read(buf)
+    }
+}
+
+impl<C: Clock> Write for Timed<'_, C> {
+    fn write(&mut self, buf: &[u8]) -> io::Result<usize> {
+        self.stream.set_write_timeout(Some(self.left()?))?;
+        let mut stream = self.stream;
+        stream.write(buf)
+    }
+
+    fn flush(&mut self) -> io::Result<()> {
+        Ok(())
+    }
+}
+
+/// Takes off the connection what the client has sent behind its request, as far as it is there:
+/// bytes that nobody read would have the system break the connection before the client has its
+/// reply.
+fn drain(stream: &TcpStream) {
+    if stream.shutdown(Shutdown::Write).is_err() || stream.set_nonblocking(true).is_err() {
+        return;
+    }
+    let mut stream = stream;
+    let mut piece = [0; 4096];
+    for _ in 0..MAX_READS_BEHIND {
+        match stream.read(&mut piece) {
+            Ok(count) if count > 0 => {}
+            _ => return,
+        }
+    }
+}
+
+/// Serves one connection: one exchange at this moment.
+fn serve_one<S: Alter, C: Clock>(
+    alloc: Global,
+    routes: &mut Routes,
+    desk: &mut Desk<S>,
+    stream: &TcpStream,
+    clock: &C,
+    moment: Moment,
+) -> Finish
+    ensures leaves { (h : List Request) → StandsFor S.Store desk.old h → IsWhole desk.old
+        → IsClean S.Store desk.new → LeavesOne S.Store h desk.new result }
+    ensures clean { IsClean S.Store desk.new → IsClean S.Store desk.old }
+{
+    let Ok(start) = Instant::now(clock) else {
+        return Finish::Ended(End::ReadFault);
+    };
+    let mut reader = Watched::new(Timed {
+        stream,
+        clock,
+        start,
+    });
+    let mut writer = Watched::new(Timed {
+        stream,
+        clock,
+        start,
+    });
+    let outcome = exchange_by(alloc, routes, desk, moment, &mut reader, &mut writer);
+    drain(stream);
+    outcome.end
+}
+
+/// Whether a next exchange may follow one that ended so: the register may be asked again.
+fn goes_on(finish: Finish) -> bool
+    ensures { result ≡ true → finish ≢ Finish.Ended End.Store }
+{
+    match finish {
+        Finish::Ended(End::Store) => false,
+        Finish::Ended(End::Broken) => false,
+        _ => true,
+    }
+}
+
+/// Serves so many connections that come to the listener, one after the other, each one exchange at
+/// the moment that `now` tells once it was accepted. A client that is slow keeps the next one
+/// waiting no longer than ten seconds, and a connection is closed behind its reply.
+///
+/// Gives the end of what there is to do after that many, or [`End::Store`] or [`End::Broken`] of
+/// an exchange, or [`End::ReadFault`] where a connection could not be accepted or no moment was
+/// told.
+pub fn serve_on<S: Alter, C: Clock, N: Now>(
+    alloc: Global,
+    desk: &mut Desk<S>,
+    listener: &TcpListener,
+    clock: &C,
+    now: &N,
+    exchanges: u32,
+) -> Finish
+    ensures leaves { (h : List Request) → StandsFor S.Store desk.old h → IsWhole desk.old
+        → IsClean S.Store desk.new → LeavesSome S.Store h exchanges desk.new }
+    ensures clean { IsClean S.Store desk.new → IsClean S.Store desk.old }
+{
+    let mut routes = Routes::new();
+    let mut served = 0;
+    'exchanges: while served < exchanges {
+        let Ok((stream, _)) = listener.accept() else {
+            return Finish::Ended(End::ReadFault);
+        };
+        let Some(moment) = now.now() else {
+            return Finish::Ended(End::ReadFault);
+        };
+        let finish = serve_one(alloc, &mut routes, desk, &stream, clock, moment);
+        if !goes_on(finish) {
+            return finish;
+        }
+        served += 1;
+    }
+    Finish::AtEnd { rest: 0 }
+}
+
+/// Serves so many connections to this port of 127.0.0.1, as [`serve_on`], by the machine's clock.
+pub fn serve_at<S: Alter>(rt: &HostRuntime, desk: &mut Desk<S>, port: u16, exchanges: u32) -> Finish
+    ensures leaves { (h : List Request) → StandsFor S.Store desk.old h → IsWhole desk.old
+        → IsClean S.Store desk.new → LeavesSome S.Store h exchanges desk.new }
+    ensures clean { IsClean S.Store desk.new → IsClean S.Store desk.old }
+{
+    let Ok(listener) = TcpListener::bind(rt, (Ipv4Addr::LOCALHOST, port)) else {
+        return Finish::Ended(End::ReadFault);
+    };
+    let now = MachineClock::new(rt);
+    serve_on(rt.alloc(), desk, &listener, rt, &now, exchanges)
+}

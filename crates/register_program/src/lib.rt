@@ -1,0 +1,7 @@
+//! What the program does with its words, over the streams that it is given and whatever files there are.
+#![tactic(auto)]
+
+mod acting;
+mod words;
+
+pub use acting::{act, report_bad_value, report_end, report_refusal};

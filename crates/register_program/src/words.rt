@@ -1,0 +1,181 @@
+//! What the program's words ask for.
+ghost use Rattle.std.specs.Prelude.{◌≡◌, ◌≤◌, length, Ok};
+
+use clap::error::ErrorKind;
+use clap::{Arg, ArgAction, ArgMatches, Command, Error};
+use register_files::{GivenBounds, GivenTerms};
+use std::alloc::{AllocError, Global};
+
+/// What the program is asked to do, its values as they were given.
+#[derive(Clone, Copy, Debug, PartialEq, Eq)]
+pub enum Task<'a> {
+    /// Request lines over a new register in memory.
+    RunInMemory,
+    /// A new register in the file.
+    Init {
+        file: &'a str,
+    },
+    /// Request lines over the register in the file.
+    Run {
+        file: &'a str,
+    },
+    /// A registration for each row of a table, on these terms.
+    Import {
+        file: &'a str,
+        terms: GivenTerms<'a>,
+    },
+    /// All keys of the register in the file, as a table.
+    Export {
+        file: &'a str,
+    },
+    /// The keys that are due for rotation in this number of days.
+    Report {
+        file: &'a str,
+        days: &'a str,
+    },
+    /// HTTP exchanges over the register in the file, within these bounds.
+    Serve {
+        file: &'a str,
+        bounds: GivenBounds<'a>,
+    },
+}
+
+const ABOUT: &str = "The register of cryptographic keys: owners, purposes and lifecycles";
+
+const NO_COMMAND: &str = "With no command, request lines are applied to a new register in memory.";
+
+const RUN: &str = "Applies the request lines of standard input, and writes their reply lines";
+
+const IMPORT: &str =
+    "Registers a key for each row of the CSV of standard input, and writes the reply lines";
+
+const EXPORT: &str = "Writes all keys as CSV";
+
+const SERVE: &str = "Serves HTTP exchanges on 127.0.0.1, one connection after the other";
+
+const REPORT: &str = "Writes which keys are due for rotation";
+
+/// An option whose value has to be given.
+fn needed<'a>(alloc: Global, name: &'a str, value: &'a str, help: &'a str) -> Arg<'a> {
+    Arg::new(alloc, name)
+        .long(name)
+        .value_name(value)
+        .required(true)
+        .action(ArgAction::Set)
+        .help(help)
+}
+
+/// A command over a register in a file.
+fn file_command<'a>(
+    alloc: Global,
+    name: &'a str,
+    about: &'a str,
+) -> Result<Command<'a>, AllocError> {
+    Command::new(alloc, name)
+        .about(about)
+        .arg(needed(alloc, "file", "FILE", "The file of the register"))
+}
+
+fn import_command<'a>(alloc: Global) -> Result<Command<'a>, AllocError> {
+    file_command(alloc, "import", IMPORT)?
+        .arg(needed(
+            alloc,
+            "moment",
+            "SECONDS",
+            "The moment, in seconds since 1970",
+        ))?
+        .arg(needed(alloc, "caller", "NAME", "Who asks for the registrations"))?
+        .arg(needed(
+            alloc,
+            "first",
+            "NUMBER",
+            "The number of the first row's request",
+        ))
+}
+
+fn report_command<'a>(alloc: Global) -> Result<Command<'a>, AllocError> {
+    file_command(alloc, "report", REPORT)?.arg(needed(
+        alloc,
+        "days",
+        "DAYS",
+        "For how many days it looks ahead, up to 36500",
+    ))
+}
+
+fn serve_command<'a>(alloc: Global) -> Result<Command<'a>, AllocError> {
+    file_command(alloc, "serve", SERVE)?
+        .arg(needed(alloc, "port", "PORT", "The port, from 1 to 65535"))?
+        .arg(needed(
+            alloc,
+            "exchanges",
+            "NUMBER",
+            "How many connections it serves, up to 1000000",
+        ))
+}
+
+fn command<'a>(alloc: Global) -> Result<Command<'a>, AllocError> {
+    Command::new(alloc, "keyreg")
+        .about(ABOUT)
+        .after_help(NO_COMMAND)
+        .override_usage("keyreg [COMMAND]")
+        .subcommand_required(true)
+        .disable_help_subcommand(true)
+        .subcommand(file_command(alloc, "init", "Makes an empty register in a file")?)?
+        .subcommand(file_command(alloc, "run", RUN)?)?
+        .subcommand(import_command(alloc)?)?
+        .subcommand(file_command(alloc, "export", EXPORT)?)?
+        .subcommand(report_command(alloc)?)?
+        .subcommand(serve_command(alloc)?)
+}
+
+/// What a command asks for, with the values of its options.
+fn task_of<'a>(command: &str, options: &ArgMatches<'a>) -> Option<Task<'a>> {
+    let file = options.get_str("file")?;
+    match command {
+        "init" => Some(Task::Init { file }),
+        "run" => Some(Task::Run { file }),
+        "import" => Some(Task::Import {
+            file,
+            terms: GivenTerms {
+                moment: options.get_str("moment")?,
+                caller: options.get_str("caller")?,
+                first: options.get_str("first")?,
+            },
+        }),
+        "export" => Some(Task::Export { file }),
+        "report" => Some(Task::Report {
+            file,
+            days: options.get_str("days")?,
+        }),
+        "serve" => Some(Task::Serve {
+            file,
+            bounds: GivenBounds {
+                port: options.get_str("port")?,
+                exchanges: options.get_str("exchanges")?,
+            },
+        }),
+        _ => None,
+    }
+}
+
+/// Reads the words, of which the first is the program's own name.
+///
+/// # Errors
+/// `clap`'s help, where that was asked for, or its account of what is wrong with the words.
+pub fn read_words(alloc: Global, words: &[String]) -> Result<Task<'_>, Error>
+    ensures { length words.now ≤ 1 → result ≡ Ok Task.RunInMemory }
+{
+    if words.len() <= 1 {
+        return Ok(Task::RunInMemory);
+    }
+    let mut command = command(alloc)?;
+    let matches = command.try_get_matches_from_mut(words)?;
+    let task = match matches.subcommand() {
+        Some((command, options)) => task_of(command, options),
+        None => None,
+    };
+    match task {
+        Some(task) => Ok(task),
+        None => Err(command.error(ErrorKind::MissingSubcommand, "a command is missing")?),
+    }
+}
