@@ -1,19 +1,15 @@
 //! Registers in files in memory, of which one call fails.
-ghost use Rattle.std.specs.Prelude.{◌≡◌, false, IfOk, IfSome, IsTrue};
+//!
+//! To prove a function that names the type of the store takes about a minute, and any other a few seconds. So [`tried`] alone
+//! names it, and is handed what to do as a [`Task`].
+ghost use Rattle.std.specs.Prelude.{◌≡◌, false, IfOk, IsTrue};
 ghost use Rattle.sqlite_disk.specs.Memory.{memory_is_usable};
 
-use register_desk::{Desk, OpenRefusal};
 use register_faults::{FailingCall, FailsOnce};
-use sqlite::{Connection, FileStore, Files, Options};
+use sqlite::{Alter, Connection, Files, Options};
 use sqlite_disk::{Disk, Memory};
 use std::alloc::Global;
 use std::test::Fail;
-
-/// A file in memory, of which one call may fail.
-pub type Faulty = FailsOnce<Memory>;
-
-/// A desk over a database file and a log, of which one call may fail.
-pub type FaultyDesk = Desk<FileStore<Faulty>>;
 
 /// Which file has the call that fails, and of which kind that is.
 #[derive(Clone, Copy, Debug, PartialEq, Eq)]
@@ -45,6 +41,28 @@ impl Fault {
     }
 }
 
+/// What is done with a connection to files of which a call may fail.
+pub trait Task {
+    type Outcome: Drop;
+
+    /// Does it, and gives the connection back, whatever came of it: the store is not asked to be `Drop`, so that no task can
+    /// lose what is left of the files.
+    fn perform<S: Alter>(
+        &self,
+        alloc: Global,
+        connection: Connection<S>,
+    ) -> (Connection<S>, Self::Outcome)
+        requires { connection.in_transaction ≡ false };
+}
+
+/// What is left of files of which a call may have failed.
+#[derive(Drop)]
+pub struct Left {
+    pub files: Files<Memory>,
+    /// Whether the call that fails was made.
+    pub has_failed: bool,
+}
+
 /// Few pages are kept in memory, so that a look at another one reads a file. Each transaction but the first copies into the
 /// database file what the one before it wrote, so that this file is written too.
 fn options() -> Options {
@@ -66,72 +84,46 @@ fn copy_of(alloc: Global, file: &Memory) -> Result<Memory, Fail>
     Ok(copy)
 }
 
-/// A connection to copies of the files, of which the call with this many of its kind before it fails. `None` where it was
-/// not made.
-fn connect(
+fn left_of(files: Files<FailsOnce<Memory>>) -> Left {
+    let Files { log, db } = files;
+    Left {
+        has_failed: log.has_failed() || db.has_failed(),
+        files: Files {
+            log: log.into_inner(),
+            db: db.into_inner(),
+        },
+    }
+}
+
+/// Does it over copies of the files, of which the call with this many of its kind before it fails. What came of it, `None`
+/// where the connection was refused; and what is left of the copies, whatever was going on.
+pub fn tried<T: Task>(
     alloc: Global,
     files: &Files<Memory>,
     fault: Fault,
     before: u64,
-) -> Result<Option<Connection<FileStore<Faulty>>>, Fail>
-    ensures { IfOk result (λ made. IfSome made (λ connection. connection.in_transaction ≡ false)) }
-{
+    task: &T,
+) -> Result<(Option<T::Outcome>, Left), Fail> {
     let log = FailsOnce::new(copy_of(alloc, &files.log)?, fault.of_log(before));
     let db = FailsOnce::new(copy_of(alloc, &files.db)?, fault.of_database(before));
     match Connection::open_files(alloc, Files { log, db }, options()) {
-        Ok(connection) => Ok(Some(connection)),
-        Err(_) => Ok(None),
+        Ok(connection) => {
+            let (connection, outcome) = task.perform(alloc, connection);
+            Ok((Some(outcome), left_of(connection.into_store().close())))
+        }
+        Err((_, left)) => Ok((None, left_of(left.into_files()))),
     }
 }
 
-/// Makes a register in files that are empty.
-pub fn create(alloc: Global) -> Result<FaultyDesk, Fail> {
-    let files = Files {
-        log: Memory::new(alloc),
-        db: Memory::new(alloc),
-    };
-    let Some(connection) = connect(alloc, &files, Fault::Nowhere, 0)? else {
-        return Err(Fail::from("no connection"));
-    };
-    match Desk::create(alloc, connection) {
-        Ok(desk) => Ok(desk),
-        Err(_) => Err(Fail::from("not made")),
-    }
-}
-
-/// Opens the register in copies of the files, of which the call with this many of its kind before it fails. `None` where that
-/// is refused by 31, as it may be.
-pub fn open(
+/// Does it over copies of the files, of which no call fails. What came of it, and the copies.
+pub fn done<T: Task>(
     alloc: Global,
     files: &Files<Memory>,
-    fault: Fault,
-    before: u64,
-) -> Result<Option<FaultyDesk>, Fail> {
-    let Some(connection) = connect(alloc, files, fault, before)? else {
-        return Ok(None);
-    };
-    match Desk::open(alloc, connection) {
-        Ok(desk) => Ok(Some(desk)),
-        Err(unopened) if unopened.refusal == OpenRefusal::Store => Ok(None),
-        Err(_) => Err(Fail::from("refused as no register")),
-    }
-}
-
-/// The files as a desk left them, whatever it was doing.
-pub fn into_files(desk: FaultyDesk) -> Files<Faulty> {
-    desk.into_connection().into_store().close()
-}
-
-/// Whether the call that fails was made.
-pub fn has_failed(files: &Files<Faulty>) -> bool {
-    files.log.has_failed() || files.db.has_failed()
-}
-
-/// The files, with no call that fails.
-pub fn mended(files: Files<Faulty>) -> Files<Memory> {
-    let Files { log, db } = files;
-    Files {
-        log: log.into_inner(),
-        db: db.into_inner(),
+    task: &T,
+) -> Result<(T::Outcome, Files<Memory>), Fail> {
+    let (outcome, left) = tried(alloc, files, Fault::Nowhere, 0, task)?;
+    match outcome {
+        Some(outcome) => Ok((outcome, left.files)),
+        None => Err(Fail::from("no connection, and no call failed")),
     }
 }

@@ -1,7 +1,7 @@
 //! A register of twenty keys, whose rows take more than one page, and the texts that stand for it.
-use crate::files::{create, into_files, mended};
+use crate::files::{Task, done};
 use register_desk::{Desk, End, Finish, Watched, run};
-use sqlite::{Alter, Files};
+use sqlite::{Alter, Connection, Files};
 use sqlite_disk::Memory;
 use std::alloc::{AllocError, Global};
 use std::test::Fail;
@@ -20,45 +20,89 @@ fn stop_digit(number: u32) -> u32 {
     number % 2
 }
 
-/// How a run over these lines ended, and what it wrote.
-pub fn serve<S: Alter>(alloc: Global, desk: &mut Desk<S>, lines: &str) -> (Finish, Vec<u8>) {
+/// How a run ended, and what it wrote.
+#[derive(Drop)]
+pub struct Served {
+    end: Finish,
+    output: Vec<u8>,
+}
+
+impl Served {
+    /// Whether it wrote these replies, and ended behind its lines.
+    pub fn is_answered(&self, replies: &str) -> bool {
+        self.end == Finish::AtEnd { rest: 0 } && self.output.as_slice() == replies.as_bytes()
+    }
+
+    /// Whether it had this end at its first line, with no reply.
+    pub fn is_ended(&self, end: End) -> bool {
+        self.end == Finish::Ended(end) && self.output.is_empty()
+    }
+}
+
+/// Runs these lines.
+pub fn serve<S: Alter>(alloc: Global, desk: &mut Desk<S>, lines: &str) -> Served {
     let mut reader = Watched::new(lines.as_bytes());
     let mut writer = Watched::new(Vec::new(alloc));
     let outcome = run(&mut reader, &mut writer, desk);
-    (outcome.end, writer.into_inner())
+    Served {
+        end: outcome.end,
+        output: writer.into_inner(),
+    }
 }
 
-/// Whether these lines are answered so, and the run then ends behind them.
-pub fn is_answered<S: Alter>(
-    alloc: Global,
-    desk: &mut Desk<S>,
-    lines: &str,
-    replies: &str,
-) -> bool {
-    let (end, output) = serve(alloc, desk, lines);
-    end == Finish::AtEnd { rest: 0 } && output.as_slice() == replies.as_bytes()
+/// Whether a request is accepted behind those of the register.
+pub fn goes_on<S: Alter>(alloc: Global, desk: &mut Desk<S>) -> bool {
+    serve(alloc, desk, "200 zed 1 advance\n").is_answered("ok 0 - 200\n")
 }
 
-/// Whether the request of this line ends a run by this end, with no reply.
-pub fn is_ended<S: Alter>(alloc: Global, desk: &mut Desk<S>, line: &str, end: End) -> bool {
-    let (ended, output) = serve(alloc, desk, line);
-    ended == Finish::Ended(end) && output.is_empty()
+/// Registers the key with this number: whether that is accepted.
+fn register<S: Alter>(alloc: Global, desk: &mut Desk<S>, number: u32) -> Result<bool, AllocError> {
+    let stop = stop_digit(number);
+    let line = format!(in alloc;
+        "100 ann {number} register data-encryption bob 0 50{stop} 1000 {PURPOSE}\n"
+    )?;
+    let reply = format!(in alloc; "ok {number} Active 100\n")?;
+    Ok(serve(alloc, desk, line.as_str()).is_answered(reply.as_str()))
+}
+
+/// Registers all keys: whether each is accepted.
+fn register_all<S: Alter>(alloc: Global, desk: &mut Desk<S>) -> Result<bool, AllocError> {
+    for number in 1..=KEYS {
+        if !register(alloc, desk, number)? {
+            return Ok(false);
+        }
+    }
+    Ok(true)
+}
+
+/// Makes a register with the keys in it: whether it was made, and each key accepted.
+struct Making;
+
+impl Task for Making {
+    type Outcome = bool;
+
+    fn perform<S: Alter>(&self, alloc: Global, connection: Connection<S>) -> (Connection<S>, bool) {
+        let mut desk = match Desk::create(alloc, connection) {
+            Ok(desk) => desk,
+            Err(unopened) => return (unopened.connection, false),
+        };
+        let registered = register_all(alloc, &mut desk);
+        (desk.into_connection(), registered.unwrap_or(false))
+    }
 }
 
 /// The files of the register. All but what the last registration wrote was copied from the log.
 pub fn twenty_keys(alloc: Global) -> Result<Files<Memory>, Fail> {
-    let mut desk = create(alloc)?;
-    for number in 1..=KEYS {
-        let stop = stop_digit(number);
-        let line = format!(in alloc;
-            "100 ann {number} register data-encryption bob 0 50{stop} 1000 {PURPOSE}\n"
-        )?;
-        let reply = format!(in alloc; "ok {number} Active 100\n")?;
-        if !is_answered(alloc, &mut desk, line.as_str(), reply.as_str()) {
-            return Err(Fail::from("a registration is not accepted"));
-        }
+    let files = Files {
+        log: Memory::new(alloc),
+        db: Memory::new(alloc),
+    };
+    let (is_made, files) = done(alloc, &files, &Making)?;
+    if is_made {
+        Ok(files)
+    } else {
+        Err(Fail::from("a registration is not accepted"))
     }
-    Ok(mended(into_files(desk)))
 }
 
 /// The line of a key in an export.

@@ -1,16 +1,15 @@
 //! Requests, of which a call of the database fails.
-use crate::files::{Fault, FaultyDesk, has_failed, into_files, mended, open};
-use crate::keys::{export_text, is_answered, is_ended, serve, twenty_keys};
-use crate::trials::{Step, Trial, is_refused, refusals, went_well};
-use register_desk::{End, Finish, Watched};
+use crate::files::Fault;
+use crate::keys::{export_text, serve, twenty_keys};
+use crate::trials::{Came, Trial, fail_each_call};
+use register_desk::{Desk, End, Watched};
 use register_report::export;
-use sqlite::Files;
-use sqlite_disk::Memory;
+use sqlite::Alter;
 use std::alloc::Global;
 use std::test::Fail;
 
 /// A request over a register, its reply, and the exports before it and behind it.
-#[derive(Drop)]
+#[derive(Debug, Drop)]
 struct Sent {
     line: &'static str,
     reply: &'static str,
@@ -18,45 +17,51 @@ struct Sent {
     behind: String,
 }
 
-/// Whether this is the export of the desk's register.
-fn is_exported(alloc: Global, desk: &mut FaultyDesk, text: &str) -> bool {
+/// What the desk's register exports.
+fn exported<S: Alter>(alloc: Global, desk: &mut Desk<S>) -> Vec<u8> {
     let mut writer = Watched::new(Vec::new(alloc));
     let _ = export(alloc, desk, &mut writer);
-    writer.into_inner().as_slice() == text.as_bytes()
+    writer.into_inner()
 }
 
 impl Sent {
-    /// Whether the register in the files is as before or has the request, and has it once behind the same request, which is
-    /// sent twice more and has its reply.
-    fn acts_once(&self, alloc: Global, files: &Files<Memory>) -> Result<bool, Fail> {
-        let Some(mut desk) = open(alloc, files, Fault::Nowhere, 0)? else {
-            return Ok(false);
-        };
-        let is_either = is_exported(alloc, &mut desk, self.before.as_str())
-            || is_exported(alloc, &mut desk, self.behind.as_str());
-        Ok(
-            is_either
-                && is_answered(alloc, &mut desk, self.line, self.reply)
-                && is_answered(alloc, &mut desk, self.line, self.reply)
-                && is_exported(alloc, &mut desk, self.behind.as_str()),
-        )
+    /// Whether this is the export before the request or the one behind it.
+    fn is_either(&self, text: &[u8]) -> bool {
+        text == self.before.as_bytes() || text == self.behind.as_bytes()
+    }
+
+    /// Whether it is sent over the desk and has its reply.
+    fn is_answered<S: Alter>(&self, alloc: Global, desk: &mut Desk<S>) -> bool {
+        serve(alloc, desk, self.line).is_answered(self.reply)
+    }
+
+    /// Whether the register is as before or has the request, and has it once behind the same request, which is sent twice more
+    /// and has its reply.
+    fn acts_once<S: Alter>(&self, alloc: Global, desk: &mut Desk<S>) -> bool {
+        self.is_either(exported(alloc, desk).as_slice())
+            && self.is_answered(alloc, desk)
+            && self.is_answered(alloc, desk)
+            && exported(alloc, desk).as_slice() == self.behind.as_bytes()
     }
 }
 
 impl Trial for Sent {
-    fn run(&self, alloc: Global, mut desk: FaultyDesk) -> Result<Step, Fail> {
-        let (end, output) = serve(alloc, &mut desk, self.line);
-        if end == (Finish::AtEnd { rest: 0 }) && output.as_slice() == self.reply.as_bytes() {
-            return Ok(went_well(desk));
+    /// Behind a refused request the desk is broken.
+    fn over<S: Alter>(&self, alloc: Global, desk: &mut Desk<S>) -> Came {
+        let served = serve(alloc, desk, self.line);
+        if served.is_answered(self.reply) {
+            return Came::Whole;
         }
-        let is_refused = end == Finish::Ended(End::Store)
-            && output.is_empty()
-            && is_ended(alloc, &mut desk, self.line, End::Broken);
-        let files = into_files(desk);
-        if is_refused && has_failed(&files) && self.acts_once(alloc, &mended(files))? {
-            Ok(Step::Refused)
+        let is_broken = served.is_ended(End::Store)
+            && serve(alloc, desk, self.line).is_ended(End::Broken);
+        if is_broken { Came::Broken } else { Came::Wrong }
+    }
+
+    fn again<S: Alter>(&self, alloc: Global, desk: &mut Desk<S>) -> Came {
+        if self.acts_once(alloc, desk) {
+            Came::Whole
         } else {
-            Ok(Step::Wrong)
+            Came::Wrong
         }
     }
 }
@@ -76,37 +81,28 @@ fn registration(alloc: Global) -> Result<Sent, Fail> {
     })
 }
 
-/// What comes of the registration while each call of this kind fails in turn.
-fn refusals_of_registration(alloc: Global, fault: Fault) -> Result<Result<u32, (u64, Step)>, Fail> {
+/// Lets each call of this kind fail in turn while the registration is sent.
+fn fail_registration(alloc: Global, fault: Fault) -> Result<(), Fail> {
     let files = twenty_keys(alloc)?;
-    let sent = registration(alloc)?;
-    refusals(alloc, &files, fault, &sent)
+    fail_each_call(alloc, &files, fault, &registration(alloc)?)
 }
 
 #[test]
 fn a_failed_read_of_the_log_refuses_a_request(rt: HostRuntime) -> Result<(), Fail> {
-    let refused = refusals_of_registration(rt.alloc(), Fault::LogRead)?;
-    assert!(rt; is_refused(&refused), "{refused:?}");
-    Ok(())
+    fail_registration(rt.alloc(), Fault::LogRead)
 }
 
 #[test]
 fn a_failed_write_of_the_log_refuses_a_request(rt: HostRuntime) -> Result<(), Fail> {
-    let refused = refusals_of_registration(rt.alloc(), Fault::LogOther)?;
-    assert!(rt; is_refused(&refused), "{refused:?}");
-    Ok(())
+    fail_registration(rt.alloc(), Fault::LogOther)
 }
 
 #[test]
 fn a_failed_read_of_the_file_refuses_a_request(rt: HostRuntime) -> Result<(), Fail> {
-    let refused = refusals_of_registration(rt.alloc(), Fault::DatabaseRead)?;
-    assert!(rt; is_refused(&refused), "{refused:?}");
-    Ok(())
+    fail_registration(rt.alloc(), Fault::DatabaseRead)
 }
 
 #[test]
 fn a_failed_write_of_the_file_refuses_a_request(rt: HostRuntime) -> Result<(), Fail> {
-    let refused = refusals_of_registration(rt.alloc(), Fault::DatabaseOther)?;
-    assert!(rt; is_refused(&refused), "{refused:?}");
-    Ok(())
+    fail_registration(rt.alloc(), Fault::DatabaseOther)
 }

@@ -1,83 +1,154 @@
-//! What is tried while each call of a kind fails in turn.
-use crate::files::{Fault, FaultyDesk, has_failed, into_files, open};
-use sqlite::Files;
+//! What is tried over a register while each call of a kind fails in turn.
+use crate::files::{Fault, Task, done, tried};
+use register_desk::Desk;
+use sqlite::{Alter, Connection, Files};
 use sqlite_disk::Memory;
 use std::alloc::Global;
+use std::fmt::Debug;
 use std::test::Fail;
 
 /// More calls than any trial makes.
 const MAX_CALLS: u64 = 5000;
 
-/// What came of a trial over files of which a call fails.
+/// What came of a trial.
 #[derive(Clone, Copy, Debug, PartialEq, Eq)]
-pub enum Step {
-    /// That call was made, the trial was refused for it, and what came behind was as it should be.
+pub enum Came {
+    /// All of it, as it should be.
+    Whole,
+    /// It was refused by 31, and the desk went on.
     Refused,
-    /// That call was not made, and the trial went well.
-    Undisturbed,
-    /// That call was made, and the trial went well.
-    Unnoticed,
-    /// The trial did something else, or what came behind it was not as it should be.
+    /// It was refused by 31, and the desk was broken.
+    Broken,
+    /// Anything else.
     Wrong,
 }
 
-/// What is tried.
+/// What is tried over a desk.
 pub trait Trial {
-    /// Does it over the desk, and looks at what comes behind it.
-    fn run(&self, alloc: Global, desk: FaultyDesk) -> Result<Step, Fail>;
-}
+    /// Does it, and looks at what comes behind it.
+    fn over<S: Alter>(&self, alloc: Global, desk: &mut Desk<S>) -> Came;
 
-/// What a trial over this desk that went well came to.
-pub fn went_well(desk: FaultyDesk) -> Step {
-    if has_failed(&into_files(desk)) {
-        Step::Unnoticed
-    } else {
-        Step::Undisturbed
+    /// Does it again, and once more, over the register that a broken desk left, opened anew.
+    fn again<S: Alter>(&self, alloc: Global, desk: &mut Desk<S>) -> Came {
+        match self.over(alloc, desk) {
+            Came::Whole => self.over(alloc, desk),
+            _ => Came::Wrong,
+        }
     }
 }
 
-/// How many calls of this kind an opening makes: where one more goes well before the one that fails, it is not refused.
+/// Which part of a trial is done.
+#[derive(Clone, Copy)]
+enum Part {
+    Over,
+    Again,
+}
+
+/// Opens the register for a part of a trial.
+#[derive(Drop)]
+struct Trying<'a, T> {
+    trial: &'a T,
+    part: Part,
+}
+
+impl<T: Trial> Task for Trying<'_, T> {
+    type Outcome = Came;
+
+    fn perform<S: Alter>(&self, alloc: Global, connection: Connection<S>) -> (Connection<S>, Came) {
+        let mut desk = match Desk::open(alloc, connection) {
+            Ok(desk) => desk,
+            Err(unopened) => return (unopened.connection, Came::Wrong),
+        };
+        let came = match self.part {
+            Part::Over => self.trial.over(alloc, &mut desk),
+            Part::Again => self.trial.again(alloc, &mut desk),
+        };
+        (desk.into_connection(), came)
+    }
+}
+
+/// Opens the register, if it may be opened, and does nothing with it.
+struct Opening;
+
+impl Task for Opening {
+    type Outcome = ();
+
+    fn perform<S: Alter>(&self, alloc: Global, connection: Connection<S>) -> (Connection<S>, ()) {
+        match Desk::open(alloc, connection) {
+            Ok(desk) => (desk.into_connection(), ()),
+            Err(unopened) => (unopened.connection, ()),
+        }
+    }
+}
+
+/// How many calls of this kind an opening makes: the least number behind which it makes none that fails.
 fn calls_of_opening(alloc: Global, files: &Files<Memory>, fault: Fault) -> Result<u64, Fail> {
     let mut low: u64 = 0;
     let mut high = MAX_CALLS;
     // As often as MAX_CALLS can be halved.
     for _ in 0..13 {
         let middle = low.saturating_add(high) / 2;
-        if open(alloc, files, fault, middle)?.is_some() {
-            high = middle;
-        } else {
+        let (_, left) = tried(alloc, files, fault, middle, &Opening)?;
+        if left.has_failed {
             low = middle.saturating_add(1);
+        } else {
+            high = middle;
         }
     }
     Ok(high)
 }
 
-/// Lets each call of a kind behind the opening fail in turn, until one is no more made. Gives how many of them the trial was
-/// refused for; or as an error the call at which it went otherwise, counted from 0, and how.
-pub fn refusals<T: Trial>(
+/// What came of the trial, and whether the call that fails was made. Where it broke the desk, it is done again over what that
+/// left.
+fn attempt<T: Trial>(
+    alloc: Global,
+    files: &Files<Memory>,
+    fault: Fault,
+    before: u64,
+    trial: &T,
+) -> Result<(Came, bool), Fail> {
+    let part = Part::Over;
+    let (came, left) = tried(alloc, files, fault, before, &Trying { trial, part })?;
+    let came = came.unwrap_or(Came::Wrong);
+    if came != Came::Broken {
+        return Ok((came, left.has_failed));
+    }
+    let part = Part::Again;
+    match done(alloc, &left.files, &Trying { trial, part })? {
+        (Came::Whole, _) => Ok((Came::Broken, left.has_failed)),
+        _ => Ok((Came::Wrong, left.has_failed)),
+    }
+}
+
+/// Lets each call of a kind behind the opening fail in turn, until one is no more made. Wherever it is made the trial has to be
+/// refused, at least once, and nowhere else.
+pub fn fail_each_call<T: Trial + Debug>(
     alloc: Global,
     files: &Files<Memory>,
     fault: Fault,
     trial: &T,
-) -> Result<Result<u32, (u64, Step)>, Fail> {
-    let mut refused: u32 = 0;
-    for before in calls_of_opening(alloc, files, fault)?..MAX_CALLS {
-        let Some(desk) = open(alloc, files, fault, before)? else {
-            return Ok(Err((before, Step::Wrong)));
-        };
-        match trial.run(alloc, desk)? {
-            Step::Refused => refused = refused.saturating_add(1),
-            Step::Undisturbed => return Ok(Ok(refused)),
-            other => return Ok(Err((before, other))),
+) -> Result<(), Fail> {
+    let first = calls_of_opening(alloc, files, fault)?;
+    for before in first..MAX_CALLS {
+        match attempt(alloc, files, fault, before, trial)? {
+            (Came::Refused | Came::Broken, true) => {}
+            (Came::Whole, false) if before > first => return Ok(()),
+            (came, has_failed) => {
+                return Err(Fail::new(format_args!(
+                    "{fault:?} {before} {has_failed}: {came:?} of {trial:?}"
+                )));
+            }
         }
     }
-    Ok(Err((MAX_CALLS, Step::Refused)))
+    Err(Fail::from("more calls than any trial makes"))
 }
 
-/// Whether the trial was refused for some calls, and went as it should at each.
-pub fn is_refused(refused: &Result<u32, (u64, Step)>) -> bool {
-    match refused {
-        Ok(count) => *count > 0,
-        Err(_) => false,
-    }
+/// Lets each read of the log behind the opening fail in turn, and then each of the database file.
+pub fn fail_each_read<T: Trial + Debug>(
+    alloc: Global,
+    files: &Files<Memory>,
+    trial: &T,
+) -> Result<(), Fail> {
+    fail_each_call(alloc, files, Fault::LogRead, trial)?;
+    fail_each_call(alloc, files, Fault::DatabaseRead, trial)
 }
