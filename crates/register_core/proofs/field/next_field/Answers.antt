@@ -1,0 +1,5 @@
+use Rattle.std.proofs.Common.{rules}
+use Rattle.register_core.proofs.field.next_field.Goals as goal
+
+pub returns : goal.returns
+returns c = search rules
