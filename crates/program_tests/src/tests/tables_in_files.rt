@@ -18,6 +18,10 @@ fn import<'a>(file: &'a str, moment: &'a str, caller: &'a str, first: &'a str) -
     ]
 }
 
+fn report<'a>(file: &'a str, days: &'a str) -> [&'a str; 5] {
+    ["report", "--file", file, "--days", days]
+}
+
 #[test]
 fn a_table_is_imported_and_exported(rt: HostRuntime) -> Result<(), Fail> {
     let file = "imported.keyreg";
@@ -54,10 +58,10 @@ fn due_keys_of_a_file_are_reported(rt: HostRuntime) -> Result<(), Fail> {
     assert!(rt; is_defaults(&rt, file)?);
     let due =
         b"Keys due for rotation by 1972-01-01T00:01:40Z\n      1  1972-01-01T00:00:00Z  due      data-encryption         bob  payroll disks\ntotal 1\n";
-    let words = ["report", "--file", file, "--days", "730"];
+    let words = report(file, "730");
     assert!(rt; does(&rt, &words, b"", 0, due.as_slice(), "")?);
     let none = b"Keys due for rotation by 1971-12-31T00:01:40Z\ntotal 0\n";
-    let words = ["report", "--file", file, "--days", "729"];
+    let words = report(file, "729");
     assert!(rt; does(&rt, &words, b"", 0, none.as_slice(), "")?);
     remove(&rt, file)
 }
@@ -97,7 +101,7 @@ fn terms_taken(rt: &HostRuntime, file: &str) -> Result<Option<usize>, Fail> {
 /// One of the bad numbers of days that is taken, if there is one.
 fn days_taken(rt: &HostRuntime, file: &str) -> Result<Option<&'static str>, Fail> {
     for days in &BAD_DAYS {
-        if !is_bad(rt, &["report", "--file", file, "--days", days])? {
+        if !is_bad(rt, &report(file, days))? {
             return Ok(Some(days));
         }
     }
@@ -123,7 +127,7 @@ fn the_last_values_are_taken(rt: HostRuntime) -> Result<(), Fail> {
     let replies = b"ok 1 Pre-Active 253402300799\n";
     assert!(rt; does(&rt, &words, table.as_slice(), 0, replies.as_slice(), "")?);
     let none = b"Keys due for rotation by 9999-12-31T23:59:59Z\ntotal 0\n";
-    let words = ["report", "--file", file, "--days", "36500"];
+    let words = report(file, "36500");
     assert!(rt; does(&rt, &words, b"", 0, none.as_slice(), "")?);
     remove(&rt, file)
 }
@@ -139,7 +143,7 @@ fn what_is_no_register_is_not_read(rt: HostRuntime) -> Result<(), Fail> {
         does(&rt, &["export", "--file", file], b"", 2, b"", faults)?,
         "export"
     );
-    let words = ["report", "--file", file, "--days", "1"];
+    let words = report(file, "1");
     assert!(rt; does(&rt, &words, b"", 2, b"", faults)?, "report");
     remove(&rt, file)
 }
