@@ -1,12 +1,13 @@
 #!/usr/bin/env python3
 """What the gate costs, in minutes of processor time by crate.
 
-    checks/gate_minutes.py [WORDS..]        runs `rt ci` with these words, and prints a row for each crate behind it
-    checks/gate_minutes.py --edits WORDS..  the same, with a line in seconds for each wrong body as well
+    bench/gate_minutes.py [--edits] [--command ci|must-fail] [--top FOLDER] [WORDS..]
 
-A crate's proof, the proof of its tests, and its wrong bodies are told apart. To those count the proof that they begin with,
-and the one more behind them, with which `rt` sees that nothing has changed. A row has what was done in this run: with
---anew among the words, or on a machine that has nothing kept, that is all. It needs Linux, for /proc.
+Runs `rt ci`, or the other command of `rt`, with these words at the top of this repository or of another copy of it, and
+prints a row for each crate behind that; with --edits a line in seconds for each wrong body as well. A crate's proof, the
+proof of its tests, and its wrong bodies are told apart. To these count the proof that they begin with, and the one more
+behind them, with which `rt` sees that nothing has changed. A row has what was done in this run: with --anew among the
+words, or on a machine that has nothing kept, that is all. Ended early, it prints what was done. It needs Linux, for /proc.
 """
 import argparse
 import collections
