@@ -3,15 +3,15 @@
 
     bench/gate_minutes.py [--edits] [--command ci|must-fail] [--top FOLDER] [WORDS..]
 
-Runs `rt ci`, or the other command of `rt`, with these words at the top of this repository or of another copy of it, and
-prints a row for each crate behind that; with --edits a line in seconds for each wrong body as well. A crate's proof, the
-proof of its tests, and its wrong bodies are told apart. To these count the proof that they begin with, and the one more
-behind them, with which `rt` sees that nothing has changed. A row has what was done in this run: with --anew among the
-words, or on a machine that has nothing kept, that is all. Ended early, it prints what was done. It needs Linux, for /proc.
+Runs `rt ci`, or the other command of `rt`, with these words at the top of this repository or of another copy of it,
+and prints a row for each crate behind that; with --edits a line in seconds for each wrong body as well. A crate's
+proof, the proof of its tests, and its wrong bodies are told apart. To these count the proof that they begin with, and
+the one more behind them, with which `rt` sees that nothing has changed. A row has what was done in this run: with
+--anew among the words, or on a machine that has nothing kept, that is all. Ended early, it prints what was done. It
+needs Linux, for /proc.
 """
 import argparse
 import collections
-import filecmp
 import glob
 import os
 import subprocess
@@ -20,7 +20,6 @@ import threading
 import time
 
 TICKS = os.sysconf("SC_CLK_TCK")
-PARTS = ("src", "specs", "proofs")
 
 
 def stat_of(pid):
@@ -35,37 +34,31 @@ def words_of(pid):
         return file.read().decode(errors="replace").split("\0")
 
 
-def edited_file(crate, room):
-    """The files of the crate that are otherwise in the room."""
-    here = [path for part in PARTS for path in glob.glob(f"{part}/**", root_dir=room, recursive=True)]
-    return [
-        it
-        for it in here
-        if os.path.isfile(f"{room}/{it}")
-        and not (os.path.isfile(f"{crate}/{it}") and filecmp.cmp(f"{room}/{it}", f"{crate}/{it}", shallow=False))
-    ]
+def read(path):
+    with open(path, encoding="utf-8", errors="replace") as file:
+        return file.read()
+
+
+def edited(crate, edit):
+    """The files that a wrong body changes, with their texts then."""
+    texts, path, old = {}, "", ""
+    for line in read(edit).splitlines():
+        if line.startswith("file: "):
+            path = line.removeprefix("file: ").strip()
+            texts.setdefault(path, read(f"{crate}/{path}"))
+        elif line.startswith("old: "):
+            old = line.removeprefix("old: ")
+        elif line.startswith("new:"):
+            texts[path] = texts[path].replace(old, line.removeprefix("new:").removeprefix(" "))
+    return texts
 
 
 def edit_of(crate, room):
     """The name of the wrong body that stands in the room, or none."""
-    changed = edited_file(crate, room)
-    if not changed:
-        return None
     for edit in sorted(glob.glob(f"{crate}/must-fail/*.edit")):
-        with open(edit, encoding="utf-8") as file:
-            lines = file.read().splitlines()
-        news = [line[5:] for line in lines if line.startswith("new: ")]
-        files = {line[6:].strip() for line in lines if line.startswith("file: ")}
-        if files == set(changed) and all(any(new in read(f"{room}/{it}") for it in files) for new in news):
-            olds = [line[5:] for line in lines if line.startswith("old: ")]
-            if all(not any(old in read(f"{room}/{it}") for it in files) or any(old in new for new in news) for old in olds):
-                return os.path.basename(edit)[: -len(".edit")]
-    return "unknown"
-
-
-def read(path):
-    with open(path, encoding="utf-8", errors="replace") as file:
-        return file.read()
+        if all(read(f"{room}/{path}") == text for path, text in edited(crate, edit).items()):
+            return os.path.basename(edit).removesuffix(".edit")
+    return None
 
 
 class Watch:
@@ -164,7 +157,9 @@ def main():
                 print(f"    {seconds:6.1f} {name}")
     total = sum(sum(row.values()) for row in minutes.values())
     used = os.times()
-    print(f"together: {total:.0f} processor minutes, {(used.children_user + used.children_system) / 60:.0f} with all that `rt` did besides, {wall / 60:.0f} by the clock")
+    whole = used.children_user + used.children_system
+    print(f"together: {total:.0f} processor minutes, {whole / 60:.0f} with all that `rt` did besides")
+    print(f"by the clock: {wall / 60:.0f} minutes")
     return status
 
 

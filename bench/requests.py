@@ -33,9 +33,9 @@ answered and where the counted ones behind them are. The difference is divided b
 rounds is told. In memory the register is made by requests first. Each reply of `keyreg` and of *python* is compared
 with what is expected, and after a run over a file the rows that the three programs left.
 
-With --instructions valgrind's callgrind (Debian's package valgrind) counts what each program executes in place of time, in thousands:
-no other load changes that, but it leaves out what the system does for a program, its reads, writes and syncs above all, and some fifty
-times as long a run comes with it.
+With --instructions valgrind's callgrind (Debian's package valgrind) counts what each program executes in place of time,
+in thousands: no other load changes that, but it leaves out what the system does for a program, its reads, writes and
+syncs above all, and some fifty times as long a run comes with it.
 
 The files are written by SQLite's own library from the formats of docs/SPECIFICATION.md. The bare program is proved and
 built in a folder for temporary files, where it is not there as it stands below; that takes some minutes, and so does
@@ -750,7 +750,7 @@ class Run:
         self.clock = clock_of(self.child.pid)
 
     def give(self, given, wanted):
-        """Gives a part of the input and waits for what is to be written for it. Gives processor and wall microseconds."""
+        """Gives a part of the input and waits for what is to be written. Gives processor and wall microseconds."""
         used, begun = time.clock_gettime(self.clock), time.monotonic()
         try:
             self.child.stdin.write(given)
