@@ -6,6 +6,8 @@
 #[cfg(test)]
 mod lifecycle;
 #[cfg(test)]
+mod lines;
+#[cfg(test)]
 mod moments;
 #[cfg(test)]
 mod periods;

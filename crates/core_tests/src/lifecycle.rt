@@ -1,5 +1,5 @@
 //! Usages, transitions and reasons, compared with the rules of the specification.
-use lifecycle_core::{Dates, Process, Reason, Row, State, Usage, may, usage_of};
+use lifecycle_core::{Dates, Process, Reason, Row, State, Usage, may, usage};
 use moment_core::Moment;
 
 /// Dates of a key that is active from 0 on, protects up to 500 and is deactivated at 1000.
@@ -33,7 +33,7 @@ fn is_usage(
 ) -> bool {
     match (dates, Moment::new(seconds)) {
         (Some(dates), Some(at)) => {
-            usage_of(&dates, at) == Usage { protect, process } && process.text() == text
+            usage(&dates, at) == Usage { protect, process } && process.text() == text
         }
         _ => false,
     }

@@ -32,6 +32,12 @@ fn a_key_is_shown_whole(rt: HostRuntime) -> Result<(), Fail> {
 }
 
 #[test]
+fn the_largest_key_is_held(rt: HostRuntime) -> Result<(), Fail> {
+    assert!(rt; desk_trials::is_largest_key_held(rt.alloc())?);
+    Ok(())
+}
+
+#[test]
 fn values_of_no_line_are_refused(rt: HostRuntime) -> Result<(), Fail> {
     assert!(rt; desk_trials::are_values_of_no_line_refused(rt.alloc())?);
     Ok(())
@@ -143,6 +149,11 @@ fn a_writer_that_fails_ends_an_export(rt: HostRuntime) -> Result<(), Fail> {
 fn a_table_is_imported_once(rt: HostRuntime) -> Result<(), Fail> {
     assert!(rt; desk_trials::is_table_imported_once(rt.alloc())?);
     Ok(())
+}
+
+#[test]
+fn a_million_rows_are_imported_at_most(rt: HostRuntime) {
+    assert_eq!(rt; desk_trials::most_rows(), 1_000_000);
 }
 
 #[test]

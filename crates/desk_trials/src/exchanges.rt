@@ -11,7 +11,7 @@ use std::test::Fail;
 use worked_rows::{ADVANCE, ADVANCED, BAD_REQUEST, Step, WorkedExchange, bodies, posts, targets};
 
 /// One exchange at this moment, in seconds.
-fn exchanged<R: Read, W: Write>(
+pub(crate) fn exchanged<R: Read, W: Write>(
     alloc: Global,
     desk: &mut Desk<MemStore>,
     seconds: u64,
@@ -171,7 +171,7 @@ fn is_troubled(alloc: Global, trouble: Trouble, taken: usize) -> Result<bool, Fa
     };
     let idle = match trouble {
         Trouble::IsInterrupted => MAX_IDLE_TURNS,
-        Trouble::Fails | Trouble::TakesNothing => 0,
+        Trouble::Fails | Trouble::FailsOnce | Trouble::TakesNothing => 0,
     };
     let is_ended = outcome == Some(expected) && writer.idle() == idle;
     let written = writer.into_inner().inner.inner;
@@ -183,11 +183,13 @@ fn is_troubled(alloc: Global, trouble: Trouble, taken: usize) -> Result<bool, Fa
     )
 }
 
-/// Behind how many bytes of the reply a failed write does not end the exchange as it should, if behind any. Behind all of
-/// them its flush fails.
+/// Behind how many bytes of the reply a failed write does not end the exchange as it should, if behind any, whether those
+/// behind it fail too or not. Behind all of the bytes its flush fails.
 pub fn failed_reply_passed_over(alloc: Global) -> Result<Option<usize>, Fail> {
     for taken in 0..=ADVANCED.len() {
-        if !is_troubled(alloc, Trouble::Fails, taken)? {
+        if !is_troubled(alloc, Trouble::Fails, taken)?
+            || !is_troubled(alloc, Trouble::FailsOnce, taken)?
+        {
             return Ok(Some(taken));
         }
     }

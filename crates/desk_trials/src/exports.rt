@@ -113,11 +113,11 @@ pub fn are_registers_written_out(alloc: Global) -> Result<bool, Fail> {
     )
 }
 
-/// Whether an export with a writer that fails after these writes and flushes ends so, and has written this.
+/// Whether an export with a writer that fails once after these writes and flushes ends so, and has written this.
 fn is_cut(alloc: Global, desk: &mut Desk<MemStore>, good_turns: usize, text: &str) -> bool {
     let mut writer = Watched::new(Troubled {
         inner: Vec::new(alloc),
-        trouble: Trouble::Fails,
+        trouble: Trouble::FailsOnce,
         good_turns,
     });
     let outcome = export(alloc, desk, &mut writer);

@@ -52,9 +52,11 @@ pub fn failed_read_passed_over(alloc: Global) -> Result<Option<usize>, Fail> {
 /// A name, a trouble, the writes of the line in hand that went well, and whether the writer has
 /// failed then. A line takes a write and a flush.
 #[rattlefmt::skip]
-const TROUBLES: [(&str, Trouble, usize, bool); 5] = [
+const TROUBLES: [(&str, Trouble, usize, bool); 7] = [
     ("a write fails", Trouble::Fails, 0, true),
     ("a flush fails", Trouble::Fails, 1, true),
+    ("a write fails once", Trouble::FailsOnce, 0, true),
+    ("a flush fails once", Trouble::FailsOnce, 1, true),
     ("a write takes nothing", Trouble::TakesNothing, 0, true),
     ("writes are interrupted", Trouble::IsInterrupted, 0, false),
     ("flushes are interrupted", Trouble::IsInterrupted, 1, false),

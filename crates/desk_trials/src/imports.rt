@@ -3,7 +3,7 @@ use moment_core::Moment;
 use register_core::Name;
 use register_desk::{Desk, End, Finish, Outcome, Watched, create_in_memory};
 use register_faults::{BrokenAfter, Interrupted, OneByte, Trouble, Troubled};
-use register_report::import;
+use register_report::{MAX_ROWS, import};
 use sqlite::MemStore;
 use std::alloc::Global;
 use std::io::{Read, Write};
@@ -21,7 +21,12 @@ const TWO_ROWS: &str =
 
 const LAST_NUMBER: u64 = 9_007_199_254_740_991;
 
-const AT_END: Finish = Finish::AtEnd { rest: 0 };
+/// How many rows an import answers at most.
+pub fn most_rows() -> u64 {
+    MAX_ROWS
+}
+
+pub(crate) const AT_END: Finish = Finish::AtEnd { rest: 0 };
 
 /// Imports the table into the desk at this moment, of the caller ann, from this number on.
 fn imported<R: Read + Drop, W: Write>(
@@ -40,7 +45,7 @@ fn imported<R: Read + Drop, W: Write>(
 }
 
 /// Whether an import at the moment, from this number on, ends so and writes these lines, each whole.
-fn replies_to<R: Read + Drop>(
+pub(crate) fn replies_to<R: Read + Drop>(
     alloc: Global,
     desk: &mut Desk<MemStore>,
     at: (u64, u64),
@@ -192,11 +197,11 @@ pub fn is_import_ended_by_reader(alloc: Global) -> Result<bool, Fail> {
     )
 }
 
-/// Whether a writer that fails behind the first reply ends the import. The row in hand is applied then.
+/// Whether a writer that fails once behind the first reply ends the import. The row in hand is applied then.
 fn is_cut_by_writer(alloc: Global, desk: &mut Desk<MemStore>, table: &[u8]) -> bool {
     let mut writer = Watched::new(Troubled {
         inner: Vec::new(alloc),
-        trouble: Trouble::Fails,
+        trouble: Trouble::FailsOnce,
         // The first line takes a write and a flush.
         good_turns: 2,
     });

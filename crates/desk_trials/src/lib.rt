@@ -9,6 +9,7 @@ mod exports;
 mod faults;
 mod fresh_run;
 mod imports;
+mod largest;
 mod long_lines;
 mod openings;
 mod repeats;
@@ -24,8 +25,10 @@ pub use exports::{are_registers_written_out, is_export_ended_by_writer};
 pub use faults::{failed_read_passed_over, failed_write_passed_over, writer_trouble_passed_over};
 pub use imports::{
     headless_table_imported, is_import_ended_by_no_text, is_import_ended_by_reader,
-    is_import_ended_by_writer, is_last_number_the_last, is_table_imported_once, odd_table_at_fault,
+    is_import_ended_by_writer, is_last_number_the_last, is_table_imported_once, most_rows,
+    odd_table_at_fault,
 };
+pub use largest::is_largest_key_held;
 pub use long_lines::{is_long_rest_counted, long_line_not_refused};
 pub use openings::{
     act_once_in_lives, edit_not_refused, goes_on_without_indexes, hundred_lines,

@@ -3,7 +3,7 @@
 use Rattle.std.specs.Prelude.{ℕ, List, None, Result, Ok, Err}
 use Rattle.serde_json.specs.Data.{Data}
 use Rattle.serde_json.specs.Written.{compact_text}
-use Rattle.lifecycle_core.specs.declared.usage.Usage.{Usage}
+use Rattle.lifecycle_core.specs.declared.usage_types.Usage.{Usage}
 use Rattle.register_core.specs.declared.reply.Reply as core
 use Rattle.register_core.specs.declared.reply.Refusal.{Refusal}
 use Rattle.register_core.specs.declared.reply.Refusal.TheVariants.{BadLine, UnknownKey}

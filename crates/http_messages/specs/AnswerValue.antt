@@ -1,7 +1,7 @@
 -- The JSON values of what is answered, each member in the order of their names' bytes.
 use Rattle.std.specs.Prelude.{ℕ, List, map, codes, Option, Some, None}
 use Rattle.lifecycle_core.specs.declared.state.State.{State}
-use Rattle.lifecycle_core.specs.declared.usage.Usage.{Usage}
+use Rattle.lifecycle_core.specs.declared.usage_types.Usage.{Usage}
 use Rattle.lifecycle_core.specs.declared.dates.Dates.{Dates}
 use Rattle.lifecycle_core.specs.State.{state_text}
 use Rattle.lifecycle_core.specs.Usage.{process_text}

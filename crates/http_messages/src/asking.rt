@@ -91,6 +91,7 @@ fn ask_post<R: Read>(
     ensures in_range { IfOk result.asked IsInRange }
     ensures fault { IfErr result.asked (λ fault. fault ≡ AskFault.ReadFault
         → IsFaulted reader.new.failed MAX_EXCHANGE_READS reader.new.turns) }
+    ensures bounded { reader.old.turns ≤ MAX_EXCHANGE_READS → reader.new.turns ≤ MAX_EXCHANGE_READS }
 {
     let BodyRead { read, body } = read_body(alloc, behind, post.length as usize, reader);
     match body {
@@ -147,6 +148,7 @@ fn ask_head<R: Read>(
     ensures in_range { IfOk result.asked IsInRange }
     ensures fault { IfErr result.asked (λ fault. fault ≡ AskFault.ReadFault
         → IsFaulted reader.new.failed MAX_EXCHANGE_READS reader.new.turns) }
+    ensures bounded { reader.old.turns ≤ MAX_EXCHANGE_READS → reader.new.turns ≤ MAX_EXCHANGE_READS }
 {
     match judge_routed(alloc, routes, bytes, headers, spans) {
         Ok(Judged::Rejected(rejection)) => BodyAsking::unread(Ok(Asked::Reject(rejection))),
@@ -185,6 +187,7 @@ fn ask_behind<R: Read>(
     ensures in_range { IfOk result.asked (λ asked. IfSome asked IsInRange) }
     ensures fault { IfErr result.asked (λ fault. fault ≡ AskFault.ReadFault
         → IsFaulted reader.new.failed MAX_EXCHANGE_READS reader.new.turns) }
+    ensures bounded { reader.old.turns ≤ MAX_EXCHANGE_READS → reader.new.turns ≤ MAX_EXCHANGE_READS }
 {
     let mut headers = [EMPTY_HEADER_SPAN; MAX_HEADERS];
     match front.find_head(&mut headers, reader) {
@@ -212,6 +215,7 @@ pub fn ask<R: Read>(alloc: Global, routes: &mut Routes, reader: &mut Watched<R>)
     ensures in_range { IfOk result.asked (λ asked. IfSome asked IsInRange) }
     ensures fault { IfErr result.asked (λ fault. fault ≡ AskFault.ReadFault
         → IsFaulted reader.new.failed MAX_EXCHANGE_READS reader.new.turns) }
+    ensures bounded { reader.old.turns ≤ MAX_EXCHANGE_READS → reader.new.turns ≤ MAX_EXCHANGE_READS }
 {
     let mut front = Front::new();
     let behind = ask_behind(alloc, routes, &mut front, reader);

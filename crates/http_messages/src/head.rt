@@ -82,6 +82,7 @@ impl Front {
         ensures err { OnErr result ((reader.new.failed ≡ true)
             ⊎ (MAX_EXCHANGE_READS ≤ reader.new.turns)) }
         ensures turns { reader.old.turns ≤ reader.new.turns }
+        ensures bounded { reader.old.turns ≤ MAX_EXCHANGE_READS → reader.new.turns ≤ MAX_EXCHANGE_READS }
         ensures bound { OnOk result (reader.new.turns ≤ MAX_EXCHANGE_READS) }
     {
         let filled = self.filled;
@@ -105,6 +106,7 @@ impl Front {
         ensures err { OnErr result ((reader.new.failed ≡ true)
             ⊎ (MAX_EXCHANGE_READS ≤ reader.new.turns)) }
         ensures turns { reader.old.turns ≤ reader.new.turns }
+        ensures bounded { reader.old.turns ≤ MAX_EXCHANGE_READS → reader.new.turns ≤ MAX_EXCHANGE_READS }
     {
         'reads: loop {
             match parse_request(self.bytes(), headers) {

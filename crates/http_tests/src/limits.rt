@@ -1,7 +1,9 @@
 //! The limits of heads and bodies, each at its last value and one past it.
-use super::inputs::{asked_of, is_rejected};
-use http_messages::{Asked, MAX_BODY_LENGTH, MAX_HEAD_LENGTH, MAX_HEADERS, Rejection};
-use register_faults::{Filled, OneByte};
+use super::inputs::{asked_of, is_rejected, posted};
+use http_messages::{
+    Asked, MAX_BODY_LENGTH, MAX_EXCHANGE_READS, MAX_HEAD_LENGTH, MAX_HEADERS, Rejection,
+};
+use register_faults::{BrokenAfter, Filled, OneByte};
 use std::alloc::{AllocError, Global};
 use std::io::Read;
 
@@ -10,6 +12,7 @@ fn limits_are_the_rules(rt: HostRuntime) {
     assert_eq!(rt; MAX_HEAD_LENGTH, 8192);
     assert_eq!(rt; MAX_HEADERS, 64);
     assert_eq!(rt; MAX_BODY_LENGTH, 65_536);
+    assert_eq!(rt; MAX_EXCHANGE_READS, 80_000);
 }
 
 /// The head of a GET with so many header lines, one of them the host's.
@@ -110,5 +113,16 @@ fn a_body_of_open_brackets_is_bad(rt: HostRuntime) -> Result<(), AllocError> {
         input.push_str("[")?;
     }
     assert!(rt; is_rejected(rt.alloc(), input.as_bytes(), Rejection::BadRequest));
+    Ok(())
+}
+
+/// Behind the bytes of a request each read fails.
+#[test]
+fn no_more_is_read_than_a_request_has(rt: HostRuntime) -> Result<(), AllocError> {
+    let get = b"GET /keys/1 HTTP/1.1\r\nHost: localhost\r\n\r\n";
+    assert!(rt; asked_of(rt.alloc(), BrokenAfter(get)) == Some(Asked::ShowKey(1)));
+    let post = posted(rt.alloc(), "{\"kind\":\"advance\"}")?;
+    let asked = asked_of(rt.alloc(), BrokenAfter(post.as_bytes()));
+    assert!(rt; matches!(asked, Some(Asked::Apply(_))));
     Ok(())
 }

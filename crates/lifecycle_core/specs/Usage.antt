@@ -3,9 +3,9 @@ use Rattle.std.specs.Prelude.{ℕ, Bool, true, false, ◌&&◌, nat_lt, List, co
 use Rattle.lifecycle_core.specs.declared.state.State.{State}
 use Rattle.lifecycle_core.specs.declared.state.State.TheVariants.{Active, Deactivated, Compromised}
 use Rattle.lifecycle_core.specs.declared.dates.Dates.{Dates}
-use Rattle.lifecycle_core.specs.declared.usage.Process.{Process}
-use Rattle.lifecycle_core.specs.declared.usage.Process.TheVariants.{Yes, Special, No}
-use Rattle.lifecycle_core.specs.declared.usage.Usage.{Usage}
+use Rattle.lifecycle_core.specs.declared.usage_types.Process.{Process}
+use Rattle.lifecycle_core.specs.declared.usage_types.Process.TheVariants.{Yes, Special, No}
+use Rattle.lifecycle_core.specs.declared.usage_types.Usage.{Usage}
 use Rattle.lifecycle_core.specs.State.{state_at}
 
 -- the word for it

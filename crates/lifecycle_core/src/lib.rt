@@ -5,7 +5,7 @@
 //! ```
 //! let before = row.state;
 //! advance(&mut row, now); // `row.state` is then `state_of(&row.dates, now)`
-//! if usage_of(&row.dates, now).protect { /* the key may protect data */ }
+//! if usage(&row.dates, now).protect { /* the key may protect data */ }
 //! ```
 #![tactic(auto)]
 
@@ -15,11 +15,13 @@ mod reason;
 mod row;
 mod state;
 mod transition;
-mod usage;
+mod usage_rule;
+mod usage_types;
 
 pub use dates::Dates;
 pub use reason::Reason;
 pub use row::{Row, advance, state_of};
 pub use state::State;
 pub use transition::may;
-pub use usage::{Process, Usage, usage_of};
+pub use usage_rule::usage;
+pub use usage_types::{Process, Usage};

@@ -2,7 +2,7 @@
 ghost use Rattle.std.specs.Prelude.{◌≡◌, ◌≤◌, List, Some, IfOk, IfErr, None};
 ghost use Rattle.register_core.specs.KeptReply.{reply};
 ghost use Rattle.register_core.specs.Verdict.{max_keys, judge_view, judgement};
-ghost use Rattle.register_core.specs.Decision.{IsRightKey, LeadsTo, held_change};
+ghost use Rattle.register_core.specs.Decision.{IsRightKey, IsViewOf, LeadsTo, held_change};
 ghost use Rattle.register_core.specs.Decision.{change_by, reply_to, reply_of_view};
 ghost use Rattle.register_core.specs.Need.{Suffices};
 
@@ -96,6 +96,11 @@ pub fn decide(view: &View, request: &Request) -> Result<Accept, Refusal>
     ensures leads { (h : List Request) → Suffices view.now h request.now →
         IfOk result (λ accept.
         (accept.reply ≡ reply h request.now) × LeadsTo h request.now accept.change) }
+    // So it is of the whole key, with both its lists.
+    ensures whole_view { (h : List Request) → IsViewOf view.now h request.now.command →
+        IfErr result (λ refusal. judgement h request.now ≡ Some refusal)
+        × IfOk result (λ accept. (judgement h request.now ≡ None)
+        × (accept.reply ≡ reply h request.now) × LeadsTo h request.now accept.change) }
 {
     match judge(view, request) {
         Some(refusal) => Err(refusal),

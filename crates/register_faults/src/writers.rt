@@ -24,15 +24,17 @@ impl<W: Write> Write for Short<W> {
 /// What a troubled writer does.
 #[derive(Clone, Copy, PartialEq, Eq)]
 pub enum Trouble {
-    /// A write or a flush fails by `BrokenPipe`.
+    /// Each write and flush fails by `BrokenPipe`.
     Fails,
+    /// One write or flush fails so, and those behind it go well.
+    FailsOnce,
     /// A write takes no byte; a flush goes well.
     TakesNothing,
     /// A write or a flush is interrupted.
     IsInterrupted,
 }
 
-/// Works at first, and then has its trouble at each write and flush.
+/// Works at first, and then has its trouble.
 #[derive(Drop)]
 pub struct Troubled<W> {
     pub inner: W,
@@ -50,6 +52,10 @@ impl<W> Troubled<W> {
         }
         match self.trouble {
             Trouble::Fails => Err(Error::from(ErrorKind::BrokenPipe)),
+            Trouble::FailsOnce => {
+                self.good_turns = usize::MAX;
+                Err(Error::from(ErrorKind::BrokenPipe))
+            }
             Trouble::TakesNothing => Ok(false),
             Trouble::IsInterrupted => Err(Error::from(ErrorKind::Interrupted)),
         }

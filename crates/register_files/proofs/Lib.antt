@@ -1,2 +1,4 @@
 pub mod Decimals
+mod Living
+mod Refusing
 mod Served

@@ -1,14 +1,12 @@
 //! The files of a register, whoever opens them.
-ghost use Rattle.std.specs.Prelude.{◌≡◌, List, [], false, IfOk, IfErr, IsTrue};
+ghost use Rattle.std.specs.Prelude.{◌≡◌, false, IfOk, IfErr, IsTrue};
 ghost use Rattle.sqlite.specs.Files.{HoldsDatabase};
 ghost use Rattle.sqlite.specs.Held.{AreDatabases, state};
 ghost use Rattle.sqlite.specs.Recovery.{Image};
 ghost use Rattle.sqlite.specs.State.{HasCleanDisk};
 ghost use Rattle.sqlite.specs.Tree.{Trees};
-ghost use Rattle.register_core.specs.declared.request.Request.{Request};
-ghost use Rattle.register_desk.specs.Files.{HoldsRegister, ShowsNothing};
+ghost use Rattle.register_desk.specs.Files.{ShowsFiles};
 ghost use Rattle.register_desk.specs.Opening.{RefusesNoTable};
-ghost use Rattle.register_desk.specs.Register.{HasCommitted, tables};
 
 use register_desk::OpenRefusal;
 use sqlite::{Alter, Connection};
@@ -30,14 +28,9 @@ pub trait Files {
     /// [`OpenRefusal::Store`] where the file cannot be opened, or is no database; [`OpenRefusal::Memory`] where memory gave
     /// out.
     fn connect(self, rt: &HostRuntime, file: &str) -> Result<Connection<Self::Opened>, OpenRefusal>
-        // Where the files hold the register of a history, the connection shows its tables.
-        ensures shows { (h : List Request) → HoldsRegister h start
-            → IfOk result (λ connection. HasCleanDisk (state Self.Opened.Store connection)
-            → HasCommitted (tables h) (state Self.Opened.Store connection)) }
-        // Where the database file has no byte, it shows an empty database.
-        ensures empty { start.db ≡ []
-            → IfOk result (λ connection. HasCleanDisk (state Self.Opened.Store connection)
-            → ShowsNothing (state Self.Opened.Store connection)) }
+        // The connection shows what the files hold.
+        ensures shows { IfOk result (λ connection. HasCleanDisk (state Self.Opened.Store connection)
+            → ShowsFiles start (state Self.Opened.Store connection)) }
         ensures idle { IfOk result (λ connection. connection.in_transaction ≡ false) }
         ensures blames_none { IfErr result RefusesNoTable };
 

@@ -8,7 +8,8 @@ mod values;
 
 pub use files::Files;
 pub use register_file::{
-    Life, export_file, import_file, init_file, open_file, report_file, run_file, serve_file,
+    Life, Refused, export_file, import_file, init_file, open_file, report_file, run_file,
+    serve_file,
 };
-pub use serving::{MachineClock, Now, serve_at, serve_on};
+pub use serving::{MachineClock, Now, listen, serve_at, serve_on};
 pub use values::{Bounds, GivenBounds, GivenTerms, MAX_DAYS, MAX_EXCHANGES, Terms, read_days};

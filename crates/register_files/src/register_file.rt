@@ -1,27 +1,23 @@
 //! The register in a file: the database file, and its log beside it.
-ghost use Rattle.std.specs.Prelude.{◌≡◌, ℕ, List, [], Option, Some, false, IfOk, IfErr};
+ghost use Rattle.std.specs.Prelude.{◌≡◌, ℕ, List, Option, None, false, IfOk, IfErr};
 ghost use Rattle.sqlite_trees.specs.View.{IsClean as IsCleanStore};
 ghost use Rattle.register_core.specs.declared.request.Request.{Request};
 ghost use Rattle.register_core.specs.Fold.{IsLawful};
+ghost use Rattle.register_desk.specs.declared.runs.Finish.{Finish};
 ghost use Rattle.register_desk.specs.Files.{HoldsRegister};
-ghost use Rattle.register_desk.specs.Input.{HasItems};
-ghost use Rattle.register_core.specs.History.{latest};
-ghost use Rattle.key_rows.specs.declared.key_row.KeyRow.{KeyRow};
-ghost use Rattle.key_rows.specs.DueRows.{AreDue};
-ghost use Rattle.key_rows.specs.Export.{export_text};
-ghost use Rattle.key_rows.specs.Report.{horizon, report_text};
 ghost use Rattle.register_desk.specs.Leaving.{IsClean, IsWhole, LeavesEither};
+ghost use Rattle.register_desk.specs.Lives.{LeavesLife};
 ghost use Rattle.register_desk.specs.Register.{StandsFor};
-ghost use Rattle.register_desk.specs.Rows.{all_rows};
-ghost use Rattle.register_report.specs.Rows.{BeginsWithHeader, HasRowItems};
-ghost use Rattle.register_files.specs.Life.{EndsUnbegun, LeavesInFiles, LivesOver};
-ghost use Rattle.register_files.specs.Life.{ServesInFiles, WritesOut};
+ghost use Rattle.register_files.specs.Calls.{Exports, ImportsRows, MakesRegister, Reports};
+ghost use Rattle.register_files.specs.Calls.{RunsLines, ServesExchanges};
+ghost use Rattle.register_files.specs.Life.{ClosesAs, LeavesInFiles, LeavesLifeInFiles, Refuses};
 
 use crate::files::Files;
 use crate::serving::serve_at;
 use crate::values::{Bounds, Terms};
-use register_desk::{Desk, OpenRefusal, Outcome, Watched, run};
+use register_desk::{Desk, OpenRefusal, Outcome, Unopened, Watched, run};
 use register_report::{export, import, rotation};
+use sqlite::{Alter, Connection};
 use std::io::{Read, Write};
 
 /// What one life of a register in a file came to.
@@ -32,6 +28,51 @@ pub struct Life<L> {
     pub store: L,
 }
 
+/// Why a register was not made or opened.
+#[derive(Drop)]
+pub struct Refused<L> {
+    pub refusal: OpenRefusal,
+    /// The files as they were left; `None` where they could not be opened at all.
+    pub store: Option<L>,
+}
+
+/// The refusal of files that could not be opened.
+impl<L> From<OpenRefusal> for Refused<L> {
+    ghost from_gives = { λ refusal refused. refused ≡ record { refusal = refusal; store = None } };
+
+    fn from(refusal: OpenRefusal) -> Self {
+        Refused {
+            refusal,
+            store: None,
+        }
+    }
+}
+
+/// The refusal of files that were opened.
+impl<S: Alter + Drop> From<Unopened<S>> for Refused<S> {
+    ghost use Rattle.register_files.specs.Life.{GivesBack};
+
+    ghost from_gives = { λ unopened refused. GivesBack S.Store unopened refused };
+
+    fn from(unopened: Unopened<S>) -> Self {
+        let Unopened {
+            refusal,
+            connection,
+        } = unopened;
+        Refused {
+            refusal,
+            store: Some(close(connection)),
+        }
+    }
+}
+
+/// The files of a connection that nobody uses any more.
+fn close<S: Alter + Drop>(connection: Connection<S>) -> S
+    ensures { ClosesAs S.Store connection result }
+{
+    connection.into_store()
+}
+
 /// The files of a register that nobody uses any more.
 fn into_files<F: Files>(desk: Desk<F::Opened>) -> F::Opened
     ensures clean { IsCleanStore (F.Opened.Store.view result) → IsClean F.Opened.Store desk }
@@ -39,8 +80,12 @@ fn into_files<F: Files>(desk: Desk<F::Opened>) -> F::Opened
     ensures leaves { (h : List Request) (other : List Request) →
         LeavesEither F.Opened.Store h other desk → IsCleanStore (F.Opened.Store.view result) →
         LeavesInFiles h other (F.may_leave result) }
+    ensures lives { (h : List Request) (items : List (Option Request)) (end : Finish)
+        (replies : ℕ) → LeavesLife F.Opened.Store h items end replies desk →
+        IsCleanStore (F.Opened.Store.view result) →
+        LeavesLifeInFiles h items end replies (F.may_leave result) }
 {
-    desk.into_connection().into_store()
+    close(desk.into_connection())
 }
 
 /// Makes an empty register in the file, which is made where there is none. Gives the files as it left them.
@@ -48,17 +93,16 @@ fn into_files<F: Files>(desk: Desk<F::Opened>) -> F::Opened
 /// # Errors
 /// [`OpenRefusal::NotARegister`] where the file has a table of a register; [`OpenRefusal::Store`] where the file cannot
 /// be opened, or the database refused; [`OpenRefusal::Memory`] where memory gave out.
-pub fn init_file<F: Files>(rt: &HostRuntime, file: &str, files: F) -> Result<F::Opened, OpenRefusal>
-    // Where the file was empty, whatever a stop leaves in the files holds the register of no request.
-    ensures leaves { F.start.db ≡ []
-        → IfOk result (λ store. IsCleanStore (F.Opened.Store.view store)
-        → LeavesInFiles [] [] (F.may_leave store)) }
+pub fn init_file<F: Files>(
+    rt: &HostRuntime,
+    file: &str,
+    files: F,
+) -> Result<F::Opened, Refused<F::Opened>>
+    ensures { MakesRegister F.Opened.Store F.may_leave F.start result }
 {
     let connection = files.connect(rt, file)?;
-    match Desk::create(rt.alloc(), connection) {
-        Ok(desk) => Ok(into_files::<F>(desk)),
-        Err(unopened) => Err(unopened.refusal),
-    }
+    let desk = Desk::create(rt.alloc(), connection)?;
+    Ok(into_files::<F>(desk))
 }
 
 /// Opens the register in the file.
@@ -69,17 +113,17 @@ pub fn open_file<F: Files>(
     rt: &HostRuntime,
     file: &str,
     files: F,
-) -> Result<Desk<F::Opened>, OpenRefusal>
+) -> Result<Desk<F::Opened>, Refused<F::Opened>>
     // The desk stands for the history whose register the files hold.
     ensures stands { (h : List Request) → IsLawful h → HoldsRegister h F.start
         → IfOk result (λ desk. IsClean F.Opened.Store desk → StandsFor F.Opened.Store desk h) }
     ensures whole { IfOk result IsWhole }
+    // A refusal has its cause in what the files hold, and a stop leaves what they held.
+    ensures refuses { IfErr result (Refuses F.Opened.Store F.may_leave F.start) }
 {
     let connection = files.connect(rt, file)?;
-    match Desk::open(rt.alloc(), connection) {
-        Ok(desk) => Ok(desk),
-        Err(unopened) => Err(unopened.refusal),
-    }
+    let desk = Desk::open(rt.alloc(), connection)?;
+    Ok(desk)
 }
 
 /// Opens the register in the file and runs over the request lines of `reader`.
@@ -92,17 +136,11 @@ pub fn run_file<F: Files, R: Read, W: Write>(
     files: F,
     reader: &mut Watched<R>,
     writer: &mut Watched<W>,
-) -> Result<Life<F::Opened>, OpenRefusal>
+) -> Result<Life<F::Opened>, Refused<F::Opened>>
     requires reader { reader.old.failed ≡ false }
     requires writer { writer.old.failed ≡ false }
-    // Where the files held the register of a history, what is written is the lines of the answers, and whatever a stop
-    // leaves in the files holds the register of the items that were answered, or of one more.
-    ensures lives { (h : List Request) (bytes : List ℕ) (items : List (Option Request))
-        (rest : List ℕ) → IsLawful h → HoldsRegister h F.start →
-        R.remaining reader.old.inner ≡ Some bytes → HasItems bytes items rest →
-        IfOk result (λ life. IsCleanStore (F.Opened.Store.view life.store) →
-        LivesOver F.Opened.Store h items rest life.outcome
-        (W.contents writer.old.inner) (W.contents writer.new.inner) (F.may_leave life.store)) }
+    ensures runs { RunsLines F.Opened.Store F.may_leave F.start (R.remaining reader.old.inner)
+        (W.contents writer.old.inner) (W.contents writer.new.inner) result }
     ensures untouched { IfErr result (λ _. writer.new ≡ writer.old) }
 {
     let mut desk = open_file(rt, file, files)?;
@@ -125,22 +163,10 @@ pub fn import_file<F: Files, R: Read + Drop, W: Write>(
     terms: &Terms,
     reader: R,
     writer: &mut Watched<W>,
-) -> Result<Life<F::Opened>, OpenRefusal>
+) -> Result<Life<F::Opened>, Refused<F::Opened>>
     requires { writer.old.failed ≡ false }
-    // Where the files held the register of a history, it is a run over the items of the rows behind the header row.
-    ensures lives { (h : List Request) (bytes : List ℕ) (items : List (Option Request)) →
-        IsLawful h → HoldsRegister h F.start → R.remaining reader ≡ Some bytes →
-        HasRowItems terms.now.moment terms.now.caller terms.now.first bytes items →
-        IfOk result (λ life. IsCleanStore (F.Opened.Store.view life.store) →
-        LivesOver F.Opened.Store h items [] life.outcome
-        (W.contents writer.old.inner) (W.contents writer.new.inner) (F.may_leave life.store)) }
-    // Without the header row nothing is registered.
-    ensures without { (h : List Request) (bytes : List ℕ) → IsLawful h →
-        HoldsRegister h F.start → R.remaining reader ≡ Some bytes →
-        (BeginsWithHeader bytes → ⊥) →
-        IfOk result (λ life. IsCleanStore (F.Opened.Store.view life.store) →
-        EndsUnbegun h life.outcome
-        (W.contents writer.old.inner) (W.contents writer.new.inner) (F.may_leave life.store)) }
+    ensures imports { ImportsRows F.Opened.Store F.may_leave F.start terms.now (R.remaining reader)
+        (W.contents writer.old.inner) (W.contents writer.new.inner) result }
     ensures untouched { IfErr result (λ _. writer.new ≡ writer.old) }
 {
     let mut desk = open_file(rt, file, files)?;
@@ -168,13 +194,10 @@ pub fn export_file<F: Files, W: Write>(
     file: &str,
     files: F,
     writer: &mut Watched<W>,
-) -> Result<Life<F::Opened>, OpenRefusal>
+) -> Result<Life<F::Opened>, Refused<F::Opened>>
     requires { writer.old.failed ≡ false }
-    // Where the files held the register of a history, its export is written, and they hold it still.
-    ensures lives { (h : List Request) → IsLawful h → HoldsRegister h F.start →
-        IfOk result (λ life. IsCleanStore (F.Opened.Store.view life.store) →
-        WritesOut h (export_text (all_rows h)) life.outcome
-        (W.contents writer.old.inner) (W.contents writer.new.inner) (F.may_leave life.store)) }
+    ensures exports { Exports F.Opened.Store F.may_leave F.start
+        (W.contents writer.old.inner) (W.contents writer.new.inner) result }
     ensures untouched { IfErr result (λ _. writer.new ≡ writer.old) }
 {
     let mut desk = open_file(rt, file, files)?;
@@ -196,15 +219,10 @@ pub fn report_file<F: Files, W: Write>(
     files: F,
     days: u32,
     writer: &mut Watched<W>,
-) -> Result<Life<F::Opened>, OpenRefusal>
+) -> Result<Life<F::Opened>, Refused<F::Opened>>
     requires { writer.old.failed ≡ false }
-    // Where the files held the register of a history, its report is written, and they hold it still.
-    ensures lives { (h : List Request) (due : List KeyRow) →
-        IsLawful h → HoldsRegister h F.start →
-        AreDue (all_rows h) (horizon (latest h) days) due →
-        IfOk result (λ life. IsCleanStore (F.Opened.Store.view life.store) →
-        WritesOut h (report_text (latest h) (horizon (latest h) days) due) life.outcome
-        (W.contents writer.old.inner) (W.contents writer.new.inner) (F.may_leave life.store)) }
+    ensures reports { Reports F.Opened.Store F.may_leave F.start days
+        (W.contents writer.old.inner) (W.contents writer.new.inner) result }
     ensures untouched { IfErr result (λ _. writer.new ≡ writer.old) }
 {
     let mut desk = open_file(rt, file, files)?;
@@ -224,12 +242,8 @@ pub fn serve_file<F: Files>(
     file: &str,
     files: F,
     bounds: &Bounds,
-) -> Result<Life<F::Opened>, OpenRefusal>
-    // Where the files held the register of a history, whatever a stop leaves in them holds that of at most one item more
-    // for each exchange.
-    ensures lives { (h : List Request) → IsLawful h → HoldsRegister h F.start →
-        IfOk result (λ life. IsCleanStore (F.Opened.Store.view life.store)
-        → ServesInFiles h bounds.now.exchanges (F.may_leave life.store)) }
+) -> Result<Life<F::Opened>, Refused<F::Opened>>
+    ensures { ServesExchanges F.Opened.Store F.may_leave F.start bounds.now.exchanges result }
 {
     let mut desk = open_file(rt, file, files)?;
     let end = serve_at(rt, &mut desk, bounds.port, bounds.exchanges);

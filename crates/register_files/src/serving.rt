@@ -1,10 +1,10 @@
 //! Serves connections one after the other, one HTTP exchange each.
-ghost use Rattle.std.specs.Prelude.{◌≡◌, ◌≢◌, List, true};
+ghost use Rattle.std.specs.Prelude.{◌≡◌, List};
 ghost use Rattle.register_core.specs.declared.request.Request.{Request};
 ghost use Rattle.register_desk.specs.Leaving.{IsClean, IsWhole};
 ghost use Rattle.register_desk.specs.Register.{StandsFor};
 ghost use Rattle.register_http.specs.Items.{LeavesOne};
-ghost use Rattle.register_files.specs.Serving.{LeavesSome};
+ghost use Rattle.register_files.specs.Serving.{EndsServing, LeavesSome, goes_on};
 
 use moment_core::Moment;
 use register_desk::{Desk, End, Finish, Watched};
@@ -142,7 +142,7 @@ fn serve_one<S: Alter, C: Clock>(
 
 /// Whether a next exchange may follow one that ended so: the register may be asked again.
 fn goes_on(finish: Finish) -> bool
-    ensures { result ≡ true → finish ≢ Finish.Ended End.Store }
+    ensures { result ≡ goes_on finish }
 {
     match finish {
         Finish::Ended(End::Store) => false,
@@ -169,6 +169,7 @@ pub fn serve_on<S: Alter, C: Clock, N: Now>(
     ensures leaves { (h : List Request) → StandsFor S.Store desk.old h → IsWhole desk.old
         → IsClean S.Store desk.new → LeavesSome S.Store h exchanges desk.new }
     ensures clean { IsClean S.Store desk.new → IsClean S.Store desk.old }
+    ensures ends { EndsServing result }
 {
     let mut routes = Routes::new();
     let mut served = 0;
@@ -188,13 +189,21 @@ pub fn serve_on<S: Alter, C: Clock, N: Now>(
     Finish::AtEnd { rest: 0 }
 }
 
-/// Serves so many connections to this port of 127.0.0.1, as [`serve_on`], by the machine's clock.
+/// A listener at this port of 127.0.0.1, which no other machine reaches.
+///
+/// # Errors
+/// As the system refused it.
+pub fn listen(rt: &HostRuntime, port: u16) -> io::Result<TcpListener> {
+    TcpListener::bind(rt, (Ipv4Addr::LOCALHOST, port))
+}
+
+/// Serves so many connections that come to [`listen`], as [`serve_on`], by the machine's clock.
 pub fn serve_at<S: Alter>(rt: &HostRuntime, desk: &mut Desk<S>, port: u16, exchanges: u32) -> Finish
     ensures leaves { (h : List Request) → StandsFor S.Store desk.old h → IsWhole desk.old
         → IsClean S.Store desk.new → LeavesSome S.Store h exchanges desk.new }
     ensures clean { IsClean S.Store desk.new → IsClean S.Store desk.old }
 {
-    let Ok(listener) = TcpListener::bind(rt, (Ipv4Addr::LOCALHOST, port)) else {
+    let Ok(listener) = listen(rt, port) else {
         return Finish::Ended(End::ReadFault);
     };
     let now = MachineClock::new(rt);

@@ -1,9 +1,12 @@
 -- What a desk leaves that was asked something, by what came of its call and of the memory for the text.
-use Rattle.std.proofs.Common.{◌≡◌, ◌≢◌, inl, inr, ℕ, true, List, Option, String, Result, Ok, Err, refl, sym, subst, ap, ◌∙◌}
+use Rattle.std.proofs.Common.{◌≡◌, ◌≢◌, ◌⊎◌, inl, inr, ℕ, true, List, Option, String, Result, Ok, Err, refl, sym, subst, ap, ◌∙◌}
 use Rattle.std.specs.Prelude.{IfOk, OnErr}
 use Rattle.std.specs.declared.alloc.Global.{Global}
 use Rattle.std.specs.declared.alloc.AllocError.{AllocError}
 use Rattle.sqlite_trees.specs.declared.store.Store.{Ghosts}
+use Rattle.register_core.specs.declared.answer.Answer.{Answer}
+use Rattle.register_core.specs.declared.answer.Answer.TheVariants.{Accepted, Repeated, Refused}
+use Rattle.register_core.specs.Answer.{UnlessAccepted, outcome}
 use Rattle.register_core.specs.declared.request.Request.{Request}
 use Rattle.register_core.specs.declared.reply.Reply as core
 use Rattle.register_core.specs.declared.reply.Refusal.{Refusal}
@@ -19,7 +22,7 @@ use Rattle.http_messages.specs.declared.asked.Asked.TheVariants.{Reject}
 use Rattle.http_messages.specs.declared.asked.Rejection.{Rejection}
 use Rattle.http_messages.specs.Rejection.{reply_of}
 use Rattle.http_messages.specs.Reply.{Reply}
-use Rattle.register_http.specs.Acting.{Acts, IsTextOf, StopsBy}
+use Rattle.register_http.specs.Acting.{Acts, IsTextOf, MayChange, StopsBy}
 use Rattle.register_http.specs.Answering.{found_reply, history_after, reply_to, uses_register}
 
 whole_not_broken : {A : Type 0} {S : Type 0} {g : Ghosts S} (desk : Desk S g) → IsWhole desk → IsBroken desk → A
@@ -87,11 +90,12 @@ module _ {S : Type 0} (g : Ghosts S) where
     }
 
     -- a text was made of the answer, or memory for it gave out
-    pub acts_text : (made : Result (String Global) AllocError) (result : Result (String Global) End) → Went
+    pub acts_text : (made : Result (String Global) AllocError) (result : Result (String Global) End) → Went → ChangesNothing g old new ⊎ MayChange asked result
         → ((rejection : Rejection) → asked ≡ Reject rejection → (new ≡ old) × IfOk made (IsTextOf (reply_of rejection)))
         → ((h : List Request) → StandsFor g old h → IsClean g new → IfOk made (IsTextOf (reply_to h moment asked)))
         → IfOk made (λ s. result ≡ Ok s) → OnErr made (result ≡ Err Memory) → Acts g moment asked old new result
-    acts_text (Ok s) result went rejects text ok err = subst (Acts g moment asked old new) (sym ok) (record {
+    acts_text (Ok s) result went changes rejects text ok err = subst (Acts g moment asked old new) (sym ok) (record {
+      changes = subst (λ r. ChangesNothing g old new ⊎ MayChange asked r) ok changes;
       clean = went.clean;
       ends = went.goes_on;
       uses = tt;
@@ -102,7 +106,8 @@ module _ {S : Type 0} (g : Ghosts S) where
       memory = λ h stands clean. tt;
       leaves = went.leaves;
     })
-    acts_text (Err e) result went rejects text ok err = subst (Acts g moment asked old new) (sym err) (record {
+    acts_text (Err e) result went changes rejects text ok err = subst (Acts g moment asked old new) (sym err) (record {
+      changes = subst (λ r. ChangesNothing g old new ⊎ MayChange asked r) err changes;
       clean = went.clean;
       ends = went.goes_on;
       uses = λ other. absurd (other refl);
@@ -119,8 +124,9 @@ module _ {S : Type 0} (g : Ghosts S) where
         → (IsClean g new → IsClean g old) → EndsBy old new end
         → ((h : List Request) → StandsFor g old h → StandsFor g new h)
         → ((h : List Request) → StandsFor g old h → IsWhole old → IsClean g new → LeavesEither g h (history_after h moment asked) new)
-        → result ≡ Err end → Acts g moment asked old new result
-    acts_end end result uses asks clean ends stands leaves is = subst (Acts g moment asked old new) (sym is) (record {
+        → ChangesNothing g old new ⊎ MayChange asked (Err end) → result ≡ Err end → Acts g moment asked old new result
+    acts_end end result uses asks clean ends stands leaves changes is = subst (Acts g moment asked old new) (sym is) (record {
+      changes = changes;
       clean = clean;
       ends = stops_by old new end ends;
       uses = λ other. uses;
@@ -136,7 +142,7 @@ module _ {S : Type 0} (g : Ghosts S) where
         → result ≡ Err end → Acts g moment asked old new result
     question_ends end result question ends reads is =
         acts_end end result question.uses question.asks reads.clean ends (λ h s. stands_still h old new reads s)
-        (λ h s whole clean. subst (λ k. LeavesEither g h k new) (sym (question.same h)) (leaves_still g h old new reads s whole clean)) is
+        (λ h s whole clean. subst (λ k. LeavesEither g h k new) (sym (question.same h)) (leaves_still g h old new reads s whole clean)) (inl reads) is
 
     -- the request was applied, and answered
     pub went_applied : (h' : List Request → List Request) → ((h : List Request) → history_after h moment asked ≡ h' h) → (IsClean g new → IsClean g old) → IsWhole old × IsWhole new
@@ -158,15 +164,37 @@ module _ {S : Type 0} (g : Ghosts S) where
     leaves_applied WriteFault h other ends s whole clean store same = absurd ends
     leaves_applied BadHeader h other ends s whole clean store same = absurd ends
 
+    changes_applied : (end : End) → EndsBy old new end → (end ≢ Store → ChangesNothing g old new) → MayChange asked (Err Store) → ChangesNothing g old new ⊎ MayChange asked (Err end)
+    changes_applied Memory ends same may = inl (same (λ e. absurd (cc)))
+    changes_applied Store ends same may = inr may
+    changes_applied Broken ends same may = inl (same (λ e. absurd (cc)))
+    changes_applied ReadFault ends same may = absurd ends
+    changes_applied WriteFault ends same may = absurd ends
+    changes_applied BadHeader ends same may = absurd ends
+
     -- the request was not answered
     pub applied_ends : (end : End) (result : Result (String Global) End) → uses_register asked ≡ true → ((rejection : Rejection) → asked ≢ Reject rejection)
         → (IsClean g new → IsClean g old) → EndsBy old new end → ((h : List Request) → StandsFor g old h → StandsFor g new h)
         → (h' : List Request → List Request) → ((h : List Request) → history_after h moment asked ≡ h' h)
         → ((h : List Request) → StandsFor g old h → IsClean g new → end ≡ Store → LeavesEither g h (h' h) new)
-        → (end ≢ Store → ChangesNothing g old new) → result ≡ Err end → Acts g moment asked old new result
-    applied_ends end result uses asks clean ends stands h' after store same is =
+        → (end ≢ Store → ChangesNothing g old new) → MayChange asked (Err Store) → result ≡ Err end → Acts g moment asked old new result
+    applied_ends end result uses asks clean ends stands h' after store same may is =
         acts_end end result uses asks clean ends stands
-        (λ h s whole was_clean. subst (λ k. LeavesEither g h k new) (sym (after h)) (leaves_applied end h (h' h) ends s whole was_clean (store h s was_clean) same)) is
+        (λ h s whole was_clean. subst (λ k. LeavesEither g h k new) (sym (after h)) (leaves_applied end h (h' h) ends s whole was_clean (store h s was_clean) same))
+        (changes_applied end ends same may) is
+
+  -- the desk is as it was
+  pub changes_none : (desk : Desk S g) → ChangesNothing g desk desk
+  changes_none desk = record { clean = λ clean. clean; counts = record { latest = refl; keys = refl }; rows = λ t sees. sees; stop = λ t sees whole clean. (sees whole clean).leaves }
+
+  -- an answer that is no acceptance changed nothing, and what an acceptance is told is its reply
+  pub changes_answered : (old new : Desk S g) (answer : Answer) (made : Result (String Global) AllocError) (result : Result (String Global) End) → UnlessAccepted answer (ChangesNothing g old new)
+      → IfOk made (IsTextOf (outcome_reply (outcome answer))) → IfOk made (λ s. result ≡ Ok s) → OnErr made (result ≡ Err Memory)
+      → ChangesNothing g old new ⊎ ((result ≡ Err Store) ⊎ ((reply : core.Reply) × IfOk result (IsTextOf (outcome_reply (Ok reply)))))
+  changes_answered old new (Accepted reply) (Ok s) result same text ok err = inr (inr (reply, subst (λ (r : Result (String Global) End). IfOk r (IsTextOf (outcome_reply (Ok reply)))) (sym ok) text))
+  changes_answered old new (Accepted reply) (Err e) result same text ok err = inr (inr (reply, subst (λ (r : Result (String Global) End). IfOk r (IsTextOf (outcome_reply (Ok reply)))) (sym err) tt))
+  changes_answered old new (Repeated first) made result same text ok err = inl same
+  changes_answered old new (Refused refusal) made result same text ok err = inl same
 
   -- the desk is not asked
   pub went_unasked : (moment : ℕ) (rejection : Rejection) (desk : Desk S g) → Went moment (Reject rejection) desk desk

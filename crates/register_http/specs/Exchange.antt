@@ -57,10 +57,12 @@ module _ {S : Type 0} (g : Ghosts S) where
     pub asks : (bytes : List ℕ) → input ≡ Some bytes → IfOk asked (AsksFor bytes)
     pub serves : ServesAsked moment asked kept now old new outcome
 
--- What it leaves of its reader: each byte that was read is counted, and a fault is the reader's own or the bound on reads.
+-- What it leaves of its reader: each byte that was read is counted, a fault is the reader's own or the bound on reads, and
+-- that is never passed. The turns are those of this exchange alone.
 pub record LeavesReader {R : Type 0} (remaining : R → Option (List ℕ)) (old new : Watched R) (outcome : Outcome) : Type 0 where
   pub took : TookBytes (remaining old.inner) (remaining new.inner) outcome.read
   pub fault : outcome.end ≡ Ended ReadFault → IsFaulted new.failed max_exchange_reads new.turns
+  pub bounded : new.turns ≤ max_exchange_reads
 
 -- What it leaves of its writer: a reply that is counted was flushed; where none is, though one was begun, the fault is the
 -- writer's own or the bound on its idle turns, and that is never passed.

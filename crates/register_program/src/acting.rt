@@ -3,13 +3,15 @@ ghost use Rattle.std.specs.Prelude.{◌≡◌, ◌≤◌, ℕ, List, Option, Som
 ghost use Rattle.register_core.specs.declared.request.Request.{Request};
 ghost use Rattle.register_desk.specs.Input.{HasItems};
 ghost use Rattle.register_desk.specs.End.{exit_status};
-ghost use Rattle.register_program.specs.Act.{unopened_status, status_of, Acts};
+ghost use Rattle.register_program.specs.Act.{unopened_status, usage_status, status_of, Acts};
+ghost use Rattle.register_program.specs.Task.{status_after, ActsBy, IsWordsStatus, Performs, RunsInMemory};
 
 use crate::words::{Task, read_words};
 use clap::error::ErrorKind;
 use register_desk::{End, Finish, OpenRefusal, Watched, create_in_memory, run};
 use register_files::{
-    Files, Life, export_file, import_file, init_file, read_days, report_file, run_file, serve_file,
+    Files, Life, Refused, export_file, import_file, init_file, read_days, report_file, run_file,
+    serve_file,
 };
 use std::alloc::Global;
 use std::io::{Read, Write};
@@ -21,14 +23,18 @@ const USAGE: u8 = 1;
 const UNOPENED: u8 = 2;
 
 /// Names a bad value among the words on `faults`, and gives its exit status.
-pub fn report_bad_value(faults: &mut impl Write) -> u8 {
+pub fn report_bad_value(faults: &mut impl Write) -> u8
+    ensures { result ≡ usage_status }
+{
     // Nobody is left to hear of a fault in reporting one.
     let _ = writeln!(faults, "keyreg: BadValue");
     USAGE
 }
 
 /// Writes `clap`'s account of the words to `faults`, and gives its exit status.
-fn report_words(error: &clap::Error, faults: &mut impl Write) -> u8 {
+fn report_words(error: &clap::Error, faults: &mut impl Write) -> u8
+    ensures { IsWordsStatus result }
+{
     if error.kind() == ErrorKind::OutOfMemory {
         return report_end(End::Memory, faults);
     }
@@ -62,46 +68,87 @@ pub fn report_refusal(refusal: OpenRefusal, faults: &mut impl Write) -> u8
     UNOPENED
 }
 
+/// What a task came to.
+pub enum Done<L> {
+    /// Request lines over a register in memory, which ended so, or which could not be made.
+    RanInMemory(Result<Finish, OpenRefusal>),
+    /// A register was to be made in a file.
+    Made(Result<L, Refused<L>>),
+    /// The register in a file was to be opened for what was done.
+    Lived(Result<Life<L>, Refused<L>>),
+    /// A value among the words is none. Nothing was done.
+    BadValue,
+}
+
 /// Runs over the request lines of `reader`, over a new register in memory.
-fn act_in_memory<R: Read + Drop, W: Write>(
+fn run_in_memory<R: Read + Drop, W: Write>(
     alloc: Global,
     reader: R,
     writer: &mut Watched<W>,
-    faults: &mut impl Write,
-) -> u8
+) -> Result<Finish, OpenRefusal>
     requires { writer.old.failed ≡ false }
-    ensures { (bytes : List ℕ) (items : List (Option Request)) (rest : List ℕ) →
-        R.remaining reader ≡ Some bytes → HasItems bytes items rest →
-        Acts items rest result (W.contents writer.old.inner) (W.contents writer.new.inner) }
+    ensures { RunsInMemory (R.remaining reader)
+        (W.contents writer.old.inner) (W.contents writer.new.inner) result }
 {
-    match create_in_memory(alloc) {
-        Ok(mut desk) => {
+    let mut desk = create_in_memory(alloc)?;
+    let mut reader = Watched::new(reader);
+    Ok(run(&mut reader, writer, &mut desk).end)
+}
+
+/// Does the task, over these files where it names one.
+pub fn perform<F: Files + Drop, R: Read + Drop, W: Write>(
+    rt: &HostRuntime,
+    files: F,
+    task: &Task<'_>,
+    reader: R,
+    writer: &mut Watched<W>,
+) -> Done<F::Opened>
+    requires { writer.old.failed ≡ false }
+    ensures { Performs F.Opened.Store F.may_leave F.start task.now (R.remaining reader)
+        (W.contents writer.old.inner) (W.contents writer.new.inner) result }
+{
+    match *task {
+        Task::RunInMemory => Done::RanInMemory(run_in_memory(rt.alloc(), reader, writer)),
+        Task::Init { file } => Done::Made(init_file(rt, file, files)),
+        Task::Run { file } => {
             let mut reader = Watched::new(reader);
-            report_finish(run(&mut reader, writer, &mut desk).end, faults)
+            Done::Lived(run_file(rt, file, files, &mut reader, writer))
         }
-        Err(refusal) => report_refusal(refusal, faults),
+        Task::Import { file, terms } => match terms.read() {
+            Some(terms) => Done::Lived(import_file(rt, file, files, &terms, reader, writer)),
+            None => Done::BadValue,
+        },
+        Task::Export { file } => Done::Lived(export_file(rt, file, files, writer)),
+        Task::Report { file, days } => match read_days(days) {
+            Some(days) => Done::Lived(report_file(rt, file, files, days, writer)),
+            None => Done::BadValue,
+        },
+        Task::Serve { file, bounds } => match bounds.read() {
+            Some(bounds) => Done::Lived(serve_file(rt, file, files, &bounds)),
+            None => Done::BadValue,
+        },
     }
 }
 
-/// Makes an empty register in the file.
-fn init<F: Files>(rt: &HostRuntime, file: &str, files: F, faults: &mut impl Write) -> u8 {
-    match init_file(rt, file, files) {
-        Ok(left) => {
+/// Copies the log of the files that are left into the database file, names on `faults` what kept the task from its end, and
+/// gives the exit status.
+fn conclude<F: Files>(done: Done<F::Opened>, faults: &mut impl Write) -> u8
+    ensures { result ≡ status_after done }
+{
+    match done {
+        Done::RanInMemory(Ok(finish)) => report_finish(finish, faults),
+        Done::RanInMemory(Err(refusal)) => report_refusal(refusal, faults),
+        Done::Made(Ok(left)) => {
             F::copy_log(left);
             0
         }
-        Err(refusal) => report_refusal(refusal, faults),
-    }
-}
-
-/// Ends a life of a register in a file, and gives the exit status of what it came to.
-fn end_life<F: Files>(life: Result<Life<F::Opened>, OpenRefusal>, faults: &mut impl Write) -> u8 {
-    match life {
-        Ok(Life { outcome, store }) => {
+        Done::Made(Err(refused)) => report_refusal(refused.refusal, faults),
+        Done::Lived(Ok(Life { outcome, store })) => {
             F::copy_log(store);
             report_finish(outcome.end, faults)
         }
-        Err(refusal) => report_refusal(refusal, faults),
+        Done::Lived(Err(refused)) => report_refusal(refused.refusal, faults),
+        Done::BadValue => report_bad_value(faults),
     }
 }
 
@@ -121,6 +168,9 @@ pub fn act<F: Files + Drop, R: Read + Drop, W: Write>(
     faults: &mut impl Write,
 ) -> u8
     requires { writer.old.failed ≡ false }
+    // A task is done as it says, or the words are none and nothing is written.
+    ensures does { ActsBy F.Opened.Store F.may_leave F.start (R.remaining reader)
+        (W.contents writer.old.inner) (W.contents writer.new.inner) result }
     // With no words but its name, what is written and the status are those of a run from the empty history, where the
     // reader's bytes are known.
     ensures acts { (bytes : List ℕ) (items : List (Option Request)) (rest : List ℕ) →
@@ -128,28 +178,7 @@ pub fn act<F: Files + Drop, R: Read + Drop, W: Write>(
         Acts items rest result (W.contents writer.old.inner) (W.contents writer.new.inner) }
 {
     match read_words(rt.alloc(), words) {
-        Ok(Task::RunInMemory) => act_in_memory(rt.alloc(), reader, writer, faults),
-        Ok(Task::Init { file }) => init(rt, file, files, faults),
-        Ok(Task::Run { file }) => {
-            let mut reader = Watched::new(reader);
-            end_life::<F>(run_file(rt, file, files, &mut reader, writer), faults)
-        }
-        Ok(Task::Import { file, terms }) => match terms.read() {
-            Some(terms) => end_life::<F>(
-                import_file(rt, file, files, &terms, reader, writer),
-                faults,
-            ),
-            None => report_bad_value(faults),
-        },
-        Ok(Task::Export { file }) => end_life::<F>(export_file(rt, file, files, writer), faults),
-        Ok(Task::Report { file, days }) => match read_days(days) {
-            Some(days) => end_life::<F>(report_file(rt, file, files, days, writer), faults),
-            None => report_bad_value(faults),
-        },
-        Ok(Task::Serve { file, bounds }) => match bounds.read() {
-            Some(bounds) => end_life::<F>(serve_file(rt, file, files, &bounds), faults),
-            None => report_bad_value(faults),
-        },
+        Ok(task) => conclude::<F>(perform(rt, files, &task, reader, writer), faults),
         Err(error) => report_words(&error, faults),
     }
 }

@@ -55,12 +55,13 @@ const SERVE: &str = "Serves HTTP exchanges on 127.0.0.1, one connection after th
 
 const REPORT: &str = "Writes which keys are due for rotation";
 
-/// An option whose value has to be given.
+/// An option whose value has to be given. The word behind its name is the value, whatever it begins with.
 fn needed<'a>(alloc: Global, name: &'a str, value: &'a str, help: &'a str) -> Arg<'a> {
     Arg::new(alloc, name)
         .long(name)
         .value_name(value)
         .required(true)
+        .allow_hyphen_values(true)
         .action(ArgAction::Set)
         .help(help)
 }

@@ -18,6 +18,8 @@ use Rattle.register_desk.specs.declared.desk.Desk.{Desk}
 use Rattle.register_desk.specs.Leaving.{IsBroken, IsClean}
 use Rattle.register_desk.specs.Register.{StandsFor}
 use Rattle.register_desk.specs.Run.{Answered, Refused, RunsOver}
+use Rattle.register_desk.specs.Lives.{LivesSome, MayApplyOneMore}
+use Rattle.register_desk.proofs.Lived.{lived_alone}
 use Rattle.register_desk.proofs.Answering.{answered_none, front_refused, front_so}
 use Rattle.register_report.specs.Import.{ImportsBroken}
 use Rattle.register_report.specs.Rows.{BeginsWithHeader, HasRows, Item, Row, header}
@@ -146,3 +148,27 @@ module _ {R : Type 0} {remaining : R → Option (List ℕ)} {a : Reader R} {byte
     no_header_refused Store why broken = absurd why
     no_header_refused Broken why broken = absurd why
     no_header_refused WriteFault why broken = absurd why
+
+-- ---- no header row was read, of bytes that nobody tells
+
+module _ {S : Type 0} (g : Ghosts S) (h : List Request) (kept : Desk S g)
+    (written : Option (List ℕ)) (stands : StandsFor g kept h) (clean : IsClean g kept) where
+  none_lives : (end : End) → MayApplyOneMore (Ended end) false
+      → ((Ended end ≡ Ended BadHeader → ⊥) → Answered g h [] 0 written written kept
+      → RunsOver g h [] [] (Ended end) 0 written written kept)
+      → LivesSome g h (Ended end) 0 written written kept kept
+  none_lives end may over =
+      let none = front_so g [] [] 0 refl [] refl h written written kept kept
+      (answered_none g written kept) stands clean in
+      lived_alone g h [] tt 0 kept clean [] (Ended end) written written kept may (λ whole. whole) none
+      (λ other. over other none)
+
+  pub no_header_lives : {R : Type 0} (remaining : R → Option (List ℕ)) (a b : Reader R) (end : End)
+      → ExplainsNoHeader remaining a b end → LivesSome g h (Ended end) 0 written written kept kept
+  no_header_lives remaining a b Memory why = none_lives Memory refl (λ other over. over)
+  no_header_lives remaining a b ReadFault why = none_lives ReadFault refl (λ other over. over)
+  no_header_lives remaining a b BadHeader why =
+      none_lives BadHeader refl (λ other over. absurd (other refl))
+  no_header_lives remaining a b Store why = absurd why
+  no_header_lives remaining a b Broken why = absurd why
+  no_header_lives remaining a b WriteFault why = absurd why

@@ -16,8 +16,13 @@ use Rattle.register_desk.specs.declared.runs.Finish.TheVariants.{AtEnd, Ended}
 use Rattle.register_desk.specs.declared.desk.Desk.{Desk}
 use Rattle.register_desk.specs.Leaving.{IsBroken, IsClean}
 use Rattle.register_desk.specs.Register.{StandsFor}
-use Rattle.register_desk.specs.Run.{Answered, in_hand, LeavesDesk, Refused, RunsBroken, RunsOver, StandsForSome}
-use Rattle.register_desk.proofs.Answering.{front_refused, front_so, some_stopped, stopped_broken, stopped_so}
+use Rattle.register_desk.specs.Run.{Answered, IsRequestNext, LeavesDesk, Refused, RunsBroken, RunsOver}
+use Rattle.register_desk.specs.Lives.{AreInRange, LivesSome}
+use Rattle.register_desk.proofs.Lived.{lived}
+use Rattle.register_core.proofs.Lawful.{all_more}
+use Rattle.register_core.specs.Request.{IsRequest}
+use Rattle.std.specs.Prelude.{IfSome}
+use Rattle.register_desk.proofs.Answering.{front_refused, front_so, stopped_broken, stopped_so, there}
 use Rattle.register_report.specs.Import.{ImportsBroken}
 use Rattle.register_report.specs.Rows.{AreRowItems, AreTexts, IsRowItem, Item, Row}
 use Rattle.register_report.specs.Serving.{ServedAllRows, ServedRowInPart, ServedRows, ServesRowsTo}
@@ -33,6 +38,23 @@ no_rows s left [] none are = refl
 no_rows s left (r ∷ rows) none are =
     let both : Some are.2.0 ≡ None = sym are.2.1 ∙ none in
     absurd cc
+
+-- items of rows are in range
+
+row_in_range : (moment : ℕ) (caller : List ℕ) (number : ℕ) (row : Row) (item : Item)
+    → IsRowItem moment caller number row item → IfSome item IsRequest
+row_in_range moment caller number row None is = tt
+row_in_range moment caller number row (Some q) is = is.in_range
+
+rows_in_range : (moment : ℕ) (caller : List ℕ) (number : ℕ) (rows : List Row) (items : List Item)
+    → AreRowItems moment caller number rows items → AreInRange items
+rows_in_range moment caller number [] [] each = tt
+rows_in_range moment caller number (row ∷ rows) (item ∷ items) each = (
+  row_in_range moment caller number row item each.0,
+  rows_in_range moment caller (number + 1) rows items each.1,
+)
+rows_in_range moment caller number [] (item ∷ items) each = absurd each
+rows_in_range moment caller number (row ∷ rows) [] each = absurd each
 
 module _ {S R : Type 0} {g : Ghosts S} {remaining : R → Option (List ℕ)} {moment : ℕ}
     {caller : List ℕ} {first : ℕ} where
@@ -144,30 +166,46 @@ module _ {S R : Type 0} (g : Ghosts S) (remaining : R → Option (List ℕ)) (mo
   clean_so (Ended BadHeader) serves clean = absurd serves
 
   module _ (h : List Request) (stands : StandsFor g kept h) (clean : IsClean g now) where
-    some_all : (reader : Reader R) (end : Finish) → in_hand end ≡ 0
-        → ServedRows g remaining moment caller first start reader old new kept now replies
-        → StandsForSome g h replies end now
-    some_all reader end none served = record {
-      items = served.items;
-      counted = omega (arith, served.counted, none);
-      stands = (served.so_far.answered h stands clean).1;
-    }
+    -- the rows so far, and no more
+    front_lives : (reader : Reader R) (end : Finish) → LeavesDesk kept now end
+        → (served : ServedRows g remaining moment caller first start reader old new kept now replies)
+        → (Answered g h served.items replies old new now → RunsOver g h served.items [] end replies old new now)
+        → LivesSome g h end replies old new kept now
+    front_lives reader end leaves served over =
+        lived g h served.items (rows_in_range moment caller first served.rows served.items served.each)
+        replies now clean [] end old new kept leaves
+        (over (front_so g served.items served.items replies served.counted []
+        (sym (append-nil served.items)) h old new kept now served.so_far stands clean))
 
-    some_in_hand : (end : End) → InPart end → StandsForSome g h replies (Ended end) now
-    some_in_hand end serves =
+    -- the row in hand behind them
+    in_hand_lives : (end : End) → LeavesDesk kept now (Ended end) → InPart end
+        → LivesSome g h (Ended end) replies old new kept now
+    in_hand_lives end leaves serves =
         let served = serves.served in
-        some_stopped g h served.items replies served.counted old serves.so_far new kept serves.mid
-        now stands clean serves.item end serves.part served.so_far serves.leaves
+        let front = rows_in_range moment caller first served.rows served.items served.each in
+        let last = row_in_range moment caller (first + replies) serves.row serves.item
+        serves.stands_for in
+        lived g h (served.items ++ serves.item ∷ [])
+        (all_more (λ item. IfSome item IsRequest) served.items serves.item front last)
+        replies now clean [] (Ended end) old new kept leaves
+        (stopped_so g (served.items ++ serves.item ∷ []) served.items replies served.counted
+        serves.item [] refl old serves.so_far new kept serves.mid now served.so_far h stands clean
+        end serves.part [] serves.leaves)
 
-    pub some_so : (end : Finish) → Serves end → StandsForSome g h replies end now
-    some_so (AtEnd left) serves = some_all serves.0.reader (AtEnd left) refl serves.0.served
-    some_so (Ended Memory) (inl serves) = some_all serves.reader (Ended Memory) refl serves.served
-    some_so (Ended Memory) (inr serves) = some_in_hand Memory serves
-    some_so (Ended Store) serves = some_in_hand Store serves
-    some_so (Ended Broken) serves = some_in_hand Broken serves
-    some_so (Ended ReadFault) serves = some_all serves.reader (Ended ReadFault) refl serves.served
-    some_so (Ended WriteFault) serves = some_in_hand WriteFault serves
-    some_so (Ended BadHeader) serves = absurd serves
+    pub lives_so : (end : Finish) → LeavesDesk kept now end → Serves end
+        → LivesSome g h end replies old new kept now
+    lives_so (AtEnd left) leaves serves =
+        front_lives serves.0.reader (AtEnd left) leaves serves.0.served
+        (λ over. (over, sym serves.0.served.counted, serves.1))
+    lives_so (Ended Memory) leaves (inl serves) =
+        front_lives serves.reader (Ended Memory) leaves serves.served (λ over. over)
+    lives_so (Ended Memory) leaves (inr serves) = in_hand_lives Memory leaves serves
+    lives_so (Ended Store) leaves serves = in_hand_lives Store leaves serves
+    lives_so (Ended Broken) leaves serves = in_hand_lives Broken leaves serves
+    lives_so (Ended ReadFault) leaves serves =
+        front_lives serves.reader (Ended ReadFault) leaves serves.served (λ over. over)
+    lives_so (Ended WriteFault) leaves serves = in_hand_lives WriteFault leaves serves
+    lives_so (Ended BadHeader) leaves serves = absurd serves
 
   -- ---- bytes that are known
 
@@ -223,6 +261,18 @@ module _ {S R : Type 0} (g : Ghosts S) (remaining : R → Option (List ℕ)) (mo
         over_so (Ended ReadFault) serves = front behind serves.served all each h stands clean
         over_so (Ended WriteFault) serves = stopped_over WriteFault serves
         over_so (Ended BadHeader) serves = absurd serves
+
+      -- ---- any desk that the database ended
+
+      pub uses_so : (end : Finish) → Serves end → end ≡ Ended Store → IsRequestNext all replies
+      uses_so end serves is =
+          let it = subst (λ e. Serves e) is serves in
+          let next = next_of Store it in
+          let stop = it.leaves.0 in (
+            stop.request,
+            there g all it.served.items replies it.served.counted it.item next.0 next.1
+                ∙ ap (λ i. Some i) stop.is,
+          )
 
       -- ---- a broken desk
 

@@ -12,7 +12,7 @@ use Rattle.register_desk.specs.declared.runs.Finish.{Finish}
 use Rattle.register_desk.specs.declared.runs.Finish.TheVariants.{AtEnd, Ended}
 use Rattle.register_desk.specs.declared.desk.Desk.{Desk}
 use Rattle.register_desk.specs.Serving.{AnsweredItems, LeavesItem}
-use Rattle.register_report.specs.Rows.{AreRowItems, AreTexts, IsRowItem, Item, Row, header}
+use Rattle.register_report.specs.Rows.{AreRowItems, AreTexts, IsRowItem, Item, Row, header, max_rows}
 
 -- ---- reading
 
@@ -32,6 +32,12 @@ ExplainsEnd remaining start reader Store = ⊥
 ExplainsEnd remaining start reader Broken = ⊥
 ExplainsEnd remaining start reader WriteFault = ⊥
 ExplainsEnd remaining start reader BadHeader = ⊥
+
+-- why the rows that were read ended before the input did: as many were answered as an import answers at most, or the next
+-- was none that can be read
+abbrev pub EndsReading : {R : Type 0} → (R → Option (List ℕ)) → ℕ → Type 0
+EndsReading {R} remaining replies =
+    (replies ≡ max_rows) ⊎ ((start : Reader R) × (last : Reader R) × ExplainsEnd remaining start last ReadFault)
 
 -- why no header row was read: no record could be read, or there was none, or another one
 abbrev pub ExplainsNoHeader : {R : Type 0} → (R → Option (List ℕ)) → Reader R → Reader R → End

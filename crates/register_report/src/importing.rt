@@ -10,11 +10,12 @@ ghost use Rattle.register_core.specs.Number.{IsNumber};
 ghost use Rattle.register_desk.specs.Leaving.{IsBroken, IsClean, IsWhole};
 ghost use Rattle.register_desk.specs.Register.{StandsFor};
 ghost use Rattle.register_desk.specs.Run.{LeavesDesk, LeavesNext, LeavesWriter};
-ghost use Rattle.register_desk.specs.Run.{RunsOver, StandsForSome};
+ghost use Rattle.register_desk.specs.Run.{IsRequestNext, RunsOver};
+ghost use Rattle.register_desk.specs.Lives.{LivesSome};
 ghost use Rattle.register_report.specs.Import.{DoesNothing, EndsWithoutHeader, ImportsBroken};
 ghost use Rattle.register_report.specs.Rows.{AreTexts, BeginsWithHeader, HasRowItems, HasRows};
 ghost use Rattle.register_report.specs.Rows.{header, max_rows};
-ghost use Rattle.register_report.specs.Serving.{ExplainsEnd, ExplainsNoHeader, ServesRowsTo};
+ghost use Rattle.register_report.specs.Serving.{EndsReading, ExplainsEnd, ExplainsNoHeader, ServesRowsTo};
 
 use crate::row::{is_header, row_item};
 use csv::{ErrorKind, Reader, ReaderBuilder, StringRecord};
@@ -91,6 +92,8 @@ fn serve_rows<R: Read, W: Write, S: Alter>(
         (W.contents writer.old.inner) (W.contents writer.new.inner)
         desk.old desk.new result.replies result.end }
     ensures limit { result.replies ≤ max_rows }
+    // No row is refused for its number but the one behind as many as there may be.
+    ensures cause { result.end ≡ Finish.Ended End.ReadFault → EndsReading R.remaining result.replies }
     ensures writer { LeavesWriter W.contents writer.old writer.new result }
     ensures desk { LeavesDesk desk.old desk.new result.end }
     ensures uncounted { result.read ≡ 0 }
@@ -169,9 +172,15 @@ pub fn import<R: Read + Drop, W: Write, S: Alter>(
         StandsFor S.Store desk.old h → IsWhole desk.old → IsClean S.Store desk.new →
         R.remaining reader ≡ Some bytes → HasRowItems moment caller.now first bytes items →
         LeavesNext S.Store h items result.replies desk.new }
-    // Whatever the reader tells of its bytes, the desk stands for the history of some items.
-    ensures some { (h : List Request) → StandsFor S.Store desk.old h → IsClean S.Store desk.new →
-        StandsForSome S.Store h result.replies result.end desk.new }
+    // Whatever the reader tells of its bytes, there are items that it was a run over, as many as
+    // were answered or one more, and a stop leaves the register after that life.
+    ensures lives { (h : List Request) → StandsFor S.Store desk.old h → IsClean S.Store desk.new →
+        LivesSome S.Store h result.end result.replies
+        (W.contents writer.old.inner) (W.contents writer.new.inner) desk.old desk.new }
+    // The database is used for a row that asks for a registration, whatever the desk.
+    ensures uses { (bytes : List ℕ) (items : List (Option Request)) →
+        R.remaining reader ≡ Some bytes → HasRowItems moment caller.now first bytes items →
+        result.end ≡ Finish.Ended End.Store → IsRequestNext items result.replies }
     // A broken desk answers what is no request, up to the first item that is one.
     ensures broken { (bytes : List ℕ) (items : List (Option Request)) →
         IsBroken desk.old → R.remaining reader ≡ Some bytes →

@@ -1,6 +1,5 @@
 -- The test of the table meta.
-use Rattle.std.proofs.Common.{◌≡◌, inl, inr, ℕ, Option, None, Some, Result, Ok, Err, List, [], ◌∷◌, ◌++◌, sym, ap, subst, ◌∙◌, refl, arith}
-use Rattle.std.specs.Prelude.{ok_or}
+use Rattle.std.proofs.Common.{◌≡◌, inl, inr, ℕ, Option, None, Some, Result, Ok, Err, List, [], ◌∷◌, ◌++◌, IfOk, IfErr, IsErrAnd, sym, ap, subst, ◌∙◌, refl, arith}
 use Rattle.sqlite.specs.Effect.{Database as Db}
 use Rattle.sqlite.specs.Order.{Row, column}
 use Rattle.sqlite.specs.Program.{overlay}
@@ -15,13 +14,16 @@ use Rattle.row_tests.specs.Showing.{HasNoMeaning, IsQuery, ShowsAll, ShowsFirst}
 use Rattle.row_tests.proofs.Selects.{IsSelect, select_plain}
 use Rattle.register_store.specs.declared.found.Found.{Found}
 use Rattle.register_store.specs.declared.error.CheckError.{CheckError}
-use Rattle.register_store.specs.declared.error.CheckError.TheVariants.{NotARegister}
+use Rattle.register_store.specs.declared.error.CheckError.TheVariants.{NewerVersion, NotARegister}
+use Rattle.register_store.specs.declared.meta_test.MetaRow.{MetaRow}
+use Rattle.register_store.specs.declared.meta_test.MetaRow.TheVariants.{Newer, Counts as CountsKeys}
 use Rattle.register_store.specs.declared.table.TableName.TheVariants.{Meta}
-use Rattle.register_store.specs.Checking.{HasNewer, IsReasonAt, ShowsCounts, ShowsRows, TestsBy, check_text, counts_of}
+use Rattle.register_store.specs.Checking.{HasNewer, IsReasonAt, ShowsCounts, ShowsRows, TestsBy, check_error, check_text, counts_of}
 use Rattle.register_store.specs.Schema.{Holds, rows_of}
-use Rattle.register_store.specs.Tables.{Counts, Tables, counts_row, tree_of, version}
-use Rattle.register_store.specs.Taking.{HasCounts, IsCounts, RefusesMeta, meta_error}
-use Rattle.register_store.proofs.Asked.{AnswersTo, ShowsOwn, begun_own, shown_of_table, tests_by}
+use Rattle.register_store.specs.Tables.{Counts, Tables, counts_row, tree_of, version, with_content}
+use Rattle.register_store.specs.Tests.{MeetsTest}
+use Rattle.register_store.specs.Taking.{HasMeta, IsCounts, RefusesMeta, counts_in}
+use Rattle.register_store.proofs.Asked.{AnswersTo, ShowsOwn, shown_of_table, shown_own, tests_by}
 use Rattle.register_store.proofs.Decoding.{same_number}
 use Rattle.register_store.proofs.Ordered.{in_order, shown_of}
 
@@ -51,8 +53,8 @@ own_meta t db rows holds sure =
 -- its version is this program's
 pub newer_not : (t : Tables) (found : ℕ) (old new : State) → Holds t old.now → HasNewer found old new → ⊥
 newer_not t found old new holds newer =
-    let it = begun_own Meta t (own_meta t) old new holds newer.shown in
-    let shows = subst (λ rows. ShowEach ShowsCounts (rows ++ it.0) (it.1.c ∷ [])) newer.shown.holds it.1.shows in
+    let it = shown_own Meta t (own_meta t) old new holds newer.shown in
+    let shows = subst (λ rows. ShowEach ShowsCounts rows (it.c ∷ [])) newer.shown.holds it.shows in
     let same = same_number (column newer.row 1) found version newer.version_is shows.0.version_is in
     absurd (let above = newer.above in omega (arith, above, same))
 
@@ -66,44 +68,58 @@ one_meta (row ∷ rows) c d x y = one_counts row c d x.0 y.0
 -- ---- what was read
 
 -- a second row
-pub two_refused : (found : Option Found) (newer : Option ℕ) (rows : List Row) (row : Row) → Rattle.std.specs.Prelude.IsSome found → HasCounts found newer rows → RefusesMeta newer (rows ++ row ∷ [])
-two_refused None newer rows row some taken = absurd (cc)
-two_refused (Some found) newer rows row some taken = subst (λ n. RefusesMeta n (rows ++ row ∷ [])) (sym taken.2) (λ tail counts shows few. two rows tail counts taken.0 shows)
-  where
-    two : (rs tail : List Row) (counts : Counts) → ShowEach ShowsCounts rs (counts_of found ∷ []) → ShowEach ShowsCounts ((rs ++ row ∷ []) ++ tail) (counts ∷ []) → ⊥
-    two [] tail counts a b = a
-    two (r ∷ []) tail counts a b = b.1
-    two (r ∷ q ∷ rs) tail counts a b = a.1
+pub two_refused : (told : Option MetaRow) (rows : List Row) (row : Row) → Rattle.std.specs.Prelude.IsSome told → HasMeta told rows → RefusesMeta (rows ++ row ∷ [])
+two_refused None rows row some taken = absurd (cc)
+two_refused (Some one) rows row some taken = subst (λ rs. RefusesMeta (rs ++ row ∷ [])) (sym taken.1) (λ tail counts shows few. shows.1)
 
 module _ (t : Tables) (old new : State) (survives : Survives old new (λ _. ⊥)) where
+  abbrev Tested : Result Found CheckError → Type 0
+  Tested q = TestsBy Meta t IsCounts old new q
+
+  tested : (q : Result Found CheckError) → (HasCleanDisk new → IfOk q (λ found. (c : Counts) × ShowsAll (check_text Meta) (λ rows. ShowsRows Meta rows c) old new × MeetsTest Meta (with_content Meta c t) × IsCounts c found))
+      → (HasCleanDisk new → IfErr q (IsReasonAt Meta t old new)) → Tested q
+  tested q passed refused = tests_by Meta t (own_meta t) (newer_not t) IsCounts (λ c d x like says. says ∙ like) one_meta old new q passed refused survives
+
   -- all rows were read
-  pub meta_read : (found : Option Found) (newer : Option ℕ) (q : Result Found CheckError) → q ≡ ok_or found NotARegister → (HasCleanDisk new → ShowsAll (check_text Meta) (HasCounts found newer) old new) → TestsBy Meta t IsCounts old new q
-  meta_read None newer q is all = subst (TestsBy Meta t IsCounts old new) (sym is)
-      (tests_by Meta t (own_meta t) (newer_not t) IsCounts (λ c d x like says. says ∙ like) one_meta old new (Err NotARegister) (λ clean. tt)
-      (λ clean. let it = all clean in (inr (inr (record { rows = it.rows; shown = it.shown; holds = λ c shows meets. subst (λ rows. ShowsRows Meta rows c) it.holds.0 shows; same = it.same })), it.same)) survives)
-  meta_read (Some found) newer q is all = subst (TestsBy Meta t IsCounts old new) (sym is)
-      (tests_by Meta t (own_meta t) (newer_not t) IsCounts (λ c d x like says. says ∙ like) one_meta old new (Ok found)
-      (λ clean. let it = all clean in (counts_of found, record { rows = it.rows; shown = it.shown; holds = it.holds.0; same = it.same }, it.holds.1, refl)) (λ clean. tt) survives)
+  counts_told : (told : MetaRow) → (HasCleanDisk new → ShowsAll (check_text Meta) (HasMeta (Some told)) old new) → Tested (counts_in told)
+  counts_told (CountsKeys found) all = tested (Ok found)
+      (λ clean. let it = all clean in (
+        counts_of found,
+        record { rows = it.rows; shown = it.shown; holds = subst (λ rows. ShowEach ShowsCounts rows (counts_of found ∷ [])) (sym it.holds.1) (it.holds.2.0, tt); same = it.same },
+        it.holds.2.1,
+        refl,
+      )) (λ clean. tt)
+  counts_told (Newer found) all = tested (Err (NewerVersion found)) (λ clean. tt)
+      (λ clean. let it = all clean in record {
+        row = it.holds.0;
+        shown = record { rows = it.rows; shown = it.shown; holds = it.holds.1; same = it.same };
+        id = it.holds.2.0;
+        version_is = it.holds.2.1;
+        above = it.holds.2.2;
+      })
 
-  -- the rows do not pass
-  why : (newer : Option ℕ) → ShowsFirst (check_text Meta) (RefusesMeta newer) old new → IsReasonAt Meta t old new (meta_error Refused newer)
-  why None it = (inr (inl (record { rows = it.rows; shown = it.shown; holds = λ tail c shows meets. it.holds tail c shows meets; same = it.same })), it.same)
-  why (Some found) it = record {
-    row = it.holds.0;
-    shown = record { rows = it.rows; shown = it.shown; holds = it.holds.1; same = it.same };
-    id = it.holds.2;
-    version_is = it.holds.3;
-    above = it.holds.4;
-  }
+  pub meta_told : (told : MetaRow) (q : Result Found CheckError) → q ≡ counts_in told → (HasCleanDisk new → ShowsAll (check_text Meta) (HasMeta (Some told)) old new) → Tested q
+  meta_told told q is all = subst Tested (sym is) (counts_told told all)
 
-  reason : (error : RowsError) (newer : Option ℕ) → (error ≡ NoMeaning → HasNoMeaning (check_text Meta) old new) → (error ≡ Refused → ShowsFirst (check_text Meta) (RefusesMeta newer) old new) → (error ≡ Memory → IsUnchanged old new)
-      → IsReasonAt Meta t old new (meta_error error newer)
-  reason NoMeaning newer meaning refused memory = let it = meaning refl in (inl it, it.same)
-  reason Refused newer meaning refused memory = why newer (refused refl)
-  reason Memory newer meaning refused memory = memory refl
-  reason (Database error) newer meaning refused memory = tt
+  pub meta_none : (HasCleanDisk new → ShowsAll (check_text Meta) (HasMeta None) old new) → Tested (Err NotARegister)
+  meta_none all = tested (Err NotARegister) (λ clean. tt)
+      (λ clean. let it = all clean in (
+        inr (inr (record { rows = it.rows; shown = it.shown; holds = λ c shows meets. subst (λ rows. ShowsRows Meta rows c) it.holds shows; same = it.same })),
+        it.same,
+      ))
 
-  pub meta_fails : (error : RowsError) (newer : Option ℕ) (e : CheckError) → e ≡ meta_error error newer → (HasCleanDisk new → error ≡ NoMeaning → HasNoMeaning (check_text Meta) old new) → (HasCleanDisk new → error ≡ Refused → ShowsFirst (check_text Meta) (RefusesMeta newer) old new)
-      → (HasCleanDisk new → error ≡ Memory → IsUnchanged old new) → TestsBy Meta t IsCounts old new (Err e)
-  meta_fails error newer e is meaning refused memory = subst (λ e. TestsBy Meta t IsCounts old new (Err e)) (sym is)
-      (tests_by Meta t (own_meta t) (newer_not t) IsCounts (λ c d x like says. says ∙ like) one_meta old new (Err (meta_error error newer)) (λ clean. tt) (λ clean. reason error newer (meaning clean) (refused clean) (memory clean)) survives)
+  -- the rows do not pass, or were not read
+  reason : (error : RowsError) → (error ≡ NoMeaning → HasNoMeaning (check_text Meta) old new) → (error ≡ Refused → ShowsFirst (check_text Meta) RefusesMeta old new) → (error ≡ Memory → IsUnchanged old new)
+      → IsReasonAt Meta t old new (check_error error)
+  reason NoMeaning meaning refused memory = let it = meaning refl in (inl it, it.same)
+  reason Refused meaning refused memory =
+      let it = refused refl in
+      (inr (inl (record { rows = it.rows; shown = it.shown; holds = λ tail c shows meets. it.holds tail c shows meets; same = it.same })), it.same)
+  reason Memory meaning refused memory = memory refl
+  reason (Database error) meaning refused memory = tt
+
+  pub meta_fails : (error : RowsError) (q : Result Found CheckError) → IsErrAnd q (λ e. e ≡ check_error error) → (HasCleanDisk new → error ≡ NoMeaning → HasNoMeaning (check_text Meta) old new)
+      → (HasCleanDisk new → error ≡ Refused → ShowsFirst (check_text Meta) RefusesMeta old new) → (HasCleanDisk new → error ≡ Memory → IsUnchanged old new) → Tested q
+  meta_fails error (Ok found) is meaning refused memory = absurd is
+  meta_fails error (Err e) is meaning refused memory =
+      subst (λ e. Tested (Err e)) (sym is) (tested (Err (check_error error)) (λ clean. tt) (λ clean. reason error (meaning clean) (refused clean) (memory clean)))

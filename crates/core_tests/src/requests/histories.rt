@@ -2,7 +2,10 @@
 use super::keys::names_of;
 use lifecycle_core::State;
 use moment_core::Moment;
-use register_core::{Held, Names, Refusal, Reply, Request, plain, read_request, reply_line};
+use period_core::KeyType;
+use register_core::{
+    Answer, Held, Name, Names, Refusal, Reply, Request, plain, read_request, reply_line,
+};
 use std::alloc::{AllocError, Global};
 use std::process::Abort;
 use std::test::Fail;
@@ -117,6 +120,45 @@ fn compromise(rt: HostRuntime) -> Result<(), Fail> {
     let key = key_behind(&rt, rt.alloc(), &COMPROMISED)?;
     assert!(rt; is_key(&key, State::Compromised, None, Some(105), &[]));
     assert_eq!(rt; key.row.dates.compromise_occurrence, Moment::new(50));
+    Ok(())
+}
+
+/// A key that eve has, with dan as its only custodian.
+const HANDED_ON: [&str; 5] = [
+    "100 ann 1 register master bob - - - spare",
+    "101 bob 1 add-custodian 1 cat",
+    "102 bob 2 add-custodian 1 dan",
+    "103 bob 3 assign 1 eve",
+    "104 eve 1 remove-custodian 1 cat",
+];
+
+/// A key's type, owner and custodians, read off the accepted requests.
+#[test]
+fn a_key_is_told_by_its_history(rt: HostRuntime) -> Result<(), Fail> {
+    let history: Vec<Request> = HANDED_ON
+        .iter()
+        .filter_map(|line| read_request(line.as_bytes()))
+        .collect(rt.alloc())?;
+    assert_eq!(rt; history.len(), 5);
+    assert_eq!(rt; plain::kind_of_key(&history, 1), KeyType::Master);
+    assert_eq!(rt; plain::owner(&history, 1), Name::new(b"eve"));
+    let key = plain::held(rt.alloc(), &history, 1)?.ok_or("a key")?;
+    assert!(rt; are_names(&key.custodians, &["dan"]));
+    Ok(())
+}
+
+/// A repeat is answered as the request was.
+#[test]
+fn outcomes(rt: HostRuntime) -> Result<(), Fail> {
+    let reply = Reply {
+        key: 1,
+        state: Some(State::Active),
+        moment: Moment::new(100).ok_or("a moment")?,
+    };
+    assert_eq!(rt; Answer::Accepted(reply).outcome(), Ok(reply));
+    assert_eq!(rt; Answer::Repeated(reply).outcome(), Ok(reply));
+    let refusal = Refusal::UnknownKey;
+    assert_eq!(rt; Answer::Refused(refusal).outcome(), Err(refusal));
     Ok(())
 }
 

@@ -38,6 +38,25 @@ fn a_register_is_made_once(rt: HostRuntime) -> Result<(), Fail> {
     remove(&rt, file)
 }
 
+/// A dash is the name of a file like any other.
+#[test]
+fn a_file_may_be_named_by_a_dash(rt: HostRuntime) -> Result<(), Fail> {
+    assert!(rt; is_defaults(&rt, "-")?);
+    assert!(rt; fs::read(&rt, "-").is_ok());
+    let again = b"50 ann 1 register data-encryption bob 0 - - payroll disks\n";
+    assert!(rt;
+        does(
+            &rt,
+            &["run", "--file", "-"],
+            again,
+            0,
+            b"ok 1 Active 100\n",
+            ""
+        )?
+    );
+    remove(&rt, "-")
+}
+
 #[test]
 fn a_request_in_a_later_life_repeats(rt: HostRuntime) -> Result<(), Fail> {
     let file = "repeats.keyreg";
@@ -107,6 +126,10 @@ fn wrong_files_are_left_as_they_are(rt: HostRuntime) -> Result<(), Fail> {
     let (drop, newer) = ("DROP TABLE approval", "UPDATE meta SET version = 7");
     assert!(rt; is_left_behind(&rt, file, &register, drop, "keyreg: NotARegister\n")?);
     assert!(rt; is_left_behind(&rt, file, &register, newer, "keyreg: NewerVersion\n")?);
+    // Two rows are looked at before the version of the first.
+    put_edited(&rt, file, &register, newer)?;
+    edit(&rt, file, "INSERT INTO meta VALUES (2, 1, 0, 0)")?;
+    assert!(rt; is_left(&rt, file, "keyreg: NotARegister\n")?);
     remove(&rt, file)
 }
 

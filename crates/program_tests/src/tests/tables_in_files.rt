@@ -81,7 +81,7 @@ static BAD_TERMS: [[&str; 3]; 11] = [
     ["100", "ann", "18446744073709551617"],
 ];
 
-static BAD_DAYS: [&str; 5] = ["", "00", "1.5", "36501", "4294967296"];
+static BAD_DAYS: [&str; 6] = ["", "-1", "00", "1.5", "36501", "4294967296"];
 
 /// Whether the words have a bad value.
 fn is_bad(rt: &HostRuntime, words: &[&str]) -> Result<bool, Fail> {
@@ -122,7 +122,8 @@ fn bad_values_are_named(rt: HostRuntime) -> Result<(), Fail> {
 fn the_last_values_are_taken(rt: HostRuntime) -> Result<(), Fail> {
     let file = "last_values.keyreg";
     assert!(rt; is_made(&rt, file)?);
-    let words = import(file, "253402300799", "ann", "9007199254740991");
+    // A name may begin with a dash.
+    let words = import(file, "253402300799", "-x", "9007199254740991");
     let table = b"type,owner,activation,protect_stop,deactivation,purpose\nmaster,bob,,,,a\n";
     let replies = b"ok 1 Pre-Active 253402300799\n";
     assert!(rt; does(&rt, &words, table.as_slice(), 0, replies.as_slice(), "")?);

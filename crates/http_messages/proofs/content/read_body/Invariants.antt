@@ -1,6 +1,7 @@
 -- What is held is what stood behind the head, and then what came; each read brings a byte.
 use Rattle.std.proofs.Common.{◌≡◌, ◌-◌, ◌≤◌, ◌++◌, List, ℕ, length, take}
 use Rattle.std.specs.Io.KnownBytes.{Consumes}
+use Rattle.http_messages.specs.declared.head.TheConstants.{MAX_EXCHANGE_READS}
 use Rattle.http_messages.proofs.content.read_body.Given as goal
 
 abbrev pub invariant-reads : goal.invariant-reads
@@ -9,6 +10,7 @@ invariant-reads g l = record {
       × (l.body.items ≡ take l.length l.behind ++ more) × (length more ≡ l.read);
   few : length l.body.items ≤ l.length;
   counted : l.read ≤ length l.body.items;
+  bounded : l.fn.reader.turns ≤ MAX_EXCHANGE_READS → l.reader.turns ≤ MAX_EXCHANGE_READS;
 }
 
 abbrev pub decreases-reads : goal.decreases-reads

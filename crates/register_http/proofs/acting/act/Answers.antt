@@ -1,11 +1,11 @@
-use Rattle.std.proofs.Common.{refl, sym}
+use Rattle.std.proofs.Common.{inl, refl, sym}
 use Rattle.http_messages.specs.declared.asked.Asked.TheVariants.{Reject, ShowKey, ShowUsage}
-use Rattle.register_http.proofs.ActingLemmas.{asked_same, went_unasked, acts_text, rejected_text}
+use Rattle.register_http.proofs.ActingLemmas.{asked_same, changes_none, went_unasked, acts_text, rejected_text}
 use Rattle.register_http.proofs.acting.act.Goals as goal
 
 pub returns-in-Reject : goal.returns-in-Reject
 returns-in-Reject g c = asked_same _ c.args.moment (Reject c.in-Reject.rejection) c.args.asked.now _ _ _ (sym c.in-Reject.is)
-    (acts_text _ c.args.moment (Reject c.in-Reject.rejection) _ _ c.rejection_text.result c.text_or_end.result (went_unasked _ c.args.moment c.in-Reject.rejection _)
+    (acts_text _ c.args.moment (Reject c.in-Reject.rejection) _ _ c.rejection_text.result c.text_or_end.result (went_unasked _ c.args.moment c.in-Reject.rejection _) (inl (changes_none _ _))
     (λ rejection is. (refl, rejected_text c.in-Reject.rejection rejection c.rejection_text.result c.rejection_text.ensures is))
     (λ h stands clean. c.rejection_text.ensures) c.text_or_end.ensures.ok c.text_or_end.ensures.err)
 

@@ -10,7 +10,7 @@ use Rattle.register_report.proofs.exporting.rotation.Goals as goal
 
 pub returns-clause-agrees : goal.returns-clause-agrees
 returns-clause-agrees g c h due stands whole clean all =
-    let at = c.latest-latest.ensures h stands in
+    let at = c.latest-latest.ensures.latest h stands in
     let until = c.horizon-until.ensures ∙ ap (λ t. horizon t c.args.days) at in
     let text = report_is c.latest-latest.result c.horizon-until.result due in
     let same = ap₂ (λ now last. report_text now last due) at until in

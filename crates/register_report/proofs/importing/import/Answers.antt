@@ -2,10 +2,11 @@ use Rattle.std.proofs.Common.{rules, ◌≡◌, List, [], ℕ, Option, ap, subst
 use Rattle.csv.specs.Reading.{default_config, reader_config}
 use Rattle.register_desk.specs.declared.runs.Finish.TheVariants.{Ended}
 use Rattle.register_desk.specs.Run.{RunsOver}
+use Rattle.register_desk.specs.Lives.{LivesSome}
 use Rattle.register_desk.proofs.Found.{leaves_next}
 use Rattle.register_report.specs.Import.{ImportsBroken}
-use Rattle.register_report.proofs.HeaderLemmas.{begins_so, no_header_over, no_header_refused, reads_input, rows_behind}
-use Rattle.register_report.proofs.ImportLemmas.{broken_so, clean_so, over_so, some_so, texts_so}
+use Rattle.register_report.proofs.HeaderLemmas.{begins_so, no_header_lives, no_header_over, no_header_refused, reads_input, rows_behind}
+use Rattle.register_report.proofs.ImportLemmas.{broken_so, clean_so, lives_so, over_so, texts_so, uses_so}
 use Rattle.register_report.proofs.importing.import.Goals as goal
 
 -- ---- behind the header row
@@ -33,12 +34,29 @@ returns-in-Ok-clause-leaves g c h bytes items stands whole clean known has =
     c.serve_rows.result.end _ _ c.args.desk.now whole c.serve_rows.ensures.desk
     (returns-in-Ok-clause-agrees g c h bytes items stands clean known has)
 
-pub returns-in-Ok-clause-some : goal.returns-in-Ok-clause-some
-returns-in-Ok-clause-some g c h stands clean =
-    some_so g.S.Store g.R.Read.remaining c.args.moment c.args.caller.now c.args.first
-    c.skip_header.new.reader _ _ c.args.desk.now c.serve_rows.new.desk
-    c.serve_rows.result.replies h stands clean c.serve_rows.result.end
-    c.serve_rows.ensures.serves
+pub returns-in-Ok-clause-lives : goal.returns-in-Ok-clause-lives
+returns-in-Ok-clause-lives g c h stands clean =
+    let new = g.W.Write.contents c.serve_rows.new.writer.inner in
+    let lives = lives_so g.S.Store g.R.Read.remaining c.args.moment c.args.caller.now c.args.first
+    c.skip_header.new.reader (g.W.Write.contents c.begin.new.self.inner) new c.args.desk.now
+    c.serve_rows.new.desk c.serve_rows.result.replies h stands clean c.serve_rows.result.end
+    c.serve_rows.ensures.desk c.serve_rows.ensures.serves in
+    subst (λ (old : Option (List ℕ)). LivesSome g.S.Store h c.serve_rows.result.end
+    c.serve_rows.result.replies old new c.args.desk.now c.serve_rows.new.desk)
+    (ap (λ w. g.W.Write.contents w.inner) c.begin.ensures) lives
+
+pub returns-in-Ok-clause-uses : goal.returns-in-Ok-clause-uses
+returns-in-Ok-clause-uses g c bytes items known has is =
+    let made = c.from_reader-reader.ensures in
+    let config : reader_config c.from_reader-reader.result ≡ default_config = search rules in
+    let reads = reads_input g.R.Read.remaining c.from_reader-reader.result c.args.reader bytes
+    config made.state made.source known in
+    let behind = rows_behind reads c.skip_header.new.reader has.rows c.in-Ok.ensures.reads
+    has.has in
+    uses_so g.S.Store g.R.Read.remaining c.args.moment c.args.caller.now c.args.first
+    c.skip_header.new.reader (g.W.Write.contents c.begin.new.self.inner) _ c.args.desk.now
+    c.serve_rows.new.desk c.serve_rows.result.replies behind items has.each
+    c.serve_rows.result.end c.serve_rows.ensures.serves is
 
 pub returns-in-Ok-clause-broken : goal.returns-in-Ok-clause-broken
 returns-in-Ok-clause-broken g c bytes items broken known has =
@@ -112,3 +130,11 @@ returns-clause-broken g c bytes items broken known has =
     subst (λ (new : Option (List ℕ)). ImportsBroken items (Ended c.in-Err.end) 0
     (g.W.Write.contents c.args.writer.now.inner) new)
     (sym (ap (λ w. g.W.Write.contents w.inner) c.begin.ensures)) runs
+
+pub returns-clause-lives : goal.returns-clause-lives
+returns-clause-lives g c h stands clean =
+    let old = g.W.Write.contents c.args.writer.now.inner in
+    let lives = no_header_lives g.S.Store h c.args.desk.now old stands clean g.R.Read.remaining
+    c.from_reader-reader.result c.skip_header.new.reader c.in-Err.end c.in-Err.ensures.end in
+    subst (λ (new : Option (List ℕ)). LivesSome g.S.Store h (Ended c.in-Err.end) 0 old new
+    c.args.desk.now c.args.desk.now) (sym (ap (λ w. g.W.Write.contents w.inner) c.begin.ensures)) lives

@@ -1,4 +1,5 @@
-use Rattle.std.proofs.Common.{◌≡◌, ◌∙◌, ap, arith, refl}
+use Rattle.std.proofs.Common.{◌≡◌, ◌∙◌, ap, arith, inr, refl, subst}
+use Rattle.register_report.specs.Serving.{ExplainsEnd}
 use Rattle.csv.specs.Records.{fields_of}
 use Rattle.register_desk.specs.declared.end.End.{End}
 use Rattle.register_desk.specs.declared.end.End.TheVariants.{ReadFault, WriteFault}
@@ -163,3 +164,13 @@ returns-in-Err-clause-desk g c =
     unread_leaves g.R.Read.remaining c.loop-row.reader c.next_row.new.reader g.S.Store
     c.args.desk.now c.loop-row.desk c.loop-row.invariant.goes_on c.in-Err.end
     c.in-Err.ensures.end
+
+pub returns-in-Err-clause-cause : goal.returns-in-Err-clause-cause
+returns-in-Err-clause-cause g c is =
+    let fault : c.in-Err.end ≡ ReadFault = cc in
+    inr (
+      c.loop-row.reader,
+      c.next_row.new.reader,
+      subst (λ (end : End). ExplainsEnd g.R.Read.remaining
+          c.loop-row.reader c.next_row.new.reader end) fault c.in-Err.ensures.end,
+    )

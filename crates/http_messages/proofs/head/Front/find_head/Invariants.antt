@@ -9,6 +9,7 @@ invariant-reads g l = record {
   bytes : Consumes (g.R.Read.remaining l.fn.reader.inner) (g.R.Read.remaining l.reader.inner) l.self;
   sound : l.reader.failed ≡ l.fn.reader.failed;
   turns : l.fn.reader.turns ≤ l.reader.turns;
+  bounded : l.fn.reader.turns ≤ MAX_EXCHANGE_READS → l.reader.turns ≤ MAX_EXCHANGE_READS;
 }
 
 abbrev pub decreases-reads : goal.decreases-reads

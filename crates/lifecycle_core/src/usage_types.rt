@@ -1,11 +1,5 @@
 //! What a key may be used for at a moment.
 ghost use Rattle.std.specs.Prelude.{◌≡◌};
-ghost use Rattle.lifecycle_core.specs.Usage.{usage_at};
-
-use crate::dates::Dates;
-use crate::row::state_of;
-use crate::state::State;
-use moment_core::Moment;
 
 /// Whether a key may process protected data, as to decrypt it or to verify a signature.
 #[derive(Clone, Copy, Debug, PartialEq, Eq, Hash)]
@@ -38,20 +32,4 @@ pub struct Usage {
     /// Whether the key may apply protection, as to encrypt or to sign.
     pub protect: bool,
     pub process: Process,
-}
-
-/// What a key with these dates may be used for at a moment. A key with no Protect Stop Date
-/// protects nothing.
-pub fn usage_of(dates: &Dates, at: Moment) -> Usage
-    ensures { result ≡ usage_at dates.now at }
-{
-    let state = state_of(dates, at);
-    Usage {
-        protect: state == State::Active && dates.protect_stop.is_some_and(|stop| at < stop),
-        process: match state {
-            State::Active => Process::Yes,
-            State::Deactivated | State::Compromised => Process::Special,
-            State::PreActive | State::Destroyed | State::DestroyedCompromised => Process::No,
-        },
-    }
 }

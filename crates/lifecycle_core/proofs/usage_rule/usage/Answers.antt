@@ -1,5 +1,5 @@
 use Rattle.std.proofs.Common.{rules}
-use Rattle.lifecycle_core.proofs.usage.usage_of.Goals as goal
+use Rattle.lifecycle_core.proofs.usage_rule.usage.Goals as goal
 
 pub returns-in-Active : goal.returns-in-Active
 returns-in-Active c = search rules

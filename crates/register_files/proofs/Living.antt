@@ -1,0 +1,30 @@
+-- The life in files that a call was, whatever its reader told.
+use Rattle.std.proofs.Common.{ℕ, List, Option}
+use Rattle.std.proofs.Math.Logic.{∥∥₁_map}
+use Rattle.sqlite_trees.specs.declared.store.Store.{Ghosts}
+use Rattle.sqlite.specs.Recovery.{Image}
+use Rattle.register_core.specs.declared.request.Request.{Request}
+use Rattle.register_core.specs.Fold.{IsLawful}
+use Rattle.register_desk.specs.declared.desk.Desk.{Desk}
+use Rattle.register_desk.specs.declared.runs.Finish.{Finish}
+use Rattle.register_desk.specs.declared.runs.Outcome.{Outcome}
+use Rattle.register_desk.specs.Files.{HoldsRegister}
+use Rattle.register_desk.specs.Leaving.{IsWhole}
+use Rattle.register_desk.specs.Lives.{LeavesLife, LivesSome as RunsSome, life_of}
+use Rattle.register_files.specs.Life.{LeadsOnTo, LeavesLifeInFiles, LivesSome}
+
+module _ {S : Type 0} (g : Ghosts S) (may_leave : Image → Type 0) (outcome : Outcome) (old new : Option (List ℕ)) (kept now : Desk S g) where
+  pub lives_some : ((h : List Request) (items : List (Option Request)) (end : Finish) (replies : ℕ) → LeavesLife g h items end replies now → LeavesLifeInFiles h items end replies may_leave)
+      → (h : List Request) → RunsSome g h outcome.end outcome.replies old new kept now → IsWhole kept → LivesSome g h outcome old new may_leave
+  lives_some into h runs whole = record {
+    items = runs.items;
+    rest = runs.rest;
+    desk = now;
+    over = runs.over;
+    leaves = into h runs.items outcome.end outcome.replies (runs.leaves whole);
+  }
+
+  pub leads_on : (found : Image) → ((h : List Request) → IsLawful h → HoldsRegister h found → LivesSome g h outcome old new may_leave) → LeadsOnTo found outcome may_leave
+  leads_on found some left may h lawful holds =
+      let lives = some h lawful holds in
+      ∥∥₁_map (lives.leaves left may) (λ one. (life_of lives.items outcome.replies one.0, one.1, one.2))
