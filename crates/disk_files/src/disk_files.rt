@@ -5,6 +5,7 @@ ghost use Rattle.sqlite_store.specs.FileStore as files;
 use register_desk::OpenRefusal;
 use register_files::Files;
 use sqlite::{Connection, Error, ErrorCode, FileFrom, FileStore, Start};
+use std::fs;
 
 /// The register's files as the kit opens them. `S` says what they hold at first, and what a torn write may leave.
 #[derive(Drop)]
@@ -29,6 +30,10 @@ impl<S: Start> Files for DiskFiles<S> {
     ghost may_leave = { λ left. (files.state left).may_leave };
 
     ghost opens_again = { λ it. opens_again it };
+
+    fn may_be_there(&self, rt: &HostRuntime, file: &str) -> bool {
+        fs::exists(rt, file).unwrap_or(true)
+    }
 
     fn connect(
         self,

@@ -1,108 +1,128 @@
-//! Requests, of which a call of the database fails.
-use crate::files::Fault;
-use crate::keys::{export_text, serve, twenty_keys};
-use crate::trials::{Came, Trial, fail_each_call};
-use register_desk::{Desk, End, Watched};
-use register_report::export;
-use sqlite::Alter;
-use std::alloc::Global;
-use std::test::Fail;
+//! The trials, as data.
+use crate::sending::{Exchange, Way};
+use crate::trials::Trial;
 
-/// A request over a register, its reply, and the exports before it and behind it.
-#[derive(Debug, Drop)]
-struct Sent {
-    line: &'static str,
-    reply: &'static str,
-    before: String,
-    behind: String,
-}
+/// A day on which each command is accepted, of a ninth key. At each moment from 1100 to 2600 one of the first eight has just
+/// been activated or deactivated by the time.
+#[rattlefmt::skip]
+pub const DAY: &[Exchange] = &[
+    ("100 ann 1 register data-encryption bob 1050 1100 1150 disks", "ok 1 Pre-Active 100"),
+    ("100 ann 2 register data-encryption bob 1250 1300 1350 disks", "ok 2 Pre-Active 100"),
+    ("100 ann 3 register data-encryption bob 1450 1500 1550 disks", "ok 3 Pre-Active 100"),
+    ("100 ann 4 register data-encryption bob 1650 1700 1750 disks", "ok 4 Pre-Active 100"),
+    ("100 ann 5 register data-encryption bob 1850 1900 1950 disks", "ok 5 Pre-Active 100"),
+    ("100 ann 6 register data-encryption bob 2050 2100 2150 disks", "ok 6 Pre-Active 100"),
+    ("100 ann 7 register data-encryption bob 2250 2300 2350 disks", "ok 7 Pre-Active 100"),
+    ("100 ann 8 register data-encryption bob 2450 2500 2550 disks", "ok 8 Pre-Active 100"),
+    ("1100 ann 9 register master bob 10000 20000 20000 root", "ok 9 Pre-Active 1100"),
+    ("1200 bob 1 add-custodian 9 cat", "ok 9 Pre-Active 1200"),
+    ("1300 bob 2 add-custodian 9 dan", "ok 9 Pre-Active 1300"),
+    ("1400 dan 1 approve 9", "ok 9 Pre-Active 1400"),
+    ("1500 bob 3 remove-custodian 9 dan", "ok 9 Pre-Active 1500"),
+    ("1600 bob 4 add-custodian 9 dan", "ok 9 Pre-Active 1600"),
+    ("1700 cat 1 approve 9", "ok 9 Pre-Active 1700"),
+    ("1800 cat 2 withdraw 9", "ok 9 Pre-Active 1800"),
+    ("1900 cat 3 approve 9", "ok 9 Pre-Active 1900"),
+    ("2000 bob 5 assign 9 fay", "ok 9 Pre-Active 2000"),
+    ("2100 fay 1 set 9 12000 = =", "ok 9 Pre-Active 2100"),
+    ("2200 fay 2 activate 9", "ok 9 Active 2200"),
+    ("2300 fay 3 revoke 9 5 -", "ok 9 Deactivated 2300"),
+    ("2400 dan 2 approve 9", "ok 9 Deactivated 2400"),
+    ("2500 fay 4 destroy 9", "ok 9 Destroyed 2500"),
+    ("2600 zed 1 advance", "ok 0 - 2600"),
+    ("2700 zed 2 revoke 9 2 50", "ok 9 Destroyed-Compromised 2700"),
+    ("2800 bob 6 add-custodian 8 cat", "ok 8 Deactivated 2800"),
+    ("2900 cat 4 approve 8", "ok 8 Deactivated 2900"),
+    ("3000 zed 3 revoke 8 2 -", "ok 8 Compromised 3000"),
+];
 
-/// What the desk's register exports.
-fn exported<S: Alter>(alloc: Global, desk: &mut Desk<S>) -> Vec<u8> {
-    let mut writer = Watched::new(Vec::new(alloc));
-    let _ = export(alloc, desk, &mut writer);
-    writer.into_inner()
-}
+/// How many of its requests make the keys that time moves.
+pub const FIRST_OF_DAY: usize = 8;
 
-impl Sent {
-    /// Whether this is the export before the request or the one behind it.
-    fn is_either(&self, text: &[u8]) -> bool {
-        text == self.before.as_bytes() || text == self.behind.as_bytes()
-    }
-
-    /// Whether it is sent over the desk and has its reply.
-    fn is_answered<S: Alter>(&self, alloc: Global, desk: &mut Desk<S>) -> bool {
-        serve(alloc, desk, self.line).is_answered(self.reply)
-    }
-
-    /// Whether the register is as before or has the request, and has it once behind the same request, which is sent twice more
-    /// and has its reply.
-    fn acts_once<S: Alter>(&self, alloc: Global, desk: &mut Desk<S>) -> bool {
-        self.is_either(exported(alloc, desk).as_slice())
-            && self.is_answered(alloc, desk)
-            && self.is_answered(alloc, desk)
-            && exported(alloc, desk).as_slice() == self.behind.as_bytes()
-    }
-}
-
-impl Trial for Sent {
-    /// Behind a refused request the desk is broken.
-    fn over<S: Alter>(&self, alloc: Global, desk: &mut Desk<S>) -> Came {
-        let served = serve(alloc, desk, self.line);
-        if served.is_answered(self.reply) {
-            return Came::Whole;
-        }
-        let is_broken = served.is_ended(End::Store)
-            && serve(alloc, desk, self.line).is_ended(End::Broken);
-        if is_broken { Came::Broken } else { Came::Wrong }
-    }
-
-    fn again<S: Alter>(&self, alloc: Global, desk: &mut Desk<S>) -> Came {
-        if self.acts_once(alloc, desk) {
-            Came::Whole
-        } else {
-            Came::Wrong
-        }
-    }
-}
-
-/// The registration of one key more.
-fn registration(alloc: Global) -> Result<Sent, Fail> {
-    let before = export_text(alloc)?;
-    let mut behind = export_text(alloc)?;
-    behind.push_str(
-        "21,master,eve,1970-01-01T00:00:00Z,1970-01-01T00:16:40Z,1970-01-01T00:16:40Z,Active,1970-01-01T00:03:20Z,,,,tapes\n",
-    )?;
-    Ok(Sent {
-        line: "200 zed 1 register master eve 0 1000 1000 tapes\n",
-        reply: "ok 21 Active 200\n",
+/// One request of the day behind those before it.
+pub fn of_day(place: usize) -> Option<Trial> {
+    let (before, others) = DAY.split_at_checked(place)?;
+    let sent = others.get(..1)?;
+    Some(Trial {
+        name: "a request of the day",
         before,
-        behind,
+        sent,
+        way: Way::Lines,
+        commits: 1,
     })
 }
 
-/// Lets each call of this kind fail in turn while the registration is sent.
-fn fail_registration(alloc: Global, fault: Fault) -> Result<(), Fail> {
-    let files = twenty_keys(alloc)?;
-    fail_each_call(alloc, &files, fault, &registration(alloc)?)
-}
-
-#[test]
-fn a_failed_read_of_the_log_refuses_a_request(rt: HostRuntime) -> Result<(), Fail> {
-    fail_registration(rt.alloc(), Fault::LogRead)
-}
-
-#[test]
-fn a_failed_write_of_the_log_refuses_a_request(rt: HostRuntime) -> Result<(), Fail> {
-    fail_registration(rt.alloc(), Fault::LogOther)
-}
-
-#[test]
-fn a_failed_read_of_the_file_refuses_a_request(rt: HostRuntime) -> Result<(), Fail> {
-    fail_registration(rt.alloc(), Fault::DatabaseRead)
-}
-
-#[test]
-fn a_failed_write_of_the_file_refuses_a_request(rt: HostRuntime) -> Result<(), Fail> {
-    fail_registration(rt.alloc(), Fault::DatabaseOther)
-}
+/// All others.
+#[rattlefmt::skip]
+pub const OTHERS: [Trial; 8] = [
+    Trial { name: "creation", before: &[], sent: &[], way: Way::Creation, commits: 1 },
+    Trial { name: "opening", before: DAY, sent: &[], way: Way::Opening, commits: 0 },
+    // The worked row *defaults*, and its request again.
+    Trial {
+        name: "worked row of stops",
+        before: &[],
+        sent: &[("100 ann 1 register data-encryption bob 0 - - payroll disks", "ok 1 Active 100")],
+        way: Way::Lines,
+        commits: 1,
+    },
+    Trial {
+        name: "repeat",
+        before: &[("100 ann 1 register data-encryption bob 0 - - payroll disks", "ok 1 Active 100")],
+        sent: &[("50 ann 1 register data-encryption bob 0 - - payroll disks", "ok 1 Active 100")],
+        way: Way::Lines,
+        commits: 0,
+    },
+    // A refusal, behind which the key is Active still.
+    Trial {
+        name: "refused destroy",
+        before: &[
+            ("100 ann 1 register master bob 1000 2000 2000 root", "ok 1 Pre-Active 100"),
+            ("101 bob 1 add-custodian 1 cat", "ok 1 Pre-Active 101"),
+            ("102 bob 2 add-custodian 1 dan", "ok 1 Pre-Active 102"),
+            ("103 cat 1 approve 1", "ok 1 Pre-Active 103"),
+            ("1500 ann 2 advance", "ok 0 - 1500"),
+        ],
+        sent: &[("2000 bob 3 destroy 1", "refused 18 ApprovalsMissing have=1 need=2")],
+        way: Way::Lines,
+        commits: 0,
+    },
+    // Five lines, one of which is no request; time moves two keys in the last.
+    Trial {
+        name: "five lines",
+        before: &[("50 ann 1 register data-encryption bob 0 700 900 old disks", "ok 1 Active 50")],
+        sent: &[
+            ("100 ann 2 register master bob 500 600 600 root", "ok 2 Pre-Active 100"),
+            ("101 bob 1 add-custodian 2 cat", "ok 2 Pre-Active 101"),
+            ("101 bob  2 advance", "refused 1 BadLine"),
+            ("102 cat 1 approve 2", "ok 2 Pre-Active 102"),
+            ("1000 zed 1 advance", "ok 0 - 1000"),
+        ],
+        way: Way::Lines,
+        commits: 4,
+    },
+    Trial {
+        name: "import",
+        before: &[("50 eve 1 register data-encryption bob 0 700 900 old disks", "ok 1 Active 50")],
+        sent: &[
+            ("100 ann 1 register data-encryption bob 0 - - disks, payroll", "ok 2 Active 100"),
+            ("100 ann 2", "refused 1 BadLine"),
+            ("100 ann 3 register master bob - - - x", "ok 3 Pre-Active 100"),
+        ],
+        way: Way::Table("type,owner,activation,protect_stop,deactivation,purpose\n\
+            data-encryption,bob,1970-01-01T00:00:00Z,,,\"disks, payroll\"\n\
+            master,bob,1970-01-01,,,x\n\
+            master,bob,,,,x\n"),
+        commits: 2,
+    },
+    Trial {
+        name: "exchange",
+        before: &[("50 eve 1 register data-encryption bob 0 700 900 old disks", "ok 1 Active 50")],
+        sent: &[("100 ann 1 register master bob - - - x", "ok 2 Pre-Active 100")],
+        way: Way::Post(
+            100,
+            "POST /requests HTTP/1.1\r\nHost: localhost\r\nCaller: ann\r\nRequest-Number: 1\r\nContent-Length: 121\r\n\r\n{\"kind\":\"register\",\"type\":\"master\",\"owner\":\"bob\",\"activation\":null,\"protect_stop\":null,\"deactivation\":null,\"purpose\":\"x\"}",
+            "HTTP/1.1 200 OK\r\nContent-Type: application/json\r\nContent-Length: 43\r\nConnection: close\r\n\r\n{\"key\":2,\"moment\":100,\"state\":\"Pre-Active\"}",
+        ),
+        commits: 1,
+    },
+];

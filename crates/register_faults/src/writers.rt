@@ -22,7 +22,7 @@ impl<W: Write> Write for Short<W> {
 }
 
 /// What a troubled writer does.
-#[derive(Clone, Copy, PartialEq, Eq)]
+#[derive(Clone, Copy, Debug, PartialEq, Eq)]
 pub enum Trouble {
     /// Each write and flush fails by `BrokenPipe`.
     Fails,

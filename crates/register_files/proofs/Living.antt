@@ -1,7 +1,8 @@
 -- The life in files that a call was, whatever its reader told.
-use Rattle.std.proofs.Common.{ℕ, List, Option}
+use Rattle.std.proofs.Common.{ℕ, List, Option, Ok}
 use Rattle.std.proofs.Math.Logic.{∥∥₁_map}
 use Rattle.sqlite_trees.specs.declared.store.Store.{Ghosts}
+use Rattle.sqlite_trees.specs.View.{IsClean as IsCleanStore}
 use Rattle.sqlite.specs.Recovery.{Image}
 use Rattle.register_core.specs.declared.request.Request.{Request}
 use Rattle.register_core.specs.Fold.{IsLawful}
@@ -11,10 +12,13 @@ use Rattle.register_desk.specs.declared.runs.Outcome.{Outcome}
 use Rattle.register_desk.specs.Files.{HoldsRegister}
 use Rattle.register_desk.specs.Leaving.{IsWhole}
 use Rattle.register_desk.specs.Lives.{LeavesLife, LivesSome as RunsSome, life_of}
+use Rattle.register_files.specs.declared.register_file.Life.{Life}
+use Rattle.register_files.specs.declared.register_file.Refused.{Refused}
+use Rattle.register_files.specs.Calls.{LivesAnyway}
 use Rattle.register_files.specs.Life.{LeadsOnTo, LeavesLifeInFiles, LivesSome}
 
 module _ {S : Type 0} (g : Ghosts S) (may_leave : Image → Type 0) (outcome : Outcome) (old new : Option (List ℕ)) (kept now : Desk S g) where
-  pub lives_some : ((h : List Request) (items : List (Option Request)) (end : Finish) (replies : ℕ) → LeavesLife g h items end replies now → LeavesLifeInFiles h items end replies may_leave)
+  lives_some : ((h : List Request) (items : List (Option Request)) (end : Finish) (replies : ℕ) → LeavesLife g h items end replies now → LeavesLifeInFiles h items end replies may_leave)
       → (h : List Request) → RunsSome g h outcome.end outcome.replies old new kept now → IsWhole kept → LivesSome g h outcome old new may_leave
   lives_some into h runs whole = record {
     items = runs.items;
@@ -24,7 +28,19 @@ module _ {S : Type 0} (g : Ghosts S) (may_leave : Image → Type 0) (outcome : O
     leaves = into h runs.items outcome.end outcome.replies (runs.leaves whole);
   }
 
-  pub leads_on : (found : Image) → ((h : List Request) → IsLawful h → HoldsRegister h found → LivesSome g h outcome old new may_leave) → LeadsOnTo found outcome may_leave
+  leads_on : (found : Image) → ((h : List Request) → IsLawful h → HoldsRegister h found → LivesSome g h outcome old new may_leave) → LeadsOnTo found outcome may_leave
   leads_on found some left may h lawful holds =
       let lives = some h lawful holds in
       ∥∥₁_map (lives.leaves left may) (λ one. (life_of lives.items outcome.replies one.0, one.1, one.2))
+
+-- a call that opened a desk, and was a run over some items of whatever history that stood for
+pub lives_anyway : {S : Type 0} (g : Ghosts S) (may_leave : S → Image → Type 0) (found : Image) (outcome : Outcome) (store : S) (old new : Option (List ℕ)) (kept now : Desk S g) → IsWhole kept
+    → (IsCleanStore (g.view store) → (h : List Request) (items : List (Option Request)) (end : Finish) (replies : ℕ) → LeavesLife g h items end replies now → LeavesLifeInFiles h items end replies (may_leave store))
+    → (IsCleanStore (g.view store) → (h : List Request) → IsLawful h → HoldsRegister h found → RunsSome g h outcome.end outcome.replies old new kept now)
+    → LivesAnyway g may_leave found old new (Ok (record { outcome = outcome; store = store }))
+lives_anyway g may_leave found outcome store old new kept now whole into runs = record {
+  some = λ h lawful holds clean. lives_some g (may_leave store) outcome old new kept now (into clean) h (runs clean h lawful holds) whole;
+  leads = λ clean. leads_on g (may_leave store) outcome old new kept now found
+      (λ h lawful holds. lives_some g (may_leave store) outcome old new kept now (into clean) h (runs clean h lawful holds) whole);
+  refuses = tt;
+}

@@ -40,11 +40,14 @@ module _ {S : Type 0} (g : Ghosts S) (may_leave : S → Image → Type 0) (found
   made_none P (Ok store) is refuses = absurd is
   made_none P (Err refused) is refuses = record { leaves = λ none. tt; refuses = refuses }
 
-  -- files that could not be opened at all
+  -- files that were not opened at all
+  pub refuses_closed : (refusal : OpenRefusal) (refused : Refused S) → refused ≡ record { refusal = refusal; store = None } → RefusesNoTable refusal → Refuses g may_leave found refused
+  refuses_closed refusal refused is none = subst (Refuses g may_leave found) (sym is) (record { cause = tt; spares = λ h lawful holds. tt; unopened = λ same. none })
+
   pub refuses_unopened : {X : Type 0} (refusal : OpenRefusal) (result : Result X (Refused S)) → IsErrAnd result (λ refused. refused ≡ record { refusal = refusal; store = None }) → RefusesNoTable refusal
       → IfErr result (Refuses g may_leave found)
   refuses_unopened refusal (Ok x) is none = absurd is
-  refuses_unopened refusal (Err refused) is none = subst (Refuses g may_leave found) (sym is) (record { cause = tt; spares = λ h lawful holds. tt; unopened = λ same. none })
+  refuses_unopened refusal (Err refused) is none = refuses_closed refusal refused is none
 
   pub refuses_unmade : {X : Type 0} (refusal : OpenRefusal) (result : Result X (Refused S)) → IsErrAnd result (λ refused. refused ≡ record { refusal = refusal; store = None }) → RefusesNoTable refusal
       → IfErr result (RefusesMaking g may_leave found)

@@ -36,19 +36,23 @@ module _ {S : Type 0} (g : Ghosts S) (may_leave : S → Image → Type 0) (found
     -- A table of a register that is there is the one reason to refuse a database, and is as it was.
     pub refuses : IfErr result (RefusesMaking g may_leave found)
 
-  -- of request lines whose bytes the reader tells, or not
+  -- whatever the reader tells of its bytes, and standard input tells none
+  pub record LivesAnyway (old new : Option (List ℕ)) (result : Result (Life S) (Refused S)) : Type 0 where
+    -- There are items that it was a run over.
+    pub some : (h : List Request) → IsLawful h → HoldsRegister h found
+        → OnLife result (λ life. LivesSome g h life.outcome old new (may_leave life.store))
+    -- Whatever a stop leaves in the files holds the register after a life of as many items as were answered, or one more.
+    pub leads : OnLife result (λ life. LeadsOnTo found life.outcome (may_leave life.store))
+    pub refuses : OnRefusal result
+
+  -- of request lines
   pub record RunsLines (input : Option (List ℕ)) (old new : Option (List ℕ)) (result : Result (Life S) (Refused S)) : Type 0 where
     -- Where the files held the register of a history, what is written is the lines of the answers, and whatever a stop leaves
     -- in the files holds the register of the items that were answered, or of one more.
     pub lives : (h : List Request) (bytes : List ℕ) (items : List (Option Request)) (rest : List ℕ)
         → IsLawful h → HoldsRegister h found → input ≡ Some bytes → HasItems bytes items rest
         → OnLife result (λ life. LivesOver g h items rest life.outcome old new (may_leave life.store))
-    -- Whatever the reader tells of its bytes, as at standard input, there are items that it was a run over.
-    pub some : (h : List Request) → IsLawful h → HoldsRegister h found
-        → OnLife result (λ life. LivesSome g h life.outcome old new (may_leave life.store))
-    -- Whatever a stop leaves in the files holds the register after a life of as many items as were answered, or one more.
-    pub leads : OnLife result (λ life. LeadsOnTo found life.outcome (may_leave life.store))
-    pub refuses : OnRefusal result
+    pub anyway : LivesAnyway old new result
 
   -- of the rows of a table, on these terms
   pub record ImportsRows (terms : Terms) (input : Option (List ℕ)) (old new : Option (List ℕ)) (result : Result (Life S) (Refused S)) : Type 0 where
@@ -60,12 +64,7 @@ module _ {S : Type 0} (g : Ghosts S) (may_leave : S → Image → Type 0) (found
     pub without : (h : List Request) (bytes : List ℕ)
         → IsLawful h → HoldsRegister h found → input ≡ Some bytes → (BeginsWithHeader bytes → ⊥)
         → OnLife result (λ life. EndsUnbegun h life.outcome old new (may_leave life.store))
-    -- Whatever the reader tells of its bytes, as at standard input, there are items that it was a run over.
-    pub some : (h : List Request) → IsLawful h → HoldsRegister h found
-        → OnLife result (λ life. LivesSome g h life.outcome old new (may_leave life.store))
-    -- Whatever a stop leaves in the files holds the register after a life of as many items as were answered, or one more.
-    pub leads : OnLife result (λ life. LeadsOnTo found life.outcome (may_leave life.store))
-    pub refuses : OnRefusal result
+    pub anyway : LivesAnyway old new result
 
   pub record Exports (old new : Option (List ℕ)) (result : Result (Life S) (Refused S)) : Type 0 where
     -- Where the files held the register of a history, its export is written, and they hold it still.

@@ -22,6 +22,9 @@ pub trait Files {
     /// What a stop may leave in them.
     ghost may_leave: { Self.Opened → Image → Type 0 };
 
+    /// Whether there is a file of this name, or the system does not tell.
+    fn may_be_there(&self, rt: &HostRuntime, file: &str) -> bool;
+
     /// A connection to the file, which is made where there is none.
     ///
     /// # Errors

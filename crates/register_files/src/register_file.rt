@@ -105,11 +105,11 @@ pub fn init_file<F: Files>(
     Ok(into_files::<F>(desk))
 }
 
-/// Opens the register in the file.
+/// Opens the register in the file. Where there is no file none is made.
 ///
 /// # Errors
-/// As [`Desk::open`]; [`OpenRefusal::Store`] also where the file cannot be opened, or is no database.
-pub fn open_file<F: Files>(
+/// As [`Desk::open`]; [`OpenRefusal::Store`] also where there is no file, or it cannot be opened, or is no database.
+pub fn open_file<F: Files + Drop>(
     rt: &HostRuntime,
     file: &str,
     files: F,
@@ -121,6 +121,9 @@ pub fn open_file<F: Files>(
     // A refusal has its cause in what the files hold, and a stop leaves what they held.
     ensures refuses { IfErr result (Refuses F.Opened.Store F.may_leave F.start) }
 {
+    if !files.may_be_there(rt, file) {
+        return Err(Refused::from(OpenRefusal::Store));
+    }
     let connection = files.connect(rt, file)?;
     let desk = Desk::open(rt.alloc(), connection)?;
     Ok(desk)
@@ -130,7 +133,7 @@ pub fn open_file<F: Files>(
 ///
 /// # Errors
 /// As [`open_file`]; nothing was read or written then.
-pub fn run_file<F: Files, R: Read, W: Write>(
+pub fn run_file<F: Files + Drop, R: Read, W: Write>(
     rt: &HostRuntime,
     file: &str,
     files: F,
@@ -156,7 +159,7 @@ pub fn run_file<F: Files, R: Read, W: Write>(
 ///
 /// # Errors
 /// As [`open_file`]; nothing was read or written then.
-pub fn import_file<F: Files, R: Read + Drop, W: Write>(
+pub fn import_file<F: Files + Drop, R: Read + Drop, W: Write>(
     rt: &HostRuntime,
     file: &str,
     files: F,
@@ -189,7 +192,7 @@ pub fn import_file<F: Files, R: Read + Drop, W: Write>(
 ///
 /// # Errors
 /// As [`open_file`]; nothing was written then.
-pub fn export_file<F: Files, W: Write>(
+pub fn export_file<F: Files + Drop, W: Write>(
     rt: &HostRuntime,
     file: &str,
     files: F,
@@ -213,7 +216,7 @@ pub fn export_file<F: Files, W: Write>(
 ///
 /// # Errors
 /// As [`open_file`]; nothing was written then.
-pub fn report_file<F: Files, W: Write>(
+pub fn report_file<F: Files + Drop, W: Write>(
     rt: &HostRuntime,
     file: &str,
     files: F,
@@ -237,7 +240,7 @@ pub fn report_file<F: Files, W: Write>(
 ///
 /// # Errors
 /// As [`open_file`]; no connection was accepted then.
-pub fn serve_file<F: Files>(
+pub fn serve_file<F: Files + Drop>(
     rt: &HostRuntime,
     file: &str,
     files: F,

@@ -1,5 +1,5 @@
 -- What was done without words.
-use Rattle.std.proofs.Common.{◌≡◌, ℕ, List, Option, Some, Result, Ok, Err, inl, inr, ap, subst, ◌∙◌}
+use Rattle.std.proofs.Common.{◌≡◌, ℕ, List, Option, Some, Result, Ok, Err, inl, inr, ap, subst, sym, ◌∙◌}
 use Rattle.sqlite_trees.specs.declared.store.Store.{Ghosts}
 use Rattle.sqlite.specs.Recovery.{Image}
 use Rattle.register_core.specs.declared.request.Request.{Request}
@@ -23,3 +23,8 @@ module _ {S : Type 0} (g : Ghosts S) (may_leave : S → Image → Type 0) (found
   acts_alone task same performs =
       let run = subst (λ (t : Task). Performs g may_leave found t input old new done) same performs in
       acts_came run.0 run.1 run.2
+
+-- a task that was told apart
+pub performs_as : {S : Type 0} (g : Ghosts S) (may_leave : S → Image → Type 0) (found : Image) (input old new : Option (List ℕ)) (done : Done S) (given task : Task) → given ≡ task
+    → Performs g may_leave found task input old new done → Performs g may_leave found given input old new done
+performs_as g may_leave found input old new done given task is performs = subst (λ (t : Task). Performs g may_leave found t input old new done) (sym is) performs

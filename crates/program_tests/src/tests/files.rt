@@ -138,11 +138,12 @@ fn is_refused(rt: &HostRuntime, command: &str, file: &str, faults: &str) -> Resu
     does(rt, &[command, "--file", file], b"", 2, b"", faults)
 }
 
-/// Whether a run is refused where there is no file, and where there is an empty one, which the first leaves.
+/// Whether a run is refused where there is no file, and makes none; and where there is an empty one.
 fn is_missing_told(rt: &HostRuntime, file: &str) -> Result<bool, Fail> {
     remove(rt, file)?;
-    let faults = "keyreg: NotARegister\n";
-    Ok(is_refused(rt, "run", file, faults)? && is_refused(rt, "run", file, faults)?)
+    let is_told = is_refused(rt, "run", file, "keyreg: Store\n")? && fs::read(rt, file).is_err();
+    fs::write(rt, file, "")?;
+    Ok(is_told && is_refused(rt, "run", file, "keyreg: NotARegister\n")?)
 }
 
 /// Whether a file that is no database is left as it is.

@@ -137,6 +137,7 @@ fn the_last_values_are_taken(rt: HostRuntime) -> Result<(), Fail> {
 fn what_is_no_register_is_not_read(rt: HostRuntime) -> Result<(), Fail> {
     let file = "no_tables.keyreg";
     remove(&rt, file)?;
+    fs::write(&rt, file, "")?;
     let faults = "keyreg: NotARegister\n";
     let words = import(file, "100", "ann", "1");
     assert!(rt; does(&rt, &words, IMPORTED, 2, b"", faults)?, "import");

@@ -1,0 +1,237 @@
+//! Calls that read a register of twenty keys, of which a look-up fails.
+use crate::files::{Fault, Lab, Opening, Place, Task};
+use crate::keys::{ALL, DUE, export_text, is_answered, report_text, twenty_keys};
+use crate::sending::{Came, exchanged, is_broken};
+use moment_core::Moment;
+use register_desk::{Desk, End, Finish, KeyRows, Outcome, Watched};
+use register_faults::Plan;
+use register_report::{export, rotation};
+use sqlite::{Alter, Connection, Files};
+use sqlite_disk::Memory;
+use std::alloc::Global;
+use std::test::Fail;
+
+/// More reads than any of the calls makes.
+const MAX_READS: u64 = 5000;
+
+/// A call that reads the register.
+#[derive(Clone, Copy, Debug, PartialEq, Eq)]
+enum Look {
+    Show,
+    Usage,
+    /// The usage, by an exchange.
+    Get,
+    Keys,
+    /// Up to this moment.
+    Due(Moment),
+    Export,
+    Report,
+}
+
+/// What came of it.
+#[derive(Clone, Copy, Debug, PartialEq, Eq)]
+enum Seen {
+    /// All that is to be seen.
+    Whole,
+    /// A front of it, and then the end 31.
+    Refused,
+    /// Anything else.
+    Wrong,
+}
+
+const GET: &str = "GET /keys/7/usage HTTP/1.1\r\nHost: localhost\r\n\r\n";
+
+const IN_USE: &str =
+    "HTTP/1.1 200 OK\r\nContent-Type: application/json\r\nContent-Length: 32\r\nConnection: close\r\n\r\n{\"process\":\"yes\",\"protect\":true}";
+
+/// The texts of the register.
+#[derive(Drop)]
+struct Texts {
+    export: String,
+    report: String,
+}
+
+/// Reads the rows, which are to be of the keys with these numbers.
+fn read_rows<S: Alter>(rows: &mut KeyRows<'_, S>, numbers: &[u32]) -> Seen {
+    for number in numbers {
+        match rows.next_key() {
+            Ok(Some(row)) if row.number == *number => {}
+            Err(End::Store) => return Seen::Refused,
+            _ => return Seen::Wrong,
+        }
+    }
+    match rows.next_key() {
+        Ok(None) => Seen::Whole,
+        Err(End::Store) => Seen::Refused,
+        _ => Seen::Wrong,
+    }
+}
+
+/// The same, and that 32 comes behind 31, and none behind the last.
+fn read_out<S: Alter>(mut rows: KeyRows<'_, S>, numbers: &[u32]) -> Seen {
+    match (read_rows(&mut rows, numbers), rows.next_key()) {
+        (Seen::Whole, Ok(None)) => Seen::Whole,
+        (Seen::Refused, Err(End::Broken)) => Seen::Refused,
+        _ => Seen::Wrong,
+    }
+}
+
+/// What came of a table with this text, by a call with this outcome that wrote these bytes.
+fn of_table(outcome: Outcome, bytes: &[u8], text: &str) -> Seen {
+    let is_counted = outcome.read == 0
+        && outcome.replies == 0
+        && outcome.written == bytes.len() as u64;
+    match outcome.end {
+        Finish::AtEnd { rest: 0 } if is_counted && bytes == text.as_bytes() => Seen::Whole,
+        Finish::Ended(End::Store)
+            if is_counted
+                && bytes.iter().any(|byte| *byte == b'\n')
+                && text.as_bytes().starts_with(bytes) => { Seen::Refused }
+        _ => Seen::Wrong,
+    }
+}
+
+/// What came of a look at one key.
+fn of_key<T>(found: &Result<Option<T>, End>) -> Seen {
+    match found {
+        Ok(Some(_)) => Seen::Whole,
+        Err(End::Store) => Seen::Refused,
+        _ => Seen::Wrong,
+    }
+}
+
+fn get_over<S: Alter>(alloc: Global, desk: &mut Desk<S>) -> Seen {
+    match exchanged(alloc, desk, 200, GET, IN_USE) {
+        Came::Whole => Seen::Whole,
+        Came::Refused(_) => Seen::Refused,
+        Came::Wrong => Seen::Wrong,
+    }
+}
+
+fn export_over<S: Alter>(alloc: Global, desk: &mut Desk<S>, text: &str) -> Seen {
+    let mut writer = Watched::new(Vec::new(alloc));
+    let outcome = export(alloc, desk, &mut writer);
+    of_table(outcome, writer.into_inner().as_slice(), text)
+}
+
+fn report_over<S: Alter>(alloc: Global, desk: &mut Desk<S>, text: &str) -> Seen {
+    let mut writer = Watched::new(Vec::new(alloc));
+    let outcome = rotation(alloc, desk, 1, &mut writer);
+    of_table(outcome, writer.into_inner().as_slice(), text)
+}
+
+fn look_at<S: Alter>(alloc: Global, desk: &mut Desk<S>, texts: &Texts, look: Look) -> Seen {
+    match look {
+        Look::Show => of_key(&desk.show(7)),
+        Look::Usage => of_key(&desk.usage(7)),
+        Look::Get => get_over(alloc, desk),
+        Look::Keys => match desk.keys() {
+            Ok(rows) => read_out(rows, &ALL),
+            Err(_) => Seen::Wrong,
+        },
+        Look::Due(until) => match desk.due(until) {
+            Ok(rows) => read_out(rows, &DUE),
+            Err(_) => Seen::Wrong,
+        },
+        Look::Export => export_over(alloc, desk, texts.export.as_str()),
+        Look::Report => report_over(alloc, desk, texts.report.as_str()),
+    }
+}
+
+/// Whether a desk of which a look was refused is as it should be: broken by a look at one key, and else as it was.
+fn goes_on<S: Alter>(alloc: Global, desk: &mut Desk<S>, texts: &Texts, looked: Look) -> bool {
+    match looked {
+        Look::Show | Look::Usage | Look::Get => is_broken(alloc, desk),
+        _ => {
+            look_at(alloc, desk, texts, looked) == Seen::Whole
+                && is_answered(alloc, desk, "200 zed 1 advance\n", "ok 0 - 200\n")
+        }
+    }
+}
+
+/// Opens the register and looks at it: what is seen, or that it is wrong what comes behind a look that was refused.
+#[derive(Drop)]
+struct Looking<'a> {
+    texts: &'a Texts,
+    looked: Look,
+}
+
+impl Task for Looking<'_> {
+    type Outcome = Seen;
+
+    fn perform<S: Alter + Drop>(
+        &self,
+        alloc: Global,
+        connection: Connection<S>,
+    ) -> Result<(Connection<S>, Seen), Fail> {
+        let mut desk = match Desk::open(alloc, connection) {
+            Ok(desk) => desk,
+            Err(unopened) => return Ok((unopened.connection, Seen::Wrong)),
+        };
+        let seen = look_at(alloc, &mut desk, self.texts, self.looked);
+        let is_good = seen != Seen::Refused || goes_on(alloc, &mut desk, self.texts, self.looked);
+        Ok((
+            desk.into_connection(),
+            if is_good { seen } else { Seen::Wrong },
+        ))
+    }
+}
+
+/// Lets each read behind the opening fail in turn. Gives how many the look was refused for, or as an error how many were
+/// before the one at which it went otherwise.
+fn refusals(
+    lab: Lab,
+    files: &Files<Memory>,
+    texts: &Texts,
+    looked: Look,
+    fault: Fault,
+) -> Result<Result<u64, u64>, Fail> {
+    let first = lab.tried(files, fault.at(MAX_READS), &Opening)?.1.calls;
+    for before in first..MAX_READS {
+        let (seen, left) = lab.tried(files, fault.at(before), &Looking { texts, looked })?;
+        match (seen, left.has_failed) {
+            (Some(Seen::Whole), false) => return Ok(Ok(before.saturating_sub(first))),
+            (Some(Seen::Refused), true) => {}
+            _ => return Ok(Err(before)),
+        }
+    }
+    Ok(Err(MAX_READS))
+}
+
+/// The first look of which a read does not fail as it should, with the place of the file, or that none of its reads did.
+fn look_not_refused(lab: Lab) -> Result<Option<(Look, Place)>, Fail> {
+    let files = twenty_keys(lab)?;
+    let until = Moment::new(600).ok_or("no moment")?;
+    let texts = Texts {
+        export: export_text(lab.alloc)?,
+        report: report_text(lab.alloc)?,
+    };
+    for looked in [
+        Look::Show,
+        Look::Usage,
+        Look::Get,
+        Look::Keys,
+        Look::Due(until),
+        Look::Export,
+        Look::Report,
+    ] {
+        // What was copied into the database file is read there. The log may have nothing that a look at one key needs.
+        for (place, least) in [(Place::Log, 0), (Place::Database, 1)] {
+            let fault = Fault {
+                place,
+                plan: Plan::FailRead(0),
+            };
+            match refusals(lab, &files, &texts, looked, fault)? {
+                Ok(count) if count >= least => {}
+                _ => return Ok(Some((looked, place))),
+            }
+        }
+    }
+    Ok(None)
+}
+
+#[test]
+fn a_failed_look_up_ends_what_is_read(rt: HostRuntime) -> Result<(), Fail> {
+    assert_eq!(rt; look_not_refused(Lab::new(rt.alloc()))?, None);
+    Ok(())
+}
