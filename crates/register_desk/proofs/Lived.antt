@@ -1,5 +1,6 @@
 -- The life that a call over items was, whatever its reader told.
-use Rattle.std.proofs.Common.{◌≡◌, ℕ, ◌+◌, Bool, true, false, List, [], ◌∷◌, ◌++◌, length, take, Option, None, Some, inl, inr, refl, sym, ap, subst, ◌∙◌, arith}
+use Rattle.std.proofs.Common.{◌≡◌, ℕ, ◌+◌, Bool, true, false, List, [], ◌∷◌, ◌++◌, length, take, Option, None, Some}
+use Rattle.std.proofs.Common.{inl, inr, refl, sym, ap, subst, ◌∙◌, arith}
 use Rattle.std.proofs.lemmas.List.{append-nil}
 use Rattle.std.proofs.lemmas.Option.{slice_get_within}
 use Rattle.register_store.specs.Schema.{Holds}
@@ -22,7 +23,8 @@ use Rattle.register_desk.proofs.Lives.{empty_lawful, lawful_on}
 use Rattle.register_desk.specs.Files.{FileLife, HoldsAfter, HoldsOneOf, HoldsRegister, LeadOn, left_by}
 use Rattle.register_desk.specs.Input.{AreItems}
 use Rattle.register_desk.specs.Leaving.{IsBroken, IsClean, IsWhole}
-use Rattle.register_desk.specs.Lives.{after, applied, AreInRange, IsLife, LeavesLife, life_of, LivesSome, MayApplyOneMore}
+use Rattle.register_desk.specs.Lives.{after, applied, AreInRange, IsLife, LeavesLife, life_of, LivesSome}
+use Rattle.register_desk.specs.Lives.{MayApplyOneMore}
 use Rattle.register_desk.specs.Register.{StandsFor, tables}
 use Rattle.register_desk.specs.Run.{Answered, LeavesDesk, RunsOver}
 use Rattle.register_desk.specs.Serving.{Served, ServedInPart, ServesTo}
@@ -42,68 +44,133 @@ items_in_range (line ∷ lines) [] each = absurd each
 
 -- ---- what a stop leaves, by how the call ended
 
-module _ {S : Type 0} (g : Ghosts S) (h : List Request) (items : List (Option Request)) (in_range : AreInRange items) (replies : ℕ) (now : Desk S g) (clean : IsClean g now) where
-  left_after : (end : Finish) (one_more : Bool) → IsLife end replies (life_of items replies one_more) → IsWhole now → StandsFor g now (after h (life_of items replies one_more)) → LeavesLife g h items end replies now
-  left_after end one_more is whole stands trees may = let left = (stands.sees whole clean).leaves trees may in (one_more, is, left.0, left.1, left.2)
+module _ {S : Type 0} (g : Ghosts S) (h : List Request) (items : List (Option Request)) (in_range : AreInRange items)
+    (replies : ℕ) (now : Desk S g) (clean : IsClean g now) where
+  left_after : (end : Finish) (one_more : Bool) → IsLife end replies (life_of items replies one_more) → IsWhole now
+      → StandsFor g now (after h (life_of items replies one_more)) → LeavesLife g h items end replies now
+  left_after end one_more is whole stands trees may =
+      let left = (stands.sees whole clean).leaves trees may in (one_more, is, left.0, left.1, left.2)
 
-  none_more : (end : Finish) (old new : Option (List ℕ)) → MayApplyOneMore end false → IsWhole now → Answered g h items replies old new now → LeavesLife g h items end replies now
+  none_more : (end : Finish) (old new : Option (List ℕ)) → MayApplyOneMore end false → IsWhole now
+      → Answered g h items replies old new now → LeavesLife g h items end replies now
   none_more end old new may whole over =
       let n : replies ≡ replies + 0 = omega arith in
-      left_after end false (record { in_range = in_range; replies_are = refl; one_more_is = may; enough = omega (arith, over.some) }) whole
+      left_after end false (record {
+        in_range = in_range;
+        replies_are = refl;
+        one_more_is = may;
+        enough = omega
+            (arith, over.some);
+      }) whole
       (subst (λ (n : ℕ). StandsFor g now (history h (take n items))) n over.stands)
 
   -- however a run of a whole desk ends
-  leaves_life : (rest : List ℕ) (end : Finish) (old new : Option (List ℕ)) (kept : Desk S g) → LeavesDesk kept now end → RunsOver g h items rest end replies old new now → IsWhole kept → LeavesLife g h items end replies now
-  leaves_life rest (AtEnd left) old new kept leaves over whole = none_more (AtEnd left) old new refl (leaves.whole whole (λ e. absurd cc)) over.0
-  leaves_life rest (Ended Memory) old new kept leaves over whole = none_more (Ended Memory) old new refl (leaves.whole whole (λ e. absurd cc)) over
-  leaves_life rest (Ended ReadFault) old new kept leaves over whole = none_more (Ended ReadFault) old new refl (leaves.whole whole (λ e. absurd cc)) over
-  leaves_life rest (Ended Broken) old new kept leaves over whole = absurd (let broken = leaves.was_broken refl in let both = sym whole ∙ broken in cc)
+  leaves_life : (rest : List ℕ) (end : Finish) (old new : Option (List ℕ)) (kept : Desk S g) → LeavesDesk kept now end
+      → RunsOver g h items rest end replies old new now → IsWhole kept → LeavesLife g h items end replies now
+  leaves_life rest (AtEnd left) old new kept leaves over whole =
+      none_more (AtEnd left) old new refl (leaves.whole whole (λ e. absurd cc)) over.0
+  leaves_life rest (Ended Memory) old new kept leaves over whole =
+      none_more (Ended Memory) old new refl (leaves.whole whole (λ e. absurd cc)) over
+  leaves_life rest (Ended ReadFault) old new kept leaves over whole =
+      none_more (Ended ReadFault) old new refl (leaves.whole whole (λ e. absurd cc)) over
+  leaves_life rest (Ended Broken) old new kept leaves over whole =
+      absurd (let broken = leaves.was_broken refl in let both = sym whole ∙ broken in cc)
   leaves_life rest (Ended WriteFault) old new kept leaves over whole =
-      left_after (Ended WriteFault) true (record { in_range = in_range; replies_are = refl; one_more_is = refl; enough = over.some }) (leaves.whole whole (λ e. absurd cc)) over.stands
+      left_after (Ended WriteFault) true
+      (record { in_range = in_range; replies_are = refl; one_more_is = refl; enough = over.some })
+      (leaves.whole whole (λ e. absurd cc)) over.stands
   leaves_life rest (Ended Store) old new kept leaves over whole = λ trees may.
       let left = over.2 trees may in
       let next = slice_get_within items replies (Some over.1.request) over.1.next in
       let n : replies ≡ replies + 0 = omega arith in
       elim left.1 [
-        | inl holds ↦ (false, record { in_range = in_range; replies_are = refl; one_more_is = tt; enough = omega (arith, over.0.some) }, left.0, subst (λ (n : ℕ). Holds (tables (history h (take n items))) left.0) n holds, left.2)
-        | inr holds ↦ (true, record { in_range = in_range; replies_are = refl; one_more_is = tt; enough = omega (arith, next) }, left.0, holds, left.2)
+        | inl holds ↦ (
+          false,
+          record {
+            in_range = in_range;
+            replies_are = refl;
+            one_more_is = tt;
+            enough = omega
+                (arith, over.0.some);
+          },
+          left.0,
+          subst (λ (n : ℕ). Holds (tables (history h (take n items))) left.0) n
+              holds,
+          left.2,
+        )
+        | inr holds ↦ (
+          true,
+          record {
+            in_range = in_range;
+            replies_are = refl;
+            one_more_is = tt;
+            enough = omega
+                (arith, next);
+          },
+          left.0,
+          holds,
+          left.2,
+        )
       ]
   leaves_life rest (Ended BadHeader) old new kept leaves over whole = absurd over
 
   -- the life that it was
-  pub lived : (rest : List ℕ) (end : Finish) (old new : Option (List ℕ)) (kept : Desk S g) → LeavesDesk kept now end → RunsOver g h items rest end replies old new now → LivesSome g h end replies old new kept now
-  lived rest end old new kept leaves over = record { items = items; rest = rest; over = λ header. over; leaves = leaves_life rest end old new kept leaves over }
+  pub lived : (rest : List ℕ) (end : Finish) (old new : Option (List ℕ)) (kept : Desk S g) → LeavesDesk kept now end
+      → RunsOver g h items rest end replies old new now → LivesSome g h end replies old new kept now
+  lived rest end old new kept leaves over =
+      record {
+        items = items;
+        rest = rest;
+        over = λ header. over;
+        leaves = leaves_life rest end old new kept leaves
+            over;
+      }
 
   -- where none more was applied
-  pub lived_alone : (rest : List ℕ) (end : Finish) (old new : Option (List ℕ)) (kept : Desk S g) → MayApplyOneMore end false → (IsWhole kept → IsWhole now) → Answered g h items replies old new now
-      → ((end ≡ Ended BadHeader → ⊥) → RunsOver g h items rest end replies old new now) → LivesSome g h end replies old new kept now
-  lived_alone rest end old new kept may whole answered over = record { items = items; rest = rest; over = over; leaves = λ was. none_more end old new may (whole was) answered }
+  pub lived_alone : (rest : List ℕ) (end : Finish) (old new : Option (List ℕ)) (kept : Desk S g)
+      → MayApplyOneMore end false → (IsWhole kept → IsWhole now) → Answered g h items replies old new now
+      → ((end ≡ Ended BadHeader → ⊥) → RunsOver g h items rest end replies old new now)
+      → LivesSome g h end replies old new kept now
+  lived_alone rest end old new kept may whole answered over =
+      record { items = items; rest = rest; over = over; leaves = λ was. none_more end old new may (whole was) answered }
 
 -- ---- a run over lines
 
-module _ {S : Type 0} (g : Ghosts S) (h : List Request) (before old new : Option (List ℕ)) (kept now : Desk S g) (replies : ℕ) (stands : StandsFor g kept h) (clean : IsClean g now) where
+module _ {S : Type 0} (g : Ghosts S) (h : List Request) (before old new : Option (List ℕ)) (kept now : Desk S g)
+    (replies : ℕ) (stands : StandsFor g kept h) (clean : IsClean g now) where
   -- the items so far, and no more
-  answered : (middle : Option (List ℕ)) (served : Served g before middle old new kept now replies) → Answered g h served.items replies old new now
-  answered middle served = front_so g served.items served.items replies served.counted [] (sym (append-nil served.items)) h old new kept now served.so_far stands clean
+  answered : (middle : Option (List ℕ)) (served : Served g before middle old new kept now replies)
+      → Answered g h served.items replies old new now
+  answered middle served =
+      front_so g served.items served.items replies served.counted [] (sym (append-nil served.items)) h old new kept
+      now served.so_far stands clean
 
-  in_range_so_far : (middle w : Option (List ℕ)) (mid : Desk S g) (served : Served g before middle old w kept mid replies) → AreInRange served.items
+  in_range_so_far : (middle w : Option (List ℕ)) (mid : Desk S g)
+      (served : Served g before middle old w kept mid replies) → AreInRange served.items
   in_range_so_far middle w mid served = items_in_range served.lines served.items served.took.each
 
   -- the item in hand behind them
-  lives_in_hand : (end : End) → LeavesDesk kept now (Ended end) → ServedInPart g before old new kept now replies end → LivesSome g h (Ended end) replies old new kept now
+  lives_in_hand : (end : End) → LeavesDesk kept now (Ended end) → ServedInPart g before old new kept now replies end
+      → LivesSome g h (Ended end) replies old new kept now
   lives_in_hand end leaves serves =
       let served = serves.served in
       lived g h (served.items ++ serves.item ∷ [])
-      (all_more (λ item. IfSome item IsRequest) served.items serves.item (in_range_so_far serves.middle serves.so_far serves.mid served) (item_in_range serves.line serves.item serves.next.stands_for))
+      (all_more (λ item. IfSome item IsRequest) served.items serves.item
+      (in_range_so_far serves.middle serves.so_far serves.mid served)
+      (item_in_range serves.line serves.item serves.next.stands_for))
       replies now clean [] (Ended end) old new kept leaves
-      (stopped_so g (served.items ++ serves.item ∷ []) served.items replies served.counted serves.item [] refl old serves.so_far new kept serves.mid now served.so_far h stands clean end serves.part [] serves.leaves)
+      (stopped_so g (served.items ++ serves.item ∷ []) served.items replies served.counted serves.item [] refl old
+      serves.so_far new kept serves.mid now served.so_far h stands clean end serves.part [] serves.leaves)
 
-  pub lives_so : (end : Finish) → LeavesDesk kept now end → ServesTo g before old new kept now replies end → LivesSome g h end replies old new kept now
+  pub lives_so : (end : Finish) → LeavesDesk kept now end → ServesTo g before old new kept now replies end
+      → LivesSome g h end replies old new kept now
   lives_so (AtEnd left) leaves serves =
       let served = serves.served in
-      lived g h served.items (in_range_so_far serves.middle new now served) replies now clean serves.rest (AtEnd left) old new kept leaves (answered serves.middle served, sym served.counted, serves.counted)
+      lived g h served.items (in_range_so_far serves.middle new now served) replies now clean serves.rest (AtEnd left)
+      old new kept leaves (answered serves.middle served, sym served.counted, serves.counted)
   lives_so (Ended ReadFault) leaves serves =
-      lived g h serves.served.items (in_range_so_far serves.middle new now serves.served) replies now clean [] (Ended ReadFault) old new kept leaves (answered serves.middle serves.served)
+      lived g h serves.served.items (in_range_so_far serves.middle new now serves.served) replies now clean []
+      (Ended ReadFault) old new kept leaves (answered serves.middle serves.served)
   lives_so (Ended Memory) leaves serves = lives_in_hand Memory leaves serves
   lives_so (Ended Store) leaves serves = lives_in_hand Store leaves serves
   lives_so (Ended Broken) leaves serves = lives_in_hand Broken leaves serves
@@ -112,15 +179,22 @@ module _ {S : Type 0} (g : Ghosts S) (h : List Request) (before old new : Option
 
 -- ---- one life after the other, in files
 
-pub lives_on : (all : List FileLife) (h : List Request) (found : Image) → IsLawful h → HoldsRegister h found → LeadOn found all → ∥ HoldsAfter h all (left_by found all) ∥₁
+pub lives_on : (all : List FileLife) (h : List Request) (found : Image) → IsLawful h → HoldsRegister h found
+    → LeadOn found all → ∥ HoldsAfter h all (left_by found all) ∥₁
 lives_on [] h found lawful holds lead = ∣ record { lives = []; were = tt; lawful = lawful; holds = holds } ∣₁
 lives_on (it ∷ all) h found lawful holds lead =
     ∥∥₁_elim (lead.0 h lawful holds) squash₁ (λ one.
     let lawful_next = lawful_on one.0.items h (applied one.0) lawful one.1.in_range in
     ∥∥₁_map (lives_on all (after h one.0) it.left lawful_next one.2 lead.1)
-    (λ rest. record { lives = one.0 ∷ rest.lives; were = (one.1, rest.were); lawful = rest.lawful; holds = rest.holds }))
+    (λ rest. record {
+      lives = one.0 ∷ rest.lives;
+      were = (one.1, rest.were);
+      lawful = rest.lawful;
+      holds = rest.holds;
+    }))
 
-pub lives_begun : (found : Image) (all : List FileLife) → HoldsOneOf [] [] found → LeadOn found all → ∥ HoldsAfter [] all (left_by found all) ∥₁
+pub lives_begun : (found : Image) (all : List FileLife) → HoldsOneOf [] [] found → LeadOn found all
+    → ∥ HoldsAfter [] all (left_by found all) ∥₁
 lives_begun found all holds lead = ∥∥₁_elim holds squash₁ (λ one. elim one [
   | inl here ↦ lives_on all [] found empty_lawful here lead
   | inr here ↦ lives_on all [] found empty_lawful here lead

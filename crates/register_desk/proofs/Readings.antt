@@ -6,7 +6,7 @@ use Rattle.register_store.specs.declared.counted.Counted.{Counted}
 use Rattle.register_core.specs.declared.request.Request.{Request}
 use Rattle.register_store.specs.declared.error.StoreError.{StoreError}
 use Rattle.register_store.specs.declared.error.StoreError.TheVariants.{Database, Memory, NoRegister}
-use Rattle.register_store.specs.Reading.{seen, HoldsWhereOpen, ReadsBy}
+use Rattle.register_store.specs.Reading.{seen, HoldsWhereOpen, KeepsSight, ReadsBy}
 use Rattle.register_store.specs.Tables.{Tables}
 use Rattle.register_store.specs.Schema.{Holds}
 use Rattle.register_desk.specs.declared.desk.Desk.{Desk}
@@ -18,7 +18,8 @@ use Rattle.register_store.specs.Making.{AreRightAt}
 use Rattle.register_desk.specs.Register.{tables, IsOver, StandsFor, Sees, Keeps, Leaves}
 
 -- a stop leaves what it left before
-still_leaves : (t : Tables) (before after : State) → Leaves t before → Survives before after (λ _. ⊥) → HasCleanDisk after → Leaves t after
+still_leaves : (t : Tables) (before after : State) → Leaves t before → Survives before after (λ _. ⊥)
+    → HasCleanDisk after → Leaves t after
 still_leaves t before after leaves survives clean trees may = elim (survives.crash clean trees may) [
   | inl left ↦ leaves trees left
   | inr none ↦ absurd none
@@ -29,7 +30,8 @@ pub seen_where_open : (t : Tables) (s : State) → Keeps t s → HoldsWhereOpen 
 seen_where_open t s kept is_open = (kept.shows is_open).holds
 
 -- what kept tables keeps them where nothing was changed
-pub kept_still : (t : Tables) (before after : State) → Keeps t before → IsUnchanged before after → Survives before after (λ _. ⊥) → HasCleanDisk after → Keeps t after
+pub kept_still : (t : Tables) (before after : State) → Keeps t before → IsUnchanged before after
+    → Survives before after (λ _. ⊥) → HasCleanDisk after → Keeps t after
 kept_still t before after kept unchanged survives clean =
     let shows = unchanged.0 in
     let seen_before = kept.shows shows.was_open in
@@ -44,7 +46,8 @@ kept_still t before after kept unchanged survives clean =
 
 module _ {S : Type 0} (g : store.Ghosts S) where
   -- what a desk stands for is a matter of its counts and of the tables that it sees
-  pub stands_still : (old new : Desk S g) → ChangesNothing g old new → (h : List Request) → StandsFor g old h → StandsFor g new h
+  pub stands_still : (old new : Desk S g) → ChangesNothing g old new → (h : List Request) → StandsFor g old h
+      → StandsFor g new h
   stands_still old new nothing h stands = record {
     lawful = stands.lawful;
     latest_is = nothing.counts.latest ∙ stands.latest_is;
@@ -63,10 +66,17 @@ module _ {S : Type 0} (g : store.Ghosts S) where
   }
 
   pub nothing_done : (desk : Desk S g) → ChangesNothing g desk desk
-  nothing_done desk = record { clean = λ clean. clean; counts = record { latest = refl; keys = refl }; rows = λ t sees. sees; stop = λ t sees whole clean. (sees whole clean).leaves }
+  nothing_done desk = record {
+    clean = λ clean. clean;
+    counts = record { latest = refl; keys = refl };
+    rows =
+        λ t sees. sees;
+    stop = λ t sees whole clean. (sees whole clean).leaves;
+  }
 
   -- one behind another
-  pub nothing_then : (old mid new : Desk S g) → ChangesNothing g old mid → (IsWhole old → IsWhole mid) → ChangesNothing g mid new → ChangesNothing g old new
+  pub nothing_then : (old mid new : Desk S g) → ChangesNothing g old mid → (IsWhole old → IsWhole mid)
+      → ChangesNothing g mid new → ChangesNothing g old new
   nothing_then old mid new one whole two = record {
     clean = λ clean. one.clean (two.clean clean);
     counts = record { latest = two.counts.latest ∙ one.counts.latest; keys = two.counts.keys ∙ one.counts.keys };
@@ -75,17 +85,24 @@ module _ {S : Type 0} (g : store.Ghosts S) where
   }
 
   -- a desk that breaks behind that
-  pub then_broken : (old mid new : Desk S g) → ChangesNothing g old mid → KeepsAll mid new → IsBroken new → ChangesNothing g old new
+  pub then_broken : (old mid new : Desk S g) → ChangesNothing g old mid → KeepsAll mid new → IsBroken new
+      → ChangesNothing g old new
   then_broken old mid new nothing same broken = record {
     clean = λ clean. nothing.clean (subst (λ c. HasCleanDisk (seen g c)) same.connection clean);
-    counts = record { latest = same.counts.latest ∙ nothing.counts.latest; keys = same.counts.keys ∙ nothing.counts.keys };
+    counts = record {
+      latest = same.counts.latest ∙ nothing.counts.latest;
+      keys = same.counts.keys
+          ∙ nothing.counts.keys;
+    };
     rows = λ t sees whole. absurd (let both = sym broken ∙ whole in cc);
-    stop = λ t sees whole clean. subst (λ c. Leaves t (seen g c)) (sym same.connection) (nothing.stop t sees whole (subst (λ c. HasCleanDisk (seen g c)) same.connection clean));
+    stop = λ t sees whole clean. subst (λ c. Leaves t (seen g c)) (sym same.connection)
+        (nothing.stop t sees whole (subst (λ c. HasCleanDisk (seen g c)) same.connection clean));
   }
 
   -- ---- a reading of the store
 
-  module _ {T : Type 0} (Found : Tables → T → Type 0) (old new : Desk S g) (after : Counted S g) (r : Result T StoreError) (whole : IsWhole old) (reads : ReadsBy Found (seen g old.connection) (seen g after) r)
+  module _ {T : Type 0} (Found : Tables → T → Type 0) (old new : Desk S g) (after : Counted S g)
+      (r : Result T StoreError) (whole : IsWhole old) (reads : ReadsBy Found (seen g old.connection) (seen g after) r)
       (same : new.connection ≡ after) (counts : KeepsCounts old new) where
     early : IsClean g new → HasCleanDisk (seen g after)
     early clean = subst (λ c. HasCleanDisk (seen g c)) same clean
@@ -96,17 +113,20 @@ module _ {S : Type 0} (g : store.Ghosts S) where
     -- a stop leaves what it left before
     leaves_still : (t : Tables) → Sees g t old → IsClean g new → Leaves t (seen g new.connection)
     leaves_still t sees clean =
-        let left = still_leaves t (seen g old.connection) (seen g after) (kept_before t sees clean).leaves reads.survives (early clean) in
+        let left = still_leaves t (seen g old.connection) (seen g after) (kept_before t sees clean).leaves
+        reads.survives (early clean) in
         subst (λ c. Leaves t (seen g c)) (sym same) left
 
     -- where nothing was changed, the connection keeps what it kept
-    keeps_still : (t : Tables) → Sees g t old → IsClean g new → IsUnchanged (seen g old.connection) (seen g after) → Keeps t (seen g new.connection)
+    keeps_still : (t : Tables) → Sees g t old → IsClean g new → IsUnchanged (seen g old.connection) (seen g after)
+        → Keeps t (seen g new.connection)
     keeps_still t sees clean unchanged =
         let kept = kept_before t sees clean in
         let now = kept_still t (seen g old.connection) (seen g after) kept unchanged reads.survives (early clean) in
         subst (λ c. Keeps t (seen g c)) (sym same) now
 
-    only_read : (IsWhole new → (t : Tables) → Sees g t old → IsClean g new → IsUnchanged (seen g old.connection) (seen g after)) → ChangesNothing g old new
+    only_read : (IsWhole new → (t : Tables) → Sees g t old → IsClean g new → IsUnchanged (seen g old.connection)
+        (seen g after)) → ChangesNothing g old new
     only_read unchanged = record {
       clean = λ clean. reads.clean (early clean);
       counts = counts;
@@ -114,8 +134,40 @@ module _ {S : Type 0} (g : store.Ghosts S) where
       stop = λ t sees whole clean. leaves_still t sees clean;
     }
 
+  -- where an open connection sees what it saw, whatever came of the call, nothing is changed
+  pub sees_nothing : {T : Type 0} (Found : Tables → T → Type 0) (old new : Desk S g) (after : Counted S g)
+      (r : Result T StoreError) → ReadsBy Found (seen g old.connection) (seen g after) r
+      → KeepsSight (seen g old.connection) (seen g after) → new.connection ≡ after → KeepsCounts old new
+      → new.is_broken ≡ old.is_broken → ChangesNothing g old new
+  sees_nothing Found old new after r reads sight same counts mark = record {
+    clean = λ clean. reads.clean (subst (λ c. HasCleanDisk (seen g c)) same clean);
+    counts = counts;
+    rows = λ t sees still clean.
+        let whole : IsWhole old = sym mark ∙ still in
+        let clean_after : HasCleanDisk (seen g after) = subst (λ c. HasCleanDisk (seen g c)) same clean in
+        let kept = sees whole (reads.clean clean_after) in
+        let now : Keeps t (seen g after) = record {
+          shows = λ open_now.
+              let still_so = sight clean_after (λ was. sym (kept.shows was).committed) open_now in
+              let had = kept.shows still_so.was_open in
+              record {
+                is_open = open_now;
+                holds = subst (Holds t) (sym still_so.now_is) had.holds;
+                committed =
+                    still_so.committed_is ∙ had.committed ∙ sym still_so.now_is;
+              };
+          leaves = still_leaves t (seen g old.connection) (seen g after) kept.leaves reads.survives clean_after;
+        } in
+        subst (λ c. Keeps t (seen g c)) (sym same) now;
+    stop = λ t sees whole clean.
+        let clean_after : HasCleanDisk (seen g after) = subst (λ c. HasCleanDisk (seen g c)) same clean in
+        subst (λ c. Leaves t (seen g c)) (sym same) (still_leaves t (seen g old.connection) (seen g after)
+        (sees whole (reads.clean clean_after)).leaves reads.survives clean_after);
+  }
+
   -- what was found is of the tables that the desk saw
-  module _ {T : Type 0} (Found : Tables → T → Type 0) (old : Desk S g) (after : Counted S g) (value : T) (whole : IsWhole old) (reads : ReadsBy Found (seen g old.connection) (seen g after) (Ok value))
+  module _ {T : Type 0} (Found : Tables → T → Type 0) (old : Desk S g) (after : Counted S g) (value : T)
+      (whole : IsWhole old) (reads : ReadsBy Found (seen g old.connection) (seen g after) (Ok value))
       (t : Tables) (sees : Sees g t old) (clean : HasCleanDisk (seen g after)) where
     found_so : Found t value × IsUnchanged (seen g old.connection) (seen g after)
     found_so = reads.found clean t (seen_where_open t (seen g old.connection) (sees whole (reads.clean clean)))
@@ -126,36 +178,49 @@ module _ {S : Type 0} (g : store.Ghosts S) where
     unchanged_in : IsUnchanged (seen g old.connection) (seen g after)
     unchanged_in = found_so.1
 
-  pub read_well : {T : Type 0} (Found : Tables → T → Type 0) (old new : Desk S g) (after : Counted S g) (value : T) → IsWhole old → ReadsBy Found (seen g old.connection) (seen g after) (Ok value)
+  pub read_well : {T : Type 0} (Found : Tables → T → Type 0) (old new : Desk S g) (after : Counted S g) (value : T)
+      → IsWhole old → ReadsBy Found (seen g old.connection) (seen g after) (Ok value)
       → new.connection ≡ after → KeepsCounts old new → ChangesNothing g old new
-  read_well Found old new after value whole reads same counts = only_read Found old new after (Ok value) whole reads same counts
-      (λ still t sees clean. unchanged_in Found old after value whole reads t sees (subst (λ c. HasCleanDisk (seen g c)) same clean))
+  read_well Found old new after value whole reads same counts =
+      only_read Found old new after (Ok value) whole reads same counts
+      (λ still t sees clean. unchanged_in Found old after value whole reads t sees
+      (subst (λ c. HasCleanDisk (seen g c)) same clean))
 
   -- the desk goes on only where memory gave out
-  pub read_failed : {T : Type 0} (Found : Tables → T → Type 0) (old new : Desk S g) (after : Counted S g) (error : StoreError) → IsWhole old → ReadsBy Found (seen g old.connection) (seen g after) (Err error)
+  pub read_failed : {T : Type 0} (Found : Tables → T → Type 0) (old new : Desk S g) (after : Counted S g)
+      (error : StoreError) → IsWhole old → ReadsBy Found (seen g old.connection) (seen g after) (Err error)
       → new.connection ≡ after → KeepsCounts old new → (IsWhole new → error ≡ Memory) → ChangesNothing g old new
-  read_failed Found old new after error whole reads same counts memory = only_read Found old new after (Err error) whole reads same counts
+  read_failed Found old new after error whole reads same counts memory =
+      only_read Found old new after (Err error) whole reads same counts
       (λ still t sees clean.
       let clean_after : HasCleanDisk (seen g after) = subst (λ c. HasCleanDisk (seen g c)) same clean in
-      (reads.failed clean_after t (seen_where_open t (seen g old.connection) (sees whole (reads.clean clean_after)))).unchanged (memory still))
+      (reads.failed clean_after t
+      (seen_where_open t (seen g old.connection) (sees whole (reads.clean clean_after)))).unchanged (memory still))
 
 -- ---- ends
 
 -- only want of memory leaves a desk whole
-pub whole_is_memory : {S : Type 0} {g : store.Ghosts S} (new : Desk S g) (error : StoreError) → (error ≢ Memory → IsBroken new) → IsWhole new → error ≡ Memory
+pub whole_is_memory : {S : Type 0} {g : store.Ghosts S} (new : Desk S g) (error : StoreError)
+    → (error ≢ Memory → IsBroken new) → IsWhole new → error ≡ Memory
 whole_is_memory new (Database e) broken whole = absurd (let is = broken (λ same. cc) in let both = sym is ∙ whole in cc)
 whole_is_memory new Memory broken whole = refl
 whole_is_memory new NoRegister broken whole = absurd (let is = broken (λ same. cc) in let both = sym is ∙ whole in cc)
 
 -- the end that an error of the store comes to
-pub ends_by_error : {S : Type 0} {g : store.Ghosts S} (old new : Desk S g) (error : StoreError) (end : End) → IsWhole old
-    → (error ≡ Memory → (end ≡ ends.Memory) × IsWhole new) → (error ≢ Memory → (end ≡ ends.Store) × IsBroken new) → EndsBy old new end
-ends_by_error old new (Database e) end whole memory refused = let it = refused (λ same. cc) in subst (EndsBy old new) (sym it.0) (whole, it.1)
-ends_by_error old new Memory end whole memory refused = let it = memory refl in subst (EndsBy old new) (sym it.0) (whole, it.1)
-ends_by_error old new NoRegister end whole memory refused = let it = refused (λ same. cc) in subst (EndsBy old new) (sym it.0) (whole, it.1)
+pub ends_by_error : {S : Type 0} {g : store.Ghosts S} (old new : Desk S g) (error : StoreError) (end : End)
+    → IsWhole old
+    → (error ≡ Memory → (end ≡ ends.Memory) × IsWhole new) → (error ≢ Memory → (end ≡ ends.Store) × IsBroken new)
+    → EndsBy old new end
+ends_by_error old new (Database e) end whole memory refused =
+    let it = refused (λ same. cc) in subst (EndsBy old new) (sym it.0) (whole, it.1)
+ends_by_error old new Memory end whole memory refused =
+    let it = memory refl in subst (EndsBy old new) (sym it.0) (whole, it.1)
+ends_by_error old new NoRegister end whole memory refused =
+    let it = refused (λ same. cc) in subst (EndsBy old new) (sym it.0) (whole, it.1)
 
 -- after an end 31 of a call that reads, a stop leaves the tables that the desk saw
-pub leaves_seen : {S : Type 0} (g : store.Ghosts S) (old new : Desk S g) (t : Tables) (end : End) → ChangesNothing g old new → EndsBy old new end → Sees g t old → IsClean g new → end ≡ ends.Store
+pub leaves_seen : {S : Type 0} (g : store.Ghosts S) (old new : Desk S g) (t : Tables) (end : End)
+    → ChangesNothing g old new → EndsBy old new end → Sees g t old → IsClean g new → end ≡ ends.Store
     → Leaves t (seen g new.connection)
 leaves_seen g old new t ends.Store nothing by sees clean is = nothing.stop t sees by.0 clean
 leaves_seen g old new t ends.Memory nothing by sees clean is = absurd cc

@@ -17,9 +17,12 @@ use Rattle.register_files.specs.declared.register_file.Refused.{Refused}
 use Rattle.register_files.specs.Calls.{LivesAnyway}
 use Rattle.register_files.specs.Life.{LeadsOnTo, LeavesLifeInFiles, LivesSome}
 
-module _ {S : Type 0} (g : Ghosts S) (may_leave : Image → Type 0) (outcome : Outcome) (old new : Option (List ℕ)) (kept now : Desk S g) where
-  lives_some : ((h : List Request) (items : List (Option Request)) (end : Finish) (replies : ℕ) → LeavesLife g h items end replies now → LeavesLifeInFiles h items end replies may_leave)
-      → (h : List Request) → RunsSome g h outcome.end outcome.replies old new kept now → IsWhole kept → LivesSome g h outcome old new may_leave
+module _ {S : Type 0} (g : Ghosts S) (may_leave : Image → Type 0) (outcome : Outcome) (old new : Option (List ℕ))
+    (kept now : Desk S g) where
+  lives_some : ((h : List Request) (items : List (Option Request)) (end : Finish) (replies : ℕ)
+      → LeavesLife g h items end replies now → LeavesLifeInFiles h items end replies may_leave)
+      → (h : List Request) → RunsSome g h outcome.end outcome.replies old new kept now → IsWhole kept
+      → LivesSome g h outcome old new may_leave
   lives_some into h runs whole = record {
     items = runs.items;
     rest = runs.rest;
@@ -28,19 +31,25 @@ module _ {S : Type 0} (g : Ghosts S) (may_leave : Image → Type 0) (outcome : O
     leaves = into h runs.items outcome.end outcome.replies (runs.leaves whole);
   }
 
-  leads_on : (found : Image) → ((h : List Request) → IsLawful h → HoldsRegister h found → LivesSome g h outcome old new may_leave) → LeadsOnTo found outcome may_leave
+  leads_on : (found : Image) → ((h : List Request) → IsLawful h → HoldsRegister h found
+      → LivesSome g h outcome old new may_leave) → LeadsOnTo found outcome may_leave
   leads_on found some left may h lawful holds =
       let lives = some h lawful holds in
       ∥∥₁_map (lives.leaves left may) (λ one. (life_of lives.items outcome.replies one.0, one.1, one.2))
 
 -- a call that opened a desk, and was a run over some items of whatever history that stood for
-pub lives_anyway : {S : Type 0} (g : Ghosts S) (may_leave : S → Image → Type 0) (found : Image) (outcome : Outcome) (store : S) (old new : Option (List ℕ)) (kept now : Desk S g) → IsWhole kept
-    → (IsCleanStore (g.view store) → (h : List Request) (items : List (Option Request)) (end : Finish) (replies : ℕ) → LeavesLife g h items end replies now → LeavesLifeInFiles h items end replies (may_leave store))
-    → (IsCleanStore (g.view store) → (h : List Request) → IsLawful h → HoldsRegister h found → RunsSome g h outcome.end outcome.replies old new kept now)
+pub lives_anyway : {S : Type 0} (g : Ghosts S) (may_leave : S → Image → Type 0) (found : Image) (outcome : Outcome)
+    (store : S) (old new : Option (List ℕ)) (kept now : Desk S g) → IsWhole kept
+    → (IsCleanStore (g.view store) → (h : List Request) (items : List (Option Request)) (end : Finish) (replies : ℕ)
+    → LeavesLife g h items end replies now → LeavesLifeInFiles h items end replies (may_leave store))
+    → (IsCleanStore (g.view store) → (h : List Request) → IsLawful h → HoldsRegister h found
+    → RunsSome g h outcome.end outcome.replies old new kept now)
     → LivesAnyway g may_leave found old new (Ok (record { outcome = outcome; store = store }))
 lives_anyway g may_leave found outcome store old new kept now whole into runs = record {
-  some = λ h lawful holds clean. lives_some g (may_leave store) outcome old new kept now (into clean) h (runs clean h lawful holds) whole;
+  some = λ h lawful holds clean. lives_some g (may_leave store) outcome old new kept now (into clean) h
+      (runs clean h lawful holds) whole;
   leads = λ clean. leads_on g (may_leave store) outcome old new kept now found
-      (λ h lawful holds. lives_some g (may_leave store) outcome old new kept now (into clean) h (runs clean h lawful holds) whole);
+      (λ h lawful holds. lives_some g (may_leave store) outcome old new kept now (into clean) h
+      (runs clean h lawful holds) whole);
   refuses = tt;
 }

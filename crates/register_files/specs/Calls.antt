@@ -1,5 +1,5 @@
--- What each call over the register in files says of what it came to. The files hold `found` before the call; what is said of
--- files that it left is said of sound ones.
+-- What each call over the register in files says of what it came to. The files hold `found` before the call; what is
+-- said of files that it left is said of sound ones.
 use Rattle.std.specs.Prelude.{◌≡◌, ℕ, List, [], Option, Some, Result, IfOk, IfErr}
 use Rattle.sqlite_trees.specs.declared.store.Store.{Ghosts}
 use Rattle.sqlite_trees.specs.View.{IsClean as IsCleanStore}
@@ -32,7 +32,8 @@ module _ {S : Type 0} (g : Ghosts S) (may_leave : S → Image → Type 0) (found
 
   pub record MakesRegister (result : Result S (Refused S)) : Type 0 where
     -- Where the file was empty, whatever a stop leaves in the files holds the register of no request.
-    pub leaves : found.db ≡ [] → IfOk result (λ store. IsCleanStore (g.view store) → LeavesInFiles [] [] (may_leave store))
+    pub leaves : found.db ≡ [] → IfOk result (λ store. IsCleanStore (g.view store)
+        → LeavesInFiles [] [] (may_leave store))
     -- A table of a register that is there is the one reason to refuse a database, and is as it was.
     pub refuses : IfErr result (RefusesMaking g may_leave found)
 
@@ -41,24 +42,28 @@ module _ {S : Type 0} (g : Ghosts S) (may_leave : S → Image → Type 0) (found
     -- There are items that it was a run over.
     pub some : (h : List Request) → IsLawful h → HoldsRegister h found
         → OnLife result (λ life. LivesSome g h life.outcome old new (may_leave life.store))
-    -- Whatever a stop leaves in the files holds the register after a life of as many items as were answered, or one more.
+    -- Whatever a stop leaves in the files holds the register after a life of as many items as were answered, or one
+    -- more.
     pub leads : OnLife result (λ life. LeadsOnTo found life.outcome (may_leave life.store))
     pub refuses : OnRefusal result
 
   -- of request lines
-  pub record RunsLines (input : Option (List ℕ)) (old new : Option (List ℕ)) (result : Result (Life S) (Refused S)) : Type 0 where
-    -- Where the files held the register of a history, what is written is the lines of the answers, and whatever a stop leaves
-    -- in the files holds the register of the items that were answered, or of one more.
+  pub record RunsLines (input : Option (List ℕ)) (old new : Option (List ℕ))
+      (result : Result (Life S) (Refused S)) : Type 0 where
+    -- Where the files held the register of a history, what is written is the lines of the answers, and whatever a stop
+    -- leaves in the files holds the register of the items that were answered, or of one more.
     pub lives : (h : List Request) (bytes : List ℕ) (items : List (Option Request)) (rest : List ℕ)
         → IsLawful h → HoldsRegister h found → input ≡ Some bytes → HasItems bytes items rest
         → OnLife result (λ life. LivesOver g h items rest life.outcome old new (may_leave life.store))
     pub anyway : LivesAnyway old new result
 
   -- of the rows of a table, on these terms
-  pub record ImportsRows (terms : Terms) (input : Option (List ℕ)) (old new : Option (List ℕ)) (result : Result (Life S) (Refused S)) : Type 0 where
+  pub record ImportsRows (terms : Terms) (input : Option (List ℕ)) (old new : Option (List ℕ))
+      (result : Result (Life S) (Refused S)) : Type 0 where
     -- Where the files held the register of a history, it is a run over the items of the rows behind the header row.
     pub lives : (h : List Request) (bytes : List ℕ) (items : List (Option Request))
-        → IsLawful h → HoldsRegister h found → input ≡ Some bytes → HasRowItems terms.moment terms.caller terms.first bytes items
+        → IsLawful h → HoldsRegister h found → input ≡ Some bytes
+        → HasRowItems terms.moment terms.caller terms.first bytes items
         → OnLife result (λ life. LivesOver g h items [] life.outcome old new (may_leave life.store))
     -- Without the header row nothing is registered.
     pub without : (h : List Request) (bytes : List ℕ)
@@ -77,13 +82,14 @@ module _ {S : Type 0} (g : Ghosts S) (may_leave : S → Image → Type 0) (found
     -- Where the files held the register of a history, its report is written, and they hold it still.
     pub lives : (h : List Request) (due : List KeyRow)
         → IsLawful h → HoldsRegister h found → AreDue (all_rows h) (horizon (latest h) days) due
-        → OnLife result (λ life. WritesOut h (report_text (latest h) (horizon (latest h) days) due) life.outcome old new (may_leave life.store))
+        → OnLife result (λ life.
+        WritesOut h (report_text (latest h) (horizon (latest h) days) due) life.outcome old new (may_leave life.store))
     pub refuses : OnRefusal result
 
   -- of so many exchanges at most
   pub record ServesExchanges (most : ℕ) (result : Result (Life S) (Refused S)) : Type 0 where
-    -- Where the files held the register of a history, whatever a stop leaves in them holds that of at most one item more for
-    -- each exchange.
+    -- Where the files held the register of a history, whatever a stop leaves in them holds that of at most one item
+    -- more for each exchange.
     pub lives : (h : List Request) → IsLawful h → HoldsRegister h found
         → OnLife result (λ life. ServesInFiles h most (may_leave life.store))
     pub refuses : OnRefusal result

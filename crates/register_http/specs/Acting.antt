@@ -1,5 +1,6 @@
 -- What a desk does where it is asked something, apart from the bytes of the exchange.
-use Rattle.std.specs.Prelude.{◌≡◌, ◌≢◌, ◌⊎◌, ℕ, true, List, String, string_bytes, Result, Ok, Err, MatchResult, IfOk, IfErr, OnOk}
+use Rattle.std.specs.Prelude.{◌≡◌, ◌≢◌, ◌⊎◌, ℕ, true, List, String, string_bytes, Result, Ok, Err, MatchResult, IfOk}
+use Rattle.std.specs.Prelude.{IfErr, OnOk}
 use Rattle.std.specs.declared.alloc.Global.{Global}
 use Rattle.sqlite_trees.specs.declared.store.Store.{Ghosts}
 use Rattle.register_core.specs.declared.reply.Reply as core
@@ -21,13 +22,14 @@ use Rattle.register_http.specs.Answering.{history_after, reply_to, uses_register
 abbrev pub IsTextOf : Reply → String Global → Type 0
 IsTextOf reply text = string_bytes text ≡ reply_bytes reply
 
--- what may have changed the register: a request that was accepted, whose reply is the text if there was memory for it, or
--- that the database refused
+-- what may have changed the register: a request that was accepted, whose reply is the text if there was memory for it,
+-- or that the database refused
 abbrev pub MayChange : Asked → Result (String Global) End → Type 0
 MayChange (Reject rejection) result = ⊥
 MayChange (ShowKey key) result = ⊥
 MayChange (ShowUsage key) result = ⊥
-MayChange (Apply sent) result = (result ≡ Err Store) ⊎ ((reply : core.Reply) × IfOk result (IsTextOf (outcome_reply (Ok reply))))
+MayChange (Apply sent) result =
+    (result ≡ Err Store) ⊎ ((reply : core.Reply) × IfOk result (IsTextOf (outcome_reply (Ok reply))))
 
 module _ {S : Type 0} (g : Ghosts S) where
   -- the desk behind an end: memory may give out at a broken one too, where it is not asked
@@ -49,11 +51,14 @@ module _ {S : Type 0} (g : Ghosts S) where
     pub ends : MatchResult result (λ _. GoesOn old new) (StopsBy old new)
     pub uses : IfErr result (λ end. end ≢ Memory → uses_register asked ≡ true)
     pub broken : uses_register asked ≡ true → IsBroken old → result ≡ Err Broken
-    pub rejects : (rejection : Rejection) → asked ≡ Reject rejection → (new ≡ old) × IfOk result (IsTextOf (reply_of rejection))
+    pub rejects : (rejection : Rejection) → asked ≡ Reject rejection → (new ≡ old)
+        × IfOk result (IsTextOf (reply_of rejection))
     -- whatever the tables hold
     pub changes : ChangesNothing g old new ⊎ MayChange asked result
     pub text : (h : List Request) → StandsFor g old h → IsClean g new → IfOk result (IsTextOf (reply_to h moment asked))
-    pub stands : (h : List Request) → StandsFor g old h → IsClean g new → OnOk result (StandsFor g new (history_after h moment asked))
+    pub stands : (h : List Request) → StandsFor g old h → IsClean g new
+        → OnOk result (StandsFor g new (history_after h moment asked))
     pub memory : (h : List Request) → StandsFor g old h → IsClean g new
         → IfErr result (λ end. end ≡ Memory → StandsForEither h (history_after h moment asked) new)
-    pub leaves : (h : List Request) → StandsFor g old h → IsWhole old → IsClean g new → LeavesEither g h (history_after h moment asked) new
+    pub leaves : (h : List Request) → StandsFor g old h → IsWhole old → IsClean g new
+        → LeavesEither g h (history_after h moment asked) new

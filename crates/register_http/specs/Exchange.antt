@@ -22,50 +22,58 @@ use Rattle.register_http.specs.Sending.{Sends, end_reply, reply_text}
 abbrev pub max_exchange_reads : ℕ
 max_exchange_reads = 80_000
 
--- how an exchange ends behind an answer: at the end of what there is to do where the reply was written whole, at a fault of
--- the writer where it was not, and at the end that the desk came to whatever became of its reply
+-- how an exchange ends behind an answer: at the end of what there is to do where the reply was written whole, at a
+-- fault of the writer where it was not, and at the end that the desk came to whatever became of its reply
 abbrev pub EndsAs : Result (String Global) End → Finish → ℕ → Type 0
 EndsAs (Ok text) end replies = ((end ≡ AtEnd 0) × (replies ≡ 1)) ⊎ ((end ≡ Ended WriteFault) × (replies ≡ 0))
 EndsAs (Err e) end replies = end ≡ Ended e
 
 module _ {S : Type 0} (g : Ghosts S) where
   -- the desk was asked this, and a front of its reply was written
-  pub record Serves (moment : ℕ) (asked : Asked) (kept now : Desk S g) (old new : Option (List ℕ)) (outcome : Outcome) : Type 0 where
+  pub record Serves (moment : ℕ) (asked : Asked) (kept now : Desk S g) (old new : Option (List ℕ))
+      (outcome : Outcome) : Type 0 where
     pub result : Result (String Global) End
     pub acts : Acts g moment asked kept now result
     pub sends : Sends (reply_text result) old new outcome.written outcome.replies
     pub ends : EndsAs result outcome.end outcome.replies
 
   -- the desk was not asked, and is as it was
-  pub record Leaves (end : Finish) (reply : List ℕ) (kept now : Desk S g) (old new : Option (List ℕ)) (outcome : Outcome) : Type 0 where
+  pub record Leaves (end : Finish) (reply : List ℕ) (kept now : Desk S g) (old new : Option (List ℕ))
+      (outcome : Outcome) : Type 0 where
     pub same : now ≡ kept
     pub sends : Sends reply old new outcome.written outcome.replies
     pub ends : outcome.end ≡ end
 
-  -- by what came of reading: something is asked, or nothing, as the input is empty; or memory gave out, or a read failed
-  abbrev pub ServesAsked : ℕ → Result (Option Asked) AskFault → Desk S g → Desk S g → Option (List ℕ) → Option (List ℕ) → Outcome → Type 0
+  -- by what came of reading: something is asked, or nothing, as the input is empty; or memory gave out, or a read
+  -- failed
+  abbrev pub ServesAsked : ℕ → Result (Option Asked) AskFault → Desk S g → Desk S g → Option (List ℕ)
+      → Option (List ℕ) → Outcome → Type 0
   ServesAsked moment (Ok (Some asked)) kept now old new outcome = Serves moment asked kept now old new outcome
-  ServesAsked moment (Ok None) kept now old new outcome = Leaves (AtEnd 0) [] kept now old new outcome × (outcome.replies ≡ 0)
-  ServesAsked moment (Err fault.Memory) kept now old new outcome = Leaves (Ended Memory) (end_reply Memory) kept now old new outcome
+  ServesAsked moment (Ok None) kept now old new outcome =
+      Leaves (AtEnd 0) [] kept now old new outcome × (outcome.replies ≡ 0)
+  ServesAsked moment (Err fault.Memory) kept now old new outcome =
+      Leaves (Ended Memory) (end_reply Memory) kept now old new outcome
   ServesAsked moment (Err fault.ReadFault) kept now old new outcome =
       Leaves (Ended ReadFault) [] kept now old new outcome × (outcome.replies ≡ 0)
 
-  -- An exchange at this moment: what is asked is what the whole input asks for, where the reader's bytes are known, and it
-  -- was served.
-  pub record Exchanges (moment : ℕ) (input : Option (List ℕ)) (kept now : Desk S g) (old new : Option (List ℕ)) (outcome : Outcome) : Type 0 where
+  -- An exchange at this moment: what is asked is what the whole input asks for, where the reader's bytes are known, and
+  -- it was served.
+  pub record Exchanges (moment : ℕ) (input : Option (List ℕ)) (kept now : Desk S g) (old new : Option (List ℕ))
+      (outcome : Outcome) : Type 0 where
     pub asked : Result (Option Asked) AskFault
     pub asks : (bytes : List ℕ) → input ≡ Some bytes → IfOk asked (AsksFor bytes)
     pub serves : ServesAsked moment asked kept now old new outcome
 
--- What it leaves of its reader: each byte that was read is counted, a fault is the reader's own or the bound on reads, and
--- that is never passed. The turns are those of this exchange alone.
-pub record LeavesReader {R : Type 0} (remaining : R → Option (List ℕ)) (old new : Watched R) (outcome : Outcome) : Type 0 where
+-- What it leaves of its reader: each byte that was read is counted, a fault is the reader's own or the bound on reads,
+-- and that is never passed. The turns are those of this exchange alone.
+pub record LeavesReader {R : Type 0} (remaining : R → Option (List ℕ)) (old new : Watched R)
+    (outcome : Outcome) : Type 0 where
   pub took : TookBytes (remaining old.inner) (remaining new.inner) outcome.read
   pub fault : outcome.end ≡ Ended ReadFault → IsFaulted new.failed max_exchange_reads new.turns
   pub bounded : new.turns ≤ max_exchange_reads
 
--- What it leaves of its writer: a reply that is counted was flushed; where none is, though one was begun, the fault is the
--- writer's own or the bound on its idle turns, and that is never passed.
+-- What it leaves of its writer: a reply that is counted was flushed; where none is, though one was begun, the fault is
+-- the writer's own or the bound on its idle turns, and that is never passed.
 pub record KeepsWriter {W : Type 0} (old new : Watched W) (replies : ℕ) : Type 0 where
   pub flushed : replies ≡ 1 → new.unflushed ≡ false
   pub fault : replies ≡ 0 → IsFaulted new.failed max_idle_turns new.idle

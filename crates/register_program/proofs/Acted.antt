@@ -13,18 +13,25 @@ use Rattle.register_program.specs.declared.words.Task.TheVariants.{RunInMemory}
 use Rattle.register_program.specs.Act.{Acts}
 use Rattle.register_program.specs.Task.{Performs, RunsInMemory, status_after}
 
-module _ {S : Type 0} (g : Ghosts S) (may_leave : S → Image → Type 0) (found : Image) (input old new : Option (List ℕ)) (done : Done S) (status : ℕ) (told : status ≡ status_after done)
-    (bytes : List ℕ) (items : List (Option Request)) (rest : List ℕ) (known : input ≡ Some bytes) (cut : HasItems bytes items rest) where
-  acts_came : (came : Result Finish OpenRefusal) → done ≡ RanInMemory came → RunsInMemory input old new came → Acts items rest status old new
-  acts_came (Ok finish) is runs = inr (record { end = finish; ends = runs bytes items rest known cut; status_is = told ∙ ap status_after is })
+module _ {S : Type 0} (g : Ghosts S) (may_leave : S → Image → Type 0) (found : Image)
+    (input old new : Option (List ℕ)) (done : Done S) (status : ℕ) (told : status ≡ status_after done)
+    (bytes : List ℕ) (items : List (Option Request)) (rest : List ℕ) (known : input ≡ Some bytes)
+    (cut : HasItems bytes items rest) where
+  acts_came : (came : Result Finish OpenRefusal) → done ≡ RanInMemory came → RunsInMemory input old new came
+      → Acts items rest status old new
+  acts_came (Ok finish) is runs =
+      inr (record { end = finish; ends = runs bytes items rest known cut; status_is = told ∙ ap status_after is })
   acts_came (Err refusal) is same = inl (record { status_is = told ∙ ap status_after is; same = same })
 
-  pub acts_alone : (task : Task) → task ≡ RunInMemory → Performs g may_leave found task input old new done → Acts items rest status old new
+  pub acts_alone : (task : Task) → task ≡ RunInMemory → Performs g may_leave found task input old new done
+      → Acts items rest status old new
   acts_alone task same performs =
       let run = subst (λ (t : Task). Performs g may_leave found t input old new done) same performs in
       acts_came run.0 run.1 run.2
 
 -- a task that was told apart
-pub performs_as : {S : Type 0} (g : Ghosts S) (may_leave : S → Image → Type 0) (found : Image) (input old new : Option (List ℕ)) (done : Done S) (given task : Task) → given ≡ task
+pub performs_as : {S : Type 0} (g : Ghosts S) (may_leave : S → Image → Type 0) (found : Image)
+    (input old new : Option (List ℕ)) (done : Done S) (given task : Task) → given ≡ task
     → Performs g may_leave found task input old new done → Performs g may_leave found given input old new done
-performs_as g may_leave found input old new done given task is performs = subst (λ (t : Task). Performs g may_leave found t input old new done) (sym is) performs
+performs_as g may_leave found input old new done given task is performs =
+    subst (λ (t : Task). Performs g may_leave found t input old new done) (sym is) performs

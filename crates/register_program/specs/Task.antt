@@ -17,13 +17,15 @@ use Rattle.register_files.specs.Values.{AreBounds, AreTerms, IsDays}
 use Rattle.register_program.specs.declared.acting.Done.{Done}
 use Rattle.register_program.specs.declared.acting.Done.TheVariants.{RanInMemory, Made, Lived, BadValue}
 use Rattle.register_program.specs.declared.words.Task.{Task}
-use Rattle.register_program.specs.declared.words.Task.TheVariants.{RunInMemory, Init, Run, Import, Export, Report, Serve}
+use Rattle.register_program.specs.declared.words.Task.TheVariants.{RunInMemory, Init, Run, Import, Export, Report}
+use Rattle.register_program.specs.declared.words.Task.TheVariants.{Serve}
 use Rattle.register_program.specs.Act.{EndsBy, unopened_status, usage_status, status_of}
 
 -- request lines over a register in memory, whose bytes the reader tells
 abbrev pub RunsInMemory : Option (List ℕ) → Option (List ℕ) → Option (List ℕ) → Result Finish OpenRefusal → Type 0
 RunsInMemory input old new (Ok finish) =
-    (bytes : List ℕ) (items : List (Option Request)) (rest : List ℕ) → input ≡ Some bytes → HasItems bytes items rest → EndsBy items rest finish old new
+    (bytes : List ℕ) (items : List (Option Request)) (rest : List ℕ)
+    → input ≡ Some bytes → HasItems bytes items rest → EndsBy items rest finish old new
 RunsInMemory input old new (Err refusal) = new ≡ old
 
 -- the exit status behind it
@@ -37,7 +39,8 @@ status_after (Lived (Err refused)) = unopened_status
 status_after BadValue = usage_status
 
 -- with the value that was given the call came to this, or it is none and nothing is done
-abbrev pub WithValue : {T X : Type 0} {L : Type 0} → (T → X → Type 0) → T → (X → Result (Life L) (Refused L) → Type 0) → Option (List ℕ) → Option (List ℕ) → Done L → Type 0
+abbrev pub WithValue : {T X : Type 0} {L : Type 0} → (T → X → Type 0) → T
+    → (X → Result (Life L) (Refused L) → Type 0) → Option (List ℕ) → Option (List ℕ) → Done L → Type 0
 WithValue {X = X} Is given comes old new done =
     ((value : X) × Is given value × (came : _) × (done ≡ Lived came) × comes value came)
     ⊎ (((value : X) → Is given value → ⊥) × (done ≡ BadValue) × (new ≡ old))
@@ -50,12 +53,17 @@ module _ {S : Type 0} (g : Ghosts S) (may_leave : S → Image → Type 0) (found
   -- A task comes to what the call that it names comes to.
   abbrev pub Performs : Task → Option (List ℕ) → Option (List ℕ) → Option (List ℕ) → Done S → Type 0
   Performs RunInMemory input old new done = (came : _) × (done ≡ RanInMemory came) × RunsInMemory input old new came
-  Performs (Init file) input old new done = (came : _) × (done ≡ Made came) × MakesRegister g may_leave found came × (new ≡ old)
-  Performs (Run file) input old new done = (came : _) × (done ≡ Lived came) × RunsLines g may_leave found input old new came
-  Performs (Import file terms) input old new done = WithValue AreTerms terms (λ value came. ImportsRows g may_leave found value input old new came) old new done
+  Performs (Init file) input old new done =
+      (came : _) × (done ≡ Made came) × MakesRegister g may_leave found came × (new ≡ old)
+  Performs (Run file) input old new done =
+      (came : _) × (done ≡ Lived came) × RunsLines g may_leave found input old new came
+  Performs (Import file terms) input old new done =
+      WithValue AreTerms terms (λ value came. ImportsRows g may_leave found value input old new came) old new done
   Performs (Export file) input old new done = (came : _) × (done ≡ Lived came) × Exports g may_leave found old new came
-  Performs (Report file days) input old new done = WithValue IsDays days.now (λ value came. Reports g may_leave found value old new came) old new done
-  Performs (Serve file bounds) input old new done = WithValue AreBounds bounds (λ value came. ServesExchanges g may_leave found value.exchanges came) old new done
+  Performs (Report file days) input old new done =
+      WithValue IsDays days.now (λ value came. Reports g may_leave found value old new came) old new done
+  Performs (Serve file bounds) input old new done =
+      WithValue AreBounds bounds (λ value came. ServesExchanges g may_leave found value.exchanges came) old new done
 
   -- a task was done, and the status is that of what it came to
   pub record ActsOn (input old new : Option (List ℕ)) (status : ℕ) : Type 0 where

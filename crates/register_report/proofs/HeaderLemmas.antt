@@ -26,7 +26,7 @@ use Rattle.register_report.specs.Rows.{BeginsWithHeader, HasRows, Item, Row, hea
 use Rattle.register_report.specs.Serving.{ExplainsNoHeader}
 use Rattle.register_report.proofs.RowsLemmas.{HasLeft, rows_split}
 
-same_tail : (a b : Row) (xs ys : List Row) → a ∷ xs ≡ b ∷ ys → xs ≡ ys
+pub same_tail : (a b : Row) (xs ys : List Row) → a ∷ xs ≡ b ∷ ys → xs ≡ ys
 same_tail a b xs ys e = cc
 
 same_fields : (p : Read) (s : State) (left : List ℕ) → Some p ≡ Some (header, s, left)

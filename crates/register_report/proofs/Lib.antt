@@ -1,6 +1,7 @@
 pub mod RowLemmas
 pub mod RowsLemmas
 pub mod HeaderLemmas
+pub mod TableRead
 pub mod ServedLemmas
 pub mod ImportLemmas
 pub mod StreamLemmas

@@ -43,7 +43,7 @@ one_row moment caller number fields p q a b =
     let purpose : a.purpose ≡ b.purpose = cc in
     cc
 
-one_item : (moment : ℕ) (caller : List ℕ) (number : ℕ) (fields : Row) (a b : Item)
+pub one_item : (moment : ℕ) (caller : List ℕ) (number : ℕ) (fields : Row) (a b : Item)
     → IsRowItem moment caller number fields a → IsRowItem moment caller number fields b → a ≡ b
 one_item moment caller number fields None None p q = refl
 one_item moment caller number fields None (Some b) p q = absurd (p b q)

@@ -33,8 +33,8 @@ ExplainsEnd remaining start reader Broken = ⊥
 ExplainsEnd remaining start reader WriteFault = ⊥
 ExplainsEnd remaining start reader BadHeader = ⊥
 
--- why the rows that were read ended before the input did: as many were answered as an import answers at most, or the next
--- was none that can be read
+-- why the rows that were read ended before the input did: as many were answered as an import answers at most, or the
+-- next was none that can be read
 abbrev pub EndsReading : {R : Type 0} → (R → Option (List ℕ)) → ℕ → Type 0
 EndsReading {R} remaining replies =
     (replies ≡ max_rows) ⊎ ((start : Reader R) × (last : Reader R) × ExplainsEnd remaining start last ReadFault)

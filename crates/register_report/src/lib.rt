@@ -10,6 +10,7 @@
 
 mod exporting;
 mod importing;
+pub mod laws;
 mod row;
 mod table;
 mod writing;

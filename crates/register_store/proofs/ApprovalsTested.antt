@@ -17,9 +17,10 @@ use Rattle.register_store.specs.declared.error.CheckError.{CheckError}
 use Rattle.register_store.specs.declared.table.TableName.TheVariants.{Approval}
 use Rattle.register_store.specs.Checking.{IsOdd, IsReasonAt, ShowsName, ShowsRows, TestsBy, check_error, check_text}
 use Rattle.register_store.specs.Schema.{Holds}
-use Rattle.register_store.specs.Tables.{IsNamed, Tables, name_cells, tree_of}
+use Rattle.register_store.specs.Tables.{IsNamed, Tables, name_cells}
 use Rattle.register_store.specs.Taking.{HasShown, IsAny, IsListed, KnowsCustodians, RefusesEach}
 use Rattle.register_store.specs.Tests.{IsCustodian}
+use Rattle.register_store.proofs.Actions.{shows_all}
 use Rattle.register_store.proofs.Asked.{AnswersTo, ShowsOwn, shown_of_table, tests_by}
 use Rattle.register_store.proofs.CustodiansTested.{names_past, one_name, own_row}
 use Rattle.register_store.proofs.EachTested.{odd_on}
@@ -34,9 +35,9 @@ approvals_select = (_, _, refl, refl, refl)
 pub approvals_query : IsQuery (check_text Approval)
 approvals_query = select_plain (check_text Approval) approvals_select
 
-pub own_approvals : (t : Tables) (db : Db) (rows : List Row) → Holds t db → AnswersTo Approval db rows → ShowsOwn Approval t rows
+pub own_approvals : (t : Tables) (db : Db) (rows : List Row) (holds : Holds t db) → AnswersTo holds.schema.layout Approval db rows → ShowsOwn Approval t rows
 own_approvals t db rows holds sure =
-    let it = own_entries name_cells ShowsName IsNamed (tree_of Approval) (shown_of_table Approval) names_past own_row db t.approvals rows (holds.in_range Approval) (holds.shown Approval) refl sure in
+    let it = own_entries name_cells ShowsName IsNamed (holds.schema.layout.tree Approval) (shown_of_table Approval) names_past own_row db t.approvals rows (holds.in_range Approval) (holds.shown Approval) (shows_all db.trees (holds.schema.layout.tree Approval)) sure in
     record { c = it.0; shows = it.2; like = it.1; meets = all_permuted (IsCustodian t.custodians) t.approvals it.0 it.1 }
 
 one_list : (rows : List Row) (c d : List KeyName) → ShowsRows Approval rows c → ShowsRows Approval rows d → c ≡ d
@@ -62,7 +63,12 @@ module _ (t : Tables) (lists : Vec (Vec (List ℕ))) (knows : KnowsCustodians t.
       (λ clean. tt) survives
 
   odd : (rows : List Row) → RefusesEach ShowsName (IsListed lists.items) rows → (tail : List Row) → IsOdd Approval t (rows ++ tail)
-  odd rows refuses tail c shows meets = odd_on ShowsName (IsListed lists.items) rows refuses tail c shows (all_as (IsCustodian t.custodians) (IsListed lists.items) (λ entry. (knows entry).1) c meets)
+  odd rows refuses tail = record {
+    fails = λ c shows meets.
+        odd_on ShowsName (IsListed lists.items) rows refuses tail c shows
+        (all_as (IsCustodian t.custodians) (IsListed lists.items) (λ entry. (knows entry).1) c meets);
+    no_newer = λ none. none;
+  }
 
   pub approvals_fail : (error : RowsError) (e : CheckError) → e ≡ check_error error → (HasCleanDisk new → error ≡ NoMeaning → HasNoMeaning (check_text Approval) old new)
       → (HasCleanDisk new → error ≡ Refused → ShowsFirst (check_text Approval) (RefusesEach ShowsName (IsListed lists.items)) old new) → (HasCleanDisk new → error ≡ Memory → IsUnchanged old new) → Tested (Err e)

@@ -1,16 +1,15 @@
 -- What the query of a table shows where the database is a register's, and so that no test of its tables fails.
-use Rattle.std.proofs.Common.{◌≡◌, inl, inr, ℕ, List, [], ◌∷◌, ◌++◌, codes, false, Result, Ok, Err, IfOk, IfErr, sym, ap, subst, ◌∙◌, refl}
+use Rattle.std.proofs.Common.{◌≡◌, inl, inr, ℕ, List, [], ◌∷◌, ◌++◌, codes, Result, Ok, Err, IfOk, IfErr, sym, ap, subst, ◌∙◌, refl}
 use Rattle.std.specs.List.Sorted.{IsPermutation}
 use Rattle.sqlite.specs.Command.TheVariants.{Select}
 use Rattle.sqlite.specs.Effect.{Database}
-use Rattle.sqlite.specs.Listing.{understood, reads_listing}
+use Rattle.sqlite.specs.Listing.{understood}
 use Rattle.sqlite.specs.Order.{Row}
 use Rattle.sqlite.specs.Program.{overlay}
 use Rattle.sqlite.specs.Query.{Query, IsSureAnswer}
 use Rattle.sqlite.specs.State.{State, HasCleanDisk, Begins, Shown, Survives}
 use Rattle.sqlite.specs.Term.{Term, col}
-use Rattle.sqlite.proofs.Callers.{IsPlain, command_of, begins_as, reads_as}
-use Rattle.sqlite_schema.specs.declared.schema.Index.{Index}
+use Rattle.sqlite.proofs.Callers.{IsPlain, begins_as, reads_as}
 use Rattle.sqlite_tied.specs.Compute.{everything}
 use Rattle.sql_steps.proofs.Statements.{plain_query}
 use Rattle.row_tests.specs.Showing.{HasNoMeaning, ShowsAll, ShowsFirst}
@@ -20,7 +19,9 @@ use Rattle.register_store.specs.declared.table.TableName.{TableName}
 use Rattle.register_store.specs.declared.table.TableName.TheVariants.{Meta, Keys, Custodian, Approval, Request}
 use Rattle.register_store.specs.Checking.{BlamesNone, FailsTest, HasNewer, IsReasonAt, ShowsRows, TestsBy, check_text}
 use Rattle.register_store.specs.Schema.{Holds, schema_with}
-use Rattle.register_store.specs.Tables.{Content, Tables, content, tree_of, with_content}
+use Rattle.register_store.proofs.Meanings.{Asks, IsPlaced, Meant, asks, classes, placed}
+use Rattle.sqlite_resolve.specs.Compile.{first}
+use Rattle.register_store.specs.Tables.{Content, Layout, Tables, content, table_of, with_content}
 use Rattle.register_store.specs.Tests.{MeetsTest, MeetsTests}
 use Rattle.register_store.proofs.Ordered.{ordered_query}
 
@@ -40,31 +41,32 @@ names_of_table Custodian = codes "key_no" ∷ codes "name" ∷ []
 names_of_table Approval = codes "key_no" ∷ codes "name" ∷ []
 names_of_table Request = codes "command" ∷ codes "key_no" ∷ codes "state" ∷ codes "moment" ∷ codes "caller" ∷ codes "number" ∷ []
 
-abbrev pub asked : TableName → Query
-asked Meta = ordered_query (tree_of Meta) (shown_of_table Meta)
-asked Keys = ordered_query (tree_of Keys) (shown_of_table Keys)
-asked Custodian = plain_query (tree_of Custodian) [] (shown_of_table Custodian)
-asked Approval = plain_query (tree_of Approval) [] (shown_of_table Approval)
-asked Request = plain_query (tree_of Request) [] (shown_of_table Request)
+abbrev pub asked : Layout → TableName → Query
+asked l Meta = ordered_query (l.tree Meta) (shown_of_table Meta)
+asked l Keys = ordered_query (l.tree Keys) (shown_of_table Keys)
+asked l Custodian = plain_query (l.tree Custodian) [] (shown_of_table Custodian)
+asked l Approval = plain_query (l.tree Approval) [] (shown_of_table Approval)
+asked l Request = plain_query (l.tree Request) [] (shown_of_table Request)
 
-pub record IsAsked (name : TableName) (more : List Index) : Type 0 where
-  pub is : command_of (understood (schema_with more) (check_text name)) ≡ Select (record { lets = []; body = asked name }) (names_of_table name)
-  pub plain : IsPlain (understood (schema_with more) (check_text name))
-  pub unlisted : reads_listing (schema_with more) (check_text name) ≡ false
+abbrev pub IsAsked : TableName → Layout → Type 0
+IsAsked name l = Asks (schema_with l) (table_of l name) (check_text name) (asked l name) (names_of_table name)
 
-pub asked_is : (name : TableName) (more : List Index) → IsAsked name more
-unfolding understood everything
-asked_is Meta more = record { is = refl; plain = (refl, refl); unlisted = refl }
-asked_is Keys more = record { is = refl; plain = (refl, refl); unlisted = refl }
-asked_is Custodian more = record { is = refl; plain = (refl, refl); unlisted = refl }
-asked_is Approval more = record { is = refl; plain = (refl, refl); unlisted = refl }
-asked_is Request more = record { is = refl; plain = (refl, refl); unlisted = refl }
+asks_for : (name : TableName) (l : Layout) → IsAsked name l
+unfolding everything first
+asks_for Meta l = record { p = _; select = _; d = _; by = _; parsed = refl; untimed = refl; is = refl; drafted = refl; same = refl; from = refl; accepted = refl }
+asks_for Keys l = record { p = _; select = _; d = _; by = _; parsed = refl; untimed = refl; is = refl; drafted = refl; same = refl; from = refl; accepted = refl }
+asks_for Custodian l = record { p = _; select = _; d = _; by = _; parsed = refl; untimed = refl; is = refl; drafted = refl; same = refl; from = refl; accepted = refl }
+asks_for Approval l = record { p = _; select = _; d = _; by = _; parsed = refl; untimed = refl; is = refl; drafted = refl; same = refl; from = refl; accepted = refl }
+asks_for Request l = record { p = _; select = _; d = _; by = _; parsed = refl; untimed = refl; is = refl; drafted = refl; same = refl; from = refl; accepted = refl }
+
+pub asked_is : (name : TableName) (l : Layout) → IsPlaced l → Meant (schema_with l) (check_text name) (Select (record { lets = []; body = asked l name }) (names_of_table name))
+asked_is name l at = asks (schema_with l) (table_of l name) (classes l at name) _ _ _ (asks_for name l)
 
 -- ---- what is shown of a register's table
 
 -- the rows of an answer to the query of a table
-abbrev pub AnswersTo : TableName → Database → List Row → Type 0
-AnswersTo name db rows = IsSureAnswer (asked name) (overlay db.trees []) [] rows
+abbrev pub AnswersTo : Layout → TableName → Database → List Row → Type 0
+AnswersTo l name db rows = IsSureAnswer (asked l name) (overlay db.trees []) [] rows
 
 -- a table's content, but for the order of entries
 abbrev pub IsLike : (name : TableName) → Content name → Content name → Type 0
@@ -83,27 +85,27 @@ pub record ShowsOwn (name : TableName) (t : Tables) (rows : List Row) : Type 0 w
 
 module _ (name : TableName) (t : Tables) where
   meaning_of : (old new : State) → Holds t old.now → HasNoMeaning (check_text name) old new → ⊥
-  meaning_of old new holds none = absurd (meant (understood (schema_with more) (check_text name)) (asked_is name more).plain (sym (ap (λ s. understood s (check_text name)) holds.schema.is) ∙ none.meaning))
+  meaning_of old new holds none = absurd (meant (understood (schema_with l) (check_text name)) (asked_is name l (placed t old.now holds)).plain (sym (ap (λ s. understood s (check_text name)) holds.schema.is) ∙ none.meaning))
     where
-      more : List Index
-      more = holds.schema.more
+      l : Layout
+      l = holds.schema.layout
 
       meant : (r : _) → IsPlain r → ¬ (r ≡ Err none.fault)
       meant (Ok c) plain e = cc
       meant (Err f) plain e = plain
 
-  shown_answers : (old new : State) (rows : List Row) → Holds t old.now → Shown (check_text name) [] old new rows → AnswersTo name old.now rows
+  shown_answers : (old new : State) (rows : List Row) (holds : Holds t old.now) → Shown (check_text name) [] old new rows → AnswersTo holds.schema.layout name old.now rows
   shown_answers old new rows holds shown =
-      let it = asked_is name holds.schema.more in
-      (reads_as (check_text name) [] old new (schema_with holds.schema.more) holds.schema.is _ it.is it.plain it.unlisted rows shown).answer
+      let it = asked_is name holds.schema.layout (placed t old.now holds) in
+      (reads_as (check_text name) [] old new (schema_with holds.schema.layout) holds.schema.is _ it.is it.plain it.unlisted rows shown).answer
 
-  begun_answers : (s : State) (rows : List Row) → Holds t s.now → Begins (check_text name) [] s rows → (tail : List Row) × AnswersTo name s.now (rows ++ tail)
+  begun_answers : (s : State) (rows : List Row) (holds : Holds t s.now) → Begins (check_text name) [] s rows → (tail : List Row) × AnswersTo holds.schema.layout name s.now (rows ++ tail)
   begun_answers s rows holds begins =
-      let it = asked_is name holds.schema.more in
-      let first = begins_as (check_text name) [] s s (schema_with holds.schema.more) holds.schema.is _ it.is it.plain it.unlisted rows begins in
+      let it = asked_is name holds.schema.layout (placed t s.now holds) in
+      let first = begins_as (check_text name) [] s s (schema_with holds.schema.layout) holds.schema.is _ it.is it.plain it.unlisted rows begins in
       (first.1.0, first.1.1)
 
-  module _ (own : (db : Database) (rows : List Row) → Holds t db → AnswersTo name db rows → ShowsOwn name t rows) where
+  module _ (own : (db : Database) (rows : List Row) (holds : Holds t db) → AnswersTo holds.schema.layout name db rows → ShowsOwn name t rows) where
     -- all rows that are shown
     pub shown_own : {P : List Row → Type 0} (old new : State) → Holds t old.now → (all : ShowsAll (check_text name) P old new) → ShowsOwn name t all.rows
     shown_own old new holds all = own old.now all.rows holds (shown_answers old new all.rows holds all.shown)
@@ -120,10 +122,10 @@ module _ (name : TableName) (t : Tables) where
     fails_not old new holds meets (inl none) = meaning_of old new holds none
     fails_not old new holds meets (inr (inl some)) =
         let it = begun_own old new holds some in
-        some.holds it.0 it.1.c it.1.shows (it.1.meets meets)
+        (some.holds it.0).fails it.1.c it.1.shows (it.1.meets meets)
     fails_not old new holds meets (inr (inr all)) =
         let it = shown_own old new holds all in
-        all.holds it.c it.shows (it.meets meets)
+        all.holds.fails it.c it.shows (it.meets meets)
 
     module _ (newer_not : (found : ℕ) (old new : State) → Holds t old.now → HasNewer found old new → ⊥) where
       pub blames_none : {T : Type 0} (old new : State) (q : Result T CheckError) → Holds t old.now → MeetsTests t → IfErr q (IsReasonAt name t old new) → IfErr q BlamesNone

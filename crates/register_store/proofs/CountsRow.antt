@@ -2,14 +2,10 @@
 use Rattle.std.proofs.Common.{◌≡◌, ℕ, pos, List, [], ◌∷◌, codes, Ok, refl, sym, ap, subst}
 use Rattle.sqlite.specs.declared.types.Value.TheVariants.{Null, Int}
 use Rattle.sqlite.specs.Collation.TheVariants.{Binary}
-use Rattle.sqlite.specs.Command.TheVariants.{Update}
-use Rattle.sqlite.specs.Listing.{understood}
 use Rattle.sqlite.specs.Order.{Row as Cells}
 use Rattle.sqlite.specs.State.{State, Executes}
 use Rattle.sqlite.specs.Term.{Term, lit, col, op2}
 use Rattle.sqlite.specs.Tree.{IsTable}
-use Rattle.sqlite.proofs.Callers.{IsPlain, command_of}
-use Rattle.sqlite_schema.specs.declared.schema.Index.{Index}
 use Rattle.sqlite_sql.specs.declared.ops.BinaryOp.TheVariants.{Compare}
 use Rattle.sqlite_sql.specs.declared.ops.CompareOp.TheVariants.{Eq}
 use Rattle.sqlite_tied.specs.Compute.{everything}
@@ -18,10 +14,12 @@ use Rattle.sql_steps.proofs.Queries.{compares}
 use Rattle.sql_steps.proofs.Statements.{plain_query, cast_int, cast_null}
 use Rattle.moment_core.specs.Moment.{IsMoment}
 use Rattle.register_store.specs.declared.table.TableName.TheVariants.{Meta}
-use Rattle.register_store.specs.Tables.{meta, place_of, tree_of, Counts, counts_row}
+use Rattle.register_store.specs.Tables.{Layout, fresh, meta, place_of, Counts, counts_row}
 use Rattle.register_store.specs.Schema.{schema_with, rows_of}
 use Rattle.register_store.specs.Making.{Makes, Always, with_counts}
-use Rattle.register_store.proofs.Actions.{meta_idle}
+use Rattle.register_store.proofs.Actions.{meta_idle, shows_all}
+use Rattle.sqlite_resolve.specs.Compile.{first}
+use Rattle.register_store.proofs.Meanings.{Sets, classes, placed, sets}
 use Rattle.register_store.proofs.Frame.{holds_with}
 
 abbrev pub counts_text : List ℕ
@@ -33,10 +31,9 @@ passes = op2 (Compare Eq Binary) (col 1 0) (lit (Int (pos 1))) ∷ []
 abbrev shown : List Term
 shown = col 1 0 ∷ lit Null ∷ col 1 2 ∷ col 0 0 ∷ col 0 1 ∷ []
 
-counts_parts : (more : List Index) → (command_of (understood (schema_with more) counts_text) ≡ Update (place_of Meta) (record { lets = []; body = plain_query (tree_of Meta) passes (col 1 0 ∷ shown) }))
-    × IsPlain (understood (schema_with more) counts_text)
-unfolding understood everything
-counts_parts more = (refl, (refl, refl))
+sets_counts : (l : Layout) → Sets (schema_with l) (meta l) (place_of Meta) counts_text (plain_query (l.tree Meta) passes (col 1 0 ∷ shown))
+unfolding everything first
+sets_counts l = record { p = _; name = _; sets = _; test = _; d = _; parsed = refl; untimed = refl; is = refl; named = refl; there = refl; drafted = refl; same = refl; from = refl; accepted = refl }
 
 module _ (latest key_count : ℕ) where
   abbrev pub params : Cells
@@ -46,16 +43,17 @@ module _ (latest key_count : ℕ) where
   after = record { latest = latest; key_count = key_count }
 
   abbrev changed : Counts → Counts
-  changed = changing.changed counts_row (λ _. pos 1) (λ _. refl) meta params passes shown (λ _. after)
+  changed = changing.changed counts_row (λ _. pos 1) (λ _. refl) (meta (fresh [])) params passes shown (λ _. after)
 
   changed_is : (counts : Counts) → changed counts ≡ after
   changed_is counts = rw (compares Eq (pos 1) (pos 1))
 
   pub records : IsMoment latest → (old new : State) (count : ℕ) → Executes counts_text params old new (Ok count) → Makes Always (with_counts latest key_count) old.now new.now
   records in_range old new count h t holds always =
-      let more = holds.schema.more in
-      let ordered : IsTable (rows_of Meta old.now) = subst IsTable (sym (holds.shown Meta)) (tt, tt) in
-      let wrote = changing.changes counts_row (λ _. pos 1) (λ _. refl) meta params passes shown (λ _. after) counts_text (schema_with more) (place_of Meta) refl
-      (counts_parts more).0 (counts_parts more).1 (meta_idle more) (λ db. refl) (λ counts. simp (cast_int, cast_null)) (λ counts. refl)
+      let l = holds.schema.layout in
+      let m = sets (schema_with l) (meta l) (classes l (placed t old.now holds) Meta) _ _ _ (sets_counts l) in
+      let ordered : IsTable (rows_of l Meta old.now) = subst IsTable (sym (holds.shown Meta)) (tt, tt) in
+      let wrote = changing.changes counts_row (λ _. pos 1) (λ _. refl) (meta l) params passes shown (λ _. after) counts_text (schema_with l) (place_of Meta) refl
+      m.is m.plain (meta_idle l holds.schema.apart) (λ db. shows_all db (l.tree Meta)) (λ counts. simp (cast_int, cast_null)) (λ counts. refl)
       old new count h holds.schema.is (t.counts ∷ []) (holds.shown Meta) ordered in
       holds_with Meta after t old.now new.now _ holds wrote in_range (ap (λ counts. counts_row counts ∷ []) (changed_is t.counts))

@@ -5,7 +5,6 @@ use Rattle.std.proofs.lemmas.Bool.Decides.{leb_tells}
 use Rattle.std.specs.List.{enumerate_from}
 use Rattle.sqlite.specs.declared.types.Value.TheVariants.{Null, Int}
 use Rattle.sqlite.specs.Collation.TheVariants.{Binary}
-use Rattle.sqlite.specs.Listing.{understood}
 use Rattle.sqlite.specs.Order.{Row as Cells}
 use Rattle.sqlite.specs.State.{State as View, Executes}
 use Rattle.sqlite.specs.Term.{Term, lit, col, op2}
@@ -23,6 +22,7 @@ use Rattle.register_store.specs.Tables.{IsKey, key_row, date_cell, unset}
 use Rattle.register_store.specs.Schema.{Holds}
 use Rattle.register_store.specs.Making.{Makes, Always, in_state}
 use Rattle.register_store.specs.Due.{date_of, is_due, moved_on, state_before, state_behind, update_text, with_each}
+use Rattle.sqlite_resolve.specs.Compile.{first}
 use Rattle.register_store.proofs.KeyChange.{IsUpdate, changed_where, changes_keys, image_of, passes_row}
 
 -- the column of a date
@@ -40,9 +40,9 @@ shown date =
     col 1 0 ∷ lit Null ∷ col 1 2 ∷ col 1 3 ∷ col 1 4 ∷ lit (Int (pos (state_code (state_behind date)))) ∷ col 1 6 ∷ col 1 7 ∷ col 1 8 ∷ col 1 9 ∷ col 1 10 ∷ col 1 11 ∷ col 1 12 ∷ []
 
 parts : (date : DueDate) → IsUpdate (update_text date) (passes date) (shown date)
-unfolding understood everything
-parts Activation more = (refl, (refl, refl))
-parts Deactivation more = (refl, (refl, refl))
+unfolding everything first
+parts Activation l = record { p = _; name = _; sets = _; test = _; d = _; parsed = refl; untimed = refl; is = refl; named = refl; there = refl; drafted = refl; same = refl; from = refl; accepted = refl }
+parts Deactivation l = record { p = _; name = _; sets = _; test = _; d = _; parsed = refl; untimed = refl; is = refl; named = refl; there = refl; drafted = refl; same = refl; from = refl; accepted = refl }
 
 -- a date is reached where its cell is at most the moment
 reached : (date : Option ℕ) (at : ℕ) → IsMoment at → nat_le (date_cell date) at ≡ is_reached_at date at

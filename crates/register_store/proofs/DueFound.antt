@@ -12,17 +12,12 @@ use Rattle.sqlite.specs.declared.error.Error.TheVariants.{QueryReturnedNoRows}
 use Rattle.sqlite.specs.declared.types.Value.TheVariants.{Int}
 use Rattle.sqlite.specs.Collation.TheVariants.{Binary}
 use Rattle.sqlite.specs.Command.TheVariants.{Select}
-use Rattle.sqlite.specs.Listing.{understood, reads_listing}
 use Rattle.sqlite.specs.Order.{Row as Cells}
-use Rattle.sqlite.specs.Program.{overlay}
 use Rattle.sqlite.specs.Query.{output_cmp}
 use Rattle.sqlite.specs.State.{State, HasCleanDisk, QueriesRow, Survives, CommitsShowing}
 use Rattle.sqlite.specs.Term.{Term, col, lit, op2, eval_all}
-use Rattle.sqlite.specs.Tree.{Trees}
-use Rattle.sqlite.proofs.Callers.{IsPlain, command_of}
 use Rattle.sqlite_resolve.specs.Compile.{first}
 use Rattle.sqlite_rules.specs.Lists.{Has}
-use Rattle.sqlite_schema.specs.declared.schema.Index.{Index}
 use Rattle.sqlite_sql.specs.declared.ops.BinaryOp.TheVariants.{Compare, Or}
 use Rattle.sqlite_sql.specs.declared.ops.CompareOp.TheVariants.{Eq, Ge, Gt, Le}
 use Rattle.sqlite_tied.specs.Compute.{everything}
@@ -43,9 +38,11 @@ use Rattle.register_store.specs.KeyWalk.{IsBehind}
 use Rattle.register_store.specs.Reading.{IsRowOf, ReadsBy, ShowsAt, ShowsNone}
 use Rattle.register_store.specs.Schema.{Holds, schema_with}
 use Rattle.register_store.specs.Stops.{HasFirst, IsFirst, IsNumbered, cell_place, stop_cell}
-use Rattle.register_store.specs.Tables.{Tables, key_row, numbered, tree_of}
+use Rattle.register_store.specs.Tables.{Layout, Tables, keys, key_row, numbered}
 use Rattle.register_store.proofs.Asked.{names_of_table, shown_of_table}
 use Rattle.register_store.proofs.Decoding.{same_number, one_key}
+use Rattle.register_store.proofs.Actions.{shows_all}
+use Rattle.register_store.proofs.Meanings.{Asks, IsPlaced, Meant, asks, classes, placed}
 use Rattle.register_store.proofs.KeyFound.{at_number, in_range_at}
 use Rattle.register_store.proofs.RowFound.{answer_read}
 
@@ -80,11 +77,12 @@ shown = shown_of_table Keys
 abbrev pub order : List (Term × sorted_by.Key)
 order = (col 1 8, ascending Binary) ∷ (col 1 0, ascending Binary) ∷ []
 
-pub record IsDueSearch (sql : List ℕ) (passes : List Term) : Type 0 where
-  pub is : (more : List Index) → command_of (understood (schema_with more) sql) ≡ Select (record { lets = []; body = ordered_by (tree_of Keys) passes shown order }) (names_of_table Keys)
-  pub plain : (more : List Index) → IsPlain (understood (schema_with more) sql)
-  pub unlisted : (more : List Index) → reads_listing (schema_with more) sql ≡ false
-  pub low : (db : Trees) → overlay db [] (tree_of Keys) ≡ db (tree_of Keys)
+abbrev pub IsDueSearch : List ℕ → List Term → Type 0
+IsDueSearch sql passes = (l : Layout) → Asks (schema_with l) (keys l) sql (ordered_by (l.tree Keys) passes shown order) (names_of_table Keys)
+
+-- what such a text means
+due_meant : (sql : List ℕ) (passes : List Term) → IsDueSearch sql passes → (l : Layout) → IsPlaced l → Meant (schema_with l) sql (Select (record { lets = []; body = ordered_by (l.tree Keys) passes shown order }) (names_of_table Keys))
+due_meant sql passes search l at = asks (schema_with l) (keys l) (classes l at Keys) _ _ _ (search l)
 
 same_select : IsSelect same_text
 unfolding everything first
@@ -108,16 +106,16 @@ pub past_query : IsQuery past_text
 past_query = select_plain past_text past_select
 
 pub same_is : IsDueSearch same_text passes_same
-unfolding understood everything
-same_is = record { is = λ more. refl; plain = λ more. (refl, refl); unlisted = λ more. refl; low = λ db. refl }
+unfolding everything first
+same_is l = record { p = _; select = _; d = _; by = _; parsed = refl; untimed = refl; is = refl; drafted = refl; same = refl; from = refl; accepted = refl }
 
 pub later_is : IsDueSearch later_text passes_later
-unfolding understood everything
-later_is = record { is = λ more. refl; plain = λ more. (refl, refl); unlisted = λ more. refl; low = λ db. refl }
+unfolding everything first
+later_is l = record { p = _; select = _; d = _; by = _; parsed = refl; untimed = refl; is = refl; drafted = refl; same = refl; from = refl; accepted = refl }
 
 pub past_is : IsDueSearch past_text passes_past
-unfolding understood everything
-past_is = record { is = λ more. refl; plain = λ more. (refl, refl); unlisted = λ more. refl; low = λ db. refl }
+unfolding everything first
+past_is l = record { p = _; select = _; d = _; by = _; parsed = refl; untimed = refl; is = refl; drafted = refl; same = refl; from = refl; accepted = refl }
 
 -- ---- places
 
@@ -148,23 +146,23 @@ one_number t x y here there same =
 
 module _ (sql : List ℕ) (query : IsQuery sql) (passes : List Term) (search : IsDueSearch sql passes) (params : Cells) where
   abbrev pub pick : ℕ × Key → Bool
-  pick x = is_picked params (tree_of Keys) passes shown (key_row x)
+  pick x = is_picked params 0 passes shown (key_row x)
 
   -- the cells of the answer
   abbrev cells_of : ℕ × Key → Cells
   cells_of x = eval_all shown (params ∷ key_row x ∷ [])
 
   abbrev Passing : List (ℕ × Key) → List Cells
-  Passing ns = passing (tree_of Keys) passes shown order params (map key_row ns)
+  Passing ns = passing 0 passes shown order params (map key_row ns)
 
   -- what passes came from a key that does
   came_from : (ns : List (ℕ × Key)) (r : Cells) → Has (Passing ns) r → (x : ℕ × Key) × Has ns x × (pick x ≡ true) × (r ≡ key_row x)
-  came_from ns r there = from_picked key_row pick ns r (subst (λ rs. Has rs r) (filter-map (is_picked params (tree_of Keys) passes shown) key_row ns) there)
+  came_from ns r there = from_picked key_row pick ns r (subst (λ rs. Has rs r) (filter-map (is_picked params 0 passes shown) key_row ns) there)
 
   goes_to : (ns : List (ℕ × Key)) (x : ℕ × Key) → Has ns x → pick x ≡ true → Has (Passing ns) (key_row x)
-  goes_to ns x there is = subst (λ rs. Has rs (key_row x)) (sym (filter-map (is_picked params (tree_of Keys) passes shown) key_row ns)) (to_picked key_row pick ns x there is)
+  goes_to ns x there is = subst (λ rs. Has rs (key_row x)) (sym (filter-map (is_picked params 0 passes shown) key_row ns)) (to_picked key_row pick ns x there is)
 
-  compared : (x y : ℕ × Key) → is_lt (output_cmp (ordered_by (tree_of Keys) passes shown order) (out_of (tree_of Keys) passes shown order params (key_row y)) (out_of (tree_of Keys) passes shown order params (key_row x))) ≡ false
+  compared : (x y : ℕ × Key) → is_lt (output_cmp (ordered_by 0 passes shown order) (out_of 0 passes shown order params (key_row y)) (out_of 0 passes shown order params (key_row x))) ≡ false
       → (stop_cell x < stop_cell y) ⊎ ((stop_cell x ≡ stop_cell y) × (x.0 ≤ y.0))
   compared x y h =
       not_before (stop_cell y) (stop_cell x) y.0 x.0
@@ -181,9 +179,10 @@ module _ (sql : List ℕ) (query : IsQuery sql) (passes : List Term) (search : I
   module _ (test : ℕ × Key → Bool) (test_is : (x : ℕ × Key) → pick x ≡ test x) where
     row_is : (old new : State) (t : Tables) → Holds t old.now → (row : Cells) → QueriesRow sql params old new (Ok row) → (x : ℕ × Key) × IsFirst test t x × (row ≡ cells_of x)
     row_is old new t holds row h =
-        let more = holds.schema.more in
-        let given = gives_first (tree_of Keys) passes shown order params sql old new _ holds.schema.is (names_of_table Keys) (search.is more) (search.plain more) (search.unlisted more) (search.low old.now.trees) row h in
-        let it = subst (λ rs. ShowsLeast (tree_of Keys) passes shown order params rs row) (holds.shown Keys) given in
+        let l = holds.schema.layout in
+        let m = due_meant sql passes search l (placed t old.now holds) in
+        let given = gives_first (l.tree Keys) passes shown order params sql old new _ holds.schema.is (names_of_table Keys) m.is m.plain m.unlisted (shows_all old.now.trees (l.tree Keys)) row h in
+        let it = subst (λ rs. ShowsLeast (l.tree Keys) passes shown order params rs row) (holds.shown Keys) given in
         let came = came_from (numbered t.keys) it.least it.passes_too in
         let x = came.0 in (
           x,
@@ -192,16 +191,17 @@ module _ (sql : List ℕ) (query : IsQuery sql) (passes : List Term) (search : I
             passes = sym (test_is x) ∙ came.2;
             first = λ y there is.
                 let after = it.first (key_row y) (goes_to (numbered t.keys) y there (test_is y ∙ is)) in
-                first_so t x y came.1 there (compared x y (subst (λ (r : Cells). is_lt (output_cmp (ordered_by (tree_of Keys) passes shown order) (out_of (tree_of Keys) passes shown order params (key_row y)) (out_of (tree_of Keys) passes shown order params r)) ≡ false) came.3 after));
+                first_so t x y came.1 there (compared x y (subst (λ (r : Cells). is_lt (output_cmp (ordered_by 0 passes shown order) (out_of 0 passes shown order params (key_row y)) (out_of 0 passes shown order params r)) ≡ false) came.3 after));
           },
           it.is ∙ ap (λ (r : Cells). eval_all shown (params ∷ r ∷ [])) came.3,
         )
 
     none_is : (old new : State) (t : Tables) → Holds t old.now → QueriesRow sql params old new (Err QueryReturnedNoRows) → HasFirst test t None
     none_is old new t holds h x there is =
-        let more = holds.schema.more in
-        let given = gives_no_row (tree_of Keys) passes shown order params sql old new _ holds.schema.is (names_of_table Keys) (search.is more) (search.plain more) (search.unlisted more) (search.low old.now.trees) h in
-        let none = subst (λ rs. passing (tree_of Keys) passes shown order params rs ≡ []) (holds.shown Keys) given in
+        let l = holds.schema.layout in
+        let m = due_meant sql passes search l (placed t old.now holds) in
+        let given = gives_no_row (l.tree Keys) passes shown order params sql old new _ holds.schema.is (names_of_table Keys) m.is m.plain m.unlisted (shows_all old.now.trees (l.tree Keys)) h in
+        let none = subst (λ rs. passing (l.tree Keys) passes shown order params rs ≡ []) (holds.shown Keys) given in
         subst (λ rs. Has rs (key_row x)) none (goes_to (numbered t.keys) x there (test_is x ∙ is))
 
     each : (t : Tables) (old : State) → Holds t old.now → (x : ℕ × Key) → IsFirst test t x → IsNumbered x × ShowsAt (cells_of x) x

@@ -5,15 +5,11 @@ use Rattle.std.specs.List.{AllByRecursion, enumerate_from}
 use Rattle.sqlite.specs.declared.types.Value.{Value}
 use Rattle.sqlite.specs.declared.types.Value.TheVariants.{Null, Int, Text as Words}
 use Rattle.sqlite.specs.Collation.TheVariants.{Binary}
-use Rattle.sqlite.specs.Command.TheVariants.{Update}
-use Rattle.sqlite.specs.Listing.{understood}
 use Rattle.sqlite.specs.Order.{Row as Cells}
 use Rattle.sqlite.specs.State.{State as View, Executes}
 use Rattle.sqlite.specs.Ops.{from_truth, is_true, unary}
 use Rattle.sqlite.specs.Term.{Term, eval, lit, col, op1, op2}
 use Rattle.sqlite.specs.Tree.{IsTable}
-use Rattle.sqlite.proofs.Callers.{IsPlain, command_of}
-use Rattle.sqlite_schema.specs.declared.schema.Index.{Index}
 use Rattle.sqlite_sql.specs.declared.ops.BinaryOp.TheVariants.{Compare}
 use Rattle.sqlite_sql.specs.declared.ops.CompareOp.TheVariants.{Eq}
 use Rattle.sqlite_sql.specs.declared.ops.UnaryOp.TheVariants.{Not}
@@ -29,18 +25,19 @@ use Rattle.lifecycle_core.specs.State.{state_code}
 use Rattle.register_core.specs.declared.key.Key.{Key}
 use Rattle.register_core.specs.Name.{IsName}
 use Rattle.register_store.specs.declared.table.TableName.TheVariants.{Keys}
-use Rattle.register_store.specs.Tables.{keys, place_of, tree_of, AreDates, IsKey, date_cell, key_row, numbered}
+use Rattle.register_store.specs.Tables.{Layout, fresh, keys, place_of, AreDates, IsKey, date_cell, key_row, numbered}
 use Rattle.register_store.specs.Schema.{schema_with, Holds, rows_of}
 use Rattle.register_store.specs.Making.{Makes, Always, held_by, where_number, with_key_at}
-use Rattle.register_store.proofs.Actions.{keys_idle}
+use Rattle.register_store.proofs.Actions.{keys_idle, shows_all}
+use Rattle.sqlite_resolve.specs.Compile.{first}
+use Rattle.register_store.proofs.Meanings.{Sets, classes, placed, sets}
 use Rattle.register_store.proofs.Frame.{holds_with}
 use Rattle.register_store.proofs.KeyStands.{joined, stands, stands_so, where_it_differs}
 use Rattle.register_store.proofs.Numbers.{is_table}
 
 -- the text gives the rows that pass other cells
 abbrev pub IsUpdate : List ℕ → List Term → List Term → Type 0
-IsUpdate sql passes shown = (more : List Index)
-    → (command_of (understood (schema_with more) sql) ≡ Update (place_of Keys) (record { lets = []; body = plain_query (tree_of Keys) passes (col 1 0 ∷ shown) })) × IsPlain (understood (schema_with more) sql)
+IsUpdate sql passes shown = (l : Layout) → Sets (schema_with l) (keys l) (place_of Keys) sql (plain_query (l.tree Keys) passes (col 1 0 ∷ shown))
 
 -- what f makes of a key, where it is for it
 abbrev pub changed_where : (ℕ × Key → Bool) → (Key → Key) → ℕ × Key → Key
@@ -51,14 +48,14 @@ module _ (sql : List ℕ) (passes shown : List Term) (parts : IsUpdate sql passe
   set p = (p.0, f p.1)
 
   abbrev changed : ℕ × Key → ℕ × Key
-  changed = changing.changed key_row (λ p. pos p.0) (λ _. refl) keys params passes shown set
+  changed = changing.changed key_row (λ p. pos p.0) (λ _. refl) (keys (fresh [])) params passes shown set
 
   -- what the statement makes of a row, and whether it does
   abbrev pub image_of : ℕ × Key → Cells
-  image_of p = typed.g key_row (λ p. pos p.0) (λ _. refl) keys params passes shown set (key_row p)
+  image_of p = typed.g key_row (λ p. pos p.0) (λ _. refl) (keys (fresh [])) params passes shown set (key_row p)
 
   abbrev pub passes_row : ℕ × Key → Bool
-  passes_row = typed.test key_row (λ p. pos p.0) (λ _. refl) keys params passes shown set
+  passes_row = typed.test key_row (λ p. pos p.0) (λ _. refl) (keys (fresh [])) params passes shown set
 
   one : (n : ℕ) (k : Key) (b : Bool) → key_row (cond b (set (n, k)) (n, k)) ≡ key_row (n, cond b (f k) k)
   one n k true = refl
@@ -84,10 +81,11 @@ module _ (sql : List ℕ) (passes shown : List Term) (parts : IsUpdate sql passe
     pub changes_keys : ((p : ℕ × Key) → image_of p ≡ key_row (set p)) → (old new : View) (count : ℕ) → Executes sql params old new (Ok count)
         → Makes Always (λ t. record t { keys = map (changed_where is_for f) (numbered t.keys) }) old.now new.now
     changes_keys image old new count h t holds always =
-        let more = holds.schema.more in
-        let ordered : IsTable (rows_of Keys old.now) = subst IsTable (sym (holds.shown Keys)) (is_table t.keys) in
-        let wrote = changing.changes key_row (λ p. pos p.0) (λ _. refl) keys params passes shown set sql (schema_with more) (place_of Keys) refl
-        (parts more).0 (parts more).1 (keys_idle more) (λ db. refl) image (λ p. refl) old new count h holds.schema.is (numbered t.keys) (holds.shown Keys) ordered in
+        let l = holds.schema.layout in
+        let m = sets (schema_with l) (keys l) (classes l (placed t old.now holds) Keys) _ _ _ (parts l) in
+        let ordered : IsTable (rows_of l Keys old.now) = subst IsTable (sym (holds.shown Keys)) (is_table t.keys) in
+        let wrote = changing.changes key_row (λ p. pos p.0) (λ _. refl) (keys l) params passes shown set sql (schema_with l) (place_of Keys) refl
+        m.is m.plain (keys_idle l holds.schema.apart) (λ db. shows_all db (l.tree Keys)) image (λ p. refl) old new count h holds.schema.is (numbered t.keys) (holds.shown Keys) ordered in
         holds_with Keys (map (changed_where is_for f) (numbered t.keys)) t old.now new.now _ holds wrote (in_range 1 t.keys (holds.in_range Keys)) (each 1 t.keys)
 
 -- ---- what an accepted request can change
@@ -103,8 +101,8 @@ abbrev key_shown : List Term
 key_shown = col 1 0 ∷ lit Null ∷ col 1 2 ∷ col 0 1 ∷ col 1 4 ∷ col 0 2 ∷ col 1 6 ∷ col 0 3 ∷ col 0 4 ∷ col 0 5 ∷ col 0 6 ∷ col 0 7 ∷ col 0 8 ∷ []
 
 key_parts : IsUpdate key_text differs key_shown
-unfolding understood everything
-key_parts more = (refl, (refl, refl))
+unfolding everything first
+key_parts l = record { p = _; name = _; sets = _; test = _; d = _; parsed = refl; untimed = refl; is = refl; named = refl; there = refl; drafted = refl; same = refl; from = refl; accepted = refl }
 
 abbrev pub key_params : ℕ → List ℕ → Row → Cells
 key_params number owner row =

@@ -24,9 +24,10 @@ use Rattle.register_store.specs.declared.error.CheckError.TheVariants.{NotARegis
 use Rattle.register_store.specs.declared.table.TableName.TheVariants.{Keys}
 use Rattle.register_store.specs.Checking.{IsOdd, IsReasonAt, ShowsNumbered, ShowsRows, TestsBy, check_error, check_text, counts_of}
 use Rattle.register_store.specs.Schema.{Holds, rows_of}
-use Rattle.register_store.specs.Tables.{Counts, IsKey, Tables, key_row, numbered, tree_of}
+use Rattle.register_store.specs.Tables.{Counts, IsKey, Tables, key_row, numbered}
 use Rattle.register_store.specs.Taking.{AreCounted, AreOwners, HasKeys, RefusesKeys, owners_where}
 use Rattle.register_store.specs.Tests.{IsSoundAt, owners_of}
+use Rattle.register_store.proofs.Actions.{shows_all}
 use Rattle.register_store.proofs.Asked.{AnswersTo, ShowsOwn, shown_of_table, tests_by}
 use Rattle.register_store.proofs.Decoding.{one_key, same_number}
 use Rattle.register_store.proofs.MetaTested.{newer_not}
@@ -110,11 +111,11 @@ module _ (found : Found) (count : ℕ) (owners : List (List ℕ)) (rows : List R
 
 -- ---- a register's own rows
 
-own_shown : (n : ℕ) (keys : List Key) → AllByRecursion IsKey keys → ShowEach ShowsNumbered (map (shown_of (tree_of Keys) (shown_of_table Keys)) (map key_row (enumerate_from n keys))) (enumerate_from n keys)
+own_shown : (n : ℕ) (keys : List Key) → AllByRecursion IsKey keys → ShowEach ShowsNumbered (map (shown_of 0 (shown_of_table Keys)) (map key_row (enumerate_from n keys))) (enumerate_from n keys)
 own_shown n [] all = tt
 own_shown n (k ∷ keys) all = (record { cells = own k all.0; number = refl; in_range = all.0 }, own_shown (n + 1) keys all.1)
   where
-    own : (k : Key) → IsKey k → Rattle.register_store.specs.Reading.ShowsKey (shown_of (tree_of Keys) (shown_of_table Keys) (key_row (n, k))) k
+    own : (k : Key) → IsKey k → Rattle.register_store.specs.Reading.ShowsKey (shown_of 0 (shown_of_table Keys) (key_row (n, k))) k
     own k is = record {
       kind = refl;
       owner = refl;
@@ -131,10 +132,10 @@ own_shown n (k ∷ keys) all = (record { cells = own k all.0; number = refl; in_
       };
     }
 
-pub own_keys : (t : Tables) (db : Db) (rows : List Row) → Holds t db → AnswersTo Keys db rows → ShowsOwn Keys t rows
+pub own_keys : (t : Tables) (db : Db) (rows : List Row) (holds : Holds t db) → AnswersTo holds.schema.layout Keys db rows → ShowsOwn Keys t rows
 own_keys t db rows holds sure =
-    let table : IsTable (rows_of Keys db) = subst IsTable (sym (holds.shown Keys)) (is_table t.keys) in
-    let is = in_order (tree_of Keys) (shown_of_table Keys) (overlay db.trees []) rows table sure ∙ ap (map (shown_of (tree_of Keys) (shown_of_table Keys))) (holds.shown Keys) in
+    let table : IsTable (rows_of holds.schema.layout Keys db) = subst IsTable (sym (holds.shown Keys)) (is_table t.keys) in
+    let is = in_order (holds.schema.layout.tree Keys) (shown_of_table Keys) (overlay db.trees []) rows (subst IsTable (sym (shows_all db.trees (holds.schema.layout.tree Keys))) table) sure ∙ ap (map (shown_of 0 (shown_of_table Keys))) (shows_all db.trees (holds.schema.layout.tree Keys) ∙ holds.shown Keys) in
     record {
       c = t.keys;
       shows = subst (λ rs. ShowEach ShowsNumbered rs (numbered t.keys)) (sym is) (own_shown 1 t.keys (holds.in_range Keys));
@@ -163,15 +164,19 @@ module _ (t : Tables) (found : Found) (counts : counts_of found ≡ t.counts) (o
 
   -- rows that do not pass do not begin rows that do
   odd_on : (rows : List Row) → RefusesKeys found rows → (tail : List Row) → IsOdd Keys t (rows ++ tail)
-  odd_on rows refuses tail keys shows meets =
-      let front = show_front ShowsNumbered rows tail (numbered keys) shows in
-      let it = numbered_front 1 keys front.0 front.1 front.2 in
-      let counted = meets.counted in
-      refuses it.0 (record {
-        shown = subst (ShowEach ShowsNumbered rows) it.3 front.3;
-        sound = all_front (IsSoundAt found.latest) it.0 it.1 (subst (AllByRecursion (IsSoundAt found.latest)) it.2 (subst (λ l. AllByRecursion (IsSoundAt l) keys) (sym latest_is) meets.sound));
-        within = omega (arith, ap length it.2, length-append it.0 it.1, counted, key_count_is);
-      })
+  odd_on rows refuses tail = record {
+    fails = λ keys shows meets.
+        let front = show_front ShowsNumbered rows tail (numbered keys) shows in
+        let it = numbered_front 1 keys front.0 front.1 front.2 in
+        let counted = meets.counted in
+        let sound = subst (λ l. AllByRecursion (IsSoundAt l) keys) (sym latest_is) meets.sound in
+        refuses it.0 (record {
+          shown = subst (ShowEach ShowsNumbered rows) it.3 front.3;
+          sound = all_front (IsSoundAt found.latest) it.0 it.1 (subst (AllByRecursion (IsSoundAt found.latest)) it.2 sound);
+          within = omega (arith, ap length it.2, length-append it.0 it.1, counted, key_count_is);
+        });
+    no_newer = λ none. none;
+  }
 
   abbrev Tested : Result (Vec (List ℕ)) CheckError → Type 0
   Tested q = TestsBy Keys t AreOwners old new q
@@ -198,7 +203,12 @@ module _ (t : Tables) (found : Found) (counts : counts_of found ≡ t.counts) (o
         inr (inr (record {
           rows = it.rows;
           shown = it.shown;
-          holds = λ keys shows meets. off clean (it.holds.counted ∙ ap length (one_keys it.rows it.holds.keys keys it.holds.are.shown shows) ∙ meets.counted ∙ sym key_count_is);
+          holds = record {
+            fails = λ keys shows meets.
+                let same = one_keys it.rows it.holds.keys keys it.holds.are.shown shows in
+                off clean (it.holds.counted ∙ ap length same ∙ meets.counted ∙ sym key_count_is);
+            no_newer = λ none. none;
+          };
           same = it.same;
         })),
         it.same,

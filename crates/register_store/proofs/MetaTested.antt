@@ -1,5 +1,5 @@
 -- The test of the table meta.
-use Rattle.std.proofs.Common.{◌≡◌, inl, inr, ℕ, Option, None, Some, Result, Ok, Err, List, [], ◌∷◌, ◌++◌, IfOk, IfErr, IsErrAnd, sym, ap, subst, ◌∙◌, refl, arith}
+use Rattle.std.proofs.Common.{◌≡◌, ◌≤◌, inl, inr, ℕ, Option, None, Some, Result, Ok, Err, List, [], ◌∷◌, ◌++◌, IfOk, IfErr, IsErrAnd, sym, ap, subst, ◌∙◌, refl, arith}
 use Rattle.sqlite.specs.Effect.{Database as Db}
 use Rattle.sqlite.specs.Order.{Row, column}
 use Rattle.sqlite.specs.Program.{overlay}
@@ -18,11 +18,13 @@ use Rattle.register_store.specs.declared.error.CheckError.TheVariants.{NewerVers
 use Rattle.register_store.specs.declared.meta_test.MetaRow.{MetaRow}
 use Rattle.register_store.specs.declared.meta_test.MetaRow.TheVariants.{Newer, Counts as CountsKeys}
 use Rattle.register_store.specs.declared.table.TableName.TheVariants.{Meta}
-use Rattle.register_store.specs.Checking.{HasNewer, IsReasonAt, ShowsCounts, ShowsRows, TestsBy, check_error, check_text, counts_of}
+use Rattle.register_core.specs.Verdict.{max_keys}
+use Rattle.register_store.specs.Checking.{HasNewer, IsOdd, IsReasonAt, ShowsCounts, ShowsNewer, ShowsRows, TestsBy, check_error, check_text, counts_of}
 use Rattle.register_store.specs.Schema.{Holds, rows_of}
-use Rattle.register_store.specs.Tables.{Counts, Tables, counts_row, tree_of, version, with_content}
+use Rattle.register_store.specs.Tables.{Counts, Tables, counts_row, version, with_content}
 use Rattle.register_store.specs.Tests.{MeetsTest}
 use Rattle.register_store.specs.Taking.{HasMeta, IsCounts, RefusesMeta, counts_in}
+use Rattle.register_store.proofs.Actions.{shows_all}
 use Rattle.register_store.proofs.Asked.{AnswersTo, ShowsOwn, shown_of_table, shown_own, tests_by}
 use Rattle.register_store.proofs.Decoding.{same_number}
 use Rattle.register_store.proofs.Ordered.{in_order, shown_of}
@@ -37,12 +39,12 @@ meta_query = select_plain (check_text Meta) meta_select
 -- ---- a register's own row
 
 abbrev the_row : Counts → Row
-the_row counts = shown_of (tree_of Meta) (shown_of_table Meta) (counts_row counts)
+the_row counts = shown_of 0 (shown_of_table Meta) (counts_row counts)
 
-pub own_meta : (t : Tables) (db : Db) (rows : List Row) → Holds t db → AnswersTo Meta db rows → ShowsOwn Meta t rows
+pub own_meta : (t : Tables) (db : Db) (rows : List Row) (holds : Holds t db) → AnswersTo holds.schema.layout Meta db rows → ShowsOwn Meta t rows
 own_meta t db rows holds sure =
-    let table : IsTable (rows_of Meta db) = subst IsTable (sym (holds.shown Meta)) (tt, tt) in
-    let is : rows ≡ the_row t.counts ∷ [] = in_order (tree_of Meta) (shown_of_table Meta) (overlay db.trees []) rows table sure ∙ ap (Rattle.std.specs.Prelude.map (shown_of (tree_of Meta) (shown_of_table Meta))) (holds.shown Meta) in
+    let table : IsTable (rows_of holds.schema.layout Meta db) = subst IsTable (sym (holds.shown Meta)) (tt, tt) in
+    let is : rows ≡ the_row t.counts ∷ [] = in_order (holds.schema.layout.tree Meta) (shown_of_table Meta) (overlay db.trees []) rows (subst IsTable (sym (shows_all db.trees (holds.schema.layout.tree Meta))) table) sure ∙ ap (Rattle.std.specs.Prelude.map (shown_of 0 (shown_of_table Meta))) (shows_all db.trees (holds.schema.layout.tree Meta) ∙ holds.shown Meta) in
     record {
       c = t.counts;
       shows = subst (λ rs. ShowEach ShowsCounts rs (t.counts ∷ [])) (sym is) (record { id = refl; version_is = refl; latest = refl; key_count = refl; moment = holds.in_range Meta }, tt);
@@ -55,8 +57,8 @@ pub newer_not : (t : Tables) (found : ℕ) (old new : State) → Holds t old.now
 newer_not t found old new holds newer =
     let it = shown_own Meta t (own_meta t) old new holds newer.shown in
     let shows = subst (λ rows. ShowEach ShowsCounts rows (it.c ∷ [])) newer.shown.holds it.shows in
-    let same = same_number (column newer.row 1) found version newer.version_is shows.0.version_is in
-    absurd (let above = newer.above in omega (arith, above, same))
+    let same = same_number (column newer.row 1) found version newer.newer.version_is shows.0.version_is in
+    absurd (let above = newer.newer.above in omega (arith, above, same))
 
 one_counts : (row : Row) (a b : Counts) → ShowsCounts row a → ShowsCounts row b → a ≡ b
 one_counts row a b x y i = record { latest = same_number _ _ _ x.latest y.latest i; key_count = same_number _ _ _ x.key_count y.key_count i }
@@ -70,7 +72,19 @@ one_meta (row ∷ rows) c d x y = one_counts row c d x.0 y.0
 -- a second row
 pub two_refused : (told : Option MetaRow) (rows : List Row) (row : Row) → Rattle.std.specs.Prelude.IsSome told → HasMeta told rows → RefusesMeta (rows ++ row ∷ [])
 two_refused None rows row some taken = absurd (cc)
-two_refused (Some one) rows row some taken = subst (λ rs. RefusesMeta (rs ++ row ∷ [])) (sym taken.1) (λ tail counts shows few. shows.1)
+two_refused (Some one) rows row some taken =
+    subst (λ rs. RefusesMeta (rs ++ row ∷ [])) (sym taken.1) (record {
+      uncounted = λ tail counts shows few. shows.1;
+      no_newer = λ tail newer. let one_row = newer.2 in absurd cc;
+    })
+
+-- one row, which counts no keys and is of no later version
+pub one_refused : (row : Row) → ((counts : Counts) → counts.key_count ≤ max_keys → ¬ ShowsCounts row counts)
+    → ((found : ℕ) → ¬ ShowsNewer row found) → RefusesMeta (row ∷ [])
+one_refused row none older = record {
+  uncounted = λ tail counts shows few. none counts few shows.0;
+  no_newer = λ tail newer. let same : row ≡ newer.0 = cc in older newer.1 (subst (λ r. ShowsNewer r newer.1) (sym same) newer.3);
+}
 
 module _ (t : Tables) (old new : State) (survives : Survives old new (λ _. ⊥)) where
   abbrev Tested : Result Found CheckError → Type 0
@@ -93,18 +107,29 @@ module _ (t : Tables) (old new : State) (survives : Survives old new (λ _. ⊥)
       (λ clean. let it = all clean in record {
         row = it.holds.0;
         shown = record { rows = it.rows; shown = it.shown; holds = it.holds.1; same = it.same };
-        id = it.holds.2.0;
-        version_is = it.holds.2.1;
-        above = it.holds.2.2;
+        newer = it.holds.2;
       })
 
   pub meta_told : (told : MetaRow) (q : Result Found CheckError) → q ≡ counts_in told → (HasCleanDisk new → ShowsAll (check_text Meta) (HasMeta (Some told)) old new) → Tested q
   meta_told told q is all = subst Tested (sym is) (counts_told told all)
 
+  -- no rows are those of no register
+  no_rows : (rows : List Row) → rows ≡ [] → IsOdd Meta t rows
+  no_rows rows none = record {
+    fails = λ c shows meets. subst (λ rs. ShowsRows Meta rs c) none shows;
+    no_newer = λ newer. let one_row : rows ≡ newer.0 ∷ [] = newer.2 in absurd cc;
+  }
+
+  odd : (rows : List Row) → RefusesMeta rows → (tail : List Row) → IsOdd Meta t (rows ++ tail)
+  odd rows refuses tail = record {
+    fails = λ c shows meets. refuses.uncounted tail c shows meets;
+    no_newer = refuses.no_newer tail;
+  }
+
   pub meta_none : (HasCleanDisk new → ShowsAll (check_text Meta) (HasMeta None) old new) → Tested (Err NotARegister)
   meta_none all = tested (Err NotARegister) (λ clean. tt)
       (λ clean. let it = all clean in (
-        inr (inr (record { rows = it.rows; shown = it.shown; holds = λ c shows meets. subst (λ rows. ShowsRows Meta rows c) it.holds shows; same = it.same })),
+        inr (inr (record { rows = it.rows; shown = it.shown; holds = no_rows it.rows it.holds; same = it.same })),
         it.same,
       ))
 
@@ -114,7 +139,7 @@ module _ (t : Tables) (old new : State) (survives : Survives old new (λ _. ⊥)
   reason NoMeaning meaning refused memory = let it = meaning refl in (inl it, it.same)
   reason Refused meaning refused memory =
       let it = refused refl in
-      (inr (inl (record { rows = it.rows; shown = it.shown; holds = λ tail c shows meets. it.holds tail c shows meets; same = it.same })), it.same)
+      (inr (inl (record { rows = it.rows; shown = it.shown; holds = odd it.rows it.holds; same = it.same })), it.same)
   reason Memory meaning refused memory = memory refl
   reason (Database error) meaning refused memory = tt
 

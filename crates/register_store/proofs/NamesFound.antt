@@ -6,7 +6,6 @@ use Rattle.std.specs.List.Sorted.{IsPermutation}
 use Rattle.sqlite.specs.declared.error.Error.{Error}
 use Rattle.sqlite.specs.declared.types.Value.{Value}
 use Rattle.sqlite.specs.declared.types.Value.TheVariants.{Null, Int, Text as Words}
-use Rattle.sqlite.specs.Listing.{understood}
 use Rattle.sqlite.specs.Order.{Row as Cells, column}
 use Rattle.sqlite.specs.State.{State, HasCleanDisk, Shown, IsUnchanged, Survives, CommitsShowing}
 use Rattle.sqlite.specs.Term.{Term, col, eval_all}
@@ -18,7 +17,7 @@ use Rattle.sqlite_trees.proofs.ListLemmas.{all-filter, map-map}
 use Rattle.sql_steps.proofs.SameRows.{has_map, map_has}
 use Rattle.sql_steps.proofs.Updates.{has_permutation}
 use Rattle.sql_steps.proofs.Queries.{gives_all, only_reads}
-use Rattle.sql_steps.proofs.Statements.{picked}
+use Rattle.sql_steps.proofs.Statements.{plain_query, picked}
 use Rattle.register_core.specs.KeyName.{KeyName, is_at, names_at}
 use Rattle.register_core.specs.Name.{IsName}
 use Rattle.register_core.specs.Names.{sorted_names}
@@ -26,11 +25,14 @@ use Rattle.register_store.specs.declared.error.StoreError.{StoreError}
 use Rattle.register_store.specs.declared.error.StoreError.TheVariants.{Database, NoRegister}
 use Rattle.register_store.specs.declared.custody.Role.{Role}
 use Rattle.register_store.specs.declared.custody.Role.TheVariants as role
+use Rattle.register_store.specs.declared.table.TableName.{TableName}
 use Rattle.register_store.specs.declared.table.TableName.TheVariants.{Custodian, Approval}
 use Rattle.register_store.specs.Roles.{names_of, select_text}
 use Rattle.register_store.specs.Reading.{AreNamesOf, HasNoName, HoldsWhereOpen, IsOpenStill, ReadsBy}
-use Rattle.register_store.specs.Tables.{tree_of, Tables, AreNames, IsNamed, ShowsEntries, name_cells}
-use Rattle.register_store.specs.Schema.{schema_with, Holds}
+use Rattle.register_store.specs.Tables.{Layout, Tables, table_of, AreNames, IsNamed, ShowsEntries, name_cells}
+use Rattle.register_store.specs.Schema.{schema_with, Holds, rows_of}
+use Rattle.register_store.proofs.Actions.{shows_all}
+use Rattle.register_store.proofs.Meanings.{Asks, asks, classes, placed}
 use Rattle.register_store.proofs.EntryRows.{picks_entries}
 use Rattle.register_store.proofs.NameTests.{at_key, key_past, key_is}
 use Rattle.register_store.proofs.OpenQueries.{open_still, shown_same}
@@ -65,28 +67,28 @@ abbrev pub name_column : List (List ℕ)
 name_column = codes "name" ∷ []
 
 -- the text asks for the names at a key in a table
-abbrev pub IsNameSearch : List ℕ → ℕ → Type 0
-IsNameSearch sql tree = IsSearch sql tree at_key name_shown name_column
+abbrev pub IsNameSearch : List ℕ → TableName → Type 0
+IsNameSearch sql table = IsSearch sql table at_key name_shown name_column
 
 shown_past : (params r : Cells) → eval_all name_shown (params ∷ r ∷ []) ≡ eval_all name_shown (params ∷ (Null ∷ drop 1 r) ∷ [])
 shown_past params [] = refl
 shown_past params (v ∷ vs) = refl
 
-module _ (sql : List ℕ) (tree : ℕ) (search_is : IsNameSearch sql tree) (key : ℕ) where
+module _ (sql : List ℕ) (table : TableName) (search_is : IsNameSearch sql table) (key : ℕ) where
   abbrev pub params : Cells
   params = Int (pos key) ∷ []
 
   -- the names at the key
-  found_names : (entries : List KeyName) (rows : List Cells) → ShowsEntries name_cells entries rows → IsPermutation (map (λ row. column row 0) (picked params tree at_key name_shown rows)) (map Words (names_at key entries))
+  found_names : (entries : List KeyName) (rows : List Cells) → ShowsEntries name_cells entries rows → IsPermutation (map (λ row. column row 0) (picked params 0 at_key name_shown rows)) (map Words (names_at key entries))
   found_names entries rows shows =
       let among = filter (is_at key) entries in
       let right : map (λ (row : Cells). column row 0) (map (λ (entry : KeyName). Words entry.name ∷ []) among) ≡ map Words (names_at key entries) =
       map-map _ _ among ∙ sym (map-map Words (λ (entry : KeyName). entry.name) among) in
-      subst (IsPermutation (map (λ row. column row 0) (picked params tree at_key name_shown rows))) right
+      subst (IsPermutation (map (λ row. column row 0) (picked params 0 at_key name_shown rows))) right
       (IsPermutation-map (λ (row : Cells). column row 0) _ _
-      (picks_entries name_cells params tree at_key name_shown (is_at key) (key_past tree name_shown key) (key_is tree name_shown key) (shown_past params) entries rows shows))
+      (picks_entries name_cells params 0 at_key name_shown (is_at key) (key_past 0 name_shown key) (key_is 0 name_shown key) (shown_past params) entries rows shows))
 
-  module _ (entries_of : Tables → List KeyName) (shown : (t : Tables) (old : State) → Holds t old.now → ShowsEntries name_cells (entries_of t) (old.now.trees tree))
+  module _ (entries_of : Tables → List KeyName) (shown : (t : Tables) (old : State) (holds : Holds t old.now) → ShowsEntries name_cells (entries_of t) (rows_of holds.schema.layout table old.now))
       (in_range : (t : Tables) (old : State) → Holds t old.now → AreNames (entries_of t)) (old new : State)
       (survives : Survives old new (CommitsShowing sql params old)) where
     abbrev Found : Tables → List (List ℕ) → Type 0
@@ -95,16 +97,18 @@ module _ (sql : List ℕ) (tree : ℕ) (search_is : IsNameSearch sql tree) (key 
     -- an answer leaves all as it was
     unchanged_so : (t : Tables) → Holds t old.now → (rows : List Cells) → Shown sql params old new rows → IsUnchanged old new
     unchanged_so t holds rows asked =
-        let more = holds.schema.more in
-        only_reads sql params old new (schema_with more) holds.schema.is tree at_key name_shown name_column (search_is.is more) (search_is.plain more) (search_is.unlisted more) (search_is.low old.now.trees) rows asked
+        let l = holds.schema.layout in
+        let at = placed t old.now holds in
+        only_reads sql params old new (schema_with l) holds.schema.is (l.tree table) at_key name_shown name_column (search_is.meant l at).is (search_is.meant l at).plain (search_is.meant l at).unlisted (shows_all old.now.trees (l.tree table)) rows asked
 
     -- the rows show the names at the key
     shown_names : (t : Tables) → Holds t old.now → (rows : List Cells) → Shown sql params old new rows → IsPermutation (map (λ row. column row 0) rows) (map Words (names_at key (entries_of t)))
     shown_names t holds rows asked =
-        let more = holds.schema.more in
-        let all = gives_all sql params old new (schema_with more) holds.schema.is tree at_key name_shown name_column (search_is.is more) (search_is.plain more) (search_is.unlisted more)
-        (search_is.low old.now.trees) rows asked in
-        IsPermutation-trans _ _ _ (IsPermutation-sym _ _ (IsPermutation-map (λ (row : Cells). column row 0) _ _ all)) (found_names (entries_of t) (old.now.trees tree) (shown t old holds))
+        let l = holds.schema.layout in
+        let at = placed t old.now holds in
+        let all = gives_all sql params old new (schema_with l) holds.schema.is (l.tree table) at_key name_shown name_column (search_is.meant l at).is (search_is.meant l at).plain (search_is.meant l at).unlisted
+        (shows_all old.now.trees (l.tree table)) rows asked in
+        IsPermutation-trans _ _ _ (IsPermutation-sym _ _ (IsPermutation-map (λ (row : Cells). column row 0) _ _ all)) (found_names (entries_of t) (old.now.trees (l.tree table)) (shown t old holds))
 
     -- the rows are as many as the names
     pub rows_counted : (t : Tables) → HoldsWhereOpen t old → (rows : List Cells) → Shown sql params old new rows → length rows ≡ length (names_at key (entries_of t))
@@ -154,26 +158,27 @@ module _ (sql : List ℕ) (tree : ℕ) (search_is : IsNameSearch sql tree) (key 
 
 -- ---- the two tables
 
-abbrev pub tree_at : Role → ℕ
-tree_at role.Custodian = tree_of Custodian
-tree_at role.Approver = tree_of Approval
+abbrev pub table_at : Role → TableName
+table_at role.Custodian = Custodian
+table_at role.Approver = Approval
 
 names_select : (role : Role) → IsSelect (select_text role)
 unfolding everything first
 names_select role.Custodian = (_, _, refl, refl, refl)
 names_select role.Approver = (_, _, refl, refl, refl)
 
-pub select_is : (role : Role) → IsNameSearch (select_text role) (tree_at role)
-unfolding understood everything
-select_is role.Custodian =
-    record { is = λ more. refl; plain = λ more. (refl, refl); unlisted = λ more. refl; low = λ db. refl; query = select_plain (select_text role.Custodian) (names_select role.Custodian) }
-select_is role.Approver =
-    record { is = λ more. refl; plain = λ more. (refl, refl); unlisted = λ more. refl; low = λ db. refl; query = select_plain (select_text role.Approver) (names_select role.Approver) }
+asks_names : (role : Role) (l : Layout) → Asks (schema_with l) (table_of l (table_at role)) (select_text role) (plain_query (l.tree (table_at role)) at_key name_shown) name_column
+unfolding everything first
+asks_names role.Custodian l = record { p = _; select = _; d = _; by = _; parsed = refl; untimed = refl; is = refl; drafted = refl; same = refl; from = refl; accepted = refl }
+asks_names role.Approver l = record { p = _; select = _; d = _; by = _; parsed = refl; untimed = refl; is = refl; drafted = refl; same = refl; from = refl; accepted = refl }
+
+pub select_is : (role : Role) → IsNameSearch (select_text role) (table_at role)
+select_is role = record { meant = λ l at. asks (schema_with l) _ (classes l at (table_at role)) _ _ _ (asks_names role l); query = select_plain (select_text role) (names_select role) }
 
 pub names_ranged : (role : Role) (t : Tables) (old : State) → Holds t old.now → AreNames (names_of role t)
 names_ranged role.Custodian t old holds = holds.in_range Custodian
 names_ranged role.Approver t old holds = holds.in_range Approval
 
-pub names_shown : (role : Role) (t : Tables) (old : State) → Holds t old.now → ShowsEntries name_cells (names_of role t) (old.now.trees (tree_at role))
+pub names_shown : (role : Role) (t : Tables) (old : State) (holds : Holds t old.now) → ShowsEntries name_cells (names_of role t) (rows_of holds.schema.layout (table_at role) old.now)
 names_shown role.Custodian t old holds = holds.shown Custodian
 names_shown role.Approver t old holds = holds.shown Approval

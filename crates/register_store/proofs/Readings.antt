@@ -1,16 +1,12 @@
 -- What calls that only read do, one by one and one after the other.
-use Rattle.std.proofs.Common.{◌≡◌, ◌≢◌, ◌≤◌, ◌+◌, ℕ, List, [], false, Result, Ok, Err, IfOk, IfErr, OnOk, refl, sym, subst, ◌∙◌, arith}
+use Rattle.std.proofs.Common.{◌≡◌, ◌≢◌, ◌≤◌, ◌+◌, ℕ, List, [], Result, Ok, Err, IfOk, IfErr, OnOk, refl, sym, subst, ◌∙◌, arith}
 use Rattle.std.specs.Prelude.{IsErrAnd}
 use Rattle.sqlite.specs.Command.TheVariants.{Select}
-use Rattle.sqlite.specs.Listing.{understood, reads_listing}
 use Rattle.sqlite.specs.Order.{Row as Cells}
-use Rattle.sqlite.specs.Program.{overlay}
 use Rattle.sqlite.specs.State.{State, HasCleanDisk, IsUnchanged, Survives, CommitsShowing}
 use Rattle.sqlite.specs.Term.{Term}
-use Rattle.sqlite.specs.Tree.{Trees}
-use Rattle.sqlite.proofs.Callers.{IsPlain, command_of, unchanged_then}
+use Rattle.sqlite.proofs.Callers.{unchanged_then}
 use Rattle.sqlite.proofs.StateLemmas.{survives_then}
-use Rattle.sqlite_schema.specs.declared.schema.Index.{Index}
 use Rattle.sql_steps.proofs.Statements.{plain_query}
 use Rattle.row_tests.specs.Showing.{IsQuery}
 use Rattle.row_tests.proofs.RowByRow.{commits_none}
@@ -18,16 +14,15 @@ use Rattle.register_store.specs.declared.error.StoreError.{StoreError}
 use Rattle.register_store.specs.declared.error.StoreError.TheVariants.{Memory, NoRegister}
 use Rattle.sqlite_trees.specs.declared.store.Store.{Ghosts}
 use Rattle.register_store.specs.declared.counted.Counted.{Counted}
+use Rattle.register_store.proofs.Meanings.{IsPlaced, Meant}
 use Rattle.register_store.specs.Reading.{seen, CallsOver, HoldsWhereOpen, IsOpenStill, KeepsSight, ReadFails, ReadsBy}
-use Rattle.register_store.specs.Tables.{Tables}
+use Rattle.register_store.specs.Tables.{Layout, Tables}
+use Rattle.register_store.specs.declared.table.TableName.{TableName}
 use Rattle.register_store.specs.Schema.{schema_with, Holds}
 
 -- the text asks one table for the rows that pass
-pub record IsSearch (sql : List ℕ) (tree : ℕ) (passes shown : List Term) (names : List (List ℕ)) : Type 0 where
-  pub is : (more : List Index) → command_of (understood (schema_with more) sql) ≡ Select (record { lets = []; body = plain_query tree passes shown }) names
-  pub plain : (more : List Index) → IsPlain (understood (schema_with more) sql)
-  pub unlisted : (more : List Index) → reads_listing (schema_with more) sql ≡ false
-  pub low : (db : Trees) → overlay db [] tree ≡ db tree
+pub record IsSearch (sql : List ℕ) (name : TableName) (passes shown : List Term) (names : List (List ℕ)) : Type 0 where
+  pub meant : (l : Layout) → IsPlaced l → Meant (schema_with l) sql (Select (record { lets = []; body = plain_query (l.tree name) passes shown }) names)
   pub query : IsQuery sql
 
 -- a failure where nothing is changed

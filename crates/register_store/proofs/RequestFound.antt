@@ -7,7 +7,6 @@ use Rattle.std.specs.List.Sorted.{IsPermutation}
 use Rattle.sqlite.specs.declared.error.Error.{Error}
 use Rattle.sqlite.specs.declared.types.Value.TheVariants.{Null, Int, Text as Words}
 use Rattle.sqlite.specs.Collation.TheVariants.{Binary}
-use Rattle.sqlite.specs.Listing.{understood}
 use Rattle.sqlite_resolve.specs.Compile.{first}
 use Rattle.row_tests.proofs.Selects.{IsSelect, select_plain}
 use Rattle.sqlite.specs.Order.{Row as Cells}
@@ -19,18 +18,19 @@ use Rattle.sqlite_sql.specs.declared.ops.BinaryOp.TheVariants.{Compare}
 use Rattle.sqlite_sql.specs.declared.ops.CompareOp.TheVariants.{Eq}
 use Rattle.sqlite_tied.specs.Compute.{everything}
 use Rattle.sql_steps.proofs.Comparing.{equal_numbers, equal_words}
-use Rattle.sql_steps.proofs.Statements.{picked, is_picked}
+use Rattle.sql_steps.proofs.Statements.{plain_query, picked, is_picked}
 use Rattle.register_core.specs.declared.kept_reply.KeptReply.{KeptReply}
 use Rattle.register_core.specs.KeptReply.{IsKeptReply, is_under, kept_under}
 use Rattle.register_core.specs.Request.{command_text}
 use Rattle.register_store.specs.declared.error.StoreError.{StoreError}
 use Rattle.register_store.specs.declared.error.StoreError.TheVariants.{Memory, NoRegister}
 use Rattle.register_store.specs.declared.table.TableName.TheVariants.{Request}
-use Rattle.register_store.specs.Tables.{tree_of, Tables, request_cells, state_cell}
-use Rattle.register_store.specs.Schema.{Holds, rows_of}
+use Rattle.register_store.specs.Tables.{Layout, Tables, request, request_cells, state_cell}
+use Rattle.register_store.specs.Schema.{schema_with, Holds, rows_of}
 use Rattle.register_store.specs.Reading.{HasRequest, IsRowOf, ReadsBy, ShowsNone, ShowsRequest}
 use Rattle.register_store.proofs.Decoding.{same_request}
 use Rattle.register_store.proofs.EntryRows.{picks_entries}
+use Rattle.register_store.proofs.Meanings.{Asks, asks, classes}
 use Rattle.register_store.proofs.Readings.{IsSearch}
 use Rattle.register_store.proofs.RowFound.{row_read}
 
@@ -53,9 +53,12 @@ search_select : IsSelect search_text
 unfolding everything first
 search_select = (_, _, refl, refl, refl)
 
-search_is : IsSearch search_text (tree_of Request) under answer_shown answer_names
-unfolding understood everything
-search_is = record { is = λ more. refl; plain = λ more. (refl, refl); unlisted = λ more. refl; low = λ db. refl; query = select_plain search_text search_select }
+asks_request : (l : Layout) → Asks (schema_with l) (request l) search_text (plain_query (l.tree Request) under answer_shown) answer_names
+unfolding everything first
+asks_request l = record { p = _; select = _; d = _; by = _; parsed = refl; untimed = refl; is = refl; drafted = refl; same = refl; from = refl; accepted = refl }
+
+search_is : IsSearch search_text Request under answer_shown answer_names
+search_is = record { meant = λ l at. asks (schema_with l) (request l) (classes l at Request) _ _ _ (asks_request l); query = select_plain search_text search_select }
 
 -- ---- the request under a caller's number
 
@@ -68,7 +71,7 @@ module _ (caller : List ℕ) (number : ℕ) where
   params = Words caller ∷ Int (pos number) ∷ []
 
   abbrev passing : Cells → Bool
-  passing = is_picked params (tree_of Request) under answer_shown
+  passing = is_picked params 0 under answer_shown
 
   past : (r : Cells) → passing r ≡ passing (Null ∷ drop 1 r)
   past [] = refl
@@ -84,8 +87,8 @@ module _ (caller : List ℕ) (number : ℕ) where
   abbrev matching : Tables → List KeptReply
   matching t = kept_under caller number t.requests
 
-  picks : (t : Tables) (old : State) → Holds t old.now → IsPermutation (picked params (tree_of Request) under answer_shown (rows_of Request old.now)) (map answer_cells (matching t))
-  picks t old holds = picks_entries request_cells params (tree_of Request) under answer_shown (is_under caller number) past under_is shown_past t.requests (rows_of Request old.now) (holds.shown Request)
+  picks : (t : Tables) (old : State) (holds : Holds t old.now) → IsPermutation (picked params 0 under answer_shown (rows_of holds.schema.layout Request old.now)) (map answer_cells (matching t))
+  picks t old holds = picks_entries request_cells params 0 under answer_shown (is_under caller number) past under_is shown_past t.requests (rows_of holds.schema.layout Request old.now) (holds.shown Request)
 
   abbrev ShowsOne : Cells → KeptReply → Type 0
   ShowsOne = ShowsRequest caller number
@@ -112,5 +115,5 @@ module _ (caller : List ℕ) (number : ℕ) where
   pub request_read : (old new : State) (r : Result Cells Error) (q : Result (Option KeptReply) StoreError) → IfOk q (IsRowOf ShowsOne r) → IfErr q (λ error. error ≢ Memory)
       → IfErr q (λ error. error ≡ NoRegister → ShowsNone IsKeptReply ShowsOne r) → (HasCleanDisk new → QueriesRow search_text params old new r) → Survives old new (CommitsShowing search_text params old)
       → ReadsBy (HasRequest caller number) old new q
-  request_read = row_read IsKeptReply ShowsOne answer_cells search_text (tree_of Request) under answer_shown answer_names search_is params matching picks each
+  request_read = row_read IsKeptReply ShowsOne answer_cells search_text Request under answer_shown answer_names search_is params matching picks each
       (λ k other is own shows. same_request caller number (answer_cells k) other k shows.cells own.cells) (HasRequest caller number) (λ t found among. among)

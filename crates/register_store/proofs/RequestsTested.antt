@@ -20,9 +20,10 @@ use Rattle.register_store.specs.declared.error.CheckError.{CheckError}
 use Rattle.register_store.specs.declared.table.TableName.TheVariants.{Request}
 use Rattle.register_store.specs.Checking.{IsOdd, IsReasonAt, ShowsKept, ShowsRows, TestsBy, check_error, check_text, counts_of}
 use Rattle.register_store.specs.Schema.{Holds}
-use Rattle.register_store.specs.Tables.{Tables, request_cells, tree_of}
+use Rattle.register_store.specs.Tables.{Tables, request_cells}
 use Rattle.register_store.specs.Taking.{HasShown, IsAny, RefusesEach}
 use Rattle.register_store.specs.Tests.{IsReplyOf}
+use Rattle.register_store.proofs.Actions.{shows_all}
 use Rattle.register_store.proofs.Asked.{AnswersTo, ShowsOwn, shown_of_table, tests_by}
 use Rattle.register_store.proofs.Decoding.{same_number, same_request, same_words}
 use Rattle.register_store.proofs.EachTested.{odd_on}
@@ -52,9 +53,9 @@ own_row k is = record {
   in_range = is;
 }
 
-pub own_requests : (t : Tables) (db : Db) (rows : List Row) → Holds t db → AnswersTo Request db rows → ShowsOwn Request t rows
+pub own_requests : (t : Tables) (db : Db) (rows : List Row) (holds : Holds t db) → AnswersTo holds.schema.layout Request db rows → ShowsOwn Request t rows
 own_requests t db rows holds sure =
-    let it = own_entries request_cells ShowsKept IsKeptReply (tree_of Request) (shown_of_table Request) shown_past own_row db t.requests rows (holds.in_range Request) (holds.shown Request) refl sure in
+    let it = own_entries request_cells ShowsKept IsKeptReply (holds.schema.layout.tree Request) (shown_of_table Request) shown_past own_row db t.requests rows (holds.in_range Request) (holds.shown Request) (shows_all db.trees (holds.schema.layout.tree Request)) sure in
     record { c = it.0; shows = it.2; like = it.1; meets = all_permuted (IsReplyOf t.counts) t.requests it.0 it.1 }
 
 -- a row shows one request
@@ -83,7 +84,11 @@ module _ (t : Tables) (found : Found) (counts : counts_of found ≡ t.counts) (o
       (λ clean. tt) survives
 
   odd : (rows : List Row) → RefusesEach ShowsKept (IsReplyOf (counts_of found)) rows → (tail : List Row) → IsOdd Request t (rows ++ tail)
-  odd rows refuses tail c shows meets = odd_on ShowsKept (IsReplyOf (counts_of found)) rows refuses tail c shows (subst (λ n. AllByRecursion (IsReplyOf n) c) (sym counts) meets)
+  odd rows refuses tail = record {
+    fails = λ c shows meets.
+        odd_on ShowsKept (IsReplyOf (counts_of found)) rows refuses tail c shows (subst (λ n. AllByRecursion (IsReplyOf n) c) (sym counts) meets);
+    no_newer = λ none. none;
+  }
 
   pub requests_fail : (error : RowsError) (e : CheckError) → e ≡ check_error error → (HasCleanDisk new → error ≡ NoMeaning → HasNoMeaning (check_text Request) old new)
       → (HasCleanDisk new → error ≡ Refused → ShowsFirst (check_text Request) (RefusesEach ShowsKept (IsReplyOf (counts_of found))) old new) → (HasCleanDisk new → error ≡ Memory → IsUnchanged old new) → Tested (Err e)

@@ -10,13 +10,14 @@ use Rattle.sqlite_resolve.specs.declared.compiled.Compiled.{Compiled}
 use Rattle.sql_steps.specs.Creating.{Creates, Indexes}
 use Rattle.register_store.specs.declared.key_index.KeyIndex.{KeyIndex}
 use Rattle.register_store.specs.declared.table.TableName.{TableName}
-use Rattle.register_store.specs.Tables.{all_tables, keys, table_of, place_of, count_text, no_rows}
-use Rattle.register_store.specs.Schema.{no_schema, schema_after, schema_with, made_indexes, index_of, index_place, Holds, rows_of}
+use Rattle.register_store.specs.Tables.{fresh, all_tables, keys, table_of, place_of, count_text, no_rows}
+use Rattle.register_store.specs.Schema.{no_schema, schema_after, schema_with, made_indexes, index_of, index_place}
+use Rattle.register_store.specs.Schema.{Holds, rows_of}
 
 -- an empty register, whose indexes beside those of the primary keys are those that a new one has
 pub record IsNewRegister (db : Database) : Type 0 where
   pub holds : Holds no_rows db
-  pub indexed : db.schema ≡ schema_with made_indexes
+  pub indexed : db.schema ≡ schema_with (fresh made_indexes)
 
 -- an empty database comes to hold one
 abbrev pub MakesRegister : Database → Database → Type 0
@@ -26,24 +27,25 @@ MakesRegister old new = old.schema ≡ no_schema → IsNewRegister new
 
 -- the table is made where those before it are
 abbrev pub MakesTable : TableName → Database → Database → Type 0
-MakesTable name = Creates (schema_after (place_of name)) (table_of name)
+MakesTable name = Creates (schema_after (place_of name)) (table_of (fresh []) name)
 
 -- in an empty database the first n tables are made, each empty
 pub record HasFirst (n : ℕ) (db : Database) : Type 0 where
   pub schema : db.schema ≡ schema_after n
-  pub empty : (name : TableName) → place_of name < n → rows_of name db ≡ []
+  pub empty : (name : TableName) → place_of name < n → rows_of (fresh []) name db ≡ []
 
 abbrev pub MakesFirst : ℕ → Database → Database → Type 0
 MakesFirst n old new = old.schema ≡ no_schema → HasFirst n new
 
 -- the index of keys is made where the tables and the indexes before it are
 abbrev pub MakesIndex : KeyIndex → Database → Database → Type 0
-MakesIndex index = Indexes (schema_with (take (index_place index) made_indexes)) keys (index_of index)
+MakesIndex index = Indexes (schema_with (fresh (take (index_place index) made_indexes))) (keys (fresh []))
+    (index_of index)
 
 -- all tables are made, each empty, and the first n of the indexes
 pub record HasIndexes (n : ℕ) (db : Database) : Type 0 where
-  pub schema : db.schema ≡ schema_with (take n made_indexes)
-  pub empty : (name : TableName) → rows_of name db ≡ []
+  pub schema : db.schema ≡ schema_with (fresh (take n made_indexes))
+  pub empty : (name : TableName) → rows_of (fresh []) name db ≡ []
 
 abbrev pub MakesIndexes : ℕ → Database → Database → Type 0
 MakesIndexes n old new = HasFirst (length all_tables) old → HasIndexes n new

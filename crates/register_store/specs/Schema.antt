@@ -10,7 +10,8 @@ use Rattle.register_store.specs.declared.key_index.KeyIndex.{KeyIndex}
 use Rattle.register_store.specs.declared.key_index.KeyIndex.TheVariants.{Activation, Deactivation, ProtectStop}
 use Rattle.register_store.specs.declared.table.TableName.{TableName}
 use Rattle.register_store.specs.declared.table.TableName.TheVariants.{Keys}
-use Rattle.register_store.specs.Tables.{Tables, content, IsInRange, Shows, all_tables, table_of, tree_of, key_indexes}
+use Rattle.register_store.specs.Tables.{Layout, AreApart, fresh, Tables, content, IsInRange, Shows, all_tables}
+use Rattle.register_store.specs.Tables.{table_of, key_indexes}
 
 -- ---- schemas
 
@@ -20,29 +21,32 @@ no_schema = record { tables = []; indexes = []; views = [] }
 
 -- that of one in which only the first n of the tables are made
 abbrev pub schema_after : ℕ → Schema
-schema_after n = fold (λ schema name. created schema (table_of name)) no_schema (take n all_tables)
+schema_after n = fold (λ schema name. created schema (table_of (fresh []) name)) no_schema (take n all_tables)
 
--- The register's schema. Indexes are free, since they change no row: it may have any beside those of the primary keys.
-abbrev pub schema_with : List Index → Schema
-schema_with more = record {
-  tables = map table_of all_tables;
-  indexes = key_indexes ++ more;
+-- The schema of a register whose tables stand so. Indexes are free, since they change no row: it may have any beside
+-- those of the primary keys.
+abbrev pub schema_with : Layout → Schema
+schema_with l = record {
+  tables = map (table_of l) all_tables;
+  indexes = key_indexes l ++ l.more;
   views = [];
 }
 
+-- it has the tables of a register, whatever trees they stand in
 pub record IsRegister (schema : Schema) : Type 0 where
-  pub more : List Index
-  pub is : schema ≡ schema_with more
+  pub layout : Layout
+  pub apart : AreApart layout
+  pub is : schema ≡ schema_with layout
 
 -- ---- the indexes of keys that a new register has
 
--- An index of keys by their states, and then by further columns. Columns are counted from the rowid, which is the number
--- and has 0: the state is 5.
+-- An index of keys by their states, and then by further columns. Columns are counted from the rowid, which is the
+-- number and has 0: the state is 5.
 abbrev pub state_index : List ℕ → ℕ → List ℕ → Index
 state_index name tree columns = record {
   name = name;
   tree = tree;
-  table = tree_of Keys;
+  table = (fresh []).tree Keys;
   columns = 5 ∷ columns;
   order = plain;
   is_unique = false;
@@ -73,8 +77,8 @@ index_text ProtectStop = codes "CREATE INDEX keys_by_protect_stop ON keys (state
 -- ---- the rows
 
 -- the rows of a table
-abbrev pub rows_of : TableName → Database → List Cells
-rows_of name db = db.trees (tree_of name)
+abbrev pub rows_of : Layout → TableName → Database → List Cells
+rows_of l name db = db.trees (l.tree name)
 
 -- The database holds the tables: its schema is a register's, which its trees list and obey, and each table's rows are
 -- those of its content, which is in range.
@@ -82,4 +86,4 @@ pub record Holds (t : Tables) (db : Database) : Type 0 where
   pub schema : IsRegister db.schema
   pub sound : IsDatabase db
   pub in_range : (name : TableName) → IsInRange name (content name t)
-  pub shown : (name : TableName) → Shows name (content name t) (rows_of name db)
+  pub shown : (name : TableName) → Shows name (content name t) (rows_of schema.layout name db)

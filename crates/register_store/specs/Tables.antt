@@ -1,5 +1,6 @@
 -- The tables of a register, one by one: what each holds, how it is made, and how its content stands in its rows.
-use Rattle.std.specs.Prelude.{◌≡◌, ℕ, ◌+◌, pos, false, List, [], ◌∷◌, map, drop, Option, None, Some, IsTrue, IsPermutation, codes}
+use Rattle.std.specs.Prelude.{◌≡◌, ℕ, ◌+◌, pos, false, List, [], ◌∷◌, map, drop, Option, None, Some, IsTrue}
+use Rattle.std.specs.Prelude.{IsPermutation, codes}
 use Rattle.std.specs.List.{AllByRecursion, enumerate_from}
 use Rattle.sqlite.specs.declared.types.Value.TheVariants.{Null, Int, Text as Words}
 use Rattle.sqlite.specs.Order.{Row as Cells}
@@ -44,7 +45,13 @@ pub record Tables : Type 0 where
 
 -- the tables of an empty register
 abbrev pub no_rows : Tables
-no_rows = record { counts = record { latest = 0; key_count = 0 }; keys = []; custodians = []; approvals = []; requests = [] }
+no_rows = record {
+  counts = record { latest = 0; key_count = 0 };
+  keys = [];
+  custodians = [];
+  approvals = [];
+  requests = [];
+}
 
 -- ---- one table by its name
 
@@ -84,65 +91,108 @@ place_of Custodian = 2
 place_of Approval = 3
 place_of Request = 4
 
--- the tree with a table's rows; trees are numbered as tables and their indexes are made
-abbrev pub tree_of : TableName → ℕ
-tree_of Meta = 0
-tree_of Keys = 1
-tree_of Custodian = 2
-tree_of Approval = 4
-tree_of Request = 6
+-- Where the tables of a file stand, and what it has beside them. A file numbers its trees as its tables and indexes are
+-- made, so no number is a table's own: a table has the tree that the file's schema gives to its name.
+pub record Layout : Type 0 where
+  -- the tree with a table's rows
+  pub tree : TableName → ℕ
+  -- that with the index of its primary key, where it has one
+  pub key_tree : TableName → ℕ
+  -- the indexes beside those of the primary keys
+  pub more : List Index
+
+-- two tables have two trees
+abbrev pub AreApart : Layout → Type 0
+AreApart l = (a b : TableName) → l.tree a ≡ l.tree b → place_of a ≡ place_of b
+
+-- the trees of a file whose tables were made one after the other in an empty database
+abbrev pub fresh_tree : TableName → ℕ
+fresh_tree Meta = 0
+fresh_tree Keys = 1
+fresh_tree Custodian = 2
+fresh_tree Approval = 4
+fresh_tree Request = 6
+
+abbrev pub fresh : List Index → Layout
+fresh more = record { tree = fresh_tree; key_tree = λ name. fresh_tree name + 1; more = more }
 
 -- ---- how they are made
 
-abbrev pub meta : Table
-meta = keyed (codes "meta") (tree_of Meta)
-    (key_column (codes "id") ∷ number_column (codes "version") ∷ number_column (codes "latest") ∷ number_column (codes "key_count") ∷ [])
-
-abbrev pub keys : Table
-keys = keyed (codes "keys") (tree_of Keys)
-    (key_column (codes "number") ∷ number_column (codes "kind") ∷ text_column (codes "owner") ∷ text_column (codes "purpose") ∷ number_column (codes "state")
-    ∷ number_column (codes "initial") ∷ number_column (codes "activation") ∷ number_column (codes "protect_stop") ∷ number_column (codes "deactivation")
-    ∷ number_column (codes "destroyed") ∷ number_column (codes "compromised") ∷ number_column (codes "occurrence") ∷ [])
-
 abbrev pub to_keys : Reference
-to_keys = record { columns = 1 ∷ []; parent = codes "keys"; parent_columns = codes "number" ∷ []; on_delete = NoAction; on_update = NoAction; is_deferred = false }
+to_keys = record {
+  columns = 1 ∷ [];
+  parent = codes "keys";
+  parent_columns = codes "number" ∷ [];
+  on_delete =
+      NoAction;
+  on_update = NoAction;
+  is_deferred = false;
+}
 
 -- where a custodian goes, the approval goes too
 abbrev pub to_custodian : Reference
-to_custodian = record { columns = 1 ∷ 2 ∷ []; parent = codes "custodian"; parent_columns = codes "key_no" ∷ codes "name" ∷ []; on_delete = Cascade; on_update = NoAction; is_deferred = false }
+to_custodian = record {
+  columns = 1 ∷ 2 ∷ [];
+  parent = codes "custodian";
+  parent_columns = codes "key_no" ∷ codes
+      "name" ∷ [];
+  on_delete = Cascade;
+  on_update = NoAction;
+  is_deferred = false;
+}
 
-abbrev pub custodian : Table
-custodian = paired (codes "custodian") (tree_of Custodian) to_keys
+module _ (l : Layout) where
+  abbrev pub meta : Table
+  meta = keyed (codes "meta") (l.tree Meta)
+      (key_column (codes "id") ∷ number_column (codes "version") ∷ number_column (codes "latest") ∷ number_column
+      (codes "key_count") ∷ [])
 
-abbrev pub approval : Table
-approval = paired (codes "approval") (tree_of Approval) to_custodian
+  abbrev pub keys : Table
+  keys = keyed (codes "keys") (l.tree Keys)
+      (key_column (codes "number") ∷ number_column (codes "kind") ∷ text_column (codes "owner") ∷ text_column
+      (codes "purpose") ∷ number_column (codes "state")
+      ∷ number_column (codes "initial") ∷ number_column (codes "activation") ∷ number_column (codes "protect_stop") ∷
+      number_column (codes "deactivation")
+      ∷ number_column (codes "destroyed") ∷ number_column (codes "compromised") ∷ number_column (codes "occurrence") ∷
+      [])
 
--- a caller's number stands once, and refers to nothing
-abbrev pub request : Table
-request = indexed (codes "request") (tree_of Request)
-    (text_column (codes "caller") ∷ number_column (codes "number") ∷ text_column (codes "command")
-    ∷ number_column (codes "key_no") ∷ number_column (codes "state") ∷ number_column (codes "moment") ∷ []) []
+  abbrev pub custodian : Table
+  custodian = paired (codes "custodian") (l.tree Custodian) to_keys
 
-abbrev pub table_of : TableName → Table
-table_of Meta = meta
-table_of Keys = keys
-table_of Custodian = custodian
-table_of Approval = approval
-table_of Request = request
+  abbrev pub approval : Table
+  approval = paired (codes "approval") (l.tree Approval) to_custodian
 
--- The index of a primary key that is no INTEGER PRIMARY KEY is made with its table, and has the tree behind the table's.
-abbrev pub key_index : TableName → Index
-key_index name = automatic (table_of name) 0 (table_of name).primary (tree_of name + 1)
+  -- a caller's number stands once, and refers to nothing
+  abbrev pub request : Table
+  request = indexed (codes "request") (l.tree Request)
+      (text_column (codes "caller") ∷ number_column (codes "number") ∷ text_column (codes "command")
+      ∷ number_column (codes "key_no") ∷ number_column (codes "state") ∷ number_column (codes "moment") ∷ []) []
 
-abbrev pub key_indexes : List Index
-key_indexes = key_index Custodian ∷ key_index Approval ∷ key_index Request ∷ []
+  abbrev pub table_of : TableName → Table
+  table_of Meta = meta
+  table_of Keys = keys
+  table_of Custodian = custodian
+  table_of Approval = approval
+  table_of Request = request
+
+  -- The index of a primary key that is no INTEGER PRIMARY KEY is made with its table, and has a tree of its own.
+  abbrev pub key_index : TableName → Index
+  key_index name = automatic (table_of name) 0 (table_of name).primary (l.key_tree name)
+
+  abbrev pub key_indexes : List Index
+  key_indexes = key_index Custodian ∷ key_index Approval ∷ key_index Request ∷ []
 
 abbrev pub create_text : TableName → List ℕ
-create_text Meta = codes "CREATE TABLE meta (id INTEGER PRIMARY KEY, version INTEGER NOT NULL, latest INTEGER NOT NULL, key_count INTEGER NOT NULL) STRICT"
-create_text Keys = codes "CREATE TABLE keys (number INTEGER PRIMARY KEY, kind INTEGER NOT NULL, owner TEXT NOT NULL, purpose TEXT NOT NULL, state INTEGER NOT NULL, initial INTEGER NOT NULL, activation INTEGER NOT NULL, protect_stop INTEGER NOT NULL, deactivation INTEGER NOT NULL, destroyed INTEGER NOT NULL, compromised INTEGER NOT NULL, occurrence INTEGER NOT NULL) STRICT"
-create_text Custodian = codes "CREATE TABLE custodian (key_no INTEGER NOT NULL REFERENCES keys(number), name TEXT NOT NULL, PRIMARY KEY (key_no, name)) STRICT"
-create_text Approval = codes "CREATE TABLE approval (key_no INTEGER NOT NULL, name TEXT NOT NULL, PRIMARY KEY (key_no, name), FOREIGN KEY (key_no, name) REFERENCES custodian(key_no, name) ON DELETE CASCADE) STRICT"
-create_text Request = codes "CREATE TABLE request (caller TEXT NOT NULL, number INTEGER NOT NULL, command TEXT NOT NULL, key_no INTEGER NOT NULL, state INTEGER NOT NULL, moment INTEGER NOT NULL, PRIMARY KEY (caller, number)) STRICT"
+create_text Meta = codes
+    "CREATE TABLE meta (id INTEGER PRIMARY KEY, version INTEGER NOT NULL, latest INTEGER NOT NULL, key_count INTEGER NOT NULL) STRICT"
+create_text Keys = codes
+    "CREATE TABLE keys (number INTEGER PRIMARY KEY, kind INTEGER NOT NULL, owner TEXT NOT NULL, purpose TEXT NOT NULL, state INTEGER NOT NULL, initial INTEGER NOT NULL, activation INTEGER NOT NULL, protect_stop INTEGER NOT NULL, deactivation INTEGER NOT NULL, destroyed INTEGER NOT NULL, compromised INTEGER NOT NULL, occurrence INTEGER NOT NULL) STRICT"
+create_text Custodian =
+    codes "CREATE TABLE custodian (key_no INTEGER NOT NULL REFERENCES keys(number), name TEXT NOT NULL, PRIMARY KEY (key_no, name)) STRICT"
+create_text Approval =
+    codes "CREATE TABLE approval (key_no INTEGER NOT NULL, name TEXT NOT NULL, PRIMARY KEY (key_no, name), FOREIGN KEY (key_no, name) REFERENCES custodian(key_no, name) ON DELETE CASCADE) STRICT"
+create_text Request =
+    codes "CREATE TABLE request (caller TEXT NOT NULL, number INTEGER NOT NULL, command TEXT NOT NULL, key_no INTEGER NOT NULL, state INTEGER NOT NULL, moment INTEGER NOT NULL, PRIMARY KEY (caller, number)) STRICT"
 
 abbrev pub count_text : TableName → List ℕ
 count_text Meta = codes "SELECT count(*) FROM meta"
@@ -172,9 +222,11 @@ counts_row counts = Int (pos 1) ∷ Null ∷ Int (pos version) ∷ Int (pos coun
 abbrev pub key_cells : Key → Cells
 key_cells k =
     let d = k.row.dates in
-    Int (pos (key_type_code k.kind)) ∷ Words k.owner ∷ Words k.purpose ∷ Int (pos (state_code k.row.state)) ∷ Int (pos d.initial)
+    Int (pos (key_type_code k.kind)) ∷ Words k.owner ∷ Words k.purpose ∷ Int (pos (state_code k.row.state)) ∷ Int
+    (pos d.initial)
     ∷ Int (pos (date_cell d.activation)) ∷ Int (pos (date_cell d.protect_stop)) ∷ Int (pos (date_cell d.deactivation))
-    ∷ Int (pos (date_cell d.destroy)) ∷ Int (pos (date_cell d.compromise)) ∷ Int (pos (date_cell d.compromise_occurrence)) ∷ []
+    ∷ Int (pos (date_cell d.destroy)) ∷ Int (pos (date_cell d.compromise)) ∷ Int
+    (pos (date_cell d.compromise_occurrence)) ∷ []
 
 -- a key with its number
 abbrev pub key_row : ℕ × Key → Cells

@@ -12,12 +12,16 @@ returns-in-Ok g c =
     let is = c.request_at-request.ensures.is in
     let in_range = subst IsRequest (sym is) (c.request_at-request.ensures.in_range c.requires) in
     acts_text _ c.args.moment _ _ _ c.outcome_text.result c.text_or_end.result
-    (went_applied _ c.args.moment _ _ _ (λ h. history h (Some request ∷ [])) (λ h. ap (λ q. history h (Some q ∷ [])) (sym is)) c.in-Ok.ensures.clean c.in-Ok.ensures.ends
+    (went_applied _ c.args.moment _ _ _ (λ h. history h (Some request ∷ []))
+    (λ h. ap (λ q. history h (Some q ∷ [])) (sym is)) c.in-Ok.ensures.clean c.in-Ok.ensures.ends
     (λ h stands clean. c.in-Ok.ensures.stands h stands in_range clean))
     (changes_answered _ _ _ c.in-Ok.answer c.outcome_text.result c.text_or_end.result c.in-Ok.ensures.nothing
-    (outcome_told c.outcome.result _ c.outcome_text.result c.outcome.ensures c.outcome_text.ensures) c.text_or_end.ensures.ok c.text_or_end.ensures.err)
+    (outcome_told c.outcome.result _ c.outcome_text.result c.outcome.ensures c.outcome_text.ensures)
+    c.text_or_end.ensures.ok c.text_or_end.ensures.err)
     (λ rejection same. absurd (cc))
-    (λ h stands clean. outcome_told c.outcome.result _ c.outcome_text.result (c.outcome.ensures ∙ ap outcome (c.in-Ok.ensures.answer h stands in_range clean ∙ ap (answer h) is)) c.outcome_text.ensures)
+    (λ h stands clean. outcome_told c.outcome.result _ c.outcome_text.result
+    (c.outcome.ensures ∙ ap outcome (c.in-Ok.ensures.answer h stands in_range clean ∙ ap (answer h) is))
+    c.outcome_text.ensures)
     c.text_or_end.ensures.ok c.text_or_end.ensures.err
 
 pub returns-in-Err : goal.returns-in-Err
@@ -25,6 +29,8 @@ returns-in-Err g c =
     let request = c.request_at-request.result in
     let is = c.request_at-request.ensures.is in
     let in_range = subst IsRequest (sym is) (c.request_at-request.ensures.in_range c.requires) in
-    applied_ends _ c.args.moment _ _ _ c.in-Err.end _ refl (λ rejection same. absurd (cc)) c.in-Err.ensures.clean c.in-Err.ensures.ends c.in-Err.ensures.err
+    applied_ends _ c.args.moment _ _ _ c.in-Err.end _ refl (λ rejection same. absurd (cc)) c.in-Err.ensures.clean
+    c.in-Err.ensures.ends c.in-Err.ensures.err
     (λ h. history h (Some request ∷ [])) (λ h. ap (λ q. history h (Some q ∷ [])) (sym is))
-    (λ h stands clean store. c.in-Err.ensures.store h stands in_range clean store) c.in-Err.ensures.unchanged (inl refl) refl
+    (λ h stands clean store. c.in-Err.ensures.store h stands in_range clean store) c.in-Err.ensures.unchanged
+    (inl refl) refl

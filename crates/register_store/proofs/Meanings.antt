@@ -1,0 +1,237 @@
+-- What a text means that asks or writes one table, in a schema of which not every tree is known. The resolver looks a
+-- table up by its name, which computes; but whether it accepts the query it asks by the table's tree, and that has to
+-- be shown.
+use Rattle.std.proofs.Common.{◌≡◌, ◌<◌, ◌==◌, ◌^◌, inl, inr, ℕ, ◌&&◌, Bool, true, false, cond, List, [], ◌∷◌, map}
+use Rattle.std.proofs.Common.{Option, None, Some, Ok, Err, refl, sym, ap, subst, ◌∙◌, arith}
+use Rattle.std.specs.Prelude.{option_map, find, filter, nat_le}
+use Rattle.std.specs.List.{AllZip}
+use Rattle.std.specs.Option.{option_and_then}
+use Rattle.std.proofs.lemmas.Bool.{cases_Bool, eq-eqb, eqb-true, lt-leb}
+use Rattle.sqlite.specs.Command.{Command}
+use Rattle.sqlite.specs.Command.TheVariants.{Select, Update, Delete}
+use Rattle.sqlite.specs.Effect.{Database}
+use Rattle.sqlite.specs.Listing.{understood, reads_listing}
+use Rattle.sqlite.specs.Order.{Row}
+use Rattle.sqlite.specs.Schema.{Schema}
+use Rattle.sqlite.specs.Table.{Table}
+use Rattle.sqlite.proofs.Callers.{IsPlain, command_of}
+use Rattle.sqlite_ast.specs.declared.Expr.{Expr}
+use Rattle.sqlite_ast.specs.declared.Select as asked
+use Rattle.sqlite_ast.specs.declared.Statement.TheVariants as written
+use Rattle.sqlite_catalog.specs.Listing.{IsTableRow, is_table_row}
+use Rattle.sqlite_trees.specs.Objects.{catalog_tree}
+use Rattle.sqlite_draft.specs.declared.query.Draft.{Draft}
+use Rattle.sqlite_draft.specs.Query.{query_of}
+use Rattle.sqlite_resolve.specs.declared.compiled.Compiled.{Compiled}
+use Rattle.sqlite_resolve.specs.declared.error.CompileError.TheVariants.{Mismatch}
+use Rattle.sqlite_resolve.specs.Body.{table_at}
+use Rattle.sqlite_resolve.specs.Program.{query, program}
+use Rattle.sqlite_resolve.specs.Write.{updated, deleted}
+use Rattle.sqlite_resolve.specs.Compile.{first, compiled, planned, meaning, returning, timed, command, read, update}
+use Rattle.sqlite_resolve.specs.Compile.{delete, target, shows, with_command}
+use Rattle.sqlite_rules.specs.Lists.{Has}
+use Rattle.sqlite_sql.specs.Query.{Query, inner, end}
+use Rattle.sqlite_syntax.specs.declared.statement.Parsed.{Parsed}
+use Rattle.sqlite_typing.specs.declared.class.Class.{Class}
+use Rattle.sqlite_typing.specs.Types.{accepts_over, accepts_after, filled, is_count, table_classes, row_classes}
+use Rattle.sqlite_value.specs.declared.keys.Collation.{Collation}
+use Rattle.register_store.specs.declared.table.TableName.{TableName}
+use Rattle.register_store.specs.declared.table.TableName.TheVariants.{Meta, Keys, Custodian, Approval, Request}
+use Rattle.register_store.specs.Tables.{Layout, AreApart, Tables, all_tables, place_of, table_of}
+use Rattle.register_store.specs.Schema.{Holds, schema_with}
+use Rattle.register_store.proofs.EachTable.{each}
+
+-- ---- one table
+
+-- the query is accepted where its one table has these classes
+abbrev pub accepts_classes : Query → Option (List Class) → Bool
+accepts_classes q classes =
+    accepts_after [] q (option_and_then (λ slots. Some slots) (option_map (λ row. row ∷ []) classes)) &&
+    (is_count [] q.limit && is_count [] q.offset)
+
+-- the command of a text that wants no time
+abbrev pub means : Parsed → Command → Compiled
+means p c = with_command p ([], (c, None))
+
+pub record Meant (s : Schema) (sql : List ℕ) (c : Command) : Type 0 where
+  pub is : command_of (understood s sql) ≡ c
+  pub plain : IsPlain (understood s sql)
+  pub unlisted : reads_listing s sql ≡ false
+
+compiled_so : (s : Schema) (sql : List ℕ) (p : Parsed) (c : Command) → compiled s sql ≡ Ok (means p c) → Meant s sql c
+unfolding understood
+compiled_so s sql p c is =
+    let whole : understood s sql ≡ Ok (means p c) = rw is refl in
+    record { is = ap command_of whole; plain = subst IsPlain (sym whole) (refl, refl); unlisted = rw is refl }
+
+-- the text asks the table
+pub record Asks (s : Schema) (table : Table) (sql : List ℕ) (q : Query) (names : List (List ℕ)) : Type 0 where
+  pub p : Parsed
+  pub select : asked.Select
+  pub d : Draft
+  pub by : List (Option Collation)
+  pub parsed : first sql ≡ Ok p
+  pub untimed : p.formats ≡ []
+  pub is : p.statement ≡ written.Select select
+  pub drafted : query s select ≡ Ok ((d, names, by), [])
+  pub same : query_of d ≡ q
+  pub from : (query_of d).from ≡ inner table.tree end
+  pub accepted : accepts_classes (query_of d) (Some (row_classes table)) ≡ true
+
+-- the text sets columns of the table at this place
+pub record Sets (s : Schema) (table : Table) (at : ℕ) (sql : List ℕ) (q : Query) : Type 0 where
+  pub p : Parsed
+  pub name : List ℕ
+  pub sets : List (List ℕ × Expr)
+  pub test : Option Expr
+  pub d : Draft
+  pub parsed : first sql ≡ Ok p
+  pub untimed : p.formats ≡ []
+  pub is : p.statement ≡ written.Update name sets test []
+  pub named : target s name ≡ Ok at
+  pub there : table_at s at ≡ Ok table
+  pub drafted : updated s at table sets test ≡ Ok d
+  pub same : query_of d ≡ q
+  pub from : (query_of d).from ≡ inner table.tree end
+  pub accepted : accepts_classes (query_of d) (Some (row_classes table)) ≡ true
+
+-- the text takes rows out of it
+pub record Takes (s : Schema) (table : Table) (at : ℕ) (sql : List ℕ) (q : Query) : Type 0 where
+  pub p : Parsed
+  pub name : List ℕ
+  pub test : Option Expr
+  pub d : Draft
+  pub parsed : first sql ≡ Ok p
+  pub untimed : p.formats ≡ []
+  pub is : p.statement ≡ written.Delete name test []
+  pub named : target s name ≡ Ok at
+  pub there : table_at s at ≡ Ok table
+  pub drafted : deleted s at table test ≡ Ok d
+  pub same : query_of d ≡ q
+  pub from : (query_of d).from ≡ inner table.tree end
+  pub accepted : accepts_classes (query_of d) (Some (row_classes table)) ≡ true
+
+module _ (s : Schema) (table : Table) (has : table_classes s [] table.tree ≡ Some (row_classes table)) where
+  -- what the resolver makes of a draft over that table
+  programs : (d : Draft) → (query_of d).from ≡ inner table.tree end
+      → accepts_classes (query_of d) (Some (row_classes table)) ≡ true → program s [] d
+      ≡ Ok (record { lets = []; body = query_of d })
+  unfolding program
+  programs d from accepted =
+      let q = query_of d in
+      let over : accepts_over s [] q [] ≡ true =
+      ap (λ j. accepts_after [] q (filled s [] [] j []) && (is_count [] q.limit && is_count [] q.offset)) from
+      ∙ ap (accepts_classes q) has ∙ accepted in
+      ap (λ b. cond b (Ok (record { lets = []; body = q })) (Err Mismatch)) over
+
+  asked_so : (sql : List ℕ) (q : Query) (names : List (List ℕ)) (a : Asks s table sql q names) → compiled s sql
+      ≡ Ok (means a.p (Select (record { lets = []; body = query_of a.d }) names))
+  unfolding compiled planned meaning returning timed command read
+  asked_so sql q names a =
+      let programmed = programs a.d a.from a.accepted in rw (a.parsed, a.untimed, a.is, a.drafted, programmed) refl
+
+  pub asks : (sql : List ℕ) (q : Query) (names : List (List ℕ)) → Asks s table sql q names
+      → Meant s sql (Select (record { lets = []; body = q }) names)
+  asks sql q names a = subst (λ b. Meant s sql (Select (record { lets = []; body = b }) names)) a.same
+      (compiled_so s sql a.p _ (asked_so sql q names a))
+
+  set_so : (sql : List ℕ) (at : ℕ) (q : Query) (a : Sets s table at sql q) → compiled s sql
+      ≡ Ok (means a.p (Update at (record { lets = []; body = query_of a.d })))
+  unfolding compiled planned meaning returning timed command update shows
+  set_so sql at q a = let programmed =
+      programs a.d a.from a.accepted in rw (a.parsed, a.untimed, a.is, a.named, a.there, a.drafted, programmed) refl
+
+  pub sets : (sql : List ℕ) (at : ℕ) (q : Query) → Sets s table at sql q
+      → Meant s sql (Update at (record { lets = []; body = q }))
+  sets sql at q a = subst (λ b. Meant s sql (Update at (record { lets = []; body = b }))) a.same
+      (compiled_so s sql a.p _ (set_so sql at q a))
+
+  taken_so : (sql : List ℕ) (at : ℕ) (q : Query) (a : Takes s table at sql q) → compiled s sql
+      ≡ Ok (means a.p (Delete at (record { lets = []; body = query_of a.d })))
+  unfolding compiled planned meaning returning timed command delete shows
+  taken_so sql at q a =
+      let programmed = programs a.d a.from a.accepted in rw (
+        a.parsed,
+        a.untimed,
+        a.is,
+        a.named,
+        a.there,
+        a.drafted,
+        programmed,
+      ) refl
+
+  pub takes : (sql : List ℕ) (at : ℕ) (q : Query) → Takes s table at sql q
+      → Meant s sql (Delete at (record { lets = []; body = q }))
+  takes sql at q a = subst (λ b. Meant s sql (Delete at (record { lets = []; body = b }))) a.same
+      (compiled_so s sql a.p _ (taken_so sql at q a))
+
+-- ---- the register's tables
+
+-- two tables have two trees, and each is one that a file can have
+pub record IsPlaced (l : Layout) : Type 0 where
+  pub apart : AreApart l
+  pub low : (name : TableName) → l.tree name < 65536
+
+low_in : (rows : List Row) (tables : List Table) → AllZip IsTableRow rows tables → (t : Table) → Has tables t
+    → t.tree < 65536
+low_in [] [] all t h = absurd h
+low_in [] (s ∷ tables) all t h = absurd all
+low_in (r ∷ rows) [] all t h = absurd all
+low_in (r ∷ rows) (s ∷ tables) all t (inl same) = subst (λ (x : Table). x.tree < 65536) (sym same) all.0.described.low
+low_in (r ∷ rows) (s ∷ tables) all t (inr later) = low_in rows tables all.1 t later
+
+pub placed : (t : Tables) (db : Database) (holds : Holds t db) → IsPlaced holds.schema.layout
+placed t db holds =
+    let l = holds.schema.layout in
+    let rows = filter is_table_row (db.trees catalog_tree) in
+    let listed = subst (λ (s : Schema). AllZip IsTableRow rows s.tables) holds.schema.is
+    holds.sound.lists.listed.tables in
+    record {
+      apart = holds.schema.apart;
+      low = λ name. subst (λ n. n < 65536) ((each name).tree_is l)
+          (low_in rows (schema_with l).tables listed (table_of l name) ((each name).listed l));
+    }
+
+same_place : (name other : TableName) → place_of other ≡ place_of name → other ≡ name
+same_place Meta Meta same = refl
+same_place Keys Keys same = refl
+same_place Custodian Custodian same = refl
+same_place Approval Approval same = refl
+same_place Request Request same = refl
+same_place name other same = absurd (omega (arith, same))
+
+-- the tables are told by their trees
+found_in : (l : Layout) → AreApart l → (name : TableName) (names : List TableName) → Has names name
+    → find (λ (t : Table). t.tree == l.tree name) (map (table_of l) names) ≡ Some (table_of l name)
+found_in l apart name [] h = absurd h
+found_in l apart name (n ∷ names) h = elim (cases_Bool ((table_of l n).tree == l.tree name)) [
+  | inl same ↦
+      let is : n ≡ name = same_place name n (apart n name (sym ((each n).tree_is l) ∙ eqb-true _ _ same)) in
+      ap (λ b. cond b (Some (table_of l n)) (find (λ (t : Table). t.tree == l.tree name) (map (table_of l) names)))
+      same ∙ ap (λ m. Some (table_of l m)) is
+  | inr other ↦
+      ap (λ b. cond b (Some (table_of l n)) (find (λ (t : Table). t.tree == l.tree name) (map (table_of l) names)))
+      other ∙ found_in l apart name names (later other h)
+]
+  where
+    later : ((table_of l n).tree == l.tree name) ≡ false → Has (n ∷ names) name → Has names name
+    later other (inl e) =
+        absurd (let same : ((table_of l n).tree == l.tree name)
+        ≡ true = eq-eqb _ _ ((each n).tree_is l ∙ ap l.tree (sym e)) in cc)
+    later other (inr h) = h
+
+in_all : (name : TableName) → Has all_tables name
+in_all Meta = inl refl
+in_all Keys = inr (inl refl)
+in_all Custodian = inr (inr (inl refl))
+in_all Approval = inr (inr (inr (inl refl)))
+in_all Request = inr (inr (inr (inr (inl refl))))
+
+pub classes : (l : Layout) → IsPlaced l → (name : TableName) → table_classes (schema_with l) [] (table_of l name).tree
+    ≡ Some (row_classes (table_of l name))
+classes l is name =
+    let tree : ℕ = l.tree name in
+    let low : nat_le (2 ^ 31) tree ≡ false = lt-leb 2147483648 tree (omega (arith, is.low name)) in
+    subst (λ n. table_classes (schema_with l) [] n ≡ Some (row_classes (table_of l name))) (sym ((each name).tree_is l))
+    (ap (λ b. cond b None (option_map row_classes (find (λ (t : Table). t.tree == tree) (schema_with l).tables))) low
+    ∙ ap (option_map row_classes) (found_in l is.apart name all_tables (in_all name)))

@@ -1,0 +1,23 @@
+use Rattle.std.proofs.Common.{length, Ok}
+use Rattle.sqlite.specs.Held.{state}
+use Rattle.sql_steps.specs.Steps.{Then}
+use Rattle.sql_steps.proofs.Stepping.{steps_as, steps_then}
+use Rattle.register_store.specs.Tables.{all_tables}
+use Rattle.register_store.specs.Schema.{made_indexes}
+use Rattle.register_store.specs.Creation.{MakesRegister, MakesFirst, MakesIndexes, AddsMeta}
+use Rattle.register_store.proofs.creation.make_register.Goals as goal
+
+pub returns-clause-made : goal.returns-clause-made
+returns-clause-made g c =
+    let a = state g.S.Store c.args.tx.now.conn.now in
+    let b = state g.S.Store c.make_tables.new.tx.conn.now in
+    let d = state g.S.Store c.make_indexes.new.tx.conn.now in
+    let e = state g.S.Store c.insert_meta.new.tx.conn.now in
+    let Tables = MakesFirst (length all_tables) in
+    let Indexes = MakesIndexes (length made_indexes) in
+    let two = steps_then (λ _. Tables) (λ _. Indexes) a b d c.in_ok-make_tables.field-0
+    (Ok c.in_ok-make_indexes.field-0) c.in_ok-make_tables.ensures.made c.in_ok-make_indexes.ensures.made in
+    let three = steps_then (λ _. Then Tables Indexes) (λ _. AddsMeta) a d e c.in_ok-make_indexes.field-0
+    (Ok c.in_ok-insert_meta.field-0) two c.in_ok-insert_meta.ensures.added in
+    steps_as (λ _. Then (Then Tables Indexes) AddsMeta) (λ _. MakesRegister) a e c.in_ok-insert_meta.field-0 (tt {0})
+    (λ old new done first. done.2 (done.1.2 (done.1.1 first))) three
