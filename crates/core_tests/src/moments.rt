@@ -5,59 +5,61 @@ mod sums;
 use moment_core::{LAST_SECOND, Moment};
 use sums::SUMS;
 
-/// A moment, the months that are added, and the sum: in seconds, `None` past the last moment.
-const MONTHS_ADDED: [(u64, u16, Option<u64>); 6] = [
-    (2_592_000, 1, Some(5_011_200)),
-    (LAST_SECOND, 0, Some(LAST_SECOND)),
-    (LAST_SECOND, 1, None),
-    (0, 24, Some(63_072_000)),
-    (63_072_000, 36, Some(157_766_400)),
-    (1_709_164_800, 36, Some(1_803_772_800)),
+/// What is added to a moment.
+#[derive(Clone, Copy, Debug, PartialEq, Eq)]
+enum Added {
+    Months(u16),
+    Days(u32),
+}
+
+/// A moment, what is added, and the sum: in seconds, `None` past the last moment.
+type Addition = (u64, Added, Option<u64>);
+
+const MONTHS_ADDED: [Addition; 6] = [
+    (2_592_000, Added::Months(1), Some(5_011_200)),
+    (LAST_SECOND, Added::Months(0), Some(LAST_SECOND)),
+    (LAST_SECOND, Added::Months(1), None),
+    (0, Added::Months(24), Some(63_072_000)),
+    (63_072_000, Added::Months(36), Some(157_766_400)),
+    (1_709_164_800, Added::Months(36), Some(1_803_772_800)),
 ];
 
-/// Whether the moment so many months later is this one.
-fn is_months_later(seconds: u64, months: u16, sum: Option<u64>) -> bool {
-    match Moment::new(seconds) {
-        Some(moment) => moment.plus_months(months).map(Moment::seconds) == sum,
-        None => false,
-    }
+const DAYS_ADDED: [Addition; 5] = [
+    (0, Added::Days(1), Some(86_400)),
+    (68_169_600, Added::Days(1), Some(68_256_000)),
+    (LAST_SECOND, Added::Days(0), Some(LAST_SECOND)),
+    (LAST_SECOND, Added::Days(1), None),
+    (LAST_SECOND - 86_400, Added::Days(1), Some(LAST_SECOND)),
+];
+
+/// Whether the moment so much later is this one.
+fn is_sum(seconds: u64, added: Added, sum: Option<u64>) -> bool {
+    let Some(moment) = Moment::new(seconds) else {
+        return false;
+    };
+    let later = match added {
+        Added::Months(months) => moment.plus_months(months),
+        Added::Days(days) => moment.plus_days(days),
+    };
+    later.map(Moment::seconds) == sum
+}
+
+/// The first addition that has another sum, if there is one.
+fn wrong_addition(additions: &[Addition]) -> Option<Addition> {
+    additions
+        .iter()
+        .copied()
+        .find(|(seconds, added, sum)| !is_sum(*seconds, *added, *sum))
 }
 
 #[test]
 fn months_added(rt: HostRuntime) {
-    for (seconds, months, sum) in &MONTHS_ADDED {
-        assert!(rt;
-            is_months_later(*seconds, *months, *sum),
-            "{seconds} plus {months} months"
-        );
-    }
-}
-
-/// A moment, the days that are added, and the sum: in seconds, `None` past the last moment.
-const DAYS_ADDED: [(u64, u32, Option<u64>); 5] = [
-    (0, 1, Some(86_400)),
-    (68_169_600, 1, Some(68_256_000)),
-    (LAST_SECOND, 0, Some(LAST_SECOND)),
-    (LAST_SECOND, 1, None),
-    (LAST_SECOND - 86_400, 1, Some(LAST_SECOND)),
-];
-
-/// Whether the moment so many days later is this one.
-fn is_days_later(seconds: u64, days: u32, sum: Option<u64>) -> bool {
-    match Moment::new(seconds) {
-        Some(moment) => moment.plus_days(days).map(Moment::seconds) == sum,
-        None => false,
-    }
+    assert_eq!(rt; wrong_addition(&MONTHS_ADDED), None);
 }
 
 #[test]
 fn days_added(rt: HostRuntime) {
-    for (seconds, days, sum) in &DAYS_ADDED {
-        assert!(rt;
-            is_days_later(*seconds, *days, *sum),
-            "{seconds} plus {days} days"
-        );
-    }
+    assert_eq!(rt; wrong_addition(&DAYS_ADDED), None);
 }
 
 #[test]
@@ -65,7 +67,7 @@ fn sums_of_months(rt: HostRuntime) {
     for (seconds, months, sum) in &SUMS {
         let sum = if *sum == 0 { None } else { Some(*sum) };
         assert!(rt;
-            is_months_later(*seconds, *months, sum),
+            is_sum(*seconds, Added::Months(*months), sum),
             "{seconds} plus {months} months"
         );
     }

@@ -80,6 +80,12 @@ fn a_register_without_indexes_goes_on(rt: HostRuntime) -> Result<(), Fail> {
 }
 
 #[test]
+fn a_register_with_indexes_between_its_tables_goes_on(rt: HostRuntime) -> Result<(), Fail> {
+    assert!(rt; desk_trials::goes_on_with_indexes_between(rt.alloc())?);
+    Ok(())
+}
+
+#[test]
 fn three_hundred_lines_in_lives(rt: HostRuntime) -> Result<(), Fail> {
     assert!(rt; desk_trials::act_once_in_lives(rt.alloc())?);
     Ok(())
@@ -98,8 +104,8 @@ fn no_more_is_asked_than_is_needed(rt: HostRuntime) -> Result<(), Fail> {
 }
 
 #[test]
-fn each_due_row_takes_one_search(rt: HostRuntime) -> Result<(), Fail> {
-    assert_eq!(rt; desk_trials::report_of_other_steps(rt.alloc())?, None);
+fn each_row_takes_one_search(rt: HostRuntime) -> Result<(), Fail> {
+    assert_eq!(rt; desk_trials::table_of_other_steps(rt.alloc())?, None);
     Ok(())
 }
 

@@ -1,4 +1,5 @@
 //! The making of a register where something is.
+use crate::cases::first_wrong;
 use register_desk::{Desk, OpenRefusal, create_in_memory};
 use sqlite::{Connection, MemStore};
 use std::alloc::Global;
@@ -86,10 +87,8 @@ fn is_refused(
 
 /// What makes a table beside which a register is made, if there is one.
 pub fn table_not_enough_to_refuse(alloc: Global) -> Result<Option<&'static str>, Fail> {
-    for (create, insert, kept, other) in &TABLES {
-        if !is_refused(alloc, create, insert, kept, other)? {
-            return Ok(Some(create));
-        }
-    }
-    Ok(None)
+    let wrong = first_wrong(&TABLES, |(create, insert, kept, other)| {
+        is_refused(alloc, create, insert, kept, other)
+    })?;
+    Ok(wrong.map(|(create, ..)| *create))
 }

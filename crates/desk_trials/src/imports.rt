@@ -1,4 +1,5 @@
 //! Imports of tables, over a register in memory.
+use crate::cases::first_wrong;
 use moment_core::Moment;
 use register_core::Name;
 use register_desk::{Desk, End, Finish, Outcome, Watched, create_in_memory};
@@ -124,13 +125,11 @@ static WITHOUT_HEADER: [&str; 6] = [
 
 /// A table without its header of which something is registered, if there is one.
 pub fn headless_table_imported(alloc: Global) -> Result<Option<&'static str>, Fail> {
-    for table in &WITHOUT_HEADER {
-        let end = Finish::Ended(End::BadHeader);
-        if !is_answered(alloc, table.as_bytes(), "", end, 0)? {
-            return Ok(Some(table));
-        }
-    }
-    Ok(None)
+    let end = Finish::Ended(End::BadHeader);
+    let wrong = first_wrong(&WITHOUT_HEADER, |table| {
+        is_answered(alloc, table.as_bytes(), "", end, 0)
+    })?;
+    Ok(wrong.copied())
 }
 
 /// Tables, the replies to them, and how many keys they leave: the header alone; odd ends of lines, blank lines and
@@ -157,12 +156,10 @@ static TABLES: [(&str, &str, u32); 4] = [
 
 /// An odd table that is not answered as it should be, if there is one.
 pub fn odd_table_at_fault(alloc: Global) -> Result<Option<&'static str>, Fail> {
-    for (table, replies, keys) in &TABLES {
-        if !is_answered(alloc, table.as_bytes(), replies, AT_END, *keys)? {
-            return Ok(Some(table));
-        }
-    }
-    Ok(None)
+    let wrong = first_wrong(&TABLES, |(table, replies, keys)| {
+        is_answered(alloc, table.as_bytes(), replies, AT_END, *keys)
+    })?;
+    Ok(wrong.map(|(table, ..)| *table))
 }
 
 const READ_FAULT: Finish = Finish::Ended(End::ReadFault);

@@ -2,6 +2,7 @@
 //! the first case that is not.
 #![tactic(auto)]
 
+mod cases;
 mod creations;
 mod desks;
 mod exchanges;
@@ -10,12 +11,14 @@ mod faults;
 mod fresh_run;
 mod imports;
 mod largest;
+mod layouts;
 mod long_lines;
 mod openings;
 mod repeats;
 mod rows;
 mod steps;
 
+pub use cases::first_wrong;
 pub use creations::{is_made_once, table_not_enough_to_refuse};
 pub use desks::{are_keys_shown, are_values_of_no_line_refused, is_key_shown_whole};
 pub use exchanges::{
@@ -29,6 +32,7 @@ pub use imports::{
     odd_table_at_fault,
 };
 pub use largest::is_largest_key_held;
+pub use layouts::goes_on_with_indexes_between;
 pub use long_lines::{is_long_rest_counted, long_line_not_refused};
 pub use openings::{
     act_once_in_lives, edit_not_refused, goes_on_without_indexes, hundred_lines,
@@ -36,4 +40,4 @@ pub use openings::{
 };
 pub use repeats::is_each_command_repeated;
 pub use rows::{is_first_day_served_in_pieces, worked_row_at_fault};
-pub use steps::{command_of_other_steps, line_of_other_steps, report_of_other_steps};
+pub use steps::{command_of_other_steps, line_of_other_steps, table_of_other_steps};

@@ -1,4 +1,5 @@
 //! Registers that are opened again: good ones go on, and ones with a wrong edit are refused.
+use crate::cases::first_wrong;
 use crate::fresh_run::{desk_after, run_over};
 use register_desk::{Desk, OpenRefusal};
 use sqlite::{Connection, MemStore};
@@ -50,12 +51,10 @@ fn refusal_after(alloc: Global, edit: &str) -> Result<Option<OpenRefusal>, Fail>
 
 /// A wrong edit behind which a register is not refused, if there is one.
 pub fn edit_not_refused(alloc: Global) -> Result<Option<&'static str>, Fail> {
-    for edit in &WRONG_EDITS {
-        if refusal_after(alloc, edit)? != Some(OpenRefusal::NotARegister) {
-            return Ok(Some(edit));
-        }
-    }
-    Ok(None)
+    let is_refused = |edit: &&str| {
+        Ok(refusal_after(alloc, edit)? == Some(OpenRefusal::NotARegister))
+    };
+    Ok(first_wrong(&WRONG_EDITS, is_refused)?.copied())
 }
 
 /// Whether a newer version is told, whatever else stands in its row.

@@ -1,5 +1,6 @@
 //! The worked rows: what a run writes, against the rows, the plain program and what is shown of a
 //! key.
+use crate::cases::first_wrong;
 use crate::fresh_run::{desk_after, fresh_run};
 use lifecycle_core::Dates;
 use register_core::{Name, Refusal, Reply, Request, plain, read_request, reply_line};
@@ -136,21 +137,11 @@ fn is_good(alloc: Global, row: &WorkedRow) -> Result<bool, Fail> {
     }
 }
 
-/// Which of the rows does not go as it should, if one does not.
-fn fault_in(alloc: Global, rows: &'static [WorkedRow]) -> Result<Option<&'static str>, Fail> {
-    for row in rows {
-        if !is_good(alloc, row)? {
-            return Ok(Some(row.name));
-        }
-    }
-    Ok(None)
-}
-
 /// Which of all worked rows does not go as it should, if one does not.
 pub fn worked_row_at_fault(alloc: Global) -> Result<Option<&'static str>, Fail> {
     for rows in tables() {
-        if let Some(fault) = fault_in(alloc, rows)? {
-            return Ok(Some(fault));
+        if let Some(row) = first_wrong(rows, |row| is_good(alloc, row))? {
+            return Ok(Some(row.name));
         }
     }
     Ok(None)

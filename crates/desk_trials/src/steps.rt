@@ -1,8 +1,9 @@
 //! How many steps of the database each command takes: its calls, and the rows that they hand out.
+use crate::cases::first_wrong;
 use crate::fresh_run::{desk_after, desk_of, run_over};
 use crate::repeats::DAY;
 use register_desk::{Desk, Watched, create_in_memory};
-use register_report::rotation;
+use register_report::{export, rotation};
 use sqlite::MemStore;
 use std::alloc::Global;
 use std::test::Fail;
@@ -85,14 +86,15 @@ pub fn line_of_other_steps(alloc: Global) -> Result<Option<&'static str>, Fail> 
     Ok(None)
 }
 
-/// Protect Stop Dates of keys that are due, and the steps of a report on them: for each row a search and the row, one
-/// search more behind the last row of each date that several have, and the search that finds none.
-static REPORTS: [(&[u64], u64); 5] = [
-    (&[], 1),
-    (&[700, 500, 600], 7),
-    (&[500, 500], 6),
-    (&[500, 500, 500, 600], 10),
-    (&[500, 600, 600, 700], 10),
+/// Protect Stop Dates of keys that are due, and the steps of an export of them and of a report on them. An export takes
+/// for each row a search and the row; a report the same, one search more behind the last row of each date that several
+/// have, and the search that finds none.
+static ROWS: [(&[u64], u64, u64); 5] = [
+    (&[], 0, 1),
+    (&[700, 500, 600], 6, 7),
+    (&[500, 500], 4, 6),
+    (&[500, 500, 500, 600], 8, 10),
+    (&[500, 600, 600, 700], 8, 10),
 ];
 
 /// A desk with an Active key for each of these Protect Stop Dates.
@@ -108,20 +110,24 @@ fn desk_with(alloc: Global, stops: &[u64]) -> Result<Desk<MemStore>, Fail> {
     desk_of(alloc, lines.as_bytes())
 }
 
-/// How many steps a report takes.
-fn report_steps(alloc: Global, desk: &mut Desk<MemStore>) -> u64 {
+/// How many steps an export takes, and a report behind it.
+fn table_steps(alloc: Global, desk: &mut Desk<MemStore>) -> (u64, u64) {
     let before = desk.steps();
+    let _ = export(alloc, desk, &mut Watched::new(Vec::new(alloc)));
+    let between = desk.steps();
     let _ = rotation(alloc, desk, 1, &mut Watched::new(Vec::new(alloc)));
-    desk.steps().saturating_sub(before)
+    let behind = desk.steps();
+    (
+        between.saturating_sub(before),
+        behind.saturating_sub(between),
+    )
 }
 
-/// How many keys a report is on that takes other steps, if there is one.
-pub fn report_of_other_steps(alloc: Global) -> Result<Option<usize>, Fail> {
-    for (stops, steps) in &REPORTS {
+/// How many keys an export or a report is of that takes other steps, if there is one.
+pub fn table_of_other_steps(alloc: Global) -> Result<Option<usize>, Fail> {
+    let wrong = first_wrong(&ROWS, |(stops, export, report)| {
         let mut desk = desk_with(alloc, stops)?;
-        if report_steps(alloc, &mut desk) != *steps {
-            return Ok(Some(stops.len()));
-        }
-    }
-    Ok(None)
+        Ok(table_steps(alloc, &mut desk) == (*export, *report))
+    })?;
+    Ok(wrong.map(|(stops, ..)| stops.len()))
 }

@@ -100,9 +100,10 @@ fn heads_are_told_from_none(rt: HostRuntime) {
     assert!(rt; asked_of(rt.alloc(), b"".as_slice()).is_none());
 }
 
-/// Header lines of a POST of `{"kind":"advance"}`, and why it is rejected.
+/// Header lines of a POST of `{"kind":"advance"}`, of which one is missing or stands twice or the body is too long, and why it
+/// is rejected.
 #[rattlefmt::skip]
-const REJECTED_POSTS: [(&str, Rejection); 31] = [
+const REJECTED_POSTS: [(&str, Rejection); 12] = [
     // The length, of which Transfer-Encoding leaves none; all before the sender.
     ("", Rejection::LengthRequired),
     ("Caller: ann\r\nRequest-Number: 1\r\n", Rejection::LengthRequired),
@@ -110,12 +111,6 @@ const REJECTED_POSTS: [(&str, Rejection); 31] = [
     ("Transfer-Encoding: identity\r\nContent-Length: 18\r\nContent-Length: 18\r\n", Rejection::LengthRequired),
     ("Content-Length: 18\r\nContent-Length: 18\r\nCaller: ann\r\nRequest-Number: 1\r\n", BAD),
     ("Content-Length: 18\r\ncontent-length: 65537\r\nCaller: ann\r\nRequest-Number: 1\r\n", BAD),
-    ("Content-Length:\r\nCaller: ann\r\nRequest-Number: 1\r\n", BAD),
-    ("Content-Length: +18\r\nCaller: ann\r\nRequest-Number: 1\r\n", BAD),
-    ("Content-Length: -18\r\nCaller: ann\r\nRequest-Number: 1\r\n", BAD),
-    ("Content-Length: 1 8\r\nCaller: ann\r\nRequest-Number: 1\r\n", BAD),
-    ("Content-Length: 18, 18\r\nCaller: ann\r\nRequest-Number: 1\r\n", BAD),
-    ("Content-Length: 0x12\r\nCaller: ann\r\nRequest-Number: 1\r\n", BAD),
     ("Content-Length: 65537\r\n", Rejection::TooLarge),
     ("Content-Length: 99999999999999999999999\r\n", Rejection::TooLarge),
     // The sender.
@@ -123,20 +118,29 @@ const REJECTED_POSTS: [(&str, Rejection); 31] = [
     ("Content-Length: 18\r\nCaller: ann\r\n", BAD),
     ("Content-Length: 18\r\nCaller: ann\r\nCaller: ann\r\nRequest-Number: 1\r\n", BAD),
     ("Content-Length: 18\r\nCaller: ann\r\nRequest-Number: 1\r\nrequest-number: 1\r\n", BAD),
-    ("Content-Length: 18\r\nCaller:\r\nRequest-Number: 1\r\n", BAD),
-    ("Content-Length: 18\r\nCaller: a b\r\nRequest-Number: 1\r\n", BAD),
-    ("Content-Length: 18\r\nCaller: ann,\r\nRequest-Number: 1\r\n", BAD),
-    ("Content-Length: 18\r\nCaller: a234567890b234567890c234567890d234567890e234567890f234567890g2345\r\nRequest-Number: 1\r\n", BAD),
-    ("Content-Length: 18\r\nCaller: ann\r\nRequest-Number:\r\n", BAD),
-    ("Content-Length: 18\r\nCaller: ann\r\nRequest-Number: 0\r\n", BAD),
-    ("Content-Length: 18\r\nCaller: ann\r\nRequest-Number: 01\r\n", BAD),
-    ("Content-Length: 18\r\nCaller: ann\r\nRequest-Number: +1\r\n", BAD),
-    ("Content-Length: 18\r\nCaller: ann\r\nRequest-Number: 9007199254740992\r\n", BAD),
-    ("Content-Length: 18\r\nCaller: ann\r\nRequest-Number: 18446744073709551617\r\n", BAD),
-    // The body.
-    ("Content-Length: 19\r\nCaller: ann\r\nRequest-Number: 1\r\n", BAD),
-    ("Content-Length: 17\r\nCaller: ann\r\nRequest-Number: 1\r\n", BAD),
-    ("Content-Length: 0\r\nCaller: ann\r\nRequest-Number: 1\r\n", BAD),
+];
+
+/// What stands behind `Content-Length:` where it is bad: no length, or another than the body has.
+const BAD_LENGTHS: [&str; 9] = [
+    "", " +18", " -18", " 1 8", " 18, 18", " 0x12", " 19", " 17", " 0",
+];
+
+/// What stands behind `Caller:` where it is bad.
+const BAD_CALLERS: [&str; 4] = [
+    "",
+    " a b",
+    " ann,",
+    " a234567890b234567890c234567890d234567890e234567890f234567890g2345",
+];
+
+/// What stands behind `Request-Number:` where it is bad.
+const BAD_NUMBERS: [&str; 6] = [
+    "",
+    " 0",
+    " 01",
+    " +1",
+    " 9007199254740992",
+    " 18446744073709551617",
 ];
 
 /// Header lines with which it is taken.
@@ -159,8 +163,39 @@ fn post_asks(alloc: Global, lines: &str) -> Option<Asked> {
     }
 }
 
+/// Whether it is bad with these values of its header lines.
+fn is_bad(alloc: Global, length: &str, caller: &str, number: &str) -> bool {
+    match format!(in alloc;
+        "Content-Length:{length}\r\nCaller:{caller}\r\nRequest-Number:{number}\r\n"
+    ) {
+        Ok(lines) => post_asks(alloc, lines.as_str()) == Some(Asked::Reject(BAD)),
+        Err(_) => false,
+    }
+}
+
+/// A bad value with which it is taken, if there is one.
+fn bad_value_taken(alloc: Global) -> Option<&'static str> {
+    for length in &BAD_LENGTHS {
+        if !is_bad(alloc, length, " ann", " 1") {
+            return Some(length);
+        }
+    }
+    for caller in &BAD_CALLERS {
+        if !is_bad(alloc, " 18", caller, " 1") {
+            return Some(caller);
+        }
+    }
+    for number in &BAD_NUMBERS {
+        if !is_bad(alloc, " 18", " ann", number) {
+            return Some(number);
+        }
+    }
+    None
+}
+
 #[test]
 fn posts_say_their_length_and_sender(rt: HostRuntime) {
+    assert_eq!(rt; bad_value_taken(rt.alloc()), None);
     for (lines, rejection) in &REJECTED_POSTS {
         let asked = post_asks(rt.alloc(), lines);
         assert!(rt; asked == Some(Asked::Reject(*rejection)), "{lines}");

@@ -1,5 +1,5 @@
 //! Worked rows on lines, repeats, dates and their limits.
-use crate::row::{Shown, WorkedRow};
+use crate::row::{Exchange, Shown, WorkedRow};
 use lifecycle_core::State;
 
 /// Rows on lines, moments and the order of dates, of which the first is *first day*.
@@ -63,40 +63,50 @@ pub static LINES: [WorkedRow; 6] = [
     },
 ];
 
+/// The line of *defaults*.
+#[rattlefmt::skip]
+const DEFAULTS: Exchange = ("100 ann 1 register data-encryption bob 0 - - payroll disks", "ok 1 Active 100");
+
+/// The dates of its key.
+const DEFAULT_DATES: [Option<u64>; 6] = [
+    Some(0),
+    Some(63_072_000),
+    Some(157_766_400),
+    None,
+    None,
+    None,
+];
+
+/// Its key, until it is deactivated.
+const DEFAULT_KEY: Shown = Shown {
+    state: State::Active,
+    dates: DEFAULT_DATES,
+    custodians: "",
+    approvals: "",
+};
+
 /// Rows on requests that come again and on a deactivation, of which the first is *defaults*.
 #[rattlefmt::skip]
 pub static REPEATS: [WorkedRow; 6] = [
     WorkedRow {
         name: "defaults",
-        lines: &[
-            ("100 ann 1 register data-encryption bob 0 - - payroll disks", "ok 1 Active 100"),
-        ],
+        lines: &[DEFAULTS],
         rest: "",
-        shown: Some(Shown {
-            state: State::Active,
-            dates: [Some(0), Some(63_072_000), Some(157_766_400), None, None, None],
-            custodians: "",
-            approvals: "",
-        }),
+        shown: Some(DEFAULT_KEY),
     },
     WorkedRow {
         name: "repeated with an earlier moment",
         lines: &[
-            ("100 ann 1 register data-encryption bob 0 - - payroll disks", "ok 1 Active 100"),
+            DEFAULTS,
             ("50 ann 1 register data-encryption bob 0 - - payroll disks", "ok 1 Active 100"),
         ],
         rest: "",
-        shown: Some(Shown {
-            state: State::Active,
-            dates: [Some(0), Some(63_072_000), Some(157_766_400), None, None, None],
-            custodians: "",
-            approvals: "",
-        }),
+        shown: Some(DEFAULT_KEY),
     },
     WorkedRow {
         name: "number used again",
         lines: &[
-            ("100 ann 1 register data-encryption bob 0 - - payroll disks", "ok 1 Active 100"),
+            DEFAULTS,
             ("100 ann 1 register data-encryption bob 0 - - other", "refused 2 RequestReused"),
             ("99 ann 1 advance", "refused 2 RequestReused"),
             ("100 bob 1 advance", "ok 0 - 100"),
@@ -107,7 +117,7 @@ pub static REPEATS: [WorkedRow; 6] = [
     WorkedRow {
         name: "number of a refused request",
         lines: &[
-            ("100 ann 1 register data-encryption bob 0 - - payroll disks", "ok 1 Active 100"),
+            DEFAULTS,
             ("99 ann 2 advance", "refused 3 MomentBehind latest=100"),
             ("101 ann 2 assign 1 ann", "refused 5 NotOwner"),
             ("101 ann 2 advance", "ok 0 - 101"),
@@ -119,28 +129,23 @@ pub static REPEATS: [WorkedRow; 6] = [
     WorkedRow {
         name: "to the day of the deactivation",
         lines: &[
-            ("100 ann 1 register data-encryption bob 0 - - payroll disks", "ok 1 Active 100"),
+            DEFAULTS,
             ("157766399 ann 3 advance", "ok 0 - 157766399"),
         ],
         rest: "",
-        shown: Some(Shown {
-            state: State::Active,
-            dates: [Some(0), Some(63_072_000), Some(157_766_400), None, None, None],
-            custodians: "",
-            approvals: "",
-        }),
+        shown: Some(DEFAULT_KEY),
     },
     WorkedRow {
         name: "on the day of the deactivation",
         lines: &[
-            ("100 ann 1 register data-encryption bob 0 - - payroll disks", "ok 1 Active 100"),
+            DEFAULTS,
             ("157766399 ann 3 advance", "ok 0 - 157766399"),
             ("157766400 ann 4 advance", "ok 0 - 157766400"),
         ],
         rest: "",
         shown: Some(Shown {
             state: State::Deactivated,
-            dates: [Some(0), Some(63_072_000), Some(157_766_400), None, None, None],
+            dates: DEFAULT_DATES,
             custodians: "",
             approvals: "",
         }),

@@ -1,5 +1,5 @@
 //! Worked rows on the states of keys and on their custody.
-use crate::row::{Shown, WorkedRow};
+use crate::row::{Exchange, Shown, WorkedRow};
 use lifecycle_core::State;
 
 /// Rows on states, and on dates that are set.
@@ -90,6 +90,22 @@ pub static STATES: [WorkedRow; 6] = [
     },
 ];
 
+// Lines that several rows begin with: a key, two custodians who both approve of its destruction, and its compromise.
+const REGISTERED: Exchange = (
+    "100 ann 1 register master bob - - - spare",
+    "ok 1 Pre-Active 100",
+);
+
+const CAT_ADDED: Exchange = ("101 bob 1 add-custodian 1 cat", "ok 1 Pre-Active 101");
+
+const DAN_ADDED: Exchange = ("102 bob 2 add-custodian 1 dan", "ok 1 Pre-Active 102");
+
+const CAT_APPROVES: Exchange = ("103 cat 1 approve 1", "ok 1 Pre-Active 103");
+
+const DAN_APPROVES: Exchange = ("104 dan 1 approve 1", "ok 1 Pre-Active 104");
+
+const COMPROMISED: Exchange = ("105 zed 1 revoke 1 3 50", "ok 1 Compromised 105");
+
 /// Rows on owners, custodians and approvals.
 #[rattlefmt::skip]
 pub static CUSTODY: [WorkedRow; 6] = [
@@ -113,9 +129,7 @@ pub static CUSTODY: [WorkedRow; 6] = [
         name: "one approval is too few",
         lines: &[
             ("100 ann 1 register master bob 1000 2000 2000 root", "ok 1 Pre-Active 100"),
-            ("101 bob 1 add-custodian 1 cat", "ok 1 Pre-Active 101"),
-            ("102 bob 2 add-custodian 1 dan", "ok 1 Pre-Active 102"),
-            ("103 cat 1 approve 1", "ok 1 Pre-Active 103"),
+            CAT_ADDED, DAN_ADDED, CAT_APPROVES,
             ("1500 ann 2 advance", "ok 0 - 1500"),
             ("2000 bob 3 destroy 1", "refused 18 ApprovalsMissing have=1 need=2"),
             ("1999 bob 4 destroy 1", "refused 7 WrongState state=Active"),
@@ -131,11 +145,7 @@ pub static CUSTODY: [WorkedRow; 6] = [
     WorkedRow {
         name: "approved anew by one who was removed",
         lines: &[
-            ("100 ann 1 register master bob - - - spare", "ok 1 Pre-Active 100"),
-            ("101 bob 1 add-custodian 1 cat", "ok 1 Pre-Active 101"),
-            ("102 bob 2 add-custodian 1 dan", "ok 1 Pre-Active 102"),
-            ("103 cat 1 approve 1", "ok 1 Pre-Active 103"),
-            ("104 dan 1 approve 1", "ok 1 Pre-Active 104"),
+            REGISTERED, CAT_ADDED, DAN_ADDED, CAT_APPROVES, DAN_APPROVES,
             ("105 bob 3 remove-custodian 1 dan", "ok 1 Pre-Active 105"),
             ("106 bob 4 destroy 1", "refused 18 ApprovalsMissing have=1 need=2"),
             ("106 bob 4 add-custodian 1 dan", "ok 1 Pre-Active 106"),
@@ -154,7 +164,7 @@ pub static CUSTODY: [WorkedRow; 6] = [
     WorkedRow {
         name: "eight custodians",
         lines: &[
-            ("100 ann 1 register master bob - - - spare", "ok 1 Pre-Active 100"),
+            REGISTERED,
             ("100 bob 1 add-custodian 1 kim", "ok 1 Pre-Active 100"),
             ("100 bob 2 add-custodian 1 joe", "ok 1 Pre-Active 100"),
             ("100 bob 3 add-custodian 1 ian", "ok 1 Pre-Active 100"),
@@ -176,8 +186,7 @@ pub static CUSTODY: [WorkedRow; 6] = [
     WorkedRow {
         name: "the owner as custodian",
         lines: &[
-            ("100 ann 1 register master bob - - - spare", "ok 1 Pre-Active 100"),
-            ("101 bob 1 add-custodian 1 cat", "ok 1 Pre-Active 101"),
+            REGISTERED, CAT_ADDED,
             ("102 bob 2 add-custodian 1 bob", "refused 15 OwnerCustodian"),
             ("102 bob 2 add-custodian 1 cat", "refused 12 AlreadyCustodian"),
             ("102 bob 2 remove-custodian 1 dan", "refused 13 NoSuchCustodian"),
@@ -193,12 +202,7 @@ pub static CUSTODY: [WorkedRow; 6] = [
     WorkedRow {
         name: "compromise ends the approvals",
         lines: &[
-            ("100 ann 1 register master bob - - - spare", "ok 1 Pre-Active 100"),
-            ("101 bob 1 add-custodian 1 cat", "ok 1 Pre-Active 101"),
-            ("102 bob 2 add-custodian 1 dan", "ok 1 Pre-Active 102"),
-            ("103 cat 1 approve 1", "ok 1 Pre-Active 103"),
-            ("104 dan 1 approve 1", "ok 1 Pre-Active 104"),
-            ("105 zed 1 revoke 1 3 50", "ok 1 Compromised 105"),
+            REGISTERED, CAT_ADDED, DAN_ADDED, CAT_APPROVES, DAN_APPROVES, COMPROMISED,
         ],
         rest: "",
         shown: Some(Shown {
@@ -216,12 +220,7 @@ pub static DESTRUCTION: [WorkedRow; 1] = [
     WorkedRow {
         name: "destroyed after a compromise",
         lines: &[
-            ("100 ann 1 register master bob - - - spare", "ok 1 Pre-Active 100"),
-            ("101 bob 1 add-custodian 1 cat", "ok 1 Pre-Active 101"),
-            ("102 bob 2 add-custodian 1 dan", "ok 1 Pre-Active 102"),
-            ("103 cat 1 approve 1", "ok 1 Pre-Active 103"),
-            ("104 dan 1 approve 1", "ok 1 Pre-Active 104"),
-            ("105 zed 1 revoke 1 3 50", "ok 1 Compromised 105"),
+            REGISTERED, CAT_ADDED, DAN_ADDED, CAT_APPROVES, DAN_APPROVES, COMPROMISED,
             ("106 bob 3 destroy 1", "refused 18 ApprovalsMissing have=0 need=2"),
             ("106 cat 2 approve 1", "ok 1 Compromised 106"),
             ("107 dan 2 approve 1", "ok 1 Compromised 107"),

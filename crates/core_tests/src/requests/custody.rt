@@ -190,45 +190,22 @@ fn custody_becomes(
 /// A compromise ends the approvals of a key that is not destroyed yet.
 #[test]
 fn custody_after_commands(rt: HostRuntime) -> Result<(), Fail> {
+    let (kept, ended) = (CustodyChange::Kept, CustodyChange::ApprovalsEnded);
+    let added = CustodyChange::CustodianAdded(name("fay")?);
+    let removed = CustodyChange::CustodianRemoved(name("dan")?);
+    let approved = CustodyChange::Approved(name("eve")?);
+    let withdrawn = CustodyChange::Withdrawn(name("cat")?);
     let rows = [
-        (DESTROYED, "1000 zed 1 revoke 1 2 -", CustodyChange::Kept),
-        (DESTROYED, "1000 zed 1 revoke 1 3 50", CustodyChange::Kept),
-        (
-            PRE,
-            "1000 zed 1 revoke 1 2 -",
-            CustodyChange::ApprovalsEnded,
-        ),
-        (
-            ACTIVE,
-            "1000 bob 1 revoke 1 3 50",
-            CustodyChange::ApprovalsEnded,
-        ),
-        (
-            State::Deactivated,
-            "1000 cat 1 revoke 1 2 -",
-            CustodyChange::ApprovalsEnded,
-        ),
-        (
-            PRE,
-            "1000 bob 1 add-custodian 1 fay",
-            CustodyChange::CustodianAdded(name("fay")?),
-        ),
-        (
-            PRE,
-            "1000 bob 1 remove-custodian 1 dan",
-            CustodyChange::CustodianRemoved(name("dan")?),
-        ),
-        (
-            PRE,
-            "1000 eve 1 approve 1",
-            CustodyChange::Approved(name("eve")?),
-        ),
-        (
-            PRE,
-            "1000 cat 1 withdraw 1",
-            CustodyChange::Withdrawn(name("cat")?),
-        ),
-        (PRE, "1000 bob 1 destroy 1", CustodyChange::Kept),
+        (DESTROYED, "1000 zed 1 revoke 1 2 -", kept),
+        (DESTROYED, "1000 zed 1 revoke 1 3 50", kept),
+        (PRE, "1000 zed 1 revoke 1 2 -", ended),
+        (ACTIVE, "1000 bob 1 revoke 1 3 50", ended),
+        (State::Deactivated, "1000 cat 1 revoke 1 2 -", ended),
+        (PRE, "1000 bob 1 add-custodian 1 fay", added),
+        (PRE, "1000 bob 1 remove-custodian 1 dan", removed),
+        (PRE, "1000 eve 1 approve 1", approved),
+        (PRE, "1000 cat 1 withdraw 1", withdrawn),
+        (PRE, "1000 bob 1 destroy 1", kept),
     ];
     for (state, line, expected) in rows {
         assert!(rt;

@@ -49,13 +49,11 @@ fn accepted_of(
     items: &[Option<Request>],
     answers: &[Result<Reply, Refusal>],
 ) -> Result<Vec<Request>, AllocError> {
-    let mut accepted = Vec::new(alloc);
-    for (item, answer) in items.iter().zip(answers) {
-        if let (Some(request), Ok(_)) = (item, answer) {
-            accepted.push(*request)?;
-        }
-    }
-    Ok(accepted)
+    items
+        .iter()
+        .zip(answers)
+        .filter_map(|(item, answer)| if answer.is_ok() { *item } else { None })
+        .collect(alloc)
 }
 
 /// Compares the answers to the lines with the replies beside them. Key 1 as it stands behind those

@@ -10,16 +10,6 @@ use register_core::{Accept, Change, Held, Name, Names, Refusal, Reply, Request, 
 use std::alloc::Global;
 use std::test::Fail;
 
-/// The states in the order of the table's columns.
-pub const STATES: [State; 6] = [
-    State::PreActive,
-    State::Active,
-    State::Deactivated,
-    State::Compromised,
-    State::Destroyed,
-    State::DestroyedCompromised,
-];
-
 /// Dates that give the state at 1000; at 600, the latest moment, two of them give another.
 pub fn dates_in(state: State) -> Result<Dates, Fail> {
     let initial = Moment::new(100).ok_or("a moment")?;

@@ -1,6 +1,6 @@
 //! Every command in every state of its key, by each caller.
 
-use super::keys::{STATES, answer_by, change_by, outcome_by, view_in};
+use super::keys::{answer_by, change_by, outcome_by, view_in};
 use lifecycle_core::State;
 use moment_core::Moment;
 use register_core::{Change, MAX_KEYS, Refusal, View, read_request};
@@ -97,7 +97,7 @@ fn is_outcome(alloc: Global, line: &str, before: State, cell: Cell) -> Result<bo
 
 /// The first state in which the line has another outcome than that of its cell.
 fn first_wrong(alloc: Global, line: &str, cells: &[Cell; 6]) -> Result<Option<State>, Fail> {
-    for (before, cell) in STATES.iter().zip(cells) {
+    for (before, cell) in State::ALL.iter().zip(cells) {
         if !is_outcome(alloc, line, *before, *cell)? {
             return Ok(Some(*before));
         }

@@ -1,5 +1,6 @@
 //! The program's exit statuses, and what it names on standard error.
 use super::acting::{act_on, acted, does};
+use desk_trials::first_wrong;
 use register_desk::{End, MAX_IDLE_TURNS, MAX_READS, OpenRefusal};
 use register_faults::{BrokenAfter, Trouble, Troubled};
 use register_program::{report_bad_value, report_end, report_refusal};
@@ -69,21 +70,11 @@ fn is_served(rt: &HostRuntime, row: &WorkedRow) -> Result<bool, Fail> {
     does(rt, &[], input.as_slice(), 0, expected.as_slice(), "")
 }
 
-/// Which of the rows is not served so, if one is not.
-fn fault_in(rt: &HostRuntime, rows: &'static [WorkedRow]) -> Result<Option<&'static str>, Fail> {
-    for row in rows {
-        if !is_served(rt, row)? {
-            return Ok(Some(row.name));
-        }
-    }
-    Ok(None)
-}
-
 /// Which of all worked rows is not served so, if one is not.
 fn worked_row_at_fault(rt: &HostRuntime) -> Result<Option<&'static str>, Fail> {
     for rows in tables() {
-        if let Some(name) = fault_in(rt, rows)? {
-            return Ok(Some(name));
+        if let Some(row) = first_wrong(rows, |row| is_served(rt, row))? {
+            return Ok(Some(row.name));
         }
     }
     Ok(None)
@@ -156,12 +147,10 @@ fn is_no_command(rt: &HostRuntime, given: &[&str], first_line: &str) -> Result<b
 
 /// The first line that does not come of its words, if there is one.
 fn words_not_told(rt: &HostRuntime) -> Result<Option<&'static str>, Fail> {
-    for (given, first_line) in &NO_COMMANDS {
-        if !is_no_command(rt, given, first_line)? {
-            return Ok(Some(first_line));
-        }
-    }
-    Ok(None)
+    let wrong = first_wrong(&NO_COMMANDS, |(given, first_line)| {
+        is_no_command(rt, given, first_line)
+    })?;
+    Ok(wrong.map(|(_, first_line)| *first_line))
 }
 
 #[test]

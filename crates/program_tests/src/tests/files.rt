@@ -1,6 +1,6 @@
 //! Registers in files: what the program makes of good ones, of wrong ones, and of what is none.
 use super::acting::{does, edit};
-use desk_trials::{hundred_lines, wrong_edits};
+use desk_trials::{first_wrong, hundred_lines, wrong_edits};
 use std::fs;
 use std::test::Fail;
 use worked_rows::{defaults, input_of, output_of};
@@ -109,12 +109,10 @@ fn edit_not_left(
     file: &str,
     register: &[u8],
 ) -> Result<Option<&'static str>, Fail> {
-    for statement in wrong_edits() {
-        if !is_left_behind(rt, file, register, statement, "keyreg: NotARegister\n")? {
-            return Ok(Some(statement));
-        }
-    }
-    Ok(None)
+    let wrong = first_wrong(wrong_edits(), |statement| {
+        is_left_behind(rt, file, register, statement, "keyreg: NotARegister\n")
+    })?;
+    Ok(wrong.copied())
 }
 
 #[test]
@@ -156,12 +154,9 @@ fn is_no_database_left(rt: &HostRuntime, file: &str) -> Result<bool, Fail> {
 
 /// A name of which no file can be opened, and of which none is told, if there is one.
 fn name_not_told(rt: &HostRuntime) -> Result<Option<&'static str>, Fail> {
-    for file in &[".", ":memory:", "file:none", "", "none/none"] {
-        if !is_refused(rt, "run", file, "keyreg: Store\n")? {
-            return Ok(Some(file));
-        }
-    }
-    Ok(None)
+    let names = &[".", ":memory:", "file:none", "", "none/none"];
+    let wrong = first_wrong(names, |file| is_refused(rt, "run", file, "keyreg: Store\n"))?;
+    Ok(wrong.copied())
 }
 
 #[test]

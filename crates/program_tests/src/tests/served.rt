@@ -3,6 +3,7 @@ use moment_core::Moment;
 use register_desk::{Desk, End, Finish, create_in_memory};
 use register_files::{MachineClock, Now, listen, serve_on};
 use sqlite::MemStore;
+use std::cell::Cell;
 use std::io::{self, ErrorKind, Write};
 use std::net::{IpAddr, Ipv4Addr, TcpListener, TcpStream};
 use std::test::Fail;
@@ -16,6 +17,18 @@ struct Still(Option<Moment>);
 impl Now for Still {
     fn now(&self) -> Option<Moment> {
         self.0
+    }
+}
+
+/// A clock that goes on by a second with each look at it.
+#[derive(Drop)]
+struct Rising(Cell<u64>);
+
+impl Now for Rising {
+    fn now(&self) -> Option<Moment> {
+        let seconds = self.0.get();
+        self.0.set(seconds.saturating_add(1));
+        Moment::new(seconds)
     }
 }
 
@@ -57,20 +70,38 @@ fn a_connection_is_served(rt: HostRuntime) -> Result<(), Fail> {
     Ok(())
 }
 
-/// Whether a client that leaves without a word counts, and the next one is served.
-fn is_served_behind_another(rt: &HostRuntime) -> Result<bool, Fail> {
-    let mut desk = create_in_memory(rt.alloc())?;
-    let listener = listen(rt, 0)?;
-    drop(sent(rt, &listener, b"")?);
-    let stream = sent(rt, &listener, ADVANCE.as_bytes())?;
-    let finish = served(rt, &mut desk, &listener, Some(100), 2);
-    let reply = io::read_to_string(rt.alloc(), stream)?;
-    Ok(finish == AT_END && reply.as_str() == ADVANCED)
+/// What becomes of a client's connection on which nothing is sent.
+#[derive(Clone, Copy)]
+enum Silent {
+    Leaves,
+    Stays,
 }
 
+/// How many seconds a silent client and the one behind it take, of which the second is served.
+fn seconds_behind(rt: &HostRuntime, silent: Silent) -> Result<Option<u64>, Fail> {
+    let mut desk = create_in_memory(rt.alloc())?;
+    let listener = listen(rt, 0)?;
+    let first = sent(rt, &listener, b"")?;
+    let held = match silent {
+        Silent::Leaves => {
+            drop(first);
+            None
+        }
+        Silent::Stays => Some(first),
+    };
+    let stream = sent(rt, &listener, ADVANCE.as_bytes())?;
+    let start = Instant::now(rt)?;
+    let finish = served(rt, &mut desk, &listener, Some(100), 2);
+    let seconds = start.elapsed(rt)?.as_secs();
+    let reply = io::read_to_string(rt.alloc(), stream)?;
+    drop(held);
+    Ok((finish == AT_END && reply.as_str() == ADVANCED).then_some(seconds))
+}
+
+/// A client that leaves without a word counts, and the next one is served.
 #[test]
 fn a_client_that_leaves_is_served_too(rt: HostRuntime) -> Result<(), Fail> {
-    assert!(rt; is_served_behind_another(&rt)?);
+    assert!(rt; seconds_behind(&rt, Silent::Leaves)?.is_some());
     Ok(())
 }
 
@@ -82,23 +113,34 @@ fn without_a_moment_nothing_is_served(rt: HostRuntime) -> Result<(), Fail> {
     Ok(())
 }
 
-/// Whether a client that sends nothing and stays holds up the next one for its ten seconds alone.
-fn is_served_behind_a_silent_one(rt: &HostRuntime) -> Result<bool, Fail> {
+/// A client that sends nothing and stays holds up the next one for its ten seconds alone.
+#[test]
+fn a_silent_client_is_left(rt: HostRuntime) -> Result<(), Fail> {
+    let seconds = seconds_behind(&rt, Silent::Stays)?;
+    assert!(rt; seconds.is_some_and(|seconds| (9..20).contains(&seconds)));
+    Ok(())
+}
+
+/// Another request of *advanced*, under the next number.
+const ADVANCE_AGAIN: &str =
+    "POST /requests HTTP/1.1\r\nHost: localhost\r\nCaller: ann\r\nRequest-Number: 2\r\nContent-Length: 18\r\n\r\n{\"kind\":\"advance\"}";
+
+/// The register's latest moment behind two connections, each served at the moment that is told once it is accepted.
+fn latest_behind_two(rt: &HostRuntime) -> Result<u64, Fail> {
     let mut desk = create_in_memory(rt.alloc())?;
     let listener = listen(rt, 0)?;
-    let silent = sent(rt, &listener, b"")?;
-    let stream = sent(rt, &listener, ADVANCE.as_bytes())?;
-    let start = Instant::now(rt)?;
-    let finish = served(rt, &mut desk, &listener, Some(100), 2);
-    let seconds = start.elapsed(rt)?.as_secs();
-    let reply = io::read_to_string(rt.alloc(), stream)?;
-    drop(silent);
-    Ok(finish == AT_END && reply.as_str() == ADVANCED && (9..20).contains(&seconds))
+    let first = sent(rt, &listener, ADVANCE.as_bytes())?;
+    let second = sent(rt, &listener, ADVANCE_AGAIN.as_bytes())?;
+    let now = Rising(Cell::new(100));
+    let _ = serve_on(rt.alloc(), &mut desk, &listener, rt, &now, 2);
+    drop(first);
+    drop(second);
+    Ok(desk.latest().seconds())
 }
 
 #[test]
-fn a_silent_client_is_left(rt: HostRuntime) -> Result<(), Fail> {
-    assert!(rt; is_served_behind_a_silent_one(&rt)?);
+fn each_connection_has_its_own_moment(rt: HostRuntime) -> Result<(), Fail> {
+    assert_eq!(rt; latest_behind_two(&rt)?, 101);
     Ok(())
 }
 

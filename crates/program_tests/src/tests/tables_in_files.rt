@@ -1,6 +1,7 @@
 //! Imports, exports and reports of registers in files.
 use super::acting::does;
 use super::files::{is_defaults, is_made, remove};
+use desk_trials::first_wrong;
 use std::fs;
 use std::test::Fail;
 
@@ -89,23 +90,15 @@ fn is_bad(rt: &HostRuntime, words: &[&str]) -> Result<bool, Fail> {
 }
 
 /// A row of the bad terms that is taken, if there is one.
-fn terms_taken(rt: &HostRuntime, file: &str) -> Result<Option<usize>, Fail> {
-    for (place, [moment, caller, first]) in BAD_TERMS.iter().enumerate() {
-        if !is_bad(rt, &import(file, moment, caller, first))? {
-            return Ok(Some(place));
-        }
-    }
-    Ok(None)
+fn terms_taken(rt: &HostRuntime, file: &str) -> Result<Option<&'static [&'static str; 3]>, Fail> {
+    first_wrong(&BAD_TERMS, |[moment, caller, first]| {
+        is_bad(rt, &import(file, moment, caller, first))
+    })
 }
 
 /// One of the bad numbers of days that is taken, if there is one.
 fn days_taken(rt: &HostRuntime, file: &str) -> Result<Option<&'static str>, Fail> {
-    for days in &BAD_DAYS {
-        if !is_bad(rt, &report(file, days))? {
-            return Ok(Some(days));
-        }
-    }
-    Ok(None)
+    Ok(first_wrong(&BAD_DAYS, |days| is_bad(rt, &report(file, days)))?.copied())
 }
 
 #[test]

@@ -1,7 +1,7 @@
 //! Registers in files in memory, of which calls fail.
 //!
-//! A function that names the type of the store costs about a minute in a proof, and any other a few seconds. So it stands in
-//! [`Lab::tried`] alone, which is handed what to do as a [`Task`].
+//! A function that names the type of the store costs about a minute in a proof, and any other a few seconds. So it
+//! stands in [`Lab::tried`] alone, which is handed what to do as a [`Task`].
 ghost use Rattle.std.specs.Prelude.{◌≡◌, false, IfOk, IsTrue};
 ghost use Rattle.sqlite_disk.specs.Memory.{memory_is_usable};
 
@@ -76,16 +76,82 @@ pub trait Task {
         requires { connection.in_transaction ≡ false };
 }
 
+/// What is done over a register in such files.
+pub trait DeskTask {
+    type Outcome: Drop;
+
+    /// Does it over the register's desk.
+    fn perform<S: Alter>(&self, alloc: Global, desk: &mut Desk<S>) -> Result<Self::Outcome, Fail>;
+}
+
+/// How a desk is come by.
+#[derive(Clone, Copy, Debug, PartialEq, Eq)]
+pub enum Entry {
+    /// A register is made.
+    Creation,
+    /// The register is opened.
+    Opening,
+}
+
+/// Why there is no desk.
+#[derive(Clone, Copy, Debug, PartialEq, Eq)]
+pub enum NoDesk {
+    /// The files are no database, or a call of theirs failed.
+    NoConnection,
+    /// No register was made or opened.
+    Refused(OpenRefusal),
+}
+
+/// Makes or opens the register and does it over the desk.
+#[derive(Drop)]
+struct OverDesk<'a, T> {
+    entry: Entry,
+    task: &'a T,
+}
+
+impl<T: DeskTask> Task for OverDesk<'_, T> {
+    type Outcome = Result<T::Outcome, OpenRefusal>;
+
+    fn perform<S: Alter + Drop>(
+        &self,
+        alloc: Global,
+        connection: Connection<S>,
+    ) -> Result<(Connection<S>, Result<T::Outcome, OpenRefusal>), Fail> {
+        let entered = match self.entry {
+            Entry::Creation => Desk::create(alloc, connection),
+            Entry::Opening => Desk::open(alloc, connection),
+        };
+        match entered {
+            Ok(mut desk) => {
+                let outcome = self.task.perform(alloc, &mut desk)?;
+                Ok((desk.into_connection(), Ok(outcome)))
+            }
+            Err(unopened) => Ok((unopened.connection, Err(unopened.refusal))),
+        }
+    }
+}
+
+/// Nothing is done over the desk.
+pub struct Nothing;
+
+impl DeskTask for Nothing {
+    type Outcome = ();
+
+    fn perform<S: Alter>(&self, _alloc: Global, _desk: &mut Desk<S>) -> Result<(), Fail> {
+        Ok(())
+    }
+}
+
 /// Where tasks are done.
 #[derive(Clone, Copy)]
 pub struct Lab {
     pub alloc: Global,
     /// How many written pages are kept in memory before they go to the log.
-    pub spill_pages: usize,
+    spill_pages: usize,
 }
 
-/// Few pages are kept in memory, so that a look at another one reads a file. Each transaction but the first copies into the
-/// database file what the one before it wrote, so that this file is written too.
+/// Few pages are kept in memory, so that a look at another one reads a file. Each transaction but the first copies into
+/// the database file what the one before it wrote, so that this file is written too.
 fn options(spill_pages: usize) -> Options {
     Options {
         cache_pages: 4,
@@ -134,6 +200,14 @@ impl Lab {
         }
     }
 
+    /// A lab whose requests write to the log before they are committed, since they change more pages than are kept.
+    pub fn spilling(alloc: Global) -> Lab {
+        Lab {
+            alloc,
+            spill_pages: 2,
+        }
+    }
+
     /// Does it over copies of the files; `None` where the connection was refused.
     pub fn tried<T: Task>(
         &self,
@@ -167,43 +241,38 @@ impl Lab {
         let (outcome, left) = self.tried(files, HONEST, task)?;
         match outcome {
             Some(outcome) => Ok((outcome, left.files)),
-            None => Err(Fail::from("refused where no call fails")),
+            None => Err(Fail::from("no connection where no call fails")),
         }
     }
-}
 
-/// Makes a register: how it was refused, if it was.
-pub struct Making;
-
-impl Task for Making {
-    type Outcome = Option<OpenRefusal>;
-
-    fn perform<S: Alter + Drop>(
+    /// Does it over the desk of the register in copies of the files.
+    pub fn tried_at_desk<T: DeskTask>(
         &self,
-        alloc: Global,
-        connection: Connection<S>,
-    ) -> Result<(Connection<S>, Option<OpenRefusal>), Fail> {
-        match Desk::create(alloc, connection) {
-            Ok(desk) => Ok((desk.into_connection(), None)),
-            Err(unopened) => Ok((unopened.connection, Some(unopened.refusal))),
-        }
+        files: &Files<Memory>,
+        fault: Fault,
+        entry: Entry,
+        task: &T,
+    ) -> Result<(Result<T::Outcome, NoDesk>, Left), Fail> {
+        let (outcome, left) = self.tried(files, fault, &OverDesk { entry, task })?;
+        let reached = match outcome {
+            Some(Ok(outcome)) => Ok(outcome),
+            Some(Err(refusal)) => Err(NoDesk::Refused(refusal)),
+            None => Err(NoDesk::NoConnection),
+        };
+        Ok((reached, left))
     }
-}
 
-/// Opens the register: how it was refused, if it was.
-pub struct Opening;
-
-impl Task for Opening {
-    type Outcome = Option<OpenRefusal>;
-
-    fn perform<S: Alter + Drop>(
+    /// Does it over the desk of the register in files of which no call fails. What comes of it, and the files.
+    pub fn done_at_desk<T: DeskTask>(
         &self,
-        alloc: Global,
-        connection: Connection<S>,
-    ) -> Result<(Connection<S>, Option<OpenRefusal>), Fail> {
-        match Desk::open(alloc, connection) {
-            Ok(desk) => Ok((desk.into_connection(), None)),
-            Err(unopened) => Ok((unopened.connection, Some(unopened.refusal))),
+        files: &Files<Memory>,
+        entry: Entry,
+        task: &T,
+    ) -> Result<(T::Outcome, Files<Memory>), Fail> {
+        let (reached, left) = self.tried_at_desk(files, HONEST, entry, task)?;
+        match reached {
+            Ok(outcome) => Ok((outcome, left.files)),
+            Err(_) => Err(Fail::from("no desk where no call fails")),
         }
     }
 }
@@ -228,10 +297,14 @@ fn selected<S: Alter>(
     }
 }
 
-/// All rows of the register as text, the kept replies among them; empty where none of its tables is there.
-pub struct Rows;
+/// Runs statements, and gives all rows of the register behind them as text, the kept replies among them; empty where
+/// none of its tables is there.
+#[derive(Drop)]
+struct Running<'a> {
+    statements: &'a str,
+}
 
-impl Task for Rows {
+impl Task for Running<'_> {
     type Outcome = String;
 
     fn perform<S: Alter + Drop>(
@@ -239,6 +312,7 @@ impl Task for Rows {
         alloc: Global,
         mut connection: Connection<S>,
     ) -> Result<(Connection<S>, String), Fail> {
+        connection.execute_batch(self.statements)?;
         let mut rows = String::new(alloc);
         for sql in &SELECTED {
             rows.push_str(selected(alloc, &mut connection, sql)?.as_str())?;
@@ -250,6 +324,17 @@ impl Task for Rows {
 impl Lab {
     /// All rows of the register in the files.
     pub fn rows_in(&self, files: &Files<Memory>) -> Result<String, Fail> {
-        Ok(self.done(files, &Rows)?.0)
+        Ok(self.done(files, &Running { statements: "" })?.0)
+    }
+
+    /// The files of a database that these statements make.
+    pub fn files_by(&self, statements: &str) -> Result<Files<Memory>, Fail> {
+        Ok(self.done(&no_files(self.alloc), &Running { statements })?.1)
+    }
+
+    /// The files of a new register.
+    pub fn new_files(&self) -> Result<Files<Memory>, Fail> {
+        let (_, files) = self.done_at_desk(&no_files(self.alloc), Entry::Creation, &Nothing)?;
+        Ok(files)
     }
 }

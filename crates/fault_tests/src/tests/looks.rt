@@ -1,12 +1,14 @@
 //! Calls that read a register of twenty keys, of which a look-up fails.
-use crate::files::{Fault, Lab, Opening, Place, Task};
-use crate::keys::{ALL, DUE, export_text, is_answered, report_text, twenty_keys};
-use crate::sending::{Came, exchanged, is_broken};
+use super::files::{DeskTask, Entry, Fault, Lab, Place};
+use super::keys::{ALL, DUE, export_text, is_answered, report_text, twenty_keys};
+use super::sending::{Came, exchanged, is_broken};
+use super::texts::IN_USE;
+use super::trials::calls_of_opening;
 use moment_core::Moment;
 use register_desk::{Desk, End, Finish, KeyRows, Outcome, Watched};
 use register_faults::Plan;
 use register_report::{export, rotation};
-use sqlite::{Alter, Connection, Files};
+use sqlite::{Alter, Files};
 use sqlite_disk::Memory;
 use std::alloc::Global;
 use std::test::Fail;
@@ -40,9 +42,6 @@ enum Seen {
 }
 
 const GET: &str = "GET /keys/7/usage HTTP/1.1\r\nHost: localhost\r\n\r\n";
-
-const IN_USE: &str =
-    "HTTP/1.1 200 OK\r\nContent-Type: application/json\r\nContent-Length: 32\r\nConnection: close\r\n\r\n{\"process\":\"yes\",\"protect\":true}";
 
 /// The texts of the register.
 #[derive(Drop)]
@@ -149,36 +148,25 @@ fn goes_on<S: Alter>(alloc: Global, desk: &mut Desk<S>, texts: &Texts, looked: L
     }
 }
 
-/// Opens the register and looks at it: what is seen, or that it is wrong what comes behind a look that was refused.
+/// Looks at the register: what is seen, or that it is wrong what comes behind a look that was refused.
 #[derive(Drop)]
 struct Looking<'a> {
     texts: &'a Texts,
     looked: Look,
 }
 
-impl Task for Looking<'_> {
+impl DeskTask for Looking<'_> {
     type Outcome = Seen;
 
-    fn perform<S: Alter + Drop>(
-        &self,
-        alloc: Global,
-        connection: Connection<S>,
-    ) -> Result<(Connection<S>, Seen), Fail> {
-        let mut desk = match Desk::open(alloc, connection) {
-            Ok(desk) => desk,
-            Err(unopened) => return Ok((unopened.connection, Seen::Wrong)),
-        };
-        let seen = look_at(alloc, &mut desk, self.texts, self.looked);
-        let is_good = seen != Seen::Refused || goes_on(alloc, &mut desk, self.texts, self.looked);
-        Ok((
-            desk.into_connection(),
-            if is_good { seen } else { Seen::Wrong },
-        ))
+    fn perform<S: Alter>(&self, alloc: Global, desk: &mut Desk<S>) -> Result<Seen, Fail> {
+        let seen = look_at(alloc, desk, self.texts, self.looked);
+        let is_good = seen != Seen::Refused || goes_on(alloc, desk, self.texts, self.looked);
+        Ok(if is_good { seen } else { Seen::Wrong })
     }
 }
 
-/// Lets each read behind the opening fail in turn. Gives how many the look was refused for, or as an error how many were
-/// before the one at which it went otherwise.
+/// Lets each read behind the opening fail in turn. Gives how many the look was refused for, or as an error how many
+/// were before the one at which it went otherwise.
 fn refusals(
     lab: Lab,
     files: &Files<Memory>,
@@ -186,19 +174,41 @@ fn refusals(
     looked: Look,
     fault: Fault,
 ) -> Result<Result<u64, u64>, Fail> {
-    let first = lab.tried(files, fault.at(MAX_READS), &Opening)?.1.calls;
+    let first = calls_of_opening(lab, files, fault)?;
+    let looking = Looking { texts, looked };
     for before in first..MAX_READS {
-        let (seen, left) = lab.tried(files, fault.at(before), &Looking { texts, looked })?;
+        let (seen, left) = lab.tried_at_desk(files, fault.at(before), Entry::Opening, &looking)?;
         match (seen, left.has_failed) {
-            (Some(Seen::Whole), false) => return Ok(Ok(before.saturating_sub(first))),
-            (Some(Seen::Refused), true) => {}
+            (Ok(Seen::Whole), false) => return Ok(Ok(before.saturating_sub(first))),
+            (Ok(Seen::Refused), true) => {}
             _ => return Ok(Err(before)),
         }
     }
     Ok(Err(MAX_READS))
 }
 
-/// The first look of which a read does not fail as it should, with the place of the file, or that none of its reads did.
+/// The first place of a file of which a read in this look does not fail as it should, or of which too few are read.
+fn place_not_refused(
+    lab: Lab,
+    files: &Files<Memory>,
+    texts: &Texts,
+    looked: &Look,
+) -> Result<Option<Place>, Fail> {
+    // What was copied into the database file is read there. The log may have nothing that a look at one key needs.
+    for (place, least) in [(Place::Log, 0), (Place::Database, 1)] {
+        let fault = Fault {
+            place,
+            plan: Plan::FailRead(0),
+        };
+        match refusals(lab, files, texts, *looked, fault)? {
+            Ok(count) if count >= least => {}
+            _ => return Ok(Some(place)),
+        }
+    }
+    Ok(None)
+}
+
+/// The first look of which a read does not fail as it should, with the place of the file.
 fn look_not_refused(lab: Lab) -> Result<Option<(Look, Place)>, Fail> {
     let files = twenty_keys(lab)?;
     let until = Moment::new(600).ok_or("no moment")?;
@@ -215,16 +225,8 @@ fn look_not_refused(lab: Lab) -> Result<Option<(Look, Place)>, Fail> {
         Look::Export,
         Look::Report,
     ] {
-        // What was copied into the database file is read there. The log may have nothing that a look at one key needs.
-        for (place, least) in [(Place::Log, 0), (Place::Database, 1)] {
-            let fault = Fault {
-                place,
-                plan: Plan::FailRead(0),
-            };
-            match refusals(lab, &files, &texts, looked, fault)? {
-                Ok(count) if count >= least => {}
-                _ => return Ok(Some((looked, place))),
-            }
+        if let Some(place) = place_not_refused(lab, &files, &texts, &looked)? {
+            return Ok(Some((looked, place)));
         }
     }
     Ok(None)

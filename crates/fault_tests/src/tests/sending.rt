@@ -1,4 +1,6 @@
 //! Requests that are sent over a register, and what it shows.
+use super::files::Entry;
+use super::texts::{Exchange, IMPORT_HEAD, joined};
 use moment_core::Moment;
 use register_core::Name;
 use register_desk::{Desk, End, Finish, Outcome, Watched, run};
@@ -8,20 +10,15 @@ use sqlite::Alter;
 use std::alloc::Global;
 use std::test::Fail;
 
-/// A request line and its reply line, each without its LF.
-pub type Exchange = (&'static str, &'static str);
-
 /// How requests are sent.
 #[derive(Clone, Copy, Debug, PartialEq, Eq)]
 pub enum Way {
-    /// They are none: a register is made.
-    Creation,
-    /// They are none: the register is opened.
-    Opening,
+    /// They are none: a register is made or opened.
+    Entry(Entry),
     /// Their lines are run.
     Lines,
-    /// A table with a row for each is imported at 100, of the caller ann, from number 1 on.
-    Table(&'static str),
+    /// These rows, one for each, are imported at 100, of the caller ann, from number 1 on.
+    Rows(&'static str),
     /// The one of them is posted at this moment, by this input, and has this reply.
     Post(u64, &'static str, &'static str),
 }
@@ -39,7 +36,8 @@ pub enum Came {
 
 /// The reply to the end 31.
 const STORE: &str =
-    "HTTP/1.1 500 Internal Server Error\r\nContent-Type: application/json\r\nContent-Length: 25\r\nConnection: close\r\n\r\n{\"end\":31,\"name\":\"Store\"}";
+    "HTTP/1.1 500 Internal Server Error\r\nContent-Type: application/json\r\nContent-Length: 25\r\n\
+    Connection: close\r\n\r\n{\"end\":31,\"name\":\"Store\"}";
 
 const AT_END: Finish = Finish::AtEnd { rest: 0 };
 
@@ -99,16 +97,17 @@ fn send_lines<S: Alter>(
     of_items(alloc, sent, outcome, writer.into_inner().as_slice())
 }
 
-/// Imports the table.
-fn send_table<S: Alter>(
+/// Imports the rows.
+fn send_rows<S: Alter>(
     alloc: Global,
     desk: &mut Desk<S>,
     sent: &[Exchange],
-    table: &str,
+    rows: &str,
 ) -> Result<Came, Fail> {
     let (Some(moment), Some(caller)) = (Moment::new(100), Name::new(b"ann")) else {
         return Ok(Came::Wrong);
     };
+    let table = joined(alloc, &[IMPORT_HEAD, rows])?;
     let mut writer = Watched::new(Vec::new(alloc));
     let outcome = import(
         alloc,
@@ -154,8 +153,8 @@ pub fn send<S: Alter>(
     way: Way,
 ) -> Result<Came, Fail> {
     match way {
-        Way::Creation | Way::Opening | Way::Lines => send_lines(alloc, desk, sent),
-        Way::Table(table) => send_table(alloc, desk, sent, table),
+        Way::Entry(_) | Way::Lines => send_lines(alloc, desk, sent),
+        Way::Rows(rows) => send_rows(alloc, desk, sent, rows),
         Way::Post(seconds, input, reply) => Ok(exchanged(alloc, desk, seconds, input, reply)),
     }
 }

@@ -1,9 +1,10 @@
 //! What is tried while calls of the files fail: something is done over a register, and what it leaves is opened again.
-use crate::files::{Fault, Lab, Left, Making, Opening, Task, no_files};
-use crate::leaving::{LEAVINGS, Leaving, Stopped};
-use crate::sending::{Came, Exchange, Way, is_broken, send};
+use super::files::{DeskTask, Entry, Fault, HONEST, Lab, Left, NoDesk, Nothing, no_files};
+use super::leaving::{LEAVINGS, Leaving, Stopped};
+use super::sending::{Came, Way, is_broken, send};
+use super::texts::Exchange;
 use register_desk::{Desk, OpenRefusal};
-use sqlite::{Alter, Connection, Files};
+use sqlite::{Alter, Files};
 use sqlite_disk::Memory;
 use std::alloc::Global;
 use std::test::Fail;
@@ -27,9 +28,9 @@ impl Trial {
     /// How many steps it takes from the register that it finds to the one that it leaves.
     fn steps(&self) -> usize {
         match self.way {
-            Way::Creation => 1,
-            Way::Opening => 0,
-            Way::Lines | Way::Table(_) | Way::Post(..) => self.sent.len(),
+            Way::Entry(Entry::Creation) => 1,
+            Way::Entry(Entry::Opening) => 0,
+            Way::Lines | Way::Rows(_) | Way::Post(..) => self.sent.len(),
         }
     }
 }
@@ -52,31 +53,20 @@ struct Made {
     rows: Vec<String>,
 }
 
-/// Opens the register and sends requests over it. A desk that was refused is broken.
+/// Sends requests. A desk that was refused is broken.
 #[derive(Drop)]
 struct Sending<'a> {
     sent: &'a [Exchange],
     way: Way,
 }
 
-impl Task for Sending<'_> {
+impl DeskTask for Sending<'_> {
     type Outcome = Came;
 
-    fn perform<S: Alter + Drop>(
-        &self,
-        alloc: Global,
-        connection: Connection<S>,
-    ) -> Result<(Connection<S>, Came), Fail> {
-        let mut desk = match Desk::open(alloc, connection) {
-            Ok(desk) => desk,
-            Err(unopened) => return Ok((unopened.connection, Came::Wrong)),
-        };
-        let came = send(alloc, &mut desk, self.sent, self.way)?;
-        let is_good = came == Came::Whole || is_broken(alloc, &mut desk);
-        Ok((
-            desk.into_connection(),
-            if is_good { came } else { Came::Wrong },
-        ))
+    fn perform<S: Alter>(&self, alloc: Global, desk: &mut Desk<S>) -> Result<Came, Fail> {
+        let came = send(alloc, desk, self.sent, self.way)?;
+        let is_good = came == Came::Whole || is_broken(alloc, desk);
+        Ok(if is_good { came } else { Came::Wrong })
     }
 }
 
@@ -86,8 +76,10 @@ struct Repeating<'a> {
     trial: &'a Trial,
 }
 
-impl Repeating<'_> {
-    fn is_told<S: Alter>(&self, alloc: Global, desk: &mut Desk<S>) -> Result<bool, Fail> {
+impl DeskTask for Repeating<'_> {
+    type Outcome = bool;
+
+    fn perform<S: Alter>(&self, alloc: Global, desk: &mut Desk<S>) -> Result<bool, Fail> {
         let trial = self.trial;
         Ok(
             send(alloc, desk, trial.sent, trial.way)? == Came::Whole
@@ -97,32 +89,13 @@ impl Repeating<'_> {
     }
 }
 
-impl Task for Repeating<'_> {
-    type Outcome = bool;
-
-    fn perform<S: Alter + Drop>(
-        &self,
-        alloc: Global,
-        connection: Connection<S>,
-    ) -> Result<(Connection<S>, bool), Fail> {
-        let mut desk = match Desk::open(alloc, connection) {
-            Ok(desk) => desk,
-            Err(unopened) => return Ok((unopened.connection, false)),
-        };
-        let is_told = self.is_told(alloc, &mut desk)?;
-        Ok((desk.into_connection(), is_told))
-    }
-}
-
 /// The files behind the requests, which are answered as they should be.
 fn files_behind(lab: Lab, files: &Files<Memory>, sent: &[Exchange]) -> Result<Files<Memory>, Fail> {
-    match lab.done(
-        files,
-        &Sending {
-            sent,
-            way: Way::Lines,
-        },
-    )? {
+    let sending = Sending {
+        sent,
+        way: Way::Lines,
+    };
+    match lab.done_at_desk(files, Entry::Opening, &sending)? {
         (Came::Whole, files) => Ok(files),
         _ => Err(Fail::from("not answered so where no call fails")),
     }
@@ -130,8 +103,7 @@ fn files_behind(lab: Lab, files: &Files<Memory>, sent: &[Exchange]) -> Result<Fi
 
 /// The files of the register with these requests.
 pub fn files_with(lab: Lab, sent: &[Exchange]) -> Result<Files<Memory>, Fail> {
-    let (_, files) = lab.done(&no_files(lab.alloc), &Making)?;
-    files_behind(lab, &files, sent)
+    files_behind(lab, &lab.new_files()?, sent)
 }
 
 /// The rows of the register, and then with each request more.
@@ -150,12 +122,12 @@ pub fn rows_by_step(lab: Lab, before: &[Exchange], sent: &[Exchange]) -> Result<
 fn rows_of_creation(lab: Lab) -> Result<Vec<String>, Fail> {
     let mut rows = Vec::new(lab.alloc);
     rows.push(String::new(lab.alloc))?;
-    rows.push(lab.rows_in(&files_with(lab, &[])?)?)?;
+    rows.push(lab.rows_in(&lab.new_files()?)?)?;
     Ok(rows)
 }
 
 fn make(lab: Lab, trial: &Trial) -> Result<Made, Fail> {
-    if trial.way == Way::Creation {
+    if trial.way == Way::Entry(Entry::Creation) {
         return Ok(Made {
             files: no_files(lab.alloc),
             rows: rows_of_creation(lab)?,
@@ -167,22 +139,26 @@ fn make(lab: Lab, trial: &Trial) -> Result<Made, Fail> {
     })
 }
 
+/// How many calls that the fault counts an opening takes.
+pub fn calls_of_opening(lab: Lab, files: &Files<Memory>, fault: Fault) -> Result<u64, Fail> {
+    let (_, left) = lab.tried_at_desk(files, fault.at(MAX_CALLS), Entry::Opening, &Nothing)?;
+    Ok(left.calls)
+}
+
 /// How many calls that the fault counts come before those of the trial.
 fn calls_before(lab: Lab, trial: &Trial, files: &Files<Memory>, fault: Fault) -> Result<u64, Fail> {
     match trial.way {
-        Way::Creation | Way::Opening => Ok(0),
-        Way::Lines | Way::Table(_) | Way::Post(..) => {
-            Ok(lab.tried(files, fault.at(MAX_CALLS), &Opening)?.1.calls)
-        }
+        Way::Entry(_) => Ok(0),
+        Way::Lines | Way::Rows(_) | Way::Post(..) => calls_of_opening(lab, files, fault),
     }
 }
 
 /// What came of an opening or a making.
-fn of_opening(outcome: Option<Option<OpenRefusal>>) -> Came {
-    match outcome {
-        Some(None) => Came::Whole,
-        None | Some(Some(OpenRefusal::Store)) => Came::Refused(0),
-        Some(Some(_)) => Came::Wrong,
+fn of_entry(entered: Result<(), NoDesk>) -> Came {
+    match entered {
+        Ok(()) => Came::Whole,
+        Err(NoDesk::NoConnection | NoDesk::Refused(OpenRefusal::Store)) => Came::Refused(0),
+        Err(NoDesk::Refused(_)) => Came::Wrong,
     }
 }
 
@@ -194,44 +170,41 @@ fn attempt(
     fault: Fault,
 ) -> Result<(Came, Left), Fail> {
     match trial.way {
-        Way::Creation => {
-            let (outcome, left) = lab.tried(files, fault, &Making)?;
-            Ok((of_opening(outcome), left))
+        Way::Entry(entry) => {
+            let (entered, left) = lab.tried_at_desk(files, fault, entry, &Nothing)?;
+            Ok((of_entry(entered), left))
         }
-        Way::Opening => {
-            let (outcome, left) = lab.tried(files, fault, &Opening)?;
-            Ok((of_opening(outcome), left))
-        }
-        Way::Lines | Way::Table(_) | Way::Post(..) => {
+        Way::Lines | Way::Rows(_) | Way::Post(..) => {
             let sending = Sending {
                 sent: trial.sent,
                 way: trial.way,
             };
-            let (outcome, left) = lab.tried(files, fault, &sending)?;
-            Ok((outcome.unwrap_or(Came::Wrong), left))
+            let (came, left) = lab.tried_at_desk(files, fault, Entry::Opening, &sending)?;
+            Ok((came.unwrap_or(Came::Wrong), left))
         }
     }
 }
 
 /// The files, with an empty register made in them where one was to be made and none is there.
 fn remade(lab: Lab, trial: &Trial, files: &Files<Memory>) -> Result<Files<Memory>, Fail> {
-    let (refusal, left) = lab.done(files, &Opening)?;
-    if trial.way == Way::Creation && refusal == Some(OpenRefusal::NotARegister) {
-        return Ok(lab.done(files, &Making)?.1);
+    let (entered, left) = lab.tried_at_desk(files, HONEST, Entry::Opening, &Nothing)?;
+    let is_none = entered == Err(NoDesk::Refused(OpenRefusal::NotARegister));
+    if is_none && trial.way == Way::Entry(Entry::Creation) {
+        return Ok(lab.done_at_desk(files, Entry::Creation, &Nothing)?.1);
     }
-    Ok(left)
+    Ok(left.files)
 }
 
 /// Whether what was tried and what made the register is answered again as it was, and has then acted once in all.
 fn acts_once(lab: Lab, trial: &Trial, made: &Made, files: &Files<Memory>) -> Result<bool, Fail> {
     let files = remade(lab, trial, files)?;
-    let (is_told, files) = lab.done(&files, &Repeating { trial })?;
+    let (is_told, files) = lab.done_at_desk(&files, Entry::Opening, &Repeating { trial })?;
     let rows = lab.rows_in(&files)?;
     Ok(is_told && made.rows.last() == Some(&rows))
 }
 
-/// Whether the files have the register with so many steps, which is `Some(false)`, or with one more, `Some(true)`; and this,
-/// opened, is as it should be.
+/// Whether the files have the register with so many steps, which is `Some(false)`, or with one more, `Some(true)`; and
+/// this, opened, is as it should be.
 fn is_ahead(
     lab: Lab,
     trial: &Trial,
@@ -271,8 +244,8 @@ fn look_at_all(
     Ok(None)
 }
 
-/// What went otherwise than it should: how the trial came out with so many calls before the first that failed, or what was
-/// left of the files.
+/// What went otherwise than it should: how the trial came out with so many calls before the first that failed, or what
+/// was left of the files.
 pub type Odd = (u64, Option<Came>, Option<Leaving>);
 
 /// What was left behind an attempt, and how many steps were answered.
@@ -301,7 +274,7 @@ fn leave_behind(
     let is_over = !left.has_failed;
     let steps = match came {
         // A count of a table that is not there may be refused.
-        Came::Whole if is_over || trial.way == Way::Creation => trial.steps(),
+        Came::Whole if is_over || trial.way == Way::Entry(Entry::Creation) => trial.steps(),
         Came::Refused(steps) if !is_over => steps,
         _ => return Ok(Err(came)),
     };
@@ -309,7 +282,8 @@ fn leave_behind(
     Ok(Ok((Behind { steps, stopped }, is_over)))
 }
 
-/// Lets each call that the fault counts, from the end of the opening on, be the first that fails, until none fails any more.
+/// Lets each call that the fault counts, from the end of the opening on, be the first that fails, until none fails any
+/// more.
 pub fn try_all(lab: Lab, trial: &Trial, fault: Fault) -> Result<Result<Count, Odd>, Fail> {
     let made = make(lab, trial)?;
     let first = calls_before(lab, trial, &made.files, fault)?;
