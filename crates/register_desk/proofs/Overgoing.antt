@@ -23,7 +23,7 @@ use Rattle.register_core.specs.declared.reply.Reply.{Reply}
 use Rattle.register_core.specs.declared.reply.Refusal.TheVariants.{RequestReused}
 use Rattle.register_core.specs.declared.request.Request.{Request}
 use Rattle.register_core.specs.declared.view.Held.{Held}
-use Rattle.register_core.specs.Decision.{change_by, change_of}
+use Rattle.register_core.specs.Decision.{change_by, change_of, reply_to}
 use Rattle.register_core.specs.KeptReply.{kept_with, IsKeptReply}
 use Rattle.register_core.specs.Subject.{Subject, Makes, Names, NoKey, subject}
 use Rattle.register_core.specs.Verdict.{answer_by, Repeats, Refuses}
@@ -96,7 +96,8 @@ module _ {S : Type 0} (g : store.Ghosts S) (old new : Desk S g) (t : Tables) (q 
     (made : Change) (given : Reply)
     (whole : old.is_broken ≡ false) (over : IsOver g old t) (in_range : IsKeptReply (kept_with q given))
     (at : given.moment ≡ q.moment)
-    (is : made ≡ change_by key q) where
+    (is : made ≡ change_by key q)
+    (told : given ≡ reply_to old.keys q.moment made) where
   abbrev after : Tables
   after = with_request (length t.keys) made (kept_with q given) t
 
@@ -121,8 +122,10 @@ module _ {S : Type 0} (g : store.Ghosts S) (old new : Desk S g) (t : Tables) (q 
       → OnOk r (IsOverWithRequest g t q given new)
   over_request (Err e) written settled moment counted = tt
   over_request (Ok x) written settled moment counted = record {
+    key = key;
     change = made;
-    at = at;
+    decided = is;
+    told = told ∙ ap (λ (n : ℕ). reply_to n q.moment made) (sym over.counted);
     over = record {
       latest_is = moment;
       keys_are = counted ∙ ap (λ (n : ℕ). n + made_count made) (sym over.counted);

@@ -1,5 +1,5 @@
 //! A register in memory.
-ghost use Rattle.std.specs.Prelude.{List, [], IfOk};
+ghost use Rattle.std.specs.Prelude.{◌≡◌, ◌⊎◌, List, [], IfOk, IfErr};
 ghost use Rattle.sqlite.specs.Steps.{over_memory};
 ghost use Rattle.register_desk.specs.Register.{StandsFor};
 
@@ -11,9 +11,10 @@ use std::alloc::Global;
 /// Makes an empty register in memory.
 ///
 /// # Errors
-/// [`OpenRefusal::Memory`] where memory gave out before the database was there; else as [`Desk::create`].
+/// [`OpenRefusal::Memory`] where memory gave out before the database was there; [`OpenRefusal::Store`] behind it.
 pub fn create_in_memory(alloc: Global) -> Result<Desk<MemStore>, OpenRefusal>
-    ensures { IfOk result (λ desk. StandsFor over_memory desk []) }
+    ensures stands { IfOk result (λ desk. StandsFor over_memory desk []) }
+    ensures refused { IfErr result (λ refusal. (refusal ≡ OpenRefusal.Memory) ⊎ (refusal ≡ OpenRefusal.Store)) }
 {
     let connection = match Connection::open_in_memory(alloc) {
         Ok(connection) => connection,
@@ -21,6 +22,7 @@ pub fn create_in_memory(alloc: Global) -> Result<Desk<MemStore>, OpenRefusal>
     };
     match Desk::create(alloc, connection) {
         Ok(desk) => Ok(desk),
-        Err(unopened) => Err(unopened.refusal),
+        // A new database has no table of a register, so nothing else is to blame.
+        Err(_) => Err(OpenRefusal::Store),
     }
 }

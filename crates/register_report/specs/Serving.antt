@@ -33,11 +33,19 @@ ExplainsEnd remaining start reader Broken = ⊥
 ExplainsEnd remaining start reader WriteFault = ⊥
 ExplainsEnd remaining start reader BadHeader = ⊥
 
--- why the rows that were read ended before the input did: as many were answered as an import answers at most, or the
--- next was none that can be read
+-- a further row was read
+pub record HasFurther {R : Type 0} (remaining : R → Option (List ℕ)) : Type 0 where
+  pub start : Reader R
+  pub last : Reader R
+  pub fields : Row
+  pub read : ReadRecord remaining start last true fields
+
+-- why the rows that were read ended before the input did: a row came behind as many as an import answers, or the next
+-- was none that can be read
 abbrev pub EndsReading : {R : Type 0} → (R → Option (List ℕ)) → ℕ → Type 0
 EndsReading {R} remaining replies =
-    (replies ≡ max_rows) ⊎ ((start : Reader R) × (last : Reader R) × ExplainsEnd remaining start last ReadFault)
+    ((replies ≡ max_rows) × HasFurther remaining)
+    ⊎ ((start : Reader R) × (last : Reader R) × ExplainsEnd remaining start last ReadFault)
 
 -- why no header row was read: no record could be read, or there was none, or another one
 abbrev pub ExplainsNoHeader : {R : Type 0} → (R → Option (List ℕ)) → Reader R → Reader R → End

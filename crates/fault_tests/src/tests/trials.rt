@@ -1,6 +1,6 @@
 //! What is tried while calls of the files fail: something is done over a register, and what it leaves is opened again.
 use super::files::{DeskTask, Entry, Fault, HONEST, Lab, Left, NoDesk, Nothing, no_files};
-use super::leaving::{LEAVINGS, Leaving, Stopped};
+use super::leaving::{LEAVINGS, Leaving, Stopped, are_same};
 use super::sending::{Came, Way, is_broken, send};
 use super::texts::Exchange;
 use register_desk::{Desk, OpenRefusal};
@@ -40,7 +40,7 @@ impl Trial {
 pub struct Count {
     /// The calls that were the first to fail.
     pub faults: u64,
-    /// What the files were left with, in all.
+    /// What the files were left with, each content once behind as many answers.
     pub left: u64,
     /// Among them those that had the register with one step more than was answered.
     pub ahead: u64,
@@ -185,20 +185,27 @@ fn attempt(
     }
 }
 
-/// The files, with an empty register made in them where one was to be made and none is there.
-fn remade(lab: Lab, trial: &Trial, files: &Files<Memory>) -> Result<Files<Memory>, Fail> {
-    let (entered, left) = lab.tried_at_desk(files, HONEST, Entry::Opening, &Nothing)?;
-    let is_none = entered == Err(NoDesk::Refused(OpenRefusal::NotARegister));
-    if is_none && trial.way == Way::Entry(Entry::Creation) {
-        return Ok(lab.done_at_desk(files, Entry::Creation, &Nothing)?.1);
+/// Sends all again over the register in the files, which is made where one was to be made and none is there. Whether it
+/// is answered as it was, and the files.
+fn repeated(
+    lab: Lab,
+    trial: &Trial,
+    files: &Files<Memory>,
+) -> Result<(bool, Files<Memory>), Fail> {
+    let repeating = Repeating { trial };
+    let (reached, left) = lab.tried_at_desk(files, HONEST, Entry::Opening, &repeating)?;
+    match (reached, trial.way) {
+        (Ok(is_told), _) => Ok((is_told, left.files)),
+        (Err(NoDesk::Refused(OpenRefusal::NotARegister)), Way::Entry(Entry::Creation)) => {
+            lab.done_at_desk(&left.files, Entry::Creation, &repeating)
+        }
+        _ => Ok((false, left.files)),
     }
-    Ok(left.files)
 }
 
 /// Whether what was tried and what made the register is answered again as it was, and has then acted once in all.
 fn acts_once(lab: Lab, trial: &Trial, made: &Made, files: &Files<Memory>) -> Result<bool, Fail> {
-    let files = remade(lab, trial, files)?;
-    let (is_told, files) = lab.done_at_desk(&files, Entry::Opening, &Repeating { trial })?;
+    let (is_told, files) = repeated(lab, trial, files)?;
     let rows = lab.rows_in(&files)?;
     Ok(is_told && made.rows.last() == Some(&rows))
 }
@@ -222,23 +229,54 @@ fn is_ahead(
     }
 }
 
+/// What was left behind an attempt, and how many steps were answered.
+#[derive(Drop)]
+struct Behind {
+    steps: usize,
+    stopped: Stopped,
+}
+
+/// The contents that were looked at behind so many steps. Each is looked at once.
+#[derive(Drop)]
+struct Looked {
+    steps: usize,
+    contents: Vec<Files<Memory>>,
+}
+
+impl Looked {
+    fn new(alloc: Global, steps: usize) -> Looked {
+        Looked {
+            steps,
+            contents: Vec::new(alloc),
+        }
+    }
+
+    fn has(&self, files: &Files<Memory>) -> bool {
+        self.contents.iter().any(|content| are_same(content, files))
+    }
+}
+
 /// Looks at all that may be left of the files. Gives the first that is not as it should be.
 fn look_at_all(
     lab: Lab,
     trial: &Trial,
     made: &Made,
-    stopped: &Stopped,
-    steps: usize,
+    behind: &Behind,
+    looked: &mut Looked,
     count: &mut Count,
 ) -> Result<Option<Leaving>, Fail> {
+    if looked.steps != behind.steps {
+        *looked = Looked::new(lab.alloc, behind.steps);
+    }
     for leaving in &LEAVINGS {
-        if *leaving == Leaving::All || !stopped.is_synced() {
-            let files = stopped.left(lab.alloc, *leaving)?;
-            let Some(is_ahead) = is_ahead(lab, trial, made, &files, steps)? else {
+        let files = behind.stopped.left(lab.alloc, *leaving)?;
+        if !looked.has(&files) {
+            let Some(is_ahead) = is_ahead(lab, trial, made, &files, behind.steps)? else {
                 return Ok(Some(*leaving));
             };
             count.left = count.left.saturating_add(1);
             count.ahead = count.ahead.saturating_add(is_ahead as u64);
+            looked.contents.push(files)?;
         }
     }
     Ok(None)
@@ -247,13 +285,6 @@ fn look_at_all(
 /// What went otherwise than it should: how the trial came out with so many calls before the first that failed, or what
 /// was left of the files.
 pub type Odd = (u64, Option<Came>, Option<Leaving>);
-
-/// What was left behind an attempt, and how many steps were answered.
-#[derive(Drop)]
-struct Behind {
-    steps: usize,
-    stopped: Stopped,
-}
 
 /// Whether the last attempt left the same.
 fn is_seen(last: &Option<Behind>, behind: &Behind) -> bool {
@@ -292,6 +323,7 @@ pub fn try_all(lab: Lab, trial: &Trial, fault: Fault) -> Result<Result<Count, Od
         left: 0,
         ahead: 0,
     };
+    let mut looked = Looked::new(lab.alloc, 0);
     let mut last = None;
     for before in first..MAX_CALLS {
         let (behind, is_over) = match leave_behind(lab, trial, &made, fault.at(before))? {
@@ -299,7 +331,7 @@ pub fn try_all(lab: Lab, trial: &Trial, fault: Fault) -> Result<Result<Count, Od
             Err(came) => return Ok(Err((before, Some(came), None))),
         };
         if !is_seen(&last, &behind) {
-            let odd = look_at_all(lab, trial, &made, &behind.stopped, behind.steps, &mut count)?;
+            let odd = look_at_all(lab, trial, &made, &behind, &mut looked, &mut count)?;
             if odd.is_some() {
                 return Ok(Err((before, None, odd)));
             }

@@ -7,6 +7,6 @@ pub returns : goal.returns
 returns g c bytes items rest known cut = record {
   desk = c.run.new.desk;
   replies = c.run.result.replies;
-  over = c.run.ensures.agrees [] bytes items rest c.in_ok-desk.ensures
+  over = c.run.ensures.agrees [] bytes items rest c.in_ok-desk.ensures.stands
       (memory_is_clean (connection_of c.run.new.desk)) (rw c.new-reader.ensures known) cut;
 }

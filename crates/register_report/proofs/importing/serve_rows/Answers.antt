@@ -1,4 +1,4 @@
-use Rattle.std.proofs.Common.{◌≡◌, ◌∙◌, ap, arith, inr, refl, subst}
+use Rattle.std.proofs.Common.{◌≡◌, ◌∙◌, ap, arith, inl, inr, refl, subst}
 use Rattle.register_report.specs.Serving.{ExplainsEnd}
 use Rattle.csv.specs.Records.{fields_of}
 use Rattle.register_desk.specs.declared.end.End.{End}
@@ -75,6 +75,20 @@ pub returns-then-replies-eq-MAX_ROWS-clause-desk : goal.returns-then-replies-eq-
 returns-then-replies-eq-MAX_ROWS-clause-desk g c =
     leaves_going g.S.Store c.args.desk.now c.loop-row.desk (Ended ReadFault) (λ is. cc) (λ is. cc)
     c.loop-row.invariant.goes_on
+
+pub returns-then-replies-eq-MAX_ROWS-clause-cause
+    : goal.returns-then-replies-eq-MAX_ROWS-clause-cause
+returns-then-replies-eq-MAX_ROWS-clause-cause g c is =
+    let row = rw c.in-Ok-true.field-0-test at c.in-Ok-true.ensures.reads in
+    inl (
+      c.if-replies-eq-MAX_ROWS.true,
+      record {
+        start = c.loop-row.reader;
+        last = c.next_row.new.reader;
+        fields = fields_of c.next_row.new.row;
+        read = row;
+      },
+    )
 
 -- ---- a row whose item ended it
 
