@@ -10,8 +10,8 @@ use lifecycle_core::{Row, State, state_of};
 use moment_core::Moment;
 use period_core::KeyType;
 use register_core::{
-    Command, Held, Name, Names, Purpose, Refusal, Reply, Request, View, command_text, given_dates,
-    plain, read_command, read_request, reply_line,
+    Command, Held, MIN_APPROVALS, Name, Names, Purpose, Refusal, Reply, Request, View,
+    command_text, given_dates, plain, read_command, read_request, reply_line,
 };
 use std::alloc::{AllocError, Global};
 use std::fmt;
@@ -239,6 +239,7 @@ fn is_answer(alloc: Global, line: &str, expected: &Result<State, Refusal>) -> bo
         kind: KeyType::DataEncryption,
         owner,
         row: Row { dates, state },
+        need: MIN_APPROVALS,
         custodians: Names::from_vec(Vec::new(alloc)),
         approvals: Names::from_vec(Vec::new(alloc)),
     };

@@ -15,9 +15,9 @@ use Rattle.register_core.specs.Names.{sorted_names}
 use Rattle.register_core.specs.History.{count, type, dates}
 use Rattle.register_core.specs.Subject.{named}
 use Rattle.register_core.specs.Effect.{given_dates, edited_dates, compromised, deactivated, dates_after, custody_change}
-use Rattle.register_core.specs.Custody.{all_custodians, all_approvals, approvals}
+use Rattle.register_core.specs.Custody.{all_custodians, all_approvals, approvals, min_approvals}
 use Rattle.register_core.specs.Verdict.{judgement}
-use Rattle.register_core.specs.CustodyRefusal.{approvals_missing, min_approvals}
+use Rattle.register_core.specs.CustodyRefusal.{approvals_missing}
 use Rattle.register_core.specs.Fold.{IsLawful}
 use Rattle.register_core.specs.Laws.{IsAccepted, HasKey}
 use Rattle.register_core.specs.Decision.{approvals_by}

@@ -18,7 +18,8 @@ use Rattle.register_core.specs.KeyName.{KeyName, key_name, is_key_name, is_at, n
 use Rattle.register_core.specs.Names.{sorted_names}
 use Rattle.register_core.specs.History.{count, dates}
 use Rattle.register_core.specs.Custody.{all_custodians, all_approvals, approvals}
-use Rattle.register_core.specs.Verdict.{is_for, judgement}
+use Rattle.register_core.specs.CommandRule.{is_for}
+use Rattle.register_core.specs.Verdict.{judgement}
 use Rattle.register_core.specs.Subject.{named_by, is_key, named}
 use Rattle.register_core.specs.Decision.{custodians_by, approvals_by}
 use Rattle.register_core.specs.Effect.{custody_change}

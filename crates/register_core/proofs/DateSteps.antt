@@ -3,7 +3,7 @@ use Rattle.std.proofs.Common.{◌≡◌, ℕ, ◌≤◌, Bool, true, false, not,
 use Rattle.std.specs.Prelude.{min, is_some}
 use Rattle.std.proofs.lemmas.Bool.{le-leb, leb-true, leb-false, and_parts, and_from, cases_lt}
 use Rattle.lifecycle_core.specs.declared.state.State.{State}
-use Rattle.lifecycle_core.specs.declared.state.State.TheVariants.{PreActive, Active, Deactivated, Destroyed}
+use Rattle.lifecycle_core.specs.declared.state.State.TheVariants.{PreActive, Active}
 use Rattle.lifecycle_core.specs.declared.dates.Dates.{Dates}
 use Rattle.lifecycle_core.specs.State.{state_at, is_reached_at}
 use Rattle.lifecycle_core.specs.Reason.{is_compromise}
@@ -18,7 +18,8 @@ use Rattle.register_core.specs.declared.request.Edit.{Edit}
 use Rattle.register_core.specs.declared.request.Edit.TheVariants.{Keep, Clear, Set}
 use Rattle.register_core.specs.declared.view.Held.{Held}
 use Rattle.register_core.specs.Effect.{edited, edited_dates, no_later_than, compromised, deactivated, dates_after}
-use Rattle.register_core.specs.Verdict.{is_one_of, is_for, is_kept, frozen, unfit}
+use Rattle.register_core.specs.CommandRule.{before_compromise, is_one_of, is_for}
+use Rattle.register_core.specs.Verdict.{is_kept, frozen, unfit}
 use Rattle.register_core.specs.Subject.{named}
 use Rattle.register_core.specs.Laws.{MovesOnly}
 use Rattle.register_core.proofs.CustodyLeads.{not_refused}
@@ -248,7 +249,7 @@ same_step : (kind : KeyType) (d : Dates) (t : ℕ) → IsSound kind d → Steps 
 same_step kind d t sound = record { sound = sound; moves = nothing_moves d t }
 
 revoked : (kind : KeyType) (d : Dates) (t : ℕ) (b : Bool) (occurrence : Option ℕ) → IsSound kind d
-    → cond b (is_one_of (PreActive ∷ Active ∷ Deactivated ∷ Destroyed ∷ []) (state_at d t)) (is_one_of (Active ∷ []) (state_at d t)) ≡ true
+    → is_one_of (cond b before_compromise (Active ∷ [])) (state_at d t) ≡ true
     → Steps kind d t (cond b (compromised t occurrence d) (deactivated t d))
 revoked kind d t true occurrence sound fits_state =
     let none = not_compromised (state_at d t) d t (shows d t) fits_state in

@@ -20,7 +20,7 @@ use Rattle.register_core.specs.History.{latest, count, type, dates, owner}
 use Rattle.register_core.specs.Subject.{Registration, Subject, Makes, Names, NoKey, subject, named_by, key_by, count_by, key_of, made_by, named}
 use Rattle.register_core.proofs.Subjects.{is_named}
 use Rattle.register_core.specs.Effect.{given_dates, dates_after, owner_after, row_at}
-use Rattle.register_core.specs.Custody.{custodians, approvals, held}
+use Rattle.register_core.specs.Custody.{custodians, approvals, min_approvals, need, held}
 use Rattle.register_core.specs.KeptReply.{reply}
 use Rattle.register_core.specs.Verdict.{unknown, judge, named_key}
 use Rattle.register_core.specs.CustodyRefusal.{already_custodian, already_approved}
@@ -33,7 +33,14 @@ use Rattle.register_core.proofs.CustodyLeads.{not_refused, IsNew, nobody_changes
 
 -- key k as it stands, where it is a key
 abbrev pub standing : List Request → ℕ → Held
-standing h k = record { kind = type h k; owner = owner h k; row = row_at (dates h k) (latest h); custodians = custodians h k; approvals = approvals h k }
+standing h k = record {
+  kind = type h k;
+  owner = owner h k;
+  row = row_at (dates h k) (latest h);
+  need = need h k;
+  custodians = custodians h k;
+  approvals = approvals h k;
+}
 
 abbrev pub is_there : List Request → ℕ → Bool
 is_there h k = nat_le 1 k && nat_le k (count h)
@@ -43,11 +50,11 @@ there h k low high = ap (λ (b : Bool). b && nat_le k (count h)) (le-leb 1 k low
 
 module _ (cs approving : List (List ℕ)) where
   abbrev assembled : Bool → KeyType → List ℕ → Dates → ℕ → Option Held
-  assembled is kind by d t = cond is (Some (record { kind = kind; owner = by; row = row_at d t; custodians = cs; approvals = approving })) None
+  assembled is kind by d t = cond is (Some (record { kind = kind; owner = by; row = row_at d t; need = min_approvals; custodians = cs; approvals = approving })) None
 
   assembled_same : (is : Bool) (kind other_kind : KeyType) (by other_by : List ℕ) (d other_dates : Dates) (t other_t : ℕ) →
       is ≡ true → kind ≡ other_kind → by ≡ other_by → d ≡ other_dates → t ≡ other_t →
-      assembled is kind by d t ≡ Some (record { kind = other_kind; owner = other_by; row = row_at other_dates other_t; custodians = cs; approvals = approving })
+      assembled is kind by d t ≡ Some (record { kind = other_kind; owner = other_by; row = row_at other_dates other_t; need = min_approvals; custodians = cs; approvals = approving })
   assembled_same is kind other_kind by other_by d other_dates t other_t e1 e2 e3 e4 e5 =
       ap (λ (b : Bool). assembled b kind by d t) e1
       ∙ ap (λ (x : KeyType). assembled true x by d t) e2

@@ -9,7 +9,7 @@ use Rattle.register_core.specs.declared.request.Request.{Request}
 use Rattle.register_core.specs.Name.{is_among}
 use Rattle.register_core.specs.KeyName.{names_at}
 use Rattle.register_core.specs.Custody.{all_approvals, custodians, approvals}
-use Rattle.register_core.specs.CustodyRefusal.{max_custodians}
+use Rattle.register_core.specs.Version.{max_custodians}
 use Rattle.register_core.specs.Laws.{AreDifferent}
 use Rattle.register_core.specs.Fold.{IsLawful}
 use Rattle.register_core.proofs.CustodyOnce.{different}

@@ -16,7 +16,8 @@ use Rattle.register_core.specs.Subject.{made_by}
 use Rattle.register_core.specs.Effect.{custody_change}
 use Rattle.register_core.specs.Custody.{all_custodians, custodians}
 use Rattle.register_core.specs.Verdict.{max_keys, too_many, named_key, judgement}
-use Rattle.register_core.specs.CustodyRefusal.{max_custodians, too_many_custodians}
+use Rattle.register_core.specs.CustodyRefusal.{too_many_custodians}
+use Rattle.register_core.specs.Version.{max_custodians}
 use Rattle.register_core.specs.Decision.{custodians_by}
 use Rattle.register_core.specs.Fold.{IsLawful}
 use Rattle.register_core.proofs.Histories.{count_grows}

@@ -1,18 +1,24 @@
 -- A decision on what a request needs of its key is the decision on that key as it stands.
-use Rattle.std.proofs.Common.{◌≡◌, ℕ, nat_lt, Bool, true, false, cond, List, ◌∷◌, Option, None, Some, refl, sym, ap, subst, ◌∙◌}
+use Rattle.std.proofs.Common.{◌≡◌, ℕ, nat_lt, Bool, true, false, not, ◌&&◌, cond, List, ◌∷◌, Option, None, Some, refl, sym, ap}
+use Rattle.std.proofs.Common.{subst, ◌∙◌}
 use Rattle.std.specs.Option.{option_map}
+use Rattle.lifecycle_core.specs.declared.reason.Reason.{Reason}
+use Rattle.lifecycle_core.specs.Reason.{is_compromise}
 use Rattle.period_core.specs.Fitting.{first_that_holds}
+use Rattle.register_core.specs.declared.command_rule.Giver.TheVariants.{Anybody, Owner}
 use Rattle.register_core.specs.declared.request.Request.{Request}
 use Rattle.register_core.specs.declared.request.Command.{Command}
-use Rattle.register_core.specs.declared.request.Command.TheVariants.{Assign, AddCustodian, RemoveCustodian, Approve, Withdraw, Destroy}
+use Rattle.register_core.specs.declared.request.Command.TheVariants.{Approve, Revoke}
 use Rattle.register_core.specs.declared.reply.Refusal.{Refusal}
-use Rattle.register_core.specs.declared.reply.Refusal.TheVariants.{MomentBehind}
+use Rattle.register_core.specs.declared.reply.Refusal.TheVariants.{MomentBehind, NotCustodian}
 use Rattle.register_core.specs.declared.view.Held.{Held}
 use Rattle.register_core.specs.declared.view.View.{View}
 use Rattle.register_core.specs.declared.change.Change.{Change}
 use Rattle.register_core.specs.History.{latest, count}
 use Rattle.register_core.specs.Subject.{Subject, Makes, Names, NoKey, subject}
 use Rattle.register_core.specs.KeptReply.{reply}
+use Rattle.register_core.specs.Name.{is_among}
+use Rattle.register_core.specs.CommandRule.{is_for_custodian}
 use Rattle.register_core.specs.CustodyRefusal.{refused_custody}
 use Rattle.register_core.specs.Verdict.{not_custodian, judge, judgement, named_key}
 use Rattle.register_core.specs.Decision.{change_of, change_by, reply_to, LeadsTo}
@@ -21,21 +27,28 @@ use Rattle.register_core.proofs.Decisions.{accepted_agrees}
 
 -- ---- the lists that a command does not look at
 
+-- no revocation is a custodian's, whatever its reason
+revoked_so : (held : Held) (caller : List ℕ) (key : ℕ) (reason : Reason) (occurrence : Option ℕ)
+    → not_custodian (Some held) caller (Revoke key reason occurrence) ≡ None
+revoked_so held caller key reason occurrence = by (is_compromise reason)
+  where
+    by : (b : Bool) → cond (is_for_custodian (cond b Anybody Owner) && not (is_among caller held.custodians))
+        (Some NotCustodian) None ≡ None
+    by true = refl
+    by false = refl
+
 -- two refusals look at the lists: that of who approves or withdraws, and those of custody
 custodian_so : (held : Held) (caller : List ℕ) (c : Command) →
     not_custodian (Some (needed_of c held)) caller c ≡ not_custodian (Some held) caller c
 custodian_so held caller (Approve key) = refl
-custodian_so held caller (Withdraw key) = refl
+custodian_so held caller (Revoke key reason occurrence) =
+    revoked_so (needed_of (Revoke key reason occurrence) held) caller key reason occurrence
+    ∙ sym (revoked_so held caller key reason occurrence)
 custodian_so held caller c = refl
 
 custody_so : (held : Held) (caller : List ℕ) (c : Command) →
     refused_custody (Some (needed_of c held)) caller c ≡ refused_custody (Some held) caller c
-custody_so held caller (Assign key owner) = refl
-custody_so held caller (AddCustodian key name) = refl
-custody_so held caller (RemoveCustodian key name) = refl
 custody_so held caller (Approve key) = refl
-custody_so held caller (Withdraw key) = refl
-custody_so held caller (Destroy key) = refl
 custody_so held caller c = refl
 
 -- every other refusal reads the same of the key either way

@@ -10,7 +10,8 @@ use Rattle.register_core.specs.declared.view.Held.{Held}
 use Rattle.register_core.specs.History.{latest, count, dates}
 use Rattle.register_core.specs.Subject.{Registration, Subject, Makes, Names, NoKey, subject, named_by, key_by, count_by, key_of, is_key, named}
 use Rattle.register_core.specs.Custody.{held}
-use Rattle.register_core.specs.Verdict.{not_custodian, is_for, frozen, unfit, occurs_later, judge, named_key, judgement}
+use Rattle.register_core.specs.CommandRule.{is_for}
+use Rattle.register_core.specs.Verdict.{not_custodian, frozen, unfit, occurs_later, judge, named_key, judgement}
 use Rattle.register_core.specs.CustodyRefusal.{too_many_custodians, owner_custodian, approvals_missing}
 use Rattle.register_core.proofs.Histories.{count_grows}
 use Rattle.register_core.proofs.CustodyLeads.{not_refused, IsNew}

@@ -14,7 +14,7 @@ use Rattle.register_core.specs.declared.request.Command.{Command}
 use Rattle.register_core.specs.declared.request.Command.TheVariants.{Register as Registers, Activate, SetDates, Revoke, Destroy}
 use Rattle.register_core.specs.declared.request.Edit.{Edit}
 use Rattle.register_core.specs.Effect.{edited_dates, compromised, deactivated, dates_after}
-use Rattle.register_core.specs.Verdict.{is_one_of, is_for}
+use Rattle.register_core.specs.CommandRule.{before_compromise, is_one_of, is_for}
 use Rattle.register_core.specs.Subject.{named}
 use Rattle.register_core.specs.Laws.{MovesOnly}
 use Rattle.register_core.proofs.Dating.{filled_keeps, trimmed_keeps}
@@ -129,7 +129,7 @@ destroyed_by Destroyed d t h e = absurd cc
 destroyed_by DestroyedCompromised d t h e = absurd cc
 
 revoked_path : (d : Dates) (t : ℕ) (b : Bool) (occurrence : Option ℕ)
-    → cond b (is_one_of (PreActive ∷ Active ∷ Deactivated ∷ Destroyed ∷ []) (state_at d t)) (is_one_of (Active ∷ []) (state_at d t)) ≡ true
+    → is_one_of (cond b before_compromise (Active ∷ [])) (state_at d t) ≡ true
     → Goes d t (cond b (compromised t occurrence d) (deactivated t d))
 revoked_path d t true occurrence fits_state = compromised_by (state_at d t) d t occurrence (shows d t) fits_state
 revoked_path d t false occurrence fits_state = deactivated_path d t (is_active (state_at d t) fits_state)

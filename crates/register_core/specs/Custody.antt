@@ -75,9 +75,17 @@ approvals_from before (q ∷ later) = approval_of before q later ++ approvals_fr
 abbrev pub all_approvals : List Request → List (KeyName)
 all_approvals h = approvals_from [] h
 
+-- how many approvals the destruction of a key needs
+abbrev pub min_approvals : ℕ
+min_approvals = 2
+
 -- those whose approval of the destruction of key k stands, in order of their bytes
 abbrev pub approvals : List Request → ℕ → List (List ℕ)
 approvals h k = sorted_names (names_at k (all_approvals h))
+
+-- how many approvals the destruction of key k needs (own)
+abbrev pub need : List Request → ℕ → ℕ
+need h k = min_approvals
 
 -- ---- a key as it stands
 
@@ -89,6 +97,7 @@ held h k =
       kind = type h k;
       owner = owner h k;
       row = record { dates = dates h k; state = state_at (dates h k) (latest h) };
+      need = need h k;
       custodians = custodians h k;
       approvals = approvals h k;
     })

@@ -8,6 +8,7 @@ use Rattle.register_core.specs.declared.view.Held.{Held}
 use Rattle.register_core.specs.declared.reply.Refusal.{Refusal}
 use Rattle.register_core.specs.declared.reply.Refusal.TheVariants.{AlreadyCustodian, NoSuchCustodian, TooManyCustodians, OwnerCustodian, AlreadyApproved, NoApproval, ApprovalsMissing}
 use Rattle.register_core.specs.Name.{is_among}
+use Rattle.register_core.specs.Version.{max_custodians}
 
 -- the name to add is a custodian of the key already
 abbrev pub already_custodian : Option Held → Command → Option Refusal
@@ -19,11 +20,7 @@ abbrev pub no_such_custodian : Option Held → Command → Option Refusal
 no_such_custodian (Some held) (RemoveCustodian key name) = if is_among name held.custodians then None else Some NoSuchCustodian
 no_such_custodian _ _ = None
 
--- how many custodians a key may have
-abbrev pub max_custodians : ℕ
-max_custodians = 8
-
--- the key has that many
+-- the key has as many custodians as it may have
 abbrev pub too_many_custodians : Option Held → Command → Option Refusal
 too_many_custodians (Some held) (AddCustodian key name) = if nat_le max_custodians (length held.custodians) then Some TooManyCustodians else None
 too_many_custodians _ _ = None
@@ -44,14 +41,10 @@ abbrev pub no_approval : Option Held → List ℕ → Command → Option Refusal
 no_approval (Some held) caller (Withdraw key) = if is_among caller held.approvals then None else Some NoApproval
 no_approval _ caller _ = None
 
--- how many approvals the destruction of a key needs
-abbrev pub min_approvals : ℕ
-min_approvals = 2
-
--- fewer approvals stand
+-- fewer approvals stand than the destruction of the key needs
 abbrev pub approvals_missing : Option Held → Command → Option Refusal
 approvals_missing (Some held) (Destroy key) =
-    let have = length held.approvals in if nat_lt have min_approvals then Some (ApprovalsMissing have min_approvals) else None
+    let have = length held.approvals in if nat_lt have held.need then Some (ApprovalsMissing have held.need) else None
 approvals_missing _ _ = None
 
 -- each of these refusals, in order, where its condition holds

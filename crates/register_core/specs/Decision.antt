@@ -14,7 +14,7 @@ use Rattle.register_core.specs.declared.change.CustodyChange.TheVariants.{Kept, 
 use Rattle.register_core.specs.declared.change.Change.{Change}
 use Rattle.register_core.specs.declared.change.Change.TheVariants as change
 use Rattle.register_core.specs.History.{latest, count, type}
-use Rattle.register_core.specs.Custody.{all_custodians, custodians, all_approvals, approvals, held}
+use Rattle.register_core.specs.Custody.{all_custodians, custodians, all_approvals, approvals, need, held}
 use Rattle.register_core.specs.declared.key.Key.{Key}
 use Rattle.register_core.specs.Verdict.{named_key}
 use Rattle.register_core.specs.Subject.{Registration, Subject, Makes, Names, NoKey, subject}
@@ -90,7 +90,14 @@ pub record CustodyLead (h : List Request) (q : Request) (key : ℕ) (custody : C
 
 -- key k stands so in the history, with the custody that it has there
 abbrev pub Stands : List Request → ℕ → KeyType → List ℕ → Row → Type 0
-Stands h k kind owner row = held h k ≡ Some (record { kind = kind; owner = owner; row = row; custodians = custodians h k; approvals = approvals h k })
+Stands h k kind owner row = held h k ≡ Some (record {
+  kind = kind;
+  owner = owner;
+  row = row;
+  need = need h k;
+  custodians = custodians h k;
+  approvals = approvals h k;
+})
 
 -- The key that the change is of stands as the change says, once the request is at the end of this history. Its custodians
 -- and approvals are those that the change leaves; at no other key does anybody come or go.

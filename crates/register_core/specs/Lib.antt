@@ -1,3 +1,4 @@
+pub mod Version
 pub mod Text
 pub mod Name
 pub mod Names
@@ -7,6 +8,7 @@ pub mod Purpose
 pub mod Reply
 pub mod Answer
 pub mod Request
+pub mod CommandRule
 pub mod CommandText
 pub mod Subject
 pub mod Effect

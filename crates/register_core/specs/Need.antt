@@ -1,23 +1,13 @@
 -- What a request needs of the register: of the key that it names, no more than its decision looks at.
-use Rattle.std.specs.Prelude.{◌≡◌, nat_lt, Bool, true, false, List, [], Option, None, if◌then◌else◌}
+use Rattle.std.specs.Prelude.{◌≡◌, nat_lt, List, [], Option, None, if◌then◌else◌}
 use Rattle.std.specs.Option.{option_map}
 use Rattle.register_core.specs.declared.request.Request.{Request}
 use Rattle.register_core.specs.declared.request.Command.{Command}
-use Rattle.register_core.specs.declared.request.Command.TheVariants.{Assign, AddCustodian, RemoveCustodian, Approve, Withdraw, Destroy}
 use Rattle.register_core.specs.declared.view.Held.{Held}
 use Rattle.register_core.specs.declared.view.View.{View}
 use Rattle.register_core.specs.History.{latest, count}
+use Rattle.register_core.specs.CommandRule.{looks_at_custody}
 use Rattle.register_core.specs.Verdict.{named_key}
-
--- a decision on the command looks at the key's custodians, or at the approvals of its destruction
-abbrev pub looks_at_custody : Command → Bool
-looks_at_custody (Assign key owner) = true
-looks_at_custody (AddCustodian key name) = true
-looks_at_custody (RemoveCustodian key name) = true
-looks_at_custody (Approve key) = true
-looks_at_custody (Withdraw key) = true
-looks_at_custody (Destroy key) = true
-looks_at_custody _ = false
 
 -- the key, with both lists left empty where the command looks at neither
 abbrev pub needed_of : Command → Held → Held

@@ -1,15 +1,12 @@
 -- What a request comes to behind a history: it is accepted, it repeats one that was, or it is refused.
-use Rattle.std.specs.Prelude.{ℕ, ◌==◌, nat_lt, nat_le, Bool, true, false, not, ◌&&◌, ◌||◌, List, [], ◌∷◌, Option, None, Some, is_some, Result, Ok, Err, if◌then◌else◌}
+use Rattle.std.specs.Prelude.{ℕ, nat_lt, nat_le, Bool, true, false, not, ◌&&◌, ◌||◌, List, [], ◌∷◌, Option, None, Some, is_some, Result, Ok, Err, if◌then◌else◌}
 use Rattle.std.specs.Option.{option_and_then}
-use Rattle.std.specs.List.{list_any}
 use Rattle.std.specs.Str.{bytes_eq}
-use Rattle.lifecycle_core.specs.declared.state.State.{State}
-use Rattle.lifecycle_core.specs.declared.state.State.TheVariants.{PreActive, Active, Deactivated, Compromised, Destroyed}
-use Rattle.lifecycle_core.specs.State.{state_at, state_code, is_reached_at}
-use Rattle.lifecycle_core.specs.Reason.{is_compromise}
+use Rattle.lifecycle_core.specs.declared.state.State.TheVariants.{PreActive}
+use Rattle.lifecycle_core.specs.State.{state_at, is_reached_at}
 use Rattle.register_core.specs.declared.request.Request.{Request}
 use Rattle.register_core.specs.declared.request.Command.{Command}
-use Rattle.register_core.specs.declared.request.Command.TheVariants.{Register, Activate, SetDates, Revoke, Assign, AddCustodian, RemoveCustodian, Approve, Withdraw, Destroy}
+use Rattle.register_core.specs.declared.request.Command.TheVariants.{Register, Activate, SetDates, Revoke}
 use Rattle.register_core.specs.declared.request.Edit.{Edit}
 use Rattle.register_core.specs.declared.request.Edit.TheVariants.{Keep}
 use Rattle.register_core.specs.declared.answer.Answer.{Answer}
@@ -30,6 +27,7 @@ use Rattle.register_core.specs.KeptReply.{reply, kept, kept_under}
 use Rattle.register_core.specs.Request.{command_text}
 use Rattle.register_core.specs.Effect.{given_dates, edited_dates}
 use Rattle.register_core.specs.Custody.{held}
+use Rattle.register_core.specs.CommandRule.{is_owners, is_custodians, is_one_of, is_for}
 use Rattle.register_core.specs.CustodyRefusal.{refused_custody}
 use Rattle.register_core.specs.Subject.{named}
 
@@ -60,47 +58,15 @@ abbrev pub unknown : Option Held → Command → Option Refusal
 unknown None c = if is_some (named c) then Some UnknownKey else None
 unknown (Some held) c = None
 
--- the command is one for the key's owner alone
-abbrev pub is_owners : Command → Bool
-is_owners (Activate key) = true
-is_owners (SetDates key activation protect_stop deactivation) = true
-is_owners (Revoke key reason occurrence) = not (is_compromise reason)
-is_owners (Assign key owner) = true
-is_owners (AddCustodian key name) = true
-is_owners (RemoveCustodian key name) = true
-is_owners (Destroy key) = true
-is_owners _ = false
-
 -- the command is the owner's, and the caller is another
 abbrev pub not_owner : Option Held → List ℕ → Command → Option Refusal
 not_owner None caller c = None
 not_owner (Some held) caller c = if is_owners c && not (bytes_eq caller held.owner) then Some NotOwner else None
 
--- the command is one for a custodian of the key alone
-abbrev pub is_custodians : Command → Bool
-is_custodians (Approve key) = true
-is_custodians (Withdraw key) = true
-is_custodians _ = false
-
 -- the command is a custodian's, and the caller is no custodian of the key
 abbrev pub not_custodian : Option Held → List ℕ → Command → Option Refusal
 not_custodian None caller c = None
 not_custodian (Some held) caller c = if is_custodians c && not (is_among caller held.custodians) then Some NotCustodian else None
-
-abbrev pub is_one_of : List State → State → Bool
-is_one_of states state = list_any (λ s. state_code s == state_code state) states
-
--- the states in which a key may be for the command
-abbrev pub is_for : Command → State → Bool
-is_for (Activate key) state = is_one_of (PreActive ∷ []) state
-is_for (SetDates key activation protect_stop deactivation) state = is_one_of (PreActive ∷ Active ∷ []) state
-is_for (Revoke key reason occurrence) state =
-    if is_compromise reason then is_one_of (PreActive ∷ Active ∷ Deactivated ∷ Destroyed ∷ []) state else is_one_of (Active ∷ []) state
-is_for (RemoveCustodian key name) state = is_one_of (PreActive ∷ Active ∷ Deactivated ∷ Compromised ∷ []) state
-is_for (Approve key) state = is_one_of (PreActive ∷ Deactivated ∷ Compromised ∷ []) state
-is_for (Withdraw key) state = is_one_of (PreActive ∷ Active ∷ Deactivated ∷ Compromised ∷ []) state
-is_for (Destroy key) state = is_one_of (PreActive ∷ Deactivated ∷ Compromised ∷ []) state
-is_for _ state = true
 
 -- the command is not for the state that the key has at t
 abbrev pub wrong_state : Option Held → ℕ → Command → Option Refusal

@@ -5,10 +5,10 @@ ghost use Rattle.register_core.specs.CustodyRefusal.{too_many_custodians, owner_
 ghost use Rattle.register_core.specs.CustodyRefusal.{already_approved, no_approval};
 ghost use Rattle.register_core.specs.CustodyRefusal.{approvals_missing, refused_custody};
 
-use crate::limits::{MAX_CUSTODIANS, MIN_APPROVALS};
 use crate::name::Name;
 use crate::reply::Refusal;
 use crate::request::Command;
+use crate::version::Version;
 use crate::view::Held;
 
 /// The name to add is a custodian already.
@@ -40,7 +40,8 @@ fn too_many_custodians(key: &Option<Held>, command: &Command) -> Option<Refusal>
     ensures { result ≡ too_many_custodians key.now command.now }
 {
     match (key, command) {
-        (Some(held), Command::AddCustodian { .. }) if held.custodians.len() >= MAX_CUSTODIANS => {
+        (Some(held), Command::AddCustodian { .. })
+            if held.custodians.len() >= Version::CURRENT.max_custodians() => {
             Some(Refusal::TooManyCustodians)
         }
         _ => None,
@@ -94,11 +95,14 @@ fn approvals_missing(key: &Option<Held>, command: &Command) -> Option<Refusal>
     ensures { result ≡ approvals_missing key.now command.now }
 {
     match (key, command) {
-        (Some(held), Command::Destroy { .. }) if held.approvals.len() < MIN_APPROVALS => {
-            Some(Refusal::ApprovalsMissing {
-                have: held.approvals.len(),
-                need: MIN_APPROVALS,
-            })
+        (Some(held), Command::Destroy { .. }) => {
+            let have = held.approvals.len();
+            let need = usize::from(held.need);
+            if have < need {
+                Some(Refusal::ApprovalsMissing { have, need })
+            } else {
+                None
+            }
         }
         _ => None,
     }

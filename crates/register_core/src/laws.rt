@@ -18,7 +18,7 @@ ghost use Rattle.register_core.specs.Custody.{custodians, approvals};
 ghost use Rattle.register_core.specs.Request.{IsLineOf};
 ghost use Rattle.register_core.specs.Verdict.{max_keys, verdict, Repeats, Refuses};
 ghost use Rattle.register_core.specs.Verdict.{is_same_command};
-ghost use Rattle.register_core.specs.CustodyRefusal.{max_custodians};
+ghost use Rattle.register_core.specs.Version.{max_custodians};
 ghost use Rattle.register_core.specs.CommandText.{IsCommandText};
 
 /// No bytes are the line of two requests.

@@ -2,9 +2,6 @@
 /// How many keys the register takes (this register's own limit).
 pub const MAX_KEYS: u32 = 1_000_000;
 
-/// How many custodians a key has at most (this register's own).
-pub const MAX_CUSTODIANS: usize = 8;
-
 /// How many approvals, of different custodians, the destruction of a key needs (this register's
 /// own).
-pub const MIN_APPROVALS: usize = 2;
+pub const MIN_APPROVALS: u8 = 2;

@@ -13,6 +13,7 @@ ghost use Rattle.register_core.specs.Decision.{IsViewOf};
 ghost use Rattle.register_core.specs.Fold.{history_after, answer_to, answers};
 
 use crate::effect::{dates_after, no_dates};
+use crate::limits::MIN_APPROVALS;
 use crate::name::Name;
 use crate::plain_custody::{approvals, custodians};
 use crate::plain_kept::first_kept;
@@ -182,6 +183,7 @@ pub fn held(alloc: Global, history: &[Request], key: u32) -> Result<Option<Held>
         kind: kind_of_key(history, key),
         owner,
         row: Row { dates, state },
+        need: MIN_APPROVALS,
         custodians: custodians(alloc, history, key)?,
         approvals: approvals(alloc, history, key)?,
     }))

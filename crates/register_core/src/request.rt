@@ -82,7 +82,6 @@ impl Command {
     ghost use Rattle.std.specs.Prelude.{◌≡◌};
     ghost use Rattle.register_core.specs.Request.{is_dated, has_text};
     ghost use Rattle.register_core.specs.Subject.{named};
-    ghost use Rattle.register_core.specs.Need.{looks_at_custody};
 
     /// The number of the key that the command names, if it names one.
     pub fn key(&self) -> Option<u32>
@@ -100,22 +99,6 @@ impl Command {
             | Command::Withdraw { key }
             | Command::Destroy { key } => Some(key),
         }
-    }
-
-    /// Whether a decision on the command looks at the custodians of its key, or at the approvals of
-    /// its destruction. Where it does not, they need not be read.
-    pub fn looks_at_custody(&self) -> bool
-        ensures { result ≡ looks_at_custody self.now }
-    {
-        matches!(
-            self,
-            Command::Assign { .. }
-                | Command::AddCustodian { .. }
-                | Command::RemoveCustodian { .. }
-                | Command::Approve { .. }
-                | Command::Withdraw { .. }
-                | Command::Destroy { .. }
-        )
     }
 
     /// An occurrence is given only with a reason that is a compromise.

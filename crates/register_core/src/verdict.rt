@@ -1,7 +1,7 @@
 //! The verdict on a request, where the key that it names is known.
 ghost use Rattle.std.specs.Prelude.{◌≡◌, IsSome};
-ghost use Rattle.register_core.specs.Verdict.{refused_dates, behind, unknown, is_owners, not_owner};
-ghost use Rattle.register_core.specs.Verdict.{is_custodians, not_custodian, is_for, wrong_state};
+ghost use Rattle.register_core.specs.Verdict.{refused_dates, behind, unknown, not_owner};
+ghost use Rattle.register_core.specs.Verdict.{not_custodian, wrong_state};
 ghost use Rattle.register_core.specs.Verdict.{is_kept, frozen, unfit, refused_entry, occurs_later};
 ghost use Rattle.register_core.specs.Verdict.{too_many, judge_view};
 ghost use Rattle.period_core.specs.Fitting.{fill_of, trim_of};
@@ -38,40 +38,17 @@ fn unknown(key: &Option<Held>, command: &Command) -> Option<Refusal>
     }
 }
 
-/// Whether the command is one for the key's owner alone.
-fn is_owners(command: &Command) -> bool
-    ensures { result ≡ is_owners command.now }
-{
-    match command {
-        Command::Activate { .. }
-        | Command::SetDates { .. }
-        | Command::Assign { .. }
-        | Command::AddCustodian { .. }
-        | Command::RemoveCustodian { .. }
-        | Command::Destroy { .. } => true,
-        Command::Revoke { reason, .. } => !reason.is_compromise(),
-        _ => false,
-    }
-}
-
 /// The command is the owner's, and the caller is another.
 fn not_owner(key: &Option<Held>, caller: &Name, command: &Command) -> Option<Refusal>
     ensures { result ≡ not_owner key.now caller.now command.now }
 {
     match key {
         Some(held)
-            if is_owners(command) && caller.text().as_bytes() != held.owner.text().as_bytes() => {
+            if command.is_owners() && caller.text().as_bytes() != held.owner.text().as_bytes() => {
             Some(Refusal::NotOwner)
         }
         _ => None,
     }
-}
-
-/// Whether the command is one for a custodian of the key alone.
-fn is_custodians(command: &Command) -> bool
-    ensures { result ≡ is_custodians command.now }
-{
-    matches!(command, Command::Approve { .. } | Command::Withdraw { .. })
 }
 
 /// The command is a custodian's, and the caller is no custodian of the key.
@@ -79,32 +56,10 @@ fn not_custodian(key: &Option<Held>, caller: &Name, command: &Command) -> Option
     ensures { result ≡ not_custodian key.now caller.now command.now }
 {
     match key {
-        Some(held) if is_custodians(command) && !held.custodians.contains(caller) => {
+        Some(held) if command.is_custodians() && !held.custodians.contains(caller) => {
             Some(Refusal::NotCustodian)
         }
         _ => None,
-    }
-}
-
-/// Whether the command is for a key in this state.
-fn is_for(command: &Command, state: State) -> bool
-    ensures { result ≡ is_for command.now state }
-{
-    match command {
-        Command::Activate { .. } => matches!(state, State::PreActive),
-        Command::SetDates { .. } => matches!(state, State::PreActive | State::Active),
-        Command::Revoke { reason, .. } if reason.is_compromise() => {
-            !matches!(state, State::Compromised | State::DestroyedCompromised)
-        }
-        Command::Revoke { .. } => matches!(state, State::Active),
-        Command::RemoveCustodian { .. } | Command::Withdraw { .. } => {
-            !matches!(state, State::Destroyed | State::DestroyedCompromised)
-        }
-        Command::Approve { .. } | Command::Destroy { .. } => matches!(
-            state,
-            State::PreActive | State::Deactivated | State::Compromised
-        ),
-        _ => true,
     }
 }
 
@@ -115,7 +70,7 @@ fn wrong_state(key: &Option<Held>, at: Moment, command: &Command) -> Option<Refu
     match key {
         Some(held) => {
             let state = state_of(&held.row.dates, at);
-            if is_for(command, state) {
+            if command.is_for(state) {
                 None
             } else {
                 Some(Refusal::WrongState { state })

@@ -12,6 +12,8 @@ pub struct Held {
     pub kind: KeyType,
     pub owner: Name,
     pub row: Row,
+    /// How many approvals its destruction needs.
+    pub need: u8,
     /// In order of their bytes.
     pub custodians: Names,
     /// Those whose approval of the key's destruction stands, in order of their bytes.

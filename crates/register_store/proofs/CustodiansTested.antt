@@ -23,7 +23,7 @@ use Rattle.row_tests.specs.Showing.{HasNoMeaning, IsQuery, ShowsAll, ShowsFirst}
 use Rattle.row_tests.proofs.Each.{all_front, all_last, all_more, show_front, show_less, show_more, show_same}
 use Rattle.row_tests.proofs.Selects.{IsSelect, select_plain}
 use Rattle.sql_steps.proofs.Members.{filter_permutation}
-use Rattle.register_core.specs.CustodyRefusal.{max_custodians}
+use Rattle.register_core.specs.Version.{max_custodians}
 use Rattle.register_core.specs.KeyName.{KeyName, is_at, names_at}
 use Rattle.register_core.specs.Name.{is_among}
 use Rattle.register_store.specs.declared.error.CheckError.{CheckError}

@@ -23,6 +23,7 @@ use Rattle.register_core.specs.KeyName.{KeyName}
 use Rattle.register_core.specs.Name.{IsName}
 use Rattle.register_core.specs.Purpose.{IsPurpose}
 use Rattle.register_core.specs.Request.{IsDate, command_text}
+use Rattle.register_core.specs.Version.{current, version_number}
 use Rattle.register_store.specs.declared.table.TableName.{TableName}
 use Rattle.register_store.specs.declared.table.TableName.TheVariants.{Meta, Keys, Custodian, Approval, Request}
 use Rattle.register_store.specs.TableForms.{number_column, text_column, key_column, keyed, indexed, paired}
@@ -213,7 +214,7 @@ date_cell (Some date) = date
 
 -- the version of the tables that this program makes
 abbrev pub version : ℕ
-version = 1
+version = version_number current
 
 abbrev pub counts_row : Counts → Cells
 counts_row counts = Int (pos 1) ∷ Null ∷ Int (pos version) ∷ Int (pos counts.latest) ∷ Int (pos counts.key_count) ∷ []

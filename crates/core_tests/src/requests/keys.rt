@@ -6,7 +6,7 @@ ghost use Rattle.register_core.specs.Decision.{IsRightKey};
 use lifecycle_core::{Dates, Row, State, state_of};
 use moment_core::Moment;
 use period_core::KeyType;
-use register_core::{Accept, Change, Held, Name, Names, Refusal, Reply, Request, View, decide};
+use register_core::{Accept, Change, Held, MIN_APPROVALS, Name, Names, Refusal, Reply, Request, View, decide};
 use std::alloc::Global;
 use std::test::Fail;
 
@@ -57,6 +57,7 @@ pub fn view_with(
         kind: KeyType::Master,
         owner: Name::new(b"bob").ok_or("a name")?,
         row: Row { dates, state },
+        need: MIN_APPROVALS,
         custodians: names_of(alloc, custodians)?,
         approvals: names_of(alloc, approvals)?,
     };

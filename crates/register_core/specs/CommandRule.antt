@@ -1,0 +1,86 @@
+-- The rule of each command: who may give it, of a key in which states, and whether a decision on it looks at the key's
+-- custodians, or at the approvals of its destruction. All of it is this register's own, within the transitions of the State
+-- attribute, KMIP 1.2 section 3.22.
+use Rattle.std.specs.Prelude.{◌==◌, Bool, true, false, List, [], ◌∷◌, if◌then◌else◌}
+use Rattle.std.specs.List.{list_any}
+use Rattle.lifecycle_core.specs.declared.state.State.{State}
+use Rattle.lifecycle_core.specs.declared.state.State.TheVariants.{PreActive, Active, Deactivated, Compromised}
+use Rattle.lifecycle_core.specs.declared.state.State.TheVariants.{Destroyed, DestroyedCompromised}
+use Rattle.lifecycle_core.specs.State.{state_code}
+use Rattle.lifecycle_core.specs.Reason.{is_compromise}
+use Rattle.register_core.specs.declared.command_rule.Giver.{Giver}
+use Rattle.register_core.specs.declared.command_rule.Giver.TheVariants.{Anybody, Owner, Custodian}
+use Rattle.register_core.specs.declared.request.Command.{Command}
+use Rattle.register_core.specs.declared.request.Command.TheVariants.{Register, Activate, SetDates, Revoke, Assign}
+use Rattle.register_core.specs.declared.request.Command.TheVariants.{AddCustodian, RemoveCustodian, Approve, Withdraw}
+use Rattle.register_core.specs.declared.request.Command.TheVariants.{Destroy, Advance}
+
+pub record Rule : Type 0 where
+  pub giver : Giver
+  pub states : List State
+  pub looks_at_custody : Bool
+
+-- any of the six
+abbrev pub any_state : List State
+any_state = PreActive ∷ Active ∷ Deactivated ∷ Compromised ∷ Destroyed ∷ DestroyedCompromised ∷ []
+
+-- one in which the key is not destroyed
+abbrev pub not_destroyed : List State
+not_destroyed = PreActive ∷ Active ∷ Deactivated ∷ Compromised ∷ []
+
+-- one from which a key may be destroyed
+abbrev pub before_destruction : List State
+before_destruction = PreActive ∷ Deactivated ∷ Compromised ∷ []
+
+-- one in which the key is not known to be compromised
+abbrev pub before_compromise : List State
+before_compromise = PreActive ∷ Active ∷ Deactivated ∷ Destroyed ∷ []
+
+abbrev pub rule : Command → Rule
+rule (Register kind owner activation protect_stop deactivation purpose) =
+    record { giver = Anybody; states = any_state; looks_at_custody = false }
+rule (Activate key) = record { giver = Owner; states = PreActive ∷ []; looks_at_custody = false }
+rule (SetDates key activation protect_stop deactivation) =
+    record { giver = Owner; states = PreActive ∷ Active ∷ []; looks_at_custody = false }
+rule (Revoke key reason occurrence) = record {
+  giver = if is_compromise reason then Anybody else Owner;
+  states = if is_compromise reason then before_compromise else Active ∷ [];
+  looks_at_custody = false;
+}
+rule (Assign key owner) = record { giver = Owner; states = any_state; looks_at_custody = true }
+rule (AddCustodian key name) = record { giver = Owner; states = any_state; looks_at_custody = true }
+rule (RemoveCustodian key name) = record { giver = Owner; states = not_destroyed; looks_at_custody = true }
+rule (Approve key) = record { giver = Custodian; states = before_destruction; looks_at_custody = true }
+rule (Withdraw key) = record { giver = Custodian; states = not_destroyed; looks_at_custody = true }
+rule (Destroy key) = record { giver = Owner; states = before_destruction; looks_at_custody = true }
+rule Advance = record { giver = Anybody; states = any_state; looks_at_custody = false }
+
+-- ---- what it says
+
+-- only this one may give the command
+abbrev pub is_for_owner : Giver → Bool
+is_for_owner Owner = true
+is_for_owner _ = false
+
+abbrev pub is_for_custodian : Giver → Bool
+is_for_custodian Custodian = true
+is_for_custodian _ = false
+
+-- the command is one for the key's owner alone
+abbrev pub is_owners : Command → Bool
+is_owners c = is_for_owner (rule c).giver
+
+-- the command is one for a custodian of the key alone
+abbrev pub is_custodians : Command → Bool
+is_custodians c = is_for_custodian (rule c).giver
+
+abbrev pub is_one_of : List State → State → Bool
+is_one_of states state = list_any (λ s. state_code s == state_code state) states
+
+-- the command is for a key in this state
+abbrev pub is_for : Command → State → Bool
+is_for c state = is_one_of (rule c).states state
+
+-- a decision on the command looks at the key's custodians, or at the approvals of its destruction
+abbrev pub looks_at_custody : Command → Bool
+looks_at_custody c = (rule c).looks_at_custody

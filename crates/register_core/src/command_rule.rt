@@ -1,0 +1,111 @@
+//! The rule of each command, as a table.
+ghost use Rattle.std.specs.Prelude.{◌≡◌};
+
+use crate::request::Command;
+use lifecycle_core::State;
+
+/// Who may give a command.
+#[derive(Clone, Copy, Debug, PartialEq, Eq)]
+pub enum Giver {
+    Anybody,
+    /// The key's owner alone.
+    Owner,
+    /// A custodian of the key alone.
+    Custodian,
+}
+
+/// What a command asks for before anything else: all of it is this register's own.
+#[derive(Clone, Copy, Debug)]
+pub struct Rule {
+    pub giver: Giver,
+    /// Those in which a key may be for it.
+    pub states: &'static [State],
+    /// Whether a decision looks at the key's custodians, or at the approvals of its destruction.
+    pub looks_at_custody: bool,
+}
+
+/// A key in these states is not destroyed.
+static NOT_DESTROYED: [State; 4] = [
+    State::PreActive,
+    State::Active,
+    State::Deactivated,
+    State::Compromised,
+];
+
+/// From these states a key may be destroyed.
+static BEFORE_DESTRUCTION: [State; 3] = [State::PreActive, State::Deactivated, State::Compromised];
+
+/// In these states a key may be found to be compromised.
+static BEFORE_COMPROMISE: [State; 4] = [
+    State::PreActive,
+    State::Active,
+    State::Deactivated,
+    State::Destroyed,
+];
+
+static PRE_ACTIVE: [State; 1] = [State::PreActive];
+
+static ACTIVE: [State; 1] = [State::Active];
+
+/// In these states a key's dates may be changed by hand.
+static DATED_BY_HAND: [State; 2] = [State::PreActive, State::Active];
+
+impl Command {
+    ghost use Rattle.register_core.specs.CommandRule.{rule, is_owners, is_custodians, is_for};
+    ghost use Rattle.register_core.specs.CommandRule.{looks_at_custody};
+
+    /// The command's rule.
+    #[rattlefmt::skip]
+    pub fn rule(&self) -> Rule
+        ensures giver { result.giver ≡ (rule self.now).giver }
+        ensures states { result.states.now ≡ (rule self.now).states }
+        ensures custody { result.looks_at_custody ≡ (rule self.now).looks_at_custody }
+    {
+        use Giver::{Anybody, Custodian, Owner};
+        match *self {
+            Command::Register { .. } => Rule { giver: Anybody, states: &State::ALL, looks_at_custody: false },
+            Command::Activate { .. } => Rule { giver: Owner, states: &PRE_ACTIVE, looks_at_custody: false },
+            Command::SetDates { .. } => Rule { giver: Owner, states: &DATED_BY_HAND, looks_at_custody: false },
+            Command::Revoke { reason, .. } if reason.is_compromise() => {
+                Rule { giver: Anybody, states: &BEFORE_COMPROMISE, looks_at_custody: false }
+            }
+            Command::Revoke { .. } => Rule { giver: Owner, states: &ACTIVE, looks_at_custody: false },
+            Command::Assign { .. } => Rule { giver: Owner, states: &State::ALL, looks_at_custody: true },
+            Command::AddCustodian { .. } => Rule { giver: Owner, states: &State::ALL, looks_at_custody: true },
+            Command::RemoveCustodian { .. } => Rule { giver: Owner, states: &NOT_DESTROYED, looks_at_custody: true },
+            Command::Approve { .. } => Rule { giver: Custodian, states: &BEFORE_DESTRUCTION, looks_at_custody: true },
+            Command::Withdraw { .. } => Rule { giver: Custodian, states: &NOT_DESTROYED, looks_at_custody: true },
+            Command::Destroy { .. } => Rule { giver: Owner, states: &BEFORE_DESTRUCTION, looks_at_custody: true },
+            Command::Advance => Rule { giver: Anybody, states: &State::ALL, looks_at_custody: false },
+        }
+    }
+
+    /// Whether the command is one for the key's owner alone.
+    pub(crate) fn is_owners(&self) -> bool
+        ensures { result ≡ is_owners self.now }
+    {
+        matches!(self.rule().giver, Giver::Owner)
+    }
+
+    /// Whether the command is one for a custodian of the key alone.
+    pub(crate) fn is_custodians(&self) -> bool
+        ensures { result ≡ is_custodians self.now }
+    {
+        matches!(self.rule().giver, Giver::Custodian)
+    }
+
+    /// Whether the command is for a key in this state.
+    pub(crate) fn is_for(&self, state: State) -> bool
+        ensures { result ≡ is_for self.now state }
+    {
+        self.rule().states.contains(&state)
+    }
+
+    /// Whether a decision on the command looks at the custodians of its key, or at the approvals of
+    /// its destruction. Where it does not, they need not be read.
+    pub fn looks_at_custody(&self) -> bool
+        ensures { result ≡ looks_at_custody self.now }
+    {
+        self.rule().looks_at_custody
+    }
+}
