@@ -44,9 +44,7 @@ names_of_table Request = codes "command" ∷ codes "key_no" ∷ codes "state" �
 abbrev pub asked : Layout → TableName → Query
 asked l Meta = ordered_query (l.tree Meta) (shown_of_table Meta)
 asked l Keys = ordered_query (l.tree Keys) (shown_of_table Keys)
-asked l Custodian = plain_query (l.tree Custodian) [] (shown_of_table Custodian)
-asked l Approval = plain_query (l.tree Approval) [] (shown_of_table Approval)
-asked l Request = plain_query (l.tree Request) [] (shown_of_table Request)
+asked l name = plain_query (l.tree name) [] (shown_of_table name)
 
 abbrev pub IsAsked : TableName → Layout → Type 0
 IsAsked name l = Asks (schema_with l) (table_of l name) (check_text name) (asked l name) (names_of_table name)
@@ -54,10 +52,7 @@ IsAsked name l = Asks (schema_with l) (table_of l name) (check_text name) (asked
 asks_for : (name : TableName) (l : Layout) → IsAsked name l
 unfolding everything first
 asks_for Meta l = record { p = _; select = _; d = _; by = _; parsed = refl; untimed = refl; is = refl; drafted = refl; same = refl; from = refl; accepted = refl }
-asks_for Keys l = record { p = _; select = _; d = _; by = _; parsed = refl; untimed = refl; is = refl; drafted = refl; same = refl; from = refl; accepted = refl }
-asks_for Custodian l = record { p = _; select = _; d = _; by = _; parsed = refl; untimed = refl; is = refl; drafted = refl; same = refl; from = refl; accepted = refl }
-asks_for Approval l = record { p = _; select = _; d = _; by = _; parsed = refl; untimed = refl; is = refl; drafted = refl; same = refl; from = refl; accepted = refl }
-asks_for Request l = record { p = _; select = _; d = _; by = _; parsed = refl; untimed = refl; is = refl; drafted = refl; same = refl; from = refl; accepted = refl }
+asks_for name l = record { p = _; select = _; d = _; by = _; parsed = refl; untimed = refl; is = refl; drafted = refl; same = refl; from = refl; accepted = refl }
 
 pub asked_is : (name : TableName) (l : Layout) → IsPlaced l → Meant (schema_with l) (check_text name) (Select (record { lets = []; body = asked l name }) (names_of_table name))
 asked_is name l at = asks (schema_with l) (table_of l name) (classes l at name) _ _ _ (asks_for name l)
@@ -72,9 +67,7 @@ AnswersTo l name db rows = IsSureAnswer (asked l name) (overlay db.trees []) [] 
 abbrev pub IsLike : (name : TableName) → Content name → Content name → Type 0
 IsLike Meta c d = c ≡ d
 IsLike Keys c d = c ≡ d
-IsLike Custodian c d = IsPermutation d c
-IsLike Approval c d = IsPermutation d c
-IsLike Request c d = IsPermutation d c
+IsLike name c d = IsPermutation d c
 
 -- the rows of an answer show the table's content, which meets the test where the table does
 pub record ShowsOwn (name : TableName) (t : Tables) (rows : List Row) : Type 0 where

@@ -39,7 +39,7 @@ use Rattle.register_store.specs.declared.table.TableName.{TableName}
 use Rattle.register_store.specs.declared.table.TableName.TheVariants.{Meta, Keys, Custodian, Approval, Request}
 use Rattle.register_store.specs.Tables.{Layout, AreApart, Tables, all_tables, place_of, table_of}
 use Rattle.register_store.specs.Schema.{Holds, schema_with}
-use Rattle.register_store.proofs.EachTable.{each}
+use Rattle.register_store.proofs.EachTable.{each, in_all, same_place}
 
 -- ---- one table
 
@@ -192,14 +192,6 @@ placed t db holds =
           (low_in rows (schema_with l).tables listed (table_of l name) ((each name).listed l));
     }
 
-same_place : (name other : TableName) → place_of other ≡ place_of name → other ≡ name
-same_place Meta Meta same = refl
-same_place Keys Keys same = refl
-same_place Custodian Custodian same = refl
-same_place Approval Approval same = refl
-same_place Request Request same = refl
-same_place name other same = absurd (omega (arith, same))
-
 -- the tables are told by their trees
 found_in : (l : Layout) → AreApart l → (name : TableName) (names : List TableName) → Has names name
     → find (λ (t : Table). t.tree == l.tree name) (map (table_of l) names) ≡ Some (table_of l name)
@@ -219,13 +211,6 @@ found_in l apart name (n ∷ names) h = elim (cases_Bool ((table_of l n).tree ==
         absurd (let same : ((table_of l n).tree == l.tree name)
         ≡ true = eq-eqb _ _ ((each n).tree_is l ∙ ap l.tree (sym e)) in cc)
     later other (inr h) = h
-
-in_all : (name : TableName) → Has all_tables name
-in_all Meta = inl refl
-in_all Keys = inr (inl refl)
-in_all Custodian = inr (inr (inl refl))
-in_all Approval = inr (inr (inr (inl refl)))
-in_all Request = inr (inr (inr (inr (inl refl))))
 
 pub classes : (l : Layout) → IsPlaced l → (name : TableName) → table_classes (schema_with l) [] (table_of l name).tree
     ≡ Some (row_classes (table_of l name))
