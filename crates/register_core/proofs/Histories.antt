@@ -9,6 +9,8 @@ use Rattle.std.proofs.lemmas.List.Sums.{fold-append}
 use Rattle.lifecycle_core.specs.declared.dates.Dates.{Dates}
 use Rattle.period_core.specs.declared.key_type.KeyType.{KeyType}
 use Rattle.period_core.specs.declared.key_type.KeyType.TheVariants.{DataEncryption}
+use Rattle.period_core.specs.declared.period.Period.{Period}
+use Rattle.period_core.specs.Period.{periods}
 use Rattle.period_core.specs.Fitting.{filled}
 use Rattle.register_core.specs.declared.request.Request.{Request}
 use Rattle.register_core.specs.declared.request.Command.{Command}
@@ -93,8 +95,8 @@ kind_step before q = kind_after before q.command
 abbrev pub owner_step : List ℕ → Request → List ℕ
 owner_step before q = owner_after before q.command
 
-abbrev pub dates_step : KeyType → Dates → Request → Dates
-dates_step kind d q = dates_after kind d q.moment q.command
+abbrev pub dates_step : Period → Dates → Request → Dates
+dates_step period d q = dates_after period d q.moment q.command
 
 fold_same : {X : Type 0} (step : X → Request → X) (first : X) (h : List Request) (q : Request) (k : ℕ) → is_key k (key_of (count h) q.command) ≡ false →
     fold step first (own (h ++ q ∷ []) k) ≡ fold step first (own h k)
@@ -114,8 +116,8 @@ owner_other h q k other = fold_same owner_step [] h q k other
 
 pub dates_other : (h : List Request) (q : Request) (k : ℕ) → is_key k (key_of (count h) q.command) ≡ false → dates (h ++ q ∷ []) k ≡ dates h k
 dates_other h q k other =
-    ap (λ (kind : KeyType). fold (dates_step kind) no_dates (own (h ++ q ∷ []) k)) (kind_other h q k other)
-    ∙ fold_same (dates_step (type h k)) no_dates h q k other
+    ap (λ (kind : KeyType). fold (dates_step (periods kind)) no_dates (own (h ++ q ∷ []) k)) (kind_other h q k other)
+    ∙ fold_same (dates_step (periods (type h k))) no_dates h q k other
 
 -- ---- a request that names the key
 
@@ -125,10 +127,11 @@ kind_named h q k names = fold_ends kind_step DataEncryption h q k (key_named q.c
 pub owner_named : (h : List Request) (q : Request) (k : ℕ) → named q.command ≡ Some k → owner (h ++ q ∷ []) k ≡ owner_after (owner h k) q.command
 owner_named h q k names = fold_ends owner_step [] h q k (key_named q.command (count h) k names)
 
-pub dates_named : (h : List Request) (q : Request) (k : ℕ) → named q.command ≡ Some k → dates (h ++ q ∷ []) k ≡ dates_after (type h k) (dates h k) q.moment q.command
+pub dates_named : (h : List Request) (q : Request) (k : ℕ) → named q.command ≡ Some k
+    → dates (h ++ q ∷ []) k ≡ dates_after (periods (type h k)) (dates h k) q.moment q.command
 dates_named h q k names =
-    ap (λ (kind : KeyType). fold (dates_step kind) no_dates (own (h ++ q ∷ []) k)) (kind_named h q k names)
-    ∙ fold_ends (dates_step (type h k)) no_dates h q k (key_named q.command (count h) k names)
+    ap (λ (kind : KeyType). fold (dates_step (periods kind)) no_dates (own (h ++ q ∷ []) k)) (kind_named h q k names)
+    ∙ fold_ends (dates_step (periods (type h k))) no_dates h q k (key_named q.command (count h) k names)
 
 -- ---- the registration of the key, which overrides whatever came before
 
@@ -141,12 +144,15 @@ owner_made h q r makes =
     fold_ends owner_step [] h q (count h + 1) (ap (key_by (count h)) makes) ∙ ap (owner_after (owner h (count h + 1))) (is_registration q.command r makes)
 
 pub dates_made : (h : List Request) (q : Request) (r : Registration) → subject q.command ≡ Makes r →
-    dates (h ++ q ∷ []) (count h + 1) ≡ filled r.kind (given_dates q.moment r.activation r.protect_stop r.deactivation)
+    dates (h ++ q ∷ []) (count h + 1) ≡ filled (periods r.kind)
+    (given_dates q.moment r.activation r.protect_stop r.deactivation)
 dates_made h q r makes =
-    let of_type : KeyType = type (h ++ q ∷ []) (count h + 1) in
-    let before : Dates = fold (dates_step of_type) no_dates (own h (count h + 1)) in
-    fold_ends (dates_step of_type) no_dates h q (count h + 1) (ap (key_by (count h)) makes)
-    ∙ ap (λ (c : Command). dates_after of_type before q.moment c) (is_registration q.command r makes)
+    let period : Period = periods r.kind in
+    let before : Dates = fold (dates_step period) no_dates (own h (count h + 1)) in
+    ap (λ (kind : KeyType). fold (dates_step (periods kind)) no_dates (own (h ++ q ∷ []) (count h + 1)))
+    (kind_made h q r makes)
+    ∙ fold_ends (dates_step period) no_dates h q (count h + 1) (ap (key_by (count h)) makes)
+    ∙ ap (λ (c : Command). dates_after period before q.moment c) (is_registration q.command r makes)
 
 -- ---- the front of a history, one request longer
 

@@ -5,6 +5,7 @@ use Rattle.std.specs.List.{filter_map}
 use Rattle.lifecycle_core.specs.declared.dates.Dates.{Dates}
 use Rattle.period_core.specs.declared.key_type.KeyType.{KeyType}
 use Rattle.period_core.specs.declared.key_type.KeyType.TheVariants.{DataEncryption}
+use Rattle.period_core.specs.Period.{periods}
 use Rattle.register_core.specs.declared.request.Request.{Request}
 use Rattle.register_core.specs.Subject.{Registration, registration_of, key_of, made_by, is_key}
 use Rattle.register_core.specs.Effect.{kind_after, owner_after, no_dates, dates_after}
@@ -38,9 +39,9 @@ own h k = own_from 0 h k
 abbrev pub type : List Request → ℕ → KeyType
 type h k = fold (λ before q. kind_after before q.command) DataEncryption (own h k)
 
--- the dates that the requests of key k give it, one after the other
+-- the dates that the requests of key k give it, one after the other, by the period of its type
 abbrev pub dates : List Request → ℕ → Dates
-dates h k = fold (λ d q. dates_after (type h k) d q.moment q.command) no_dates (own h k)
+dates h k = fold (λ d q. dates_after (periods (type h k)) d q.moment q.command) no_dates (own h k)
 
 -- the owner that the latest of the key's requests which names one gives it
 abbrev pub owner : List Request → ℕ → List ℕ
