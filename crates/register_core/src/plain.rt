@@ -155,11 +155,11 @@ pub fn dates(history: &[Request], key: u32) -> Dates
     requires { length history.now + 1 < 2 ^ 32 }
     ensures { result ≡ dates history.now key }
 {
-    let period = period_of(kind_of_key(history, key));
+    let kind = kind_of_key(history, key);
     let mut dates = no_dates();
     let mut made = 0;
     for request in history {
-        dates = dates_with(period, dates, key, made, request);
+        dates = dates_with(period_of(kind), dates, key, made, request);
         made += made_by(&request.command);
     }
     dates

@@ -7,7 +7,7 @@ use Rattle.register_core.proofs.plain.dates.Given as goal
 
 abbrev pub invariant-loop-request : goal.invariant-loop-request
 invariant-loop-request l = record {
-  dates : l.dates ≡ fold (dates_step l.period) no_dates (own (take l.request-index l.history) l.key);
+  dates : l.dates ≡ fold (dates_step l.kind) no_dates (own (take l.request-index l.history) l.key);
   made : l.made ≡ count (take l.request-index l.history);
   within : l.made ≤ l.request-index;
 }
