@@ -1,7 +1,7 @@
 //! What Fill and Trim make of dates, compared with outcomes that were worked out by hand.
 use lifecycle_core::Dates;
 use moment_core::{LAST_SECOND, Moment};
-use period_core::{DateRefusal, KeyType, fill, trim};
+use period_core::{DateRefusal, KeyType, fill, period_of, trim};
 use std::test::Fail;
 
 /// Activation, Protect Stop and Deactivation, in seconds.
@@ -48,7 +48,7 @@ fn expected(outcome: &Outcome, given: &Given) -> Option<Answer> {
 /// Fill of the dates that are given.
 fn after_fill(kind: KeyType, given: &Given) -> Option<Answer> {
     let mut dates = dates_of(given)?;
-    let answer = fill(kind, &mut dates);
+    let answer = fill(period_of(kind), &mut dates);
     Some((answer, dates))
 }
 
@@ -58,7 +58,7 @@ fn after_trim(kind: KeyType, given: &Given) -> Option<Answer> {
     if dates.activation.is_none() {
         return None;
     }
-    let answer = trim(kind, &mut dates);
+    let answer = trim(period_of(kind), &mut dates);
     Some((answer, dates))
 }
 

@@ -1,12 +1,11 @@
--- Which dates fit a type of key, and what Fill and Trim make of dates. All of it is this register's
+-- Which dates fit a usage period, and what Fill and Trim make of dates. All of it is this register's
 -- own.
 use Rattle.std.specs.Prelude.{◌≡◌, ◌≤◌, ℕ, nat_lt, nat_le, min, Bool, true, ◌&&◌, ◌||◌, List, [], ◌∷◌, Option, None, Some, is_some, is_none, Result, Ok, Err, IsTrue, if◌then◌else◌}
 use Rattle.lifecycle_core.specs.declared.dates.Dates.{Dates}
 use Rattle.moment_core.specs.Calendar.{months_after}
-use Rattle.period_core.specs.declared.key_type.KeyType.{KeyType}
+use Rattle.period_core.specs.declared.period.Period.{Period}
 use Rattle.period_core.specs.declared.filling.DateRefusal.{DateRefusal}
 use Rattle.period_core.specs.declared.filling.DateRefusal.TheVariants.{DateOrder, PeriodTooLong, DateRange}
-use Rattle.period_core.specs.Period.{periods}
 
 -- the first date is not after the second, where both are set
 abbrev pub is_not_after : Option ℕ → Option ℕ → Bool
@@ -19,12 +18,12 @@ abbrev pub months_on_date : Option ℕ → ℕ → Option ℕ
 months_on_date None months = None
 months_on_date (Some date) months = months_after date months
 
--- the last moment of originator use, and of recipient use, by the months of the type
-abbrev pub originator_limit : KeyType → Dates → Option ℕ
-originator_limit kind d = months_on_date d.activation (periods kind).originator
+-- the last moment of originator use, and of recipient use, by the period's months
+abbrev pub originator_limit : Period → Dates → Option ℕ
+originator_limit p d = months_on_date d.activation p.originator
 
-abbrev pub recipient_limit : KeyType → Dates → Option ℕ
-recipient_limit kind d = months_on_date d.protect_stop (periods kind).recipient
+abbrev pub recipient_limit : Period → Dates → Option ℕ
+recipient_limit p d = months_on_date d.protect_stop p.recipient
 
 -- Activation, Protect Stop and Deactivation are in this order
 abbrev pub are_in_order : Dates → Bool
@@ -32,12 +31,12 @@ are_in_order d =
     is_not_after d.activation d.protect_stop && is_not_after d.protect_stop d.deactivation
     && is_not_after d.activation d.deactivation
 
--- dates fit a type: they are in order, and neither usage period is longer than the type's. A limit
--- past the range limits nothing
-pub record Fits (kind : KeyType) (d : Dates) : Type 0 where
+-- dates fit a period: they are in order, and neither use is longer than its months. A limit past the
+-- range limits nothing
+pub record Fits (p : Period) (d : Dates) : Type 0 where
   pub order : IsTrue (are_in_order d)
-  pub originator : IsTrue (is_not_after d.protect_stop (originator_limit kind d))
-  pub recipient : IsTrue (is_not_after d.deactivation (recipient_limit kind d))
+  pub originator : IsTrue (is_not_after d.protect_stop (originator_limit p d))
+  pub recipient : IsTrue (is_not_after d.deactivation (recipient_limit p d))
 
 -- ---- defaults
 
@@ -48,16 +47,16 @@ earlier (Some first) None = Some first
 earlier (Some first) (Some second) = Some (min first second)
 
 -- step 1: Protect Stop, where Activation is set and it is not
-abbrev pub with_protect_stop : KeyType → Dates → Dates
-with_protect_stop kind d =
+abbrev pub with_protect_stop : Period → Dates → Dates
+with_protect_stop p d =
     if is_some d.activation && is_none d.protect_stop
-    then record d { protect_stop = earlier (originator_limit kind d) d.deactivation } else d
+    then record d { protect_stop = earlier (originator_limit p d) d.deactivation } else d
 
 -- step 2: Deactivation, where Activation is set and it is not
-abbrev pub with_deactivation : KeyType → Dates → Dates
-with_deactivation kind d =
+abbrev pub with_deactivation : Period → Dates → Dates
+with_deactivation p d =
     if is_some d.activation && is_none d.deactivation
-    then record d { deactivation = recipient_limit kind d } else d
+    then record d { deactivation = recipient_limit p d } else d
 
 -- the date, but no later than the limit
 abbrev pub cut : Option ℕ → Option ℕ → Option ℕ
@@ -65,17 +64,17 @@ cut None limit = None
 cut (Some date) None = Some date
 cut (Some date) (Some limit) = Some (min date limit)
 
-abbrev pub filled : KeyType → Dates → Dates
-filled kind d = with_deactivation kind (with_protect_stop kind d)
+abbrev pub filled : Period → Dates → Dates
+filled p d = with_deactivation p (with_protect_stop p d)
 
 -- the dates of an activation: each step's date cut to its limit
-abbrev pub trimmed : KeyType → Dates → Dates
-trimmed kind d =
-    let first = with_protect_stop kind d in
-    let stop = cut first.protect_stop (originator_limit kind first) in
+abbrev pub trimmed : Period → Dates → Dates
+trimmed p d =
+    let first = with_protect_stop p d in
+    let stop = cut first.protect_stop (originator_limit p first) in
     let stopped = record first { protect_stop = stop } in
-    let second = with_deactivation kind stopped in
-    record second { deactivation = cut second.deactivation (recipient_limit kind second) }
+    let second = with_deactivation p stopped in
+    record second { deactivation = cut second.deactivation (recipient_limit p second) }
 
 -- ---- refusals
 
@@ -106,20 +105,20 @@ unless_refused None d = Ok d
 unless_refused (Some refusal) d = Err refusal
 
 -- Fill: the first that holds of the dates with their defaults refuses them
-abbrev pub fill_of : KeyType → Dates → Result Dates DateRefusal
-fill_of kind d =
-    let full = filled kind d in
+abbrev pub fill_of : Period → Dates → Result Dates DateRefusal
+fill_of p d =
+    let full = filled p d in
     unless_refused (first_that_holds (
     out_of_order full
-    ∷ over_limit full.protect_stop (originator_limit kind full)
-    ∷ over_limit full.deactivation (recipient_limit kind full)
+    ∷ over_limit full.protect_stop (originator_limit p full)
+    ∷ over_limit full.deactivation (recipient_limit p full)
     ∷ out_of_range full
     ∷ [])) full
 
 -- Trim: no period is too long after it, so it refuses for the order and the range alone
-abbrev pub trim_of : KeyType → Dates → Result Dates DateRefusal
-trim_of kind d =
-    let full = trimmed kind d in
+abbrev pub trim_of : Period → Dates → Result Dates DateRefusal
+trim_of p d =
+    let full = trimmed p d in
     unless_refused (first_that_holds (out_of_order full ∷ out_of_range full ∷ [])) full
 
 -- ---- what they owe

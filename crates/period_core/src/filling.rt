@@ -4,7 +4,7 @@ ghost use Rattle.period_core.specs.Fitting.{out_of_order, over_limit, out_of_ran
 ghost use Rattle.period_core.specs.Fitting.{trim_of, Fits, KeepsGiven, Gives};
 
 use crate::fitting::{are_in_order, filled, originator_limit, recipient_limit, trimmed};
-use crate::key_type::KeyType;
+use crate::period::Period;
 use lifecycle_core::Dates;
 use moment_core::Moment;
 
@@ -14,8 +14,7 @@ pub enum DateRefusal {
     /// Activation is after Protect Stop, Protect Stop after Deactivation, or Activation after
     /// Deactivation.
     DateOrder,
-    /// A usage period is longer than the type's: the originator's first, with the limit that is
-    /// passed.
+    /// A use is longer than its months: the originator's first, with the limit that is passed.
     PeriodTooLong { limit: Moment },
     /// A date that is not given would be past the last moment.
     DateRange,
@@ -64,19 +63,19 @@ fn out_of_range(dates: &Dates) -> Option<DateRefusal>
 ///
 /// # Errors
 /// The first that holds of the dates with their defaults, which leaves them as they were.
-pub fn fill(kind: KeyType, dates: &mut Dates) -> Result<(), DateRefusal>
-    ensures gives { Gives (fill_of kind dates.old) result dates.old dates.new }
-    ensures fits { OnOk result (Fits kind dates.new) }
+pub fn fill(period: Period, dates: &mut Dates) -> Result<(), DateRefusal>
+    ensures gives { Gives (fill_of period dates.old) result dates.old dates.new }
+    ensures fits { OnOk result (Fits period dates.new) }
     ensures keeps { OnOk result (KeepsGiven dates.old dates.new) }
 {
-    let full = filled(kind, *dates);
+    let full = filled(period, *dates);
     if let Some(refusal) = out_of_order(&full) {
         return Err(refusal);
     }
-    if let Some(refusal) = over_limit(full.protect_stop, originator_limit(kind, &full)) {
+    if let Some(refusal) = over_limit(full.protect_stop, originator_limit(period, &full)) {
         return Err(refusal);
     }
-    if let Some(refusal) = over_limit(full.deactivation, recipient_limit(kind, &full)) {
+    if let Some(refusal) = over_limit(full.deactivation, recipient_limit(period, &full)) {
         return Err(refusal);
     }
     if let Some(refusal) = out_of_range(&full) {
@@ -91,14 +90,14 @@ pub fn fill(kind: KeyType, dates: &mut Dates) -> Result<(), DateRefusal>
 ///
 /// # Errors
 /// [`DateRefusal::DateOrder`] or [`DateRefusal::DateRange`], which leaves the dates as they were.
-pub fn trim(kind: KeyType, dates: &mut Dates) -> Result<(), DateRefusal>
+pub fn trim(period: Period, dates: &mut Dates) -> Result<(), DateRefusal>
     requires { IsSome dates.old.activation }
-    ensures gives { Gives (trim_of kind dates.old) result dates.old dates.new }
-    ensures fits { OnOk result (Fits kind dates.new) }
+    ensures gives { Gives (trim_of period dates.old) result dates.old dates.new }
+    ensures fits { OnOk result (Fits period dates.new) }
     ensures never_too_long { IfErr result (λ refusal.
         (limit : ℕ) → refusal ≢ DateRefusal.PeriodTooLong limit) }
 {
-    let full = trimmed(kind, *dates);
+    let full = trimmed(period, *dates);
     if let Some(refusal) = out_of_order(&full) {
         return Err(refusal);
     }

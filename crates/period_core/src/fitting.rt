@@ -1,11 +1,10 @@
-//! Which dates fit a type of key, and what a date becomes that is not given, rule by rule.
+//! Which dates fit a usage period, and what a date becomes that is not given, rule by rule.
 ghost use Rattle.std.specs.Prelude.{◌≡◌, ◌↔◌, ◌||◌, ◌&&◌, is_some, is_none, IsTrue};
 ghost use Rattle.period_core.specs.Fitting.{Fits, is_not_after, are_in_order, originator_limit};
 ghost use Rattle.period_core.specs.Fitting.{recipient_limit, earlier, cut, with_protect_stop};
 ghost use Rattle.period_core.specs.Fitting.{with_deactivation, filled, trimmed};
 
-use crate::key_type::KeyType;
-use crate::period::period_of;
+use crate::period::Period;
 use lifecycle_core::Dates;
 use moment_core::Moment;
 
@@ -29,32 +28,32 @@ pub(crate) fn are_in_order(dates: &Dates) -> bool
 }
 
 /// The last moment of originator use, where there is one.
-pub(crate) fn originator_limit(kind: KeyType, dates: &Dates) -> Option<Moment>
-    ensures { result ≡ originator_limit kind dates.now }
+pub(crate) fn originator_limit(period: Period, dates: &Dates) -> Option<Moment>
+    ensures { result ≡ originator_limit period dates.now }
 {
     match dates.activation {
-        Some(activation) => activation.plus_months(period_of(kind).originator),
+        Some(activation) => activation.plus_months(period.originator),
         None => None,
     }
 }
 
 /// The last moment of recipient use, where there is one.
-pub(crate) fn recipient_limit(kind: KeyType, dates: &Dates) -> Option<Moment>
-    ensures { result ≡ recipient_limit kind dates.now }
+pub(crate) fn recipient_limit(period: Period, dates: &Dates) -> Option<Moment>
+    ensures { result ≡ recipient_limit period dates.now }
 {
     match dates.protect_stop {
-        Some(protect_stop) => protect_stop.plus_months(period_of(kind).recipient),
+        Some(protect_stop) => protect_stop.plus_months(period.recipient),
         None => None,
     }
 }
 
-/// Whether the dates fit the type: they are in order, and neither usage period is longer than the type's.
-pub fn fits(kind: KeyType, dates: &Dates) -> bool
-    ensures { IsTrue result ↔ Fits kind dates.now }
+/// Whether the dates fit the period: they are in order, and neither use is longer than its months.
+pub fn fits(period: Period, dates: &Dates) -> bool
+    ensures { IsTrue result ↔ Fits period dates.now }
 {
     are_in_order(dates)
-        && is_not_after(dates.protect_stop, originator_limit(kind, dates))
-        && is_not_after(dates.deactivation, recipient_limit(kind, dates))
+        && is_not_after(dates.protect_stop, originator_limit(period, dates))
+        && is_not_after(dates.deactivation, recipient_limit(period, dates))
 }
 
 /// The earlier of two dates; one that has no value counts as later than every moment.
@@ -79,50 +78,50 @@ fn cut(date: Option<Moment>, limit: Option<Moment>) -> Option<Moment>
 }
 
 /// The dates with a Protect Stop, where Activation is set and it is not.
-fn with_protect_stop(kind: KeyType, dates: Dates) -> Dates
-    ensures { result ≡ with_protect_stop kind dates }
+fn with_protect_stop(period: Period, dates: Dates) -> Dates
+    ensures { result ≡ with_protect_stop period dates }
 {
     if dates.activation.is_none() || dates.protect_stop.is_some() {
         return dates;
     }
     Dates {
-        protect_stop: earlier(originator_limit(kind, &dates), dates.deactivation),
+        protect_stop: earlier(originator_limit(period, &dates), dates.deactivation),
         ..dates
     }
 }
 
 /// The dates with a Deactivation, where Activation is set and it is not.
-fn with_deactivation(kind: KeyType, dates: Dates) -> Dates
-    ensures { result ≡ with_deactivation kind dates }
+fn with_deactivation(period: Period, dates: Dates) -> Dates
+    ensures { result ≡ with_deactivation period dates }
 {
     if dates.activation.is_none() || dates.deactivation.is_some() {
         return dates;
     }
     Dates {
-        deactivation: recipient_limit(kind, &dates),
+        deactivation: recipient_limit(period, &dates),
         ..dates
     }
 }
 
 /// The dates with their defaults, whether they fit or not.
-pub fn filled(kind: KeyType, dates: Dates) -> Dates
-    ensures { result ≡ filled kind dates }
+pub fn filled(period: Period, dates: Dates) -> Dates
+    ensures { result ≡ filled period dates }
 {
-    with_deactivation(kind, with_protect_stop(kind, dates))
+    with_deactivation(period, with_protect_stop(period, dates))
 }
 
 /// The dates with their defaults, each cut to its limit.
-pub fn trimmed(kind: KeyType, dates: Dates) -> Dates
-    ensures { result ≡ trimmed kind dates }
+pub fn trimmed(period: Period, dates: Dates) -> Dates
+    ensures { result ≡ trimmed period dates }
 {
-    let first = with_protect_stop(kind, dates);
+    let first = with_protect_stop(period, dates);
     let stopped = Dates {
-        protect_stop: cut(first.protect_stop, originator_limit(kind, &first)),
+        protect_stop: cut(first.protect_stop, originator_limit(period, &first)),
         ..first
     };
-    let second = with_deactivation(kind, stopped);
+    let second = with_deactivation(period, stopped);
     Dates {
-        deactivation: cut(second.deactivation, recipient_limit(kind, &second)),
+        deactivation: cut(second.deactivation, recipient_limit(period, &second)),
         ..second
     }
 }

@@ -1,10 +1,10 @@
 //! The types of keys and their usage periods, modelled on the cryptoperiods of NIST SP 800-57 Part
-//! 1: which dates fit a type, and what a date becomes that is not given.
+//! 1: which dates fit a period, and what a date becomes that is not given.
 //!
 //! ```
 //! let mut dates = Dates { activation: Some(now), ..dates };
-//! match fill(KeyType::DataEncryption, &mut dates) {
-//!     Ok(()) => { /* Protect Stop and Deactivation are set, and fit the type */ }
+//! match fill(period_of(KeyType::DataEncryption), &mut dates) {
+//!     Ok(()) => { /* Protect Stop and Deactivation are set, and fit the period */ }
 //!     Err(refusal) => { /* `dates` are as they were */ }
 //! }
 //! ```

@@ -4,7 +4,7 @@ ghost use Rattle.period_core.specs.Period.{periods};
 
 use crate::key_type::KeyType;
 
-/// The usage periods of a key type, in calendar months.
+/// The two usage periods of keys, in calendar months.
 #[derive(Clone, Copy, Debug, PartialEq, Eq)]
 pub struct Period {
     /// From Activation to Protect Stop, in which protection is applied.

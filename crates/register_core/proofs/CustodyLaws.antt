@@ -5,14 +5,14 @@ use Rattle.std.proofs.lemmas.Bool.{ltb-false}
 use Rattle.std.proofs.lemmas.Bool.Decides.{eqb_tells}
 use Rattle.lifecycle_core.specs.declared.dates.Dates.{Dates}
 use Rattle.lifecycle_core.specs.Reason.{is_compromise}
-use Rattle.period_core.specs.declared.key_type.KeyType.{KeyType}
+use Rattle.period_core.specs.declared.period.Period.{Period}
 use Rattle.period_core.specs.Fitting.{filled}
 use Rattle.register_core.specs.declared.request.Request.{Request}
 use Rattle.register_core.specs.declared.request.Command.{Command}
 use Rattle.register_core.specs.declared.request.Command.TheVariants.{Register as Registers, Activate, SetDates, Revoke, Destroy}
 use Rattle.register_core.specs.KeyName.{names_at}
 use Rattle.register_core.specs.Names.{sorted_names}
-use Rattle.register_core.specs.History.{count, type, dates}
+use Rattle.register_core.specs.History.{count, type, period, dates}
 use Rattle.register_core.specs.Subject.{named}
 use Rattle.register_core.specs.Effect.{given_dates, edited_dates, compromised, deactivated, dates_after, custody_change}
 use Rattle.register_core.specs.Custody.{all_custodians, all_approvals, approvals, min_approvals}
@@ -77,13 +77,15 @@ revoked_same : (b : Bool) (d : Dates) (t : ℕ) (occurrence : Option ℕ) → (c
 revoked_same true d t occurrence = refl
 revoked_same false d t occurrence = refl
 
-destroy_same : (kind : KeyType) (d : Dates) (t k : ℕ) (c : Command) → named c ≡ Some k → IsDestruction c ⊎ ((dates_after kind d t c).destroy ≡ d.destroy)
-destroy_same kind d t k (Registers of_kind owner activation protect_stop deactivation purpose) names = absurd cc
-destroy_same kind d t k (Activate n) names = inr (trimmed_keeps kind (record d { activation = Some t })).destroy
-destroy_same kind d t k (SetDates n activation protect_stop deactivation) names = inr (filled_keeps kind (edited_dates activation protect_stop deactivation d)).destroy
-destroy_same kind d t k (Revoke n reason occurrence) names = inr (revoked_same (is_compromise reason) d t occurrence)
-destroy_same kind d t k (Destroy n) names = inl (n, refl)
-destroy_same kind d t k c names = inr refl
+destroy_same : (p : Period) (d : Dates) (t k : ℕ) (c : Command) → named c ≡ Some k
+    → IsDestruction c ⊎ ((dates_after p d t c).destroy ≡ d.destroy)
+destroy_same p d t k (Registers of_kind owner activation protect_stop deactivation purpose) names = absurd cc
+destroy_same p d t k (Activate n) names = inr (trimmed_keeps p (record d { activation = Some t })).destroy
+destroy_same p d t k (SetDates n activation protect_stop deactivation) names =
+    inr (filled_keeps p (edited_dates activation protect_stop deactivation d)).destroy
+destroy_same p d t k (Revoke n reason occurrence) names = inr (revoked_same (is_compromise reason) d t occurrence)
+destroy_same p d t k (Destroy n) names = inl (n, refl)
+destroy_same p d t k c names = inr refl
 
 destroyed_enough : (h : List Request) (q : Request) (k n : ℕ) → IsOn h q k → q.command ≡ Destroy n → min_approvals ≤ length (approvals (h ++ q ∷ []) k)
 destroyed_enough h q k n on is =
@@ -101,11 +103,13 @@ approved_next h q is before k has set = elim (which h q k (judged h q is.accepte
   | inl made ↦
       let r = made.registration in
       let given : Dates = given_dates q.moment r.activation r.protect_stop r.deactivation in
-      let its : dates (h ++ q ∷ []) k ≡ filled r.kind given =
+      let p : Period = period h r.kind in
+      let its : dates (h ++ q ∷ []) k ≡ filled p given =
       ap (dates (h ++ q ∷ [])) made.next ∙ dates_made h q r made.makes in
-      let none : is_some (dates (h ++ q ∷ []) k).destroy ≡ false = ap (λ (d : Dates). is_some d.destroy) its ∙ ap is_some (filled_keeps r.kind given).destroy in
+      let none : is_some (dates (h ++ q ∷ []) k).destroy ≡ false =
+      ap (λ (d : Dates). is_some d.destroy) its ∙ ap is_some (filled_keeps p given).destroy in
       absurd (let e = sym none ∙ set in cc)
-  | inr (inl on) ↦ elim (destroy_same (type h k) (dates h k) q.moment k q.command on.names) [
+  | inr (inl on) ↦ elim (destroy_same (period h (type h k)) (dates h k) q.moment k q.command on.names) [
     | inl destruction ↦ destroyed_enough h q k destruction.0 on destruction.1
     | inr same ↦
         let was : IsSome (dates h k).destroy = sym (ap is_some (ap (λ (d : Dates). d.destroy) (dates_named h q k on.names) ∙ same)) ∙ set in

@@ -1,7 +1,8 @@
 -- The dates of each key over lawful histories: they fit, and move only where they may.
 use Rattle.std.proofs.Common.{◌≡◌, ℕ, List, [], ◌∷◌, ◌++◌, None, refl, sym, ap, subst, ◌∙◌, arith, inl, inr}
 use Rattle.lifecycle_core.specs.declared.dates.Dates.{Dates}
-use Rattle.period_core.specs.declared.key_type.KeyType.{KeyType}
+use Rattle.period_core.specs.declared.period.Period.{Period}
+use Rattle.period_core.specs.Period.{periods}
 use Rattle.period_core.specs.Fitting.{filled}
 use Rattle.register_core.specs.declared.request.Request.{Request}
 use Rattle.register_core.specs.History.{type, dates}
@@ -18,33 +19,43 @@ use Rattle.register_core.proofs.OnKey.{IsOn, IsMade, which}
 use Rattle.register_core.proofs.Dating.{filled_keeps, filled_fits}
 use Rattle.register_core.proofs.DateSteps.{nothing_moves, IsSound, sound_by, Steps, step}
 
-sound_as : (kind other_kind : KeyType) (d other : Dates) → other_kind ≡ kind → other ≡ d → IsSound kind d → IsSound other_kind other
-sound_as kind other_kind d other same_kind same sound = subst (λ (k : KeyType). IsSound k other) (sym same_kind) (subst (IsSound kind) (sym same) sound)
+sound_as : (period other_period : Period) (d other : Dates) → other_period ≡ period → other ≡ d
+    → IsSound period d → IsSound other_period other
+sound_as period other_period d other same_period same sound =
+    subst (λ (p : Period). IsSound p other) (sym same_period) (subst (IsSound period) (sym same) sound)
 
 -- the dates that the key is registered with
-pub made_sound : (h : List Request) (q : Request) (k : ℕ) → IsMade h q k → IsSound (type (h ++ q ∷ []) k) (dates (h ++ q ∷ []) k)
+pub made_sound : (h : List Request) (q : Request) (k : ℕ) → IsMade h q k
+    → IsSound (periods (type (h ++ q ∷ []) k)) (dates (h ++ q ∷ []) k)
 made_sound h q k made =
     let r = made.registration in
     let given : Dates = given_dates q.moment r.activation r.protect_stop r.deactivation in
-    let fit = filled_fits r.kind given (sym (ap (unfit None q.moment) (is_registration q.command r made.makes)) ∙ made.fit) in
+    let period : Period = periods r.kind in
+    let fit =
+    filled_fits period given (sym (ap (unfit None q.moment) (is_registration q.command r made.makes)) ∙ made.fit) in
     let kind = ap (type (h ++ q ∷ [])) made.next ∙ kind_made h q r made.makes in
     let its = ap (dates (h ++ q ∷ [])) made.next ∙ dates_made h q r made.makes in
-    sound_as r.kind _ (filled r.kind given) _ kind its (sound_by r.kind given (filled r.kind given) fit (filled_keeps r.kind given) refl)
+    sound_as period _ (filled period given) _ (ap periods kind) its
+    (sound_by period given (filled period given) fit (filled_keeps period given) refl)
 
 -- what the request makes of the dates of the key that it names
-on_steps : (h : List Request) (q : Request) (k : ℕ) → IsOn h q k → IsSound (type h k) (dates h k) → Steps (type h k) (dates h k) q.moment (dates_after (type h k) (dates h k) q.moment q.command)
+on_steps : (h : List Request) (q : Request) (k : ℕ) → IsOn h q k → IsSound (periods (type h k)) (dates h k)
+    → Steps (periods (type h k)) (dates h k) q.moment (dates_after (periods (type h k)) (dates h k) q.moment q.command)
 on_steps h q k on sound = step (standing h k) q.moment k q.command on.names sound on.fits_state on.not_frozen on.fit
 
 abbrev AllSound : List Request → Type 0
-AllSound h = (k : ℕ) → HasKey h k → IsSound (type h k) (dates h k)
+AllSound h = (k : ℕ) → HasKey h k → IsSound (periods (type h k)) (dates h k)
 
 sound_next : (h : List Request) (q : Request) → IsLawful h → judgement h q ≡ None → AllSound h → AllSound (h ++ q ∷ [])
 sound_next h q lawful accepted before k has = elim (which h q k accepted has.1) [
   | inl made ↦ made_sound h q k made
   | inr (inl on) ↦
       let steps = on_steps h q k on (before k (on.low, on.high)) in
-      sound_as (type h k) _ _ _ (kind_named h q k on.names) (dates_named h q k on.names) steps.sound
-  | inr (inr other) ↦ sound_as (type h k) _ (dates h k) _ (kind_other h q k other.other) (dates_other h q k other.other) (before k (has.0, other.high))
+      sound_as (periods (type h k)) _ _ _ (ap periods (kind_named h q k on.names)) (dates_named h q k on.names)
+      steps.sound
+  | inr (inr other) ↦
+      sound_as (periods (type h k)) _ (dates h k) _ (ap periods (kind_other h q k other.other))
+      (dates_other h q k other.other) (before k (has.0, other.high))
 ]
 
 pub all_sound : (h : List Request) → IsLawful h → AllSound h

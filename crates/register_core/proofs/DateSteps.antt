@@ -9,7 +9,7 @@ use Rattle.lifecycle_core.specs.State.{state_at, is_reached_at}
 use Rattle.lifecycle_core.specs.Reason.{is_compromise}
 use Rattle.moment_core.specs.Calendar.{months_after}
 use Rattle.moment_core.proofs.Forward.{months_forward}
-use Rattle.period_core.specs.declared.key_type.KeyType.{KeyType}
+use Rattle.period_core.specs.declared.period.Period.{Period}
 use Rattle.period_core.specs.Period.{periods}
 use Rattle.period_core.specs.Fitting.{is_not_after, months_on_date, Fits, KeepsDate, cut, filled, trimmed}
 use Rattle.register_core.specs.declared.request.Command.{Command}
@@ -59,13 +59,14 @@ no_cut x t n (Some limit) is le =
 
 -- ---- what holds of the dates of each key
 
-pub record IsSound (kind : KeyType) (d : Dates) : Type 0 where
-  pub fits : Fits kind d
+pub record IsSound (period : Period) (d : Dates) : Type 0 where
+  pub fits : Fits period d
   pub whole : IsWhole d
   pub occurs : is_some d.compromise ≡ is_some d.compromise_occurrence
 
-pub sound_by : (kind : KeyType) (d new : Dates) → Fits kind new × IsWhole new → KeepsOthers d new → is_some d.compromise ≡ is_some d.compromise_occurrence → IsSound kind new
-sound_by kind d new fits keeps occurs = record {
+pub sound_by : (period : Period) (d new : Dates) → Fits period new × IsWhole new → KeepsOthers d new
+    → is_some d.compromise ≡ is_some d.compromise_occurrence → IsSound period new
+sound_by period d new fits keeps occurs = record {
   fits = fits.0;
   whole = fits.1;
   occurs = ap is_some keeps.compromise ∙ occurs ∙ sym (ap is_some keeps.compromise_occurrence);
@@ -73,16 +74,19 @@ sound_by kind d new fits keeps occurs = record {
 
 -- ---- Activate
 
-activated_moves : (kind : KeyType) (d : Dates) (t : ℕ) → state_at d t ≡ PreActive → MovesOnly d t (trimmed kind (record d { activation = Some t }))
-activated_moves kind d t early =
+activated_moves : (period : Period) (d : Dates) (t : ℕ) → state_at d t ≡ PreActive
+    → MovesOnly d t (trimmed period (record d { activation = Some t }))
+activated_moves period d t early =
     let given : Dates = record d { activation = Some t } in
-    let keeps = trimmed_keeps kind given in
+    let keeps = trimmed_keeps period given in
     record {
       activation = inl early;
       deactivation = inl early;
       protect_stop = λ reached.
           let stop = reached_stop d.protect_stop t reached in
-          trimmed_stop kind given stop.0 stop.1 ∙ no_cut stop.0 t (periods kind).originator (months_after t (periods kind).originator) refl stop.2 ∙ sym stop.1;
+          trimmed_stop period given stop.0 stop.1
+          ∙ no_cut stop.0 t period.originator (months_after t period.originator) refl stop.2
+          ∙ sym stop.1;
       initial = keeps.initial;
       destroy = keeps_same d.destroy _ keeps.destroy;
       compromise = keeps_same d.compromise _ keeps.compromise;
@@ -104,12 +108,13 @@ must_keep : (kept held : Bool) → not kept && held ≡ false → held ≡ true 
 must_keep true held e set = refl
 must_keep false held e set = absurd (let f = sym e ∙ set in cc)
 
-edited_moves : (kind : KeyType) (d : Dates) (t : ℕ) (activation protect_stop deactivation : Edit) → (state_at d t ≡ PreActive) ⊎ (state_at d t ≡ Active)
+edited_moves : (period : Period) (d : Dates) (t : ℕ) (activation protect_stop deactivation : Edit)
+    → (state_at d t ≡ PreActive) ⊎ (state_at d t ≡ Active)
     → (not (is_kept activation) && not (is_one_of (PreActive ∷ []) (state_at d t))) || (not (is_kept protect_stop) && is_reached_at d.protect_stop t) ≡ false
-    → MovesOnly d t (filled kind (edited_dates activation protect_stop deactivation d))
-edited_moves kind d t activation protect_stop deactivation early free =
+    → MovesOnly d t (filled period (edited_dates activation protect_stop deactivation d))
+edited_moves period d t activation protect_stop deactivation early free =
     let given : Dates = edited_dates activation protect_stop deactivation d in
-    let keeps = filled_keeps kind given in
+    let keeps = filled_keeps period given in
     let both = neither_holds _ _ free in
     record {
       activation = elim early [
@@ -123,7 +128,7 @@ edited_moves kind d t activation protect_stop deactivation early free =
       protect_stop = λ reached.
           let stop = reached_stop d.protect_stop t reached in
           let edit = kept_edit protect_stop (must_keep (is_kept protect_stop) (is_reached_at d.protect_stop t) both.1 reached) in
-          filled_stop kind given stop.0 (ap (λ (e : Edit). edited e d.protect_stop) edit ∙ stop.1) ∙ sym stop.1;
+          filled_stop period given stop.0 (ap (λ (e : Edit). edited e d.protect_stop) edit ∙ stop.1) ∙ sym stop.1;
       initial = keeps.initial;
       destroy = keeps_same d.destroy _ keeps.destroy;
       compromise = keeps_same d.compromise _ keeps.compromise;
@@ -159,12 +164,12 @@ compromised_moves d t occurrence none occurs = record {
 }
 
 -- the dates of an active key that is deactivated fit still
-record FitsSo (kind : KeyType) (act stop end : Option ℕ) : Type 0 where
+record FitsSo (period : Period) (act stop end : Option ℕ) : Type 0 where
   first : is_not_after act stop ≡ true
   second : is_not_after stop end ≡ true
   third : is_not_after act end ≡ true
-  originator : is_not_after stop (months_on_date act (periods kind).originator) ≡ true
-  recipient : is_not_after end (months_on_date stop (periods kind).recipient) ≡ true
+  originator : is_not_after stop (months_on_date act period.originator) ≡ true
+  recipient : is_not_after end (months_on_date stop period.recipient) ≡ true
 
 within_limit : (earlier later : ℕ) (limit : Option ℕ) → earlier ≤ later → is_not_after (Some later) limit ≡ true → is_not_after (Some earlier) limit ≡ true
 within_limit earlier later None le fits = refl
@@ -174,12 +179,13 @@ before_limit : (t n : ℕ) (limit : Option ℕ) → limit ≡ months_after t n �
 before_limit t n None is = refl
 before_limit t n (Some limit) is = le-leb t limit (months_forward t n limit (sym is))
 
-shortened : (kind : KeyType) (t : ℕ) (act stop end : Option ℕ) → FitsSo kind act stop end → is_reached_at act t ≡ true → is_reached_at end t ≡ false → is_some stop ≡ true → is_some end ≡ true
-    → FitsSo kind act (no_later_than t stop) (Some t)
-shortened kind t None stop end fits active open_end stopped ended = absurd cc
-shortened kind t (Some a) None end fits active open_end stopped ended = absurd cc
-shortened kind t (Some a) (Some p) None fits active open_end stopped ended = absurd cc
-shortened kind t (Some a) (Some p) (Some x) fits active open_end stopped ended =
+shortened : (period : Period) (t : ℕ) (act stop end : Option ℕ) → FitsSo period act stop end
+    → is_reached_at act t ≡ true → is_reached_at end t ≡ false → is_some stop ≡ true → is_some end ≡ true
+    → FitsSo period act (no_later_than t stop) (Some t)
+shortened period t None stop end fits active open_end stopped ended = absurd cc
+shortened period t (Some a) None end fits active open_end stopped ended = absurd cc
+shortened period t (Some a) (Some p) None fits active open_end stopped ended = absurd cc
+shortened period t (Some a) (Some p) (Some x) fits active open_end stopped ended =
     let started = leb-true a t active in
     let ends = leb-false x t open_end in
     let order = leb-true a p fits.first in
@@ -187,25 +193,31 @@ shortened kind t (Some a) (Some p) (Some x) fits active open_end stopped ended =
       first = le-leb a (min p t) (omega (arith, started, order));
       second = le-leb (min p t) t (omega arith);
       third = le-leb a t started;
-      originator = within_limit (min p t) p (months_after a (periods kind).originator) (omega arith) fits.originator;
+      originator = within_limit (min p t) p (months_after a period.originator) (omega arith) fits.originator;
       recipient = elim (cases_lt p t) [
         | inl early ↦
             let same : min p t ≡ p = omega (arith, early) in
-            ap (λ (s : ℕ). is_not_after (Some t) (months_after s (periods kind).recipient)) same ∙ within_limit t x (months_after p (periods kind).recipient) (omega (arith, ends)) fits.recipient
+            ap (λ (s : ℕ). is_not_after (Some t) (months_after s period.recipient)) same
+            ∙ within_limit t x (months_after p period.recipient) (omega (arith, ends)) fits.recipient
         | inr late ↦
             let same : min p t ≡ t = omega (arith, late) in
-            ap (λ (s : ℕ). is_not_after (Some t) (months_after s (periods kind).recipient)) same ∙ before_limit t (periods kind).recipient (months_after t (periods kind).recipient) refl
+            ap (λ (s : ℕ). is_not_after (Some t) (months_after s period.recipient)) same
+            ∙ before_limit t period.recipient (months_after t period.recipient) refl
       ];
     }
 
-parts : (kind : KeyType) (d : Dates) → Fits kind d → FitsSo kind d.activation d.protect_stop d.deactivation
-parts kind d fits =
+parts : (period : Period) (d : Dates) → Fits period d → FitsSo period d.activation d.protect_stop d.deactivation
+parts period d fits =
     let outer = and_parts (is_not_after d.activation d.protect_stop && is_not_after d.protect_stop d.deactivation) (is_not_after d.activation d.deactivation) fits.order in
     let inner = and_parts (is_not_after d.activation d.protect_stop) (is_not_after d.protect_stop d.deactivation) outer.0 in
     record { first = inner.0; second = inner.1; third = outer.1; originator = fits.originator; recipient = fits.recipient }
 
-joined : (kind : KeyType) (d : Dates) → FitsSo kind d.activation d.protect_stop d.deactivation → Fits kind d
-joined kind d so = record { order = and_from _ _ (and_from _ _ so.first so.second) so.third; originator = so.originator; recipient = so.recipient }
+joined : (period : Period) (d : Dates) → FitsSo period d.activation d.protect_stop d.deactivation → Fits period d
+joined period d so = record {
+  order = and_from _ _ (and_from _ _ so.first so.second) so.third;
+  originator = so.originator;
+  recipient = so.recipient;
+}
 
 stop_some : (stop : Option ℕ) (t : ℕ) → is_some stop ≡ true → is_some (no_later_than t stop) ≡ true
 stop_some None t some = absurd cc
@@ -215,25 +227,31 @@ activation_set : (act : Option ℕ) (t : ℕ) → is_reached_at act t ≡ true �
 activation_set None t reached = absurd cc
 activation_set (Some a) t reached = refl
 
-deactivated_sound : (kind : KeyType) (d : Dates) (t : ℕ) → IsSound kind d → Shows Active d t → IsSound kind (deactivated t d)
-deactivated_sound kind d t sound active =
+deactivated_sound : (period : Period) (d : Dates) (t : ℕ) → IsSound period d → Shows Active d t
+    → IsSound period (deactivated t d)
+deactivated_sound period d t sound active =
     let set = activation_set d.activation t active.2 in
     let stop = sound.whole.protect_stop set in
     record {
-      fits = joined kind (deactivated t d) (shortened kind t d.activation d.protect_stop d.deactivation (parts kind d sound.fits) active.2 active.3 stop (sound.whole.deactivation set));
+      fits =
+          joined period (deactivated t d)
+          (shortened period t d.activation d.protect_stop d.deactivation (parts period d sound.fits)
+          active.2 active.3 stop (sound.whole.deactivation set));
       whole = record { protect_stop = λ is. stop_some d.protect_stop t stop; deactivation = λ is. refl };
       occurs = sound.occurs;
     }
 
-compromised_sound : (kind : KeyType) (d : Dates) (t : ℕ) (occurrence : Option ℕ) → IsSound kind d → IsSound kind (compromised t occurrence d)
-compromised_sound kind d t occurrence sound = record {
+compromised_sound : (period : Period) (d : Dates) (t : ℕ) (occurrence : Option ℕ) → IsSound period d
+    → IsSound period (compromised t occurrence d)
+compromised_sound period d t occurrence sound = record {
   fits = record { order = sound.fits.order; originator = sound.fits.originator; recipient = sound.fits.recipient };
   whole = record { protect_stop = sound.whole.protect_stop; deactivation = sound.whole.deactivation };
   occurs = refl;
 }
 
-destroyed_sound : (kind : KeyType) (d : Dates) (t : ℕ) → IsSound kind d → IsSound kind (record d { destroy = Some t })
-destroyed_sound kind d t sound = record {
+destroyed_sound : (period : Period) (d : Dates) (t : ℕ) → IsSound period d
+    → IsSound period (record d { destroy = Some t })
+destroyed_sound period d t sound = record {
   fits = record { order = sound.fits.order; originator = sound.fits.originator; recipient = sound.fits.recipient };
   whole = record { protect_stop = sound.whole.protect_stop; deactivation = sound.whole.deactivation };
   occurs = sound.occurs;
@@ -241,46 +259,58 @@ destroyed_sound kind d t sound = record {
 
 -- ---- each command
 
-pub record Steps (kind : KeyType) (d : Dates) (t : ℕ) (new : Dates) : Type 0 where
-  pub sound : IsSound kind new
+pub record Steps (period : Period) (d : Dates) (t : ℕ) (new : Dates) : Type 0 where
+  pub sound : IsSound period new
   pub moves : MovesOnly d t new
 
-same_step : (kind : KeyType) (d : Dates) (t : ℕ) → IsSound kind d → Steps kind d t d
-same_step kind d t sound = record { sound = sound; moves = nothing_moves d t }
+same_step : (period : Period) (d : Dates) (t : ℕ) → IsSound period d → Steps period d t d
+same_step period d t sound = record { sound = sound; moves = nothing_moves d t }
 
-revoked : (kind : KeyType) (d : Dates) (t : ℕ) (b : Bool) (occurrence : Option ℕ) → IsSound kind d
+revoked : (period : Period) (d : Dates) (t : ℕ) (b : Bool) (occurrence : Option ℕ) → IsSound period d
     → is_one_of (cond b before_compromise (Active ∷ [])) (state_at d t) ≡ true
-    → Steps kind d t (cond b (compromised t occurrence d) (deactivated t d))
-revoked kind d t true occurrence sound fits_state =
+    → Steps period d t (cond b (compromised t occurrence d) (deactivated t d))
+revoked period d t true occurrence sound fits_state =
     let none = not_compromised (state_at d t) d t (shows d t) fits_state in
-    record { sound = compromised_sound kind d t occurrence sound; moves = compromised_moves d t occurrence none sound.occurs }
-revoked kind d t false occurrence sound fits_state =
+    record {
+      sound = compromised_sound period d t occurrence sound;
+      moves = compromised_moves d t occurrence none sound.occurs;
+    }
+revoked period d t false occurrence sound fits_state =
     let active = is_active (state_at d t) fits_state in
-    record { sound = deactivated_sound kind d t sound (subst (λ (s : State). Shows s d t) active (shows d t)); moves = deactivated_moves d t active }
+    record {
+      sound = deactivated_sound period d t sound (subst (λ (s : State). Shows s d t) active (shows d t));
+      moves = deactivated_moves d t active;
+    }
 
-pub step : (key : Held) (t k : ℕ) (c : Command) → named c ≡ Some k → IsSound key.kind key.row.dates → is_for c (state_at key.row.dates t) ≡ true → frozen (Some key) t c ≡ None → unfit (Some key) t c ≡ None
-    → Steps key.kind key.row.dates t (dates_after key.kind key.row.dates t c)
+pub step : (key : Held) (t k : ℕ) (c : Command) → named c ≡ Some k → IsSound (periods key.kind) key.row.dates
+    → is_for c (state_at key.row.dates t) ≡ true → frozen (Some key) t c ≡ None → unfit (Some key) t c ≡ None
+    → Steps (periods key.kind) key.row.dates t (dates_after (periods key.kind) key.row.dates t c)
 step key t k (Registers kind owner activation protect_stop deactivation purpose) names sound fits_state free fit = absurd cc
 step key t k (Activate n) names sound fits_state free fit =
+    let period : Period = periods key.kind in
     let d : Dates = key.row.dates in
     let given : Dates = record d { activation = Some t } in
     record {
-      sound = sound_by key.kind given _ (trimmed_fits key.kind given fit) (trimmed_keeps key.kind given) sound.occurs;
-      moves = activated_moves key.kind d t (is_pre_active (state_at d t) fits_state);
+      sound = sound_by period given _ (trimmed_fits period given fit) (trimmed_keeps period given) sound.occurs;
+      moves = activated_moves period d t (is_pre_active (state_at d t) fits_state);
     }
 step key t k (SetDates n activation protect_stop deactivation) names sound fits_state free fit =
+    let period : Period = periods key.kind in
     let d : Dates = key.row.dates in
     let given : Dates = edited_dates activation protect_stop deactivation d in
     record {
-      sound = sound_by key.kind given _ (filled_fits key.kind given fit) (filled_keeps key.kind given) sound.occurs;
-      moves = edited_moves key.kind d t activation protect_stop deactivation (is_early (state_at d t) fits_state) (not_refused _ _ free);
+      sound = sound_by period given _ (filled_fits period given fit) (filled_keeps period given) sound.occurs;
+      moves =
+          edited_moves period d t activation protect_stop deactivation (is_early (state_at d t) fits_state)
+          (not_refused _ _ free);
     }
-step key t k (Revoke n reason occurrence) names sound fits_state free fit = revoked key.kind key.row.dates t (is_compromise reason) occurrence sound fits_state
+step key t k (Revoke n reason occurrence) names sound fits_state free fit =
+    revoked (periods key.kind) key.row.dates t (is_compromise reason) occurrence sound fits_state
 step key t k (Destroy n) names sound fits_state free fit =
     let d : Dates = key.row.dates in
     let still = nothing_moves d t in
     record {
-      sound = destroyed_sound key.kind d t sound;
+      sound = destroyed_sound (periods key.kind) d t sound;
       moves = record {
         activation = still.activation;
         deactivation = still.deactivation;
@@ -291,4 +321,4 @@ step key t k (Destroy n) names sound fits_state free fit =
         compromise_occurrence = still.compromise_occurrence;
       };
     }
-step key t k c names sound fits_state free fit = same_step key.kind key.row.dates t sound
+step key t k c names sound fits_state free fit = same_step (periods key.kind) key.row.dates t sound

@@ -3,10 +3,10 @@ use Rattle.std.proofs.Common.{◌≡◌, ℕ, nat_le, Bool, true, false, ◌&&�
 use Rattle.std.specs.Prelude.{nat_lt, min, is_some, is_none}
 use Rattle.std.proofs.lemmas.Bool.{ltb-false, le-leb}
 use Rattle.lifecycle_core.specs.declared.dates.Dates.{Dates}
-use Rattle.period_core.specs.declared.key_type.KeyType.{KeyType}
+use Rattle.period_core.specs.declared.period.Period.{Period}
 use Rattle.period_core.specs.declared.filling.DateRefusal.{DateRefusal}
 use Rattle.period_core.specs.declared.filling.DateRefusal.TheVariants.{DateOrder, PeriodTooLong, DateRange}
-use Rattle.period_core.specs.Fitting.{is_not_after, originator_limit, recipient_limit, Fits, with_protect_stop, with_deactivation, cut, filled, trimmed, over_limit, out_of_order, out_of_range, unless_refused, fill_of, trim_of}
+use Rattle.period_core.specs.Fitting.{is_not_after, originator_limit, recipient_limit, Fits, earlier, with_protect_stop, with_deactivation, cut, filled, trimmed, over_limit, out_of_order, out_of_range, unless_refused, fill_of, trim_of}
 use Rattle.register_core.specs.Verdict.{refused_dates}
 use Rattle.register_core.proofs.Filling.{past}
 
@@ -21,21 +21,28 @@ record IsApart {X : Type 0} (f : Dates → X) : Type 0 where
   pub stop : (d : Dates) (date : Option ℕ) → f (record d { protect_stop = date }) ≡ f d
   pub end : (d : Dates) (date : Option ℕ) → f (record d { deactivation = date }) ≡ f d
 
-stop_kept : {X : Type 0} (f : Dates → X) → IsApart f → (kind : KeyType) (d : Dates) → f (with_protect_stop kind d) ≡ f d
-stop_kept f apart kind d = kept f (is_some d.activation && is_none d.protect_stop) _ d (apart.stop d _)
+stop_kept : {X : Type 0} (f : Dates → X) → IsApart f → (period : Period) (d : Dates)
+    → f (with_protect_stop period d) ≡ f d
+stop_kept f apart period d = kept f (is_some d.activation && is_none d.protect_stop) _ d (apart.stop d _)
 
-end_kept : {X : Type 0} (f : Dates → X) → IsApart f → (kind : KeyType) (d : Dates) → f (with_deactivation kind d) ≡ f d
-end_kept f apart kind d = kept f (is_some d.activation && is_none d.deactivation) _ d (apart.end d _)
+end_kept : {X : Type 0} (f : Dates → X) → IsApart f → (period : Period) (d : Dates)
+    → f (with_deactivation period d) ≡ f d
+end_kept f apart period d = kept f (is_some d.activation && is_none d.deactivation) _ d (apart.end d _)
 
-filled_kept : {X : Type 0} (f : Dates → X) → IsApart f → (kind : KeyType) (d : Dates) → f (filled kind d) ≡ f d
-filled_kept f apart kind d = end_kept f apart kind (with_protect_stop kind d) ∙ stop_kept f apart kind d
+filled_kept : {X : Type 0} (f : Dates → X) → IsApart f → (period : Period) (d : Dates) → f (filled period d) ≡ f d
+filled_kept f apart period d = end_kept f apart period (with_protect_stop period d) ∙ stop_kept f apart period d
 
-abbrev stopped : KeyType → Dates → Dates
-stopped kind d = let first = with_protect_stop kind d in record first { protect_stop = cut first.protect_stop (originator_limit kind first) }
+abbrev stopped : Period → Dates → Dates
+stopped period d =
+    let first = with_protect_stop period d in
+    record first { protect_stop = cut first.protect_stop (originator_limit period first) }
 
-trimmed_kept : {X : Type 0} (f : Dates → X) → IsApart f → (kind : KeyType) (d : Dates) → f (trimmed kind d) ≡ f d
-trimmed_kept f apart kind d =
-    apart.end (with_deactivation kind (stopped kind d)) _ ∙ end_kept f apart kind (stopped kind d) ∙ apart.stop (with_protect_stop kind d) _ ∙ stop_kept f apart kind d
+trimmed_kept : {X : Type 0} (f : Dates → X) → IsApart f → (period : Period) (d : Dates) → f (trimmed period d) ≡ f d
+trimmed_kept f apart period d =
+    apart.end (with_deactivation period (stopped period d)) _
+    ∙ end_kept f apart period (stopped period d)
+    ∙ apart.stop (with_protect_stop period d) _
+    ∙ stop_kept f apart period d
 
 -- the dates that no date set by hand moves
 pub record KeepsOthers (old new : Dates) : Type 0 where
@@ -55,11 +62,11 @@ keeps_by old new kept_by = record {
   compromise_occurrence = kept_by (Option ℕ) (λ x. x.compromise_occurrence) (record { stop = λ x date. refl; end = λ x date. refl });
 }
 
-pub filled_keeps : (kind : KeyType) (d : Dates) → KeepsOthers d (filled kind d)
-filled_keeps kind d = keeps_by d (filled kind d) (λ X f apart. filled_kept f apart kind d)
+pub filled_keeps : (period : Period) (d : Dates) → KeepsOthers d (filled period d)
+filled_keeps period d = keeps_by d (filled period d) (λ X f apart. filled_kept f apart period d)
 
-pub trimmed_keeps : (kind : KeyType) (d : Dates) → KeepsOthers d (trimmed kind d)
-trimmed_keeps kind d = keeps_by d (trimmed kind d) (λ X f apart. trimmed_kept f apart kind d)
+pub trimmed_keeps : (period : Period) (d : Dates) → KeepsOthers d (trimmed period d)
+trimmed_keeps period d = keeps_by d (trimmed period d) (λ X f apart. trimmed_kept f apart period d)
 
 never_empty : (b : Bool) (o : Option ℕ) (x : ℕ) → o ≡ Some x → b && is_none o ≡ false
 never_empty true None x set = absurd cc
@@ -67,26 +74,38 @@ never_empty true (Some y) x set = refl
 never_empty false o x set = refl
 
 -- a Protect Stop that is set is no default
-given_stop : (kind : KeyType) (d : Dates) (x : ℕ) → d.protect_stop ≡ Some x → (with_protect_stop kind d).protect_stop ≡ Some x
-given_stop kind d x set = by (is_some d.activation && is_none d.protect_stop) (never_empty (is_some d.activation) d.protect_stop x set)
+given_stop : (period : Period) (d : Dates) (x : ℕ) → d.protect_stop ≡ Some x
+    → (with_protect_stop period d).protect_stop ≡ Some x
+given_stop period d x set =
+    by (is_some d.activation && is_none d.protect_stop) (never_empty (is_some d.activation) d.protect_stop x set)
   where
-    by : (b : Bool) → b ≡ false → (cond b (record d { protect_stop = Rattle.period_core.specs.Fitting.earlier (originator_limit kind d) d.deactivation }) d).protect_stop ≡ Some x
+    by : (b : Bool) → b ≡ false
+        → (cond b (record d { protect_stop = earlier (originator_limit period d) d.deactivation }) d).protect_stop
+        ≡ Some x
     by true e = absurd cc
     by false e = set
 
-pub filled_stop : (kind : KeyType) (d : Dates) (x : ℕ) → d.protect_stop ≡ Some x → (filled kind d).protect_stop ≡ Some x
-filled_stop kind d x set =
-    kept (λ (y : Dates). y.protect_stop) (is_some (with_protect_stop kind d).activation && is_none (with_protect_stop kind d).deactivation) _ (with_protect_stop kind d) refl ∙ given_stop kind d x set
+pub filled_stop : (period : Period) (d : Dates) (x : ℕ) → d.protect_stop ≡ Some x
+    → (filled period d).protect_stop ≡ Some x
+filled_stop period d x set =
+    kept (λ (y : Dates). y.protect_stop)
+    (is_some (with_protect_stop period d).activation && is_none (with_protect_stop period d).deactivation) _
+    (with_protect_stop period d) refl
+    ∙ given_stop period d x set
 
 -- Trim's Protect Stop
-trimmed_stop_is : (kind : KeyType) (d : Dates) → (trimmed kind d).protect_stop ≡ (stopped kind d).protect_stop
-trimmed_stop_is kind d = kept (λ (y : Dates). y.protect_stop) (is_some (stopped kind d).activation && is_none (stopped kind d).deactivation) _ (stopped kind d) refl
+trimmed_stop_is : (period : Period) (d : Dates) → (trimmed period d).protect_stop ≡ (stopped period d).protect_stop
+trimmed_stop_is period d =
+    kept (λ (y : Dates). y.protect_stop)
+    (is_some (stopped period d).activation && is_none (stopped period d).deactivation) _ (stopped period d) refl
 
-pub trimmed_stop : (kind : KeyType) (d : Dates) (x : ℕ) → d.protect_stop ≡ Some x → (trimmed kind d).protect_stop ≡ cut (Some x) (originator_limit kind d)
-trimmed_stop kind d x set =
-    trimmed_stop_is kind d
-    ∙ ap (λ (o : Option ℕ). cut o (originator_limit kind (with_protect_stop kind d))) (given_stop kind d x set)
-    ∙ ap (λ (o : Option ℕ). cut (Some x) o) (stop_kept (originator_limit kind) (record { stop = λ y date. refl; end = λ y date. refl }) kind d)
+pub trimmed_stop : (period : Period) (d : Dates) (x : ℕ) → d.protect_stop ≡ Some x
+    → (trimmed period d).protect_stop ≡ cut (Some x) (originator_limit period d)
+trimmed_stop period d x set =
+    trimmed_stop_is period d
+    ∙ ap (λ (o : Option ℕ). cut o (originator_limit period (with_protect_stop period d))) (given_stop period d x set)
+    ∙ ap (λ (o : Option ℕ). cut (Some x) o)
+    (stop_kept (originator_limit period) (record { stop = λ y date. refl; end = λ y date. refl }) period d)
 
 -- ---- that they fit
 
@@ -133,19 +152,20 @@ whole d e = record {
   deactivation = some_second (is_some d.activation) d.protect_stop d.deactivation (ranged _ e);
 }
 
-pub filled_fits : (kind : KeyType) (d : Dates) → refused_dates (fill_of kind d) ≡ None → Fits kind (filled kind d) × IsWhole (filled kind d)
-filled_fits kind d e =
-    let full = filled kind d in
-    let originator = over_limit full.protect_stop (originator_limit kind full) in
-    let recipient = over_limit full.deactivation (recipient_limit kind full) in
+pub filled_fits : (period : Period) (d : Dates) → refused_dates (fill_of period d) ≡ None
+    → Fits period (filled period d) × IsWhole (filled period d)
+filled_fits period d e =
+    let full = filled period d in
+    let originator = over_limit full.protect_stop (originator_limit period full) in
+    let recipient = over_limit full.deactivation (recipient_limit period full) in
     let order = past (out_of_order full) (originator ∷ recipient ∷ out_of_range full ∷ []) (passes _ full e) in
     let first = past originator (recipient ∷ out_of_range full ∷ []) order.later in
     let second = past recipient (out_of_range full ∷ []) first.later in
     let range = past (out_of_range full) [] second.later in (
       record {
         order = ordered _ order.here;
-        originator = limited full.protect_stop (originator_limit kind full) first.here;
-        recipient = limited full.deactivation (recipient_limit kind full) second.here;
+        originator = limited full.protect_stop (originator_limit period full) first.here;
+        recipient = limited full.deactivation (recipient_limit period full) second.here;
       },
       whole full range.here,
     )
@@ -155,19 +175,24 @@ cut_within None limit = refl
 cut_within (Some date) None = refl
 cut_within (Some date) (Some limit) = le-leb (min date limit) limit (omega arith)
 
-pub trimmed_fits : (kind : KeyType) (d : Dates) → refused_dates (trim_of kind d) ≡ None → Fits kind (trimmed kind d) × IsWhole (trimmed kind d)
-trimmed_fits kind d e =
-    let full = trimmed kind d in
-    let first = with_protect_stop kind d in
-    let second = with_deactivation kind (stopped kind d) in
+pub trimmed_fits : (period : Period) (d : Dates) → refused_dates (trim_of period d) ≡ None
+    → Fits period (trimmed period d) × IsWhole (trimmed period d)
+trimmed_fits period d e =
+    let full = trimmed period d in
+    let first = with_protect_stop period d in
+    let second = with_deactivation period (stopped period d) in
     let ordering = past (out_of_order full) (out_of_range full ∷ []) (passes _ full e) in
     let range = past (out_of_range full) [] ordering.later in
-    let limit : originator_limit kind full ≡ originator_limit kind first =
-    end_kept (originator_limit kind) (record { stop = λ y date. refl; end = λ y date. refl }) kind (stopped kind d) in (
+    let limit : originator_limit period full ≡ originator_limit period first =
+    end_kept (originator_limit period) (record { stop = λ y date. refl; end = λ y date. refl }) period
+    (stopped period d) in (
       record {
         order = ordered _ ordering.here;
-        originator = ap (λ (o : Option ℕ). is_not_after o (originator_limit kind full)) (trimmed_stop_is kind d) ∙ ap (is_not_after (stopped kind d).protect_stop) limit ∙ cut_within first.protect_stop (originator_limit kind first);
-        recipient = cut_within second.deactivation (recipient_limit kind second);
+        originator =
+            ap (λ (o : Option ℕ). is_not_after o (originator_limit period full)) (trimmed_stop_is period d)
+            ∙ ap (is_not_after (stopped period d).protect_stop) limit
+            ∙ cut_within first.protect_stop (originator_limit period first);
+        recipient = cut_within second.deactivation (recipient_limit period second);
       },
       whole full range.here,
     )

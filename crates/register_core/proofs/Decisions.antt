@@ -7,6 +7,7 @@ use Rattle.std.proofs.lemmas.Bool.{le-leb}
 use Rattle.lifecycle_core.specs.declared.dates.Dates.{Dates}
 use Rattle.lifecycle_core.specs.State.{state_at}
 use Rattle.period_core.specs.declared.key_type.KeyType.{KeyType}
+use Rattle.period_core.specs.Period.{periods}
 use Rattle.period_core.specs.Fitting.{filled}
 use Rattle.register_core.specs.declared.request.Request.{Request}
 use Rattle.register_core.specs.declared.request.Command.{Command}
@@ -77,11 +78,12 @@ pub count_named : (h : List Request) (q : Request) (k : ℕ) → named q.command
 count_named h q k names = count_grows h q ∙ ap (λ (n : ℕ). count h + n) (none_made q.command k names) ∙ add-zero (count h)
 
 pub held_named : (h : List Request) (q : Request) (k : ℕ) → named q.command ≡ Some k → is_there h k ≡ true →
-    Stands (h ++ q ∷ []) k (type h k) (owner_after (owner h k) q.command) (row_at (dates_after (type h k) (dates h k) q.moment q.command) q.moment)
+    Stands (h ++ q ∷ []) k (type h k) (owner_after (owner h k) q.command)
+    (row_at (dates_after (periods (type h k)) (dates h k) q.moment q.command) q.moment)
 held_named h q k names is =
     let all = h ++ q ∷ [] in
     assembled_same (custodians all k) (approvals all k) (is_there all k) (type all k) (type h k) (owner all k) (owner_after (owner h k) q.command)
-    (dates all k) (dates_after (type h k) (dates h k) q.moment q.command) (latest all) q.moment
+    (dates all k) (dates_after (periods (type h k)) (dates h k) q.moment q.command) (latest all) q.moment
     (ap (λ (n : ℕ). nat_le 1 k && nat_le k n) (count_named h q k names) ∙ is)
     (kind_named h q k names) (owner_named h q k names) (dates_named h q k names) (latest_grows h q)
 
@@ -92,7 +94,8 @@ held_made h q r makes =
     let k = count h + 1 in
     let counted : count all ≡ k = count_grows h q ∙ ap (λ (s : Subject). count h + count_by s) makes in
     assembled_same (custodians all k) (approvals all k) (is_there all k) (type all k) r.kind (owner all k) r.owner
-    (dates all k) (filled r.kind (given_dates q.moment r.activation r.protect_stop r.deactivation)) (latest all) q.moment
+    (dates all k) (filled (periods r.kind) (given_dates q.moment r.activation r.protect_stop r.deactivation))
+    (latest all) q.moment
     (there all k (omega arith) (omega (arith, counted)))
     (kind_made h q r makes)
     (owner_made h q r makes)
@@ -119,13 +122,17 @@ Agrees h q change = (reply_to (count h) q.moment change ≡ reply h q) × LeadsT
 agrees_made : (h : List Request) (q : Request) (r : Registration) → subject q.command ≡ Makes r → Agrees h q (change.Made (registered_key q.moment r))
 agrees_made h q r makes =
     let given : Dates = given_dates q.moment r.activation r.protect_stop r.deactivation in
-    let replies = reply_of_key h q (count h + 1) (filled r.kind given) (ap (key_by (count h)) makes) (dates_made h q r makes) in
+    let replies =
+    reply_of_key h q (count h + 1) (filled (periods r.kind) given) (ap (key_by (count h)) makes)
+    (dates_made h q r makes) in
     (replies, (held_made h q r makes, nobody_changes h q (count h + 1) (ap named_by makes)))
 
 agrees_named : (h : List Request) (q : Request) (k : ℕ) → named q.command ≡ Some k → is_there h k ≡ true → IsNew h q k →
     Agrees h q (held_change k (standing h k) q)
 agrees_named h q k names is new =
-    let replies = reply_of_key h q k (dates_after (type h k) (dates h k) q.moment q.command) (key_named q.command (count h) k names) (dates_named h q k names) in
+    let replies =
+    reply_of_key h q k (dates_after (periods (type h k)) (dates h k) q.moment q.command)
+    (key_named q.command (count h) k names) (dates_named h q k names) in
     (replies, (held_named h q k names is, custody_lead h q k names new))
 
 pub change_named : (c : Command) (k : ℕ) (key : Held) (q : Request) → named c ≡ Some k → change_of (subject c) (Some key) q ≡ held_change k key q

@@ -1,5 +1,5 @@
 -- What a history with one more request at its end says.
-use Rattle.std.proofs.Common.{◌≡◌, ℕ, ◌+◌, ◌≤◌, ◌<◌, Bool, true, false, cond, List, [], ◌∷◌, ◌++◌, length, get_or, take, None, Some, refl, sym, ap, ◌∙◌, arith, append_assoc, zero-add, inl, inr, eq-eqb}
+use Rattle.std.proofs.Common.{◌≡◌, ℕ, ◌+◌, ◌≤◌, ◌<◌, Bool, true, false, cond, List, [], ◌∷◌, ◌++◌, length, get_or, take, None, Some, refl, sym, ap, ◌∙◌, arith, append_assoc, inl, inr, eq-eqb}
 use Rattle.std.specs.Prelude.{nat_eq, fold}
 use Rattle.std.specs.List.{filter_map}
 use Rattle.std.proofs.lemmas.Bool.Decides.{eqb_tells}
@@ -12,7 +12,7 @@ use Rattle.period_core.specs.declared.key_type.KeyType.TheVariants.{DataEncrypti
 use Rattle.period_core.specs.Fitting.{filled}
 use Rattle.register_core.specs.declared.request.Request.{Request}
 use Rattle.register_core.specs.declared.request.Command.{Command}
-use Rattle.register_core.specs.History.{latest, registrations, count, own_from, own, type, dates, owner}
+use Rattle.register_core.specs.History.{latest, registrations, count, Placed, own_from, own, period, type, dates, owner}
 use Rattle.register_core.specs.Subject.{Registration, Subject, Makes, Names, NoKey, subject, registration_by, named_by, key_by, count_by, registration_of, named, key_of, made_by, is_key}
 use Rattle.register_core.proofs.Subjects.{is_registration, is_named}
 use Rattle.register_core.specs.Effect.{kind_by, kind_after, no_dates, given_dates, dates_after, owner_after}
@@ -36,25 +36,26 @@ made_one q =
 pub count_grows : (h : List Request) (q : Request) → count (h ++ q ∷ []) ≡ count h + made_by q.command
 count_grows h q = ap length (registrations_grow h q) ∙ length-append (registrations h) (registrations (q ∷ [])) ∙ ap (λ (n : ℕ). count h + n) (made_one q)
 
-pub count_cons : (q : Request) (h : List Request) → count (q ∷ h) ≡ made_by q.command + count h
-count_cons q h = ap length (filter_map-append (λ (p : Request). registration_of p.command) (q ∷ []) h) ∙ length-append (registrations (q ∷ [])) (registrations h) ∙ ap (λ (n : ℕ). n + count h) (made_one q)
+-- the request with the history before it
+abbrev pub placed : List Request → Request → Placed
+placed h q = record { before = h; request = q }
 
--- the request, where it makes or names key k behind so many keys
-abbrev pub concerning : ℕ → Request → ℕ → List Request
-concerning made q k = cond (is_key k (key_of made q.command)) (q ∷ []) []
+-- the same, where it makes or names key k
+abbrev pub concerning : List Request → Request → ℕ → List Placed
+concerning h q k = cond (is_key k (key_of (count h) q.command)) (placed h q ∷ []) []
 
-pub own_grows_from : (made : ℕ) (h : List Request) (q : Request) (k : ℕ) → own_from made (h ++ q ∷ []) k ≡ own_from made h k ++ concerning (made + count h) q k
-own_grows_from made [] q k = append-nil _ ∙ ap (λ (n : ℕ). concerning n q k) (omega arith)
-own_grows_from made (p ∷ h) q k =
-    let front = concerning made p k in
-    let rest = own_from (made + made_by p.command) h k in
-    let same : made + made_by p.command + count h ≡ made + count (p ∷ h) = omega (arith, count_cons p h) in
-    ap (λ (l : List Request). front ++ l) (own_grows_from (made + made_by p.command) h q k)
-    ∙ sym (append_assoc front rest (concerning (made + made_by p.command + count h) q k))
-    ∙ ap (λ (n : ℕ). (front ++ rest) ++ concerning n q k) same
+pub own_grows_from : (before h : List Request) (q : Request) (k : ℕ)
+    → own_from before (h ++ q ∷ []) k ≡ own_from before h k ++ concerning (before ++ h) q k
+own_grows_from before [] q k = append-nil _ ∙ ap (λ (g : List Request). concerning g q k) (sym (append-nil before))
+own_grows_from before (p ∷ h) q k =
+    let front = concerning before p k in
+    let rest = own_from (before ++ p ∷ []) h k in
+    ap (λ (l : List Placed). front ++ l) (own_grows_from (before ++ p ∷ []) h q k)
+    ∙ sym (append_assoc front rest (concerning ((before ++ p ∷ []) ++ h) q k))
+    ∙ ap (λ (g : List Request). (front ++ rest) ++ concerning g q k) (append_assoc before (p ∷ []) h)
 
-pub own_grows : (h : List Request) (q : Request) (k : ℕ) → own (h ++ q ∷ []) k ≡ own h k ++ concerning (count h) q k
-own_grows h q k = own_grows_from 0 h q k ∙ ap (λ (n : ℕ). own h k ++ concerning n q k) (zero-add (count h))
+pub own_grows : (h : List Request) (q : Request) (k : ℕ) → own (h ++ q ∷ []) k ≡ own h k ++ concerning h q k
+own_grows h q k = own_grows_from [] h q k
 
 pub not_same : (m n : ℕ) → n < m → nat_eq m n ≡ false
 not_same m n lt = elim (eqb_tells m n) [ inl both ↦ absurd (omega (arith, both.1)) | inr apart ↦ apart.0 ]
@@ -79,30 +80,36 @@ concerned : (c : Command) (keys k : ℕ) → key_of keys c ≡ Some k → is_key
 concerned c keys k is = ap (is_key k) is ∙ eq-eqb k k refl
 
 pub own_same : (h : List Request) (q : Request) (k : ℕ) → is_key k (key_of (count h) q.command) ≡ false → own (h ++ q ∷ []) k ≡ own h k
-own_same h q k other = own_grows h q k ∙ ap (λ (b : Bool). own h k ++ cond b (q ∷ []) []) other ∙ append-nil (own h k)
+own_same h q k other =
+    own_grows h q k ∙ ap (λ (b : Bool). own h k ++ cond b (placed h q ∷ []) []) other ∙ append-nil (own h k)
 
 -- the requests of the key that a command makes or names end with it
-pub own_ends : (h : List Request) (q : Request) (k : ℕ) → key_of (count h) q.command ≡ Some k → own (h ++ q ∷ []) k ≡ own h k ++ q ∷ []
-own_ends h q k is = own_grows h q k ∙ ap (λ (b : Bool). own h k ++ cond b (q ∷ []) []) (concerned q.command (count h) k is)
+pub own_ends : (h : List Request) (q : Request) (k : ℕ) → key_of (count h) q.command ≡ Some k
+    → own (h ++ q ∷ []) k ≡ own h k ++ placed h q ∷ []
+own_ends h q k is =
+    own_grows h q k ∙ ap (λ (b : Bool). own h k ++ cond b (placed h q ∷ []) []) (concerned q.command (count h) k is)
 
 -- ---- what the requests of a key give it, with one more
 
-abbrev pub kind_step : KeyType → Request → KeyType
-kind_step before q = kind_after before q.command
+abbrev pub kind_step : KeyType → Placed → KeyType
+kind_step before p = kind_after before p.request.command
 
-abbrev pub owner_step : List ℕ → Request → List ℕ
-owner_step before q = owner_after before q.command
+abbrev pub owner_step : List ℕ → Placed → List ℕ
+owner_step before p = owner_after before p.request.command
 
-abbrev pub dates_step : KeyType → Dates → Request → Dates
-dates_step kind d q = dates_after kind d q.moment q.command
+abbrev pub dates_step : KeyType → Dates → Placed → Dates
+dates_step kind d p = dates_after (period p.before kind) d p.request.moment p.request.command
 
-fold_same : {X : Type 0} (step : X → Request → X) (first : X) (h : List Request) (q : Request) (k : ℕ) → is_key k (key_of (count h) q.command) ≡ false →
-    fold step first (own (h ++ q ∷ []) k) ≡ fold step first (own h k)
+fold_same : {X : Type 0} (step : X → Placed → X) (first : X) (h : List Request) (q : Request) (k : ℕ)
+    → is_key k (key_of (count h) q.command) ≡ false
+    → fold step first (own (h ++ q ∷ []) k) ≡ fold step first (own h k)
 fold_same step first h q k other = ap (fold step first) (own_same h q k other)
 
-fold_ends : {X : Type 0} (step : X → Request → X) (first : X) (h : List Request) (q : Request) (k : ℕ) → key_of (count h) q.command ≡ Some k →
-    fold step first (own (h ++ q ∷ []) k) ≡ step (fold step first (own h k)) q
-fold_ends step first h q k is = ap (fold step first) (own_ends h q k is) ∙ fold-append step first (own h k) (q ∷ [])
+fold_ends : {X : Type 0} (step : X → Placed → X) (first : X) (h : List Request) (q : Request) (k : ℕ)
+    → key_of (count h) q.command ≡ Some k
+    → fold step first (own (h ++ q ∷ []) k) ≡ step (fold step first (own h k)) (placed h q)
+fold_ends step first h q k is =
+    ap (fold step first) (own_ends h q k is) ∙ fold-append step first (own h k) (placed h q ∷ [])
 
 -- ---- a request of another key
 
@@ -125,7 +132,8 @@ kind_named h q k names = fold_ends kind_step DataEncryption h q k (key_named q.c
 pub owner_named : (h : List Request) (q : Request) (k : ℕ) → named q.command ≡ Some k → owner (h ++ q ∷ []) k ≡ owner_after (owner h k) q.command
 owner_named h q k names = fold_ends owner_step [] h q k (key_named q.command (count h) k names)
 
-pub dates_named : (h : List Request) (q : Request) (k : ℕ) → named q.command ≡ Some k → dates (h ++ q ∷ []) k ≡ dates_after (type h k) (dates h k) q.moment q.command
+pub dates_named : (h : List Request) (q : Request) (k : ℕ) → named q.command ≡ Some k
+    → dates (h ++ q ∷ []) k ≡ dates_after (period h (type h k)) (dates h k) q.moment q.command
 dates_named h q k names =
     ap (λ (kind : KeyType). fold (dates_step kind) no_dates (own (h ++ q ∷ []) k)) (kind_named h q k names)
     ∙ fold_ends (dates_step (type h k)) no_dates h q k (key_named q.command (count h) k names)
@@ -141,12 +149,13 @@ owner_made h q r makes =
     fold_ends owner_step [] h q (count h + 1) (ap (key_by (count h)) makes) ∙ ap (owner_after (owner h (count h + 1))) (is_registration q.command r makes)
 
 pub dates_made : (h : List Request) (q : Request) (r : Registration) → subject q.command ≡ Makes r →
-    dates (h ++ q ∷ []) (count h + 1) ≡ filled r.kind (given_dates q.moment r.activation r.protect_stop r.deactivation)
+    dates (h ++ q ∷ []) (count h + 1)
+    ≡ filled (period h r.kind) (given_dates q.moment r.activation r.protect_stop r.deactivation)
 dates_made h q r makes =
-    let of_type : KeyType = type (h ++ q ∷ []) (count h + 1) in
-    let before : Dates = fold (dates_step of_type) no_dates (own h (count h + 1)) in
-    fold_ends (dates_step of_type) no_dates h q (count h + 1) (ap (key_by (count h)) makes)
-    ∙ ap (λ (c : Command). dates_after of_type before q.moment c) (is_registration q.command r makes)
+    let before : Dates = fold (dates_step r.kind) no_dates (own h (count h + 1)) in
+    ap (λ (kind : KeyType). fold (dates_step kind) no_dates (own (h ++ q ∷ []) (count h + 1))) (kind_made h q r makes)
+    ∙ fold_ends (dates_step r.kind) no_dates h q (count h + 1) (ap (key_by (count h)) makes)
+    ∙ ap (λ (c : Command). dates_after (period h r.kind) before q.moment c) (is_registration q.command r makes)
 
 -- ---- the front of a history, one request longer
 
@@ -156,29 +165,36 @@ next_front h i q lt is = take_more h i q lt ∙ ap (λ (p : Request). take i h +
 pub count_next : (h : List Request) (i : ℕ) (q : Request) → i < length h → q ≡ get_or h i q → count (take (i + 1) h) ≡ count (take i h) + made_by q.command
 count_next h i q lt is = ap count (next_front h i q lt is) ∙ count_grows (take i h) q
 
-one_after : {X : Type 0} (step : X → Request → X) (before : X) (q : Request) (b : Bool) → fold step before (cond b (q ∷ []) []) ≡ cond b (step before q) before
-one_after step before q true = refl
-one_after step before q false = refl
+one_after : {X : Type 0} (step : X → Placed → X) (before : X) (p : Placed) (b : Bool)
+    → fold step before (cond b (p ∷ []) []) ≡ cond b (step before p) before
+one_after step before p true = refl
+one_after step before p false = refl
 
 -- what the key's requests in a history give, by what those in its front do
-pub fold_next : {X : Type 0} (step : X → Request → X) (first : X) (h : List Request) (i : ℕ) (q : Request) (k : ℕ) → i < length h → q ≡ get_or h i q →
+pub fold_next : {X : Type 0} (step : X → Placed → X) (first : X) (h : List Request) (i : ℕ) (q : Request) (k : ℕ)
+    → i < length h → q ≡ get_or h i q →
+    let front = take i h in
+    let before = fold step first (own front k) in
     fold step first (own (take (i + 1) h) k)
-    ≡ cond (is_key k (key_of (count (take i h)) q.command)) (step (fold step first (own (take i h) k)) q) (fold step first (own (take i h) k))
+    ≡ cond (is_key k (key_of (count front) q.command)) (step before (placed front q)) before
 fold_next step first h i q k lt is =
     let front = take i h in
     ap (λ (g : List Request). fold step first (own g k)) (next_front h i q lt is)
     ∙ ap (fold step first) (own_grows front q k)
-    ∙ fold-append step first (own front k) (concerning (count front) q k)
-    ∙ one_after step (fold step first (own front k)) q (is_key k (key_of (count front) q.command))
+    ∙ fold-append step first (own front k) (concerning front q k)
+    ∙ one_after step (fold step first (own front k)) (placed front q) (is_key k (key_of (count front) q.command))
 
 -- The same of a loop over the history, which knows what the front gave, and how many keys it made.
-pub fold_with : {X : Type 0} (step : X → Request → X) (first : X) (h : List Request) (k : ℕ) {i : ℕ} {q : Request} {made : ℕ} {before after : X} → i < length h → q ≡ get_or h i q →
-    made ≡ count (take i h) → before ≡ fold step first (own (take i h) k) → after ≡ cond (is_key k (key_of made q.command)) (step before q) before →
-    after ≡ fold step first (own (take (i + 1) h) k)
+pub fold_with : {X : Type 0} (step : X → Placed → X) (first : X) (h : List Request) (k : ℕ)
+    {i : ℕ} {q : Request} {made : ℕ} {before after : X} → i < length h → q ≡ get_or h i q
+    → made ≡ count (take i h) → before ≡ fold step first (own (take i h) k)
+    → after ≡ cond (is_key k (key_of made q.command)) (step before (placed (take i h) q)) before
+    → after ≡ fold step first (own (take (i + 1) h) k)
 fold_with {X} step first h k {i} {q} {made} {before} lt is counted given now =
+    let p : Placed = placed (take i h) q in
     now
-    ∙ ap (λ (n : ℕ). cond (is_key k (key_of n q.command)) (step before q) before) counted
-    ∙ ap (λ (x : X). cond (is_key k (key_of (count (take i h)) q.command)) (step x q) x) given
+    ∙ ap (λ (n : ℕ). cond (is_key k (key_of n q.command)) (step before p) before) counted
+    ∙ ap (λ (x : X). cond (is_key k (key_of (count (take i h)) q.command)) (step x p) x) given
     ∙ sym (fold_next step first h i q k lt is)
 
 pub count_with : (h : List Request) {i : ℕ} {q : Request} {made more : ℕ} → i < length h → q ≡ get_or h i q → made ≡ count (take i h) → more ≡ made_by q.command →

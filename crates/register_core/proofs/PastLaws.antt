@@ -5,12 +5,12 @@ use Rattle.std.proofs.lemmas.Bool.{le-leb, leb-true, ltb-false}
 use Rattle.lifecycle_core.specs.declared.dates.Dates.{Dates}
 use Rattle.lifecycle_core.specs.declared.reason.Reason.{Reason}
 use Rattle.lifecycle_core.specs.Reason.{is_compromise}
-use Rattle.period_core.specs.declared.key_type.KeyType.{KeyType}
+use Rattle.period_core.specs.declared.period.Period.{Period}
 use Rattle.period_core.specs.Fitting.{is_not_after, filled}
 use Rattle.register_core.specs.declared.request.Request.{Request}
 use Rattle.register_core.specs.declared.request.Command.{Command}
 use Rattle.register_core.specs.declared.request.Command.TheVariants.{Register as Registers, Activate, SetDates, Revoke, Destroy}
-use Rattle.register_core.specs.History.{latest, type, dates}
+use Rattle.register_core.specs.History.{latest, type, period, dates}
 use Rattle.register_core.specs.Subject.{named}
 use Rattle.register_core.specs.Effect.{given_dates, edited_dates, compromised, deactivated, dates_after}
 use Rattle.register_core.specs.Verdict.{occurs_later, judgement}
@@ -73,17 +73,37 @@ revoked false t d key reason occurrence past early = record {
 }
 
 -- what the command that names the key at t makes of its dates
-past_after : (kind : KeyType) (d : Dates) (t k : ℕ) (c : Command) → named c ≡ Some k → occurs_later t c ≡ None → IsPast t d → IsPast t (dates_after kind d t c)
-past_after kind d t k (Registers of_kind owner activation protect_stop deactivation purpose) names early past = absurd cc
-past_after kind d t k (Activate key) names early past =
+past_after : (p : Period) (d : Dates) (t k : ℕ) (c : Command) → named c ≡ Some k → occurs_later t c ≡ None
+    → IsPast t d → IsPast t (dates_after p d t c)
+past_after p d t k (Registers of_kind owner activation protect_stop deactivation purpose) names early past =
+    absurd cc
+past_after p d t k (Activate key) names early past =
     let given : Dates = record d { activation = Some t } in
-    kept t given _ (trimmed_keeps kind given) (record { initial = past.initial; destroy = past.destroy; compromise = past.compromise; occurrence = past.occurrence })
-past_after kind d t k (SetDates key activation protect_stop deactivation) names early past =
+    kept t given _ (trimmed_keeps p given)
+    (record {
+      initial = past.initial;
+      destroy = past.destroy;
+      compromise = past.compromise;
+      occurrence = past.occurrence;
+    })
+past_after p d t k (SetDates key activation protect_stop deactivation) names early past =
     let given : Dates = edited_dates activation protect_stop deactivation d in
-    kept t given _ (filled_keeps kind given) (record { initial = past.initial; destroy = past.destroy; compromise = past.compromise; occurrence = past.occurrence })
-past_after kind d t k (Revoke key reason occurrence) names early past = revoked (is_compromise reason) t d key reason occurrence past early
-past_after kind d t k (Destroy key) names early past = record { initial = past.initial; destroy = now t; compromise = past.compromise; occurrence = past.occurrence }
-past_after kind d t k c names early past = past
+    kept t given _ (filled_keeps p given)
+    (record {
+      initial = past.initial;
+      destroy = past.destroy;
+      compromise = past.compromise;
+      occurrence = past.occurrence;
+    })
+past_after p d t k (Revoke key reason occurrence) names early past =
+    revoked (is_compromise reason) t d key reason occurrence past early
+past_after p d t k (Destroy key) names early past = record {
+  initial = past.initial;
+  destroy = now t;
+  compromise = past.compromise;
+  occurrence = past.occurrence;
+}
+past_after p d t k c names early past = past
 
 abbrev AllPast : List Request → Type 0
 AllPast h = (k : ℕ) → HasKey h k → IsPast (latest h) (dates h k)
@@ -95,11 +115,16 @@ past_next h q lawful accepted before k has =
       | inl made ↦
           let r = made.registration in
           let given : Dates = given_dates q.moment r.activation r.protect_stop r.deactivation in
-          let its : dates (h ++ q ∷ []) k ≡ filled r.kind given = ap (dates (h ++ q ∷ [])) made.next ∙ dates_made h q r made.makes in
-          subst (IsPast q.moment) (sym its) (kept q.moment given (filled r.kind given) (filled_keeps r.kind given) (record { initial = omega arith; destroy = refl; compromise = refl; occurrence = refl }))
+          let p : Period = period h r.kind in
+          let its : dates (h ++ q ∷ []) k ≡ filled p given =
+          ap (dates (h ++ q ∷ [])) made.next ∙ dates_made h q r made.makes in
+          subst (IsPast q.moment) (sym its)
+          (kept q.moment given (filled p given) (filled_keeps p given)
+          (record { initial = omega arith; destroy = refl; compromise = refl; occurrence = refl }))
       | inr (inl on) ↦
           let past = moved (dates h k) (before k (on.low, on.high)) in
-          subst (IsPast q.moment) (sym (dates_named h q k on.names)) (past_after (type h k) (dates h k) q.moment k q.command on.names on.occurred past)
+          subst (IsPast q.moment) (sym (dates_named h q k on.names))
+          (past_after (period h (type h k)) (dates h k) q.moment k q.command on.names on.occurred past)
       | inr (inr other) ↦ subst (IsPast q.moment) (sym (dates_other h q k other.other)) (moved (dates h k) (before k (has.0, other.high)))
     ])
 

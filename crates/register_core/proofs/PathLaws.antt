@@ -7,9 +7,10 @@ use Rattle.lifecycle_core.specs.declared.dates.Dates.{Dates}
 use Rattle.lifecycle_core.specs.State.{state_at}
 use Rattle.lifecycle_core.specs.Transition.{Leads}
 use Rattle.lifecycle_core.proofs.Transitions.{time_leads}
+use Rattle.period_core.specs.declared.period.Period.{Period}
 use Rattle.period_core.specs.Fitting.{filled}
 use Rattle.register_core.specs.declared.request.Request.{Request}
-use Rattle.register_core.specs.History.{latest, count, type, dates}
+use Rattle.register_core.specs.History.{latest, count, type, period, dates}
 use Rattle.register_core.specs.Effect.{given_dates}
 use Rattle.register_core.specs.Laws.{IsAccepted, HasKey, MovesOnly, state_of_key}
 use Rattle.register_core.proofs.Verdicts.{judged}
@@ -30,11 +31,13 @@ made_path : (h : List Request) (q : Request) (k : ℕ) → IsMade h q k → Lead
 made_path h q k made =
     let r = made.registration in
     let given : Dates = given_dates q.moment r.activation r.protect_stop r.deactivation in
-    let its : dates (h ++ q ∷ []) k ≡ filled r.kind given =
+    let p : Period = period h r.kind in
+    let its : dates (h ++ q ∷ []) k ≡ filled p given =
     ap (dates (h ++ q ∷ [])) made.next ∙ dates_made h q r made.makes in
-    let keeps = filled_keeps r.kind given in
+    let keeps = filled_keeps p given in
     from_none h k _ made.next
-    (subst (λ (d : Dates). Leads None (Some (state_at d q.moment))) (sym its) (path_made (filled r.kind given) q.moment (ap is_some keeps.destroy) (ap is_some keeps.compromise)))
+    (subst (λ (d : Dates). Leads None (Some (state_at d q.moment))) (sym its)
+    (path_made (filled p given) q.moment (ap is_some keeps.destroy) (ap is_some keeps.compromise)))
 
 on_path : (h : List Request) (q : Request) (k : ℕ) → IsAccepted h q → IsOn h q k → Leads (state_of_key h k) (Some (state_at (dates (h ++ q ∷ []) k) q.moment))
 on_path h q k is on =
@@ -43,7 +46,8 @@ on_path h q k is on =
     let moves = subst (MovesOnly d q.moment) its (freeze h q is k (on.low, on.high)) in
     from_there h k _ on.high (then _ (Some (state_at d q.moment)) _
     (time_leads d (latest h) q.moment (not_behind h q (judged h q is.accepted)))
-    (subst (λ (x : Dates). Leads (Some (state_at d q.moment)) (Some (state_at x q.moment))) (sym its) (path_named (type h k) d q.moment k q.command on.names on.fits_state moves)))
+    (subst (λ (x : Dates). Leads (Some (state_at d q.moment)) (Some (state_at x q.moment))) (sym its)
+    (path_named (period h (type h k)) d q.moment k q.command on.names on.fits_state moves)))
 
 other_path : (h : List Request) (q : Request) (k : ℕ) → IsAccepted h q → IsOther h q k → Leads (state_of_key h k) (Some (state_at (dates (h ++ q ∷ []) k) q.moment))
 other_path h q k is other =

@@ -8,7 +8,7 @@ use Rattle.lifecycle_core.specs.State.{state_at, is_reached_at}
 use Rattle.lifecycle_core.specs.Reason.{is_compromise}
 use Rattle.lifecycle_core.specs.Transition.{IsPath, Leads}
 use Rattle.lifecycle_core.proofs.Transitions.{is_transition, listed}
-use Rattle.period_core.specs.declared.key_type.KeyType.{KeyType}
+use Rattle.period_core.specs.declared.period.Period.{Period}
 use Rattle.period_core.specs.Fitting.{filled, trimmed}
 use Rattle.register_core.specs.declared.request.Command.{Command}
 use Rattle.register_core.specs.declared.request.Command.TheVariants.{Register as Registers, Activate, SetDates, Revoke, Destroy}
@@ -82,18 +82,21 @@ its_shows d t s is = subst (λ (x : State). Shows x d t) is (shows d t)
 still_unset : (old new : Option ℕ) → new ≡ old → is_some old ≡ false → is_some new ≡ false
 still_unset old new same none = ap is_some same ∙ none
 
-activated_path : (kind : KeyType) (d : Dates) (t : ℕ) → state_at d t ≡ PreActive → Goes d t (trimmed kind (record d { activation = Some t }))
-activated_path kind d t early =
-    let new : Dates = trimmed kind (record d { activation = Some t }) in
-    let keeps = trimmed_keeps kind (record d { activation = Some t }) in
+activated_path : (period : Period) (d : Dates) (t : ℕ) → state_at d t ≡ PreActive
+    → Goes d t (trimmed period (record d { activation = Some t }))
+activated_path period d t early =
+    let new : Dates = trimmed period (record d { activation = Some t }) in
+    let keeps = trimmed_keeps period (record d { activation = Some t }) in
     let old = its_shows d t PreActive early in
     as_from d new t PreActive early (leads_open PreActive new t (still_unset _ _ keeps.destroy old.0) (still_unset _ _ keeps.compromise old.1) (from_pre_active _ _))
 
-edited_path : (kind : KeyType) (d : Dates) (t : ℕ) (activation protect_stop deactivation : Edit) → (state_at d t ≡ PreActive) ⊎ (state_at d t ≡ Active)
-    → MovesOnly d t (filled kind (edited_dates activation protect_stop deactivation d)) → Goes d t (filled kind (edited_dates activation protect_stop deactivation d))
-edited_path kind d t activation protect_stop deactivation early moves =
-    let new : Dates = filled kind (edited_dates activation protect_stop deactivation d) in
-    let keeps = filled_keeps kind (edited_dates activation protect_stop deactivation d) in
+edited_path : (period : Period) (d : Dates) (t : ℕ) (activation protect_stop deactivation : Edit)
+    → (state_at d t ≡ PreActive) ⊎ (state_at d t ≡ Active)
+    → MovesOnly d t (filled period (edited_dates activation protect_stop deactivation d))
+    → Goes d t (filled period (edited_dates activation protect_stop deactivation d))
+edited_path period d t activation protect_stop deactivation early moves =
+    let new : Dates = filled period (edited_dates activation protect_stop deactivation d) in
+    let keeps = filled_keeps period (edited_dates activation protect_stop deactivation d) in
     elim early [
       | inl pre ↦
           let old = its_shows d t PreActive pre in
@@ -134,10 +137,15 @@ revoked_path : (d : Dates) (t : ℕ) (b : Bool) (occurrence : Option ℕ)
 revoked_path d t true occurrence fits_state = compromised_by (state_at d t) d t occurrence (shows d t) fits_state
 revoked_path d t false occurrence fits_state = deactivated_path d t (is_active (state_at d t) fits_state)
 
-pub path_named : (kind : KeyType) (d : Dates) (t k : ℕ) (c : Command) → named c ≡ Some k → is_for c (state_at d t) ≡ true → MovesOnly d t (dates_after kind d t c) → Goes d t (dates_after kind d t c)
-path_named kind d t k (Registers of_kind owner activation protect_stop deactivation purpose) names fits_state moves = absurd cc
-path_named kind d t k (Activate n) names fits_state moves = activated_path kind d t (is_pre_active (state_at d t) fits_state)
-path_named kind d t k (SetDates n activation protect_stop deactivation) names fits_state moves = edited_path kind d t activation protect_stop deactivation (is_early (state_at d t) fits_state) moves
-path_named kind d t k (Revoke n reason occurrence) names fits_state moves = revoked_path d t (is_compromise reason) occurrence fits_state
-path_named kind d t k (Destroy n) names fits_state moves = destroyed_by (state_at d t) d t (shows d t) fits_state
-path_named kind d t k c names fits_state moves = stays _
+pub path_named : (period : Period) (d : Dates) (t k : ℕ) (c : Command) → named c ≡ Some k
+    → is_for c (state_at d t) ≡ true → MovesOnly d t (dates_after period d t c) → Goes d t (dates_after period d t c)
+path_named period d t k (Registers of_kind owner activation protect_stop deactivation purpose) names fits_state moves =
+    absurd cc
+path_named period d t k (Activate n) names fits_state moves =
+    activated_path period d t (is_pre_active (state_at d t) fits_state)
+path_named period d t k (SetDates n activation protect_stop deactivation) names fits_state moves =
+    edited_path period d t activation protect_stop deactivation (is_early (state_at d t) fits_state) moves
+path_named period d t k (Revoke n reason occurrence) names fits_state moves =
+    revoked_path d t (is_compromise reason) occurrence fits_state
+path_named period d t k (Destroy n) names fits_state moves = destroyed_by (state_at d t) d t (shows d t) fits_state
+path_named period d t k c names fits_state moves = stays _

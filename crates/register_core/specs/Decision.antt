@@ -3,6 +3,7 @@ use Rattle.std.specs.Prelude.{◌≡◌, ℕ, ◌+◌, not, List, [], ◌∷◌,
 use Rattle.lifecycle_core.specs.declared.row.Row.{Row}
 use Rattle.lifecycle_core.specs.Row.{IsRightAt}
 use Rattle.period_core.specs.declared.key_type.KeyType.{KeyType}
+use Rattle.period_core.specs.Period.{periods}
 use Rattle.period_core.specs.Fitting.{filled}
 use Rattle.register_core.specs.declared.request.Request.{Request}
 use Rattle.register_core.specs.declared.request.Command.{Command}
@@ -24,7 +25,8 @@ use Rattle.register_core.specs.KeyName.{is_key_name, is_at, KeyName, key_name}
 -- what an accepted request makes of the key that it names by this number
 abbrev pub held_change : ℕ → Held → Request → Change
 held_change key held q =
-    change.Held key (owner_after held.owner q.command) (row_at (dates_after held.kind held.row.dates q.moment q.command) q.moment)
+    change.Held key (owner_after held.owner q.command)
+    (row_at (dates_after (periods held.kind) held.row.dates q.moment q.command) q.moment)
     (custody_change held.row.dates q.caller q.command)
 
 -- the key that a registration makes at the moment t
@@ -33,7 +35,7 @@ registered_key t new = record {
   kind = new.kind;
   owner = new.owner;
   purpose = new.purpose;
-  row = row_at (filled new.kind (given_dates t new.activation new.protect_stop new.deactivation)) t;
+  row = row_at (filled (periods new.kind) (given_dates t new.activation new.protect_stop new.deactivation)) t;
 }
 
 -- what an accepted request about this subject changes, where the key that it names stands so

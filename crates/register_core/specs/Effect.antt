@@ -5,6 +5,7 @@ use Rattle.lifecycle_core.specs.declared.row.Row.{Row}
 use Rattle.lifecycle_core.specs.State.{state_at}
 use Rattle.lifecycle_core.specs.Reason.{is_compromise}
 use Rattle.period_core.specs.declared.key_type.KeyType.{KeyType}
+use Rattle.period_core.specs.declared.period.Period.{Period}
 use Rattle.period_core.specs.Fitting.{filled, trimmed}
 use Rattle.register_core.specs.declared.request.Command.{Command}
 use Rattle.register_core.specs.declared.request.Command.TheVariants.{Register, Activate, SetDates, Revoke, Assign, AddCustodian, RemoveCustodian, Approve, Withdraw, Destroy}
@@ -63,14 +64,17 @@ compromised t occurrence d = record d { compromise = Some t; compromise_occurren
 abbrev pub deactivated : ℕ → Dates → Dates
 deactivated t d = record d { deactivation = Some t; protect_stop = no_later_than t d.protect_stop }
 
--- the dates of a key of this type after a command at the moment t
-abbrev pub dates_after : KeyType → Dates → ℕ → Command → Dates
-dates_after of_type d t (Register kind owner activation protect_stop deactivation purpose) = filled kind (given_dates t activation protect_stop deactivation)
-dates_after of_type d t (Activate key) = trimmed of_type (record d { activation = Some t })
-dates_after of_type d t (SetDates key activation protect_stop deactivation) = filled of_type (edited_dates activation protect_stop deactivation d)
-dates_after of_type d t (Revoke key reason occurrence) = if is_compromise reason then compromised t occurrence d else deactivated t d
-dates_after of_type d t (Destroy key) = record d { destroy = Some t }
-dates_after of_type d t _ = d
+-- the dates of a key after a command at the moment t, where this is the period of its type
+abbrev pub dates_after : Period → Dates → ℕ → Command → Dates
+dates_after p d t (Register kind owner activation protect_stop deactivation purpose) =
+    filled p (given_dates t activation protect_stop deactivation)
+dates_after p d t (Activate key) = trimmed p (record d { activation = Some t })
+dates_after p d t (SetDates key activation protect_stop deactivation) =
+    filled p (edited_dates activation protect_stop deactivation d)
+dates_after p d t (Revoke key reason occurrence) =
+    if is_compromise reason then compromised t occurrence d else deactivated t d
+dates_after p d t (Destroy key) = record d { destroy = Some t }
+dates_after p d t _ = d
 
 -- dates, with the state that they give at t
 abbrev pub row_at : Dates → ℕ → Row

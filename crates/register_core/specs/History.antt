@@ -1,12 +1,14 @@
 -- The model of the register: the list of the requests that it accepted, oldest first, and what that list says of
 -- each key. A key's number is its place in the order of registration, from 1.
-use Rattle.std.specs.Prelude.{ℕ, ◌+◌, List, [], ◌∷◌, ◌++◌, length, fold, if◌then◌else◌}
+use Rattle.std.specs.Prelude.{ℕ, List, [], ◌∷◌, ◌++◌, length, fold, if◌then◌else◌}
 use Rattle.std.specs.List.{filter_map}
 use Rattle.lifecycle_core.specs.declared.dates.Dates.{Dates}
 use Rattle.period_core.specs.declared.key_type.KeyType.{KeyType}
 use Rattle.period_core.specs.declared.key_type.KeyType.TheVariants.{DataEncryption}
+use Rattle.period_core.specs.declared.period.Period.{Period}
+use Rattle.period_core.specs.Period.{periods}
 use Rattle.register_core.specs.declared.request.Request.{Request}
-use Rattle.register_core.specs.Subject.{Registration, registration_of, key_of, made_by, is_key}
+use Rattle.register_core.specs.Subject.{Registration, registration_of, key_of, is_key}
 use Rattle.register_core.specs.Effect.{kind_after, owner_after, no_dates, dates_after}
 
 -- the moment of the latest accepted request, 0 before the first
@@ -22,26 +24,39 @@ registrations h = filter_map (λ q. registration_of q.command) h
 abbrev pub count : List Request → ℕ
 count h = length (registrations h)
 
--- the requests that made or name key k, in order, where this many keys were made before them
-abbrev pub own_from : ℕ → List Request → ℕ → List Request
-own_from made [] k = []
-own_from made (q ∷ qs) k =
-    (if is_key k (key_of made q.command) then q ∷ [] else []) ++ own_from (made + made_by q.command) qs k
+-- a request with the history before it
+pub record Placed : Type 0 where
+  pub before : List Request
+  pub request : Request
 
--- the requests that made or name key k, in order
-abbrev pub own : List Request → ℕ → List Request
-own h k = own_from 0 h k
+-- of the requests behind this history, those that made or name key k, in order
+abbrev pub own_from : List Request → List Request → ℕ → List Placed
+own_from before [] k = []
+own_from before (q ∷ later) k =
+    (if is_key k (key_of (count before) q.command) then record { before = before; request = q } ∷ [] else [])
+    ++ own_from (before ++ q ∷ []) later k
+
+-- the requests that made or name key k, in order, each with the history before it
+abbrev pub own : List Request → ℕ → List Placed
+own h k = own_from [] h k
+
+-- ---- usage periods
+
+-- the period of a type behind a history: the table's, whatever was accepted
+abbrev pub period : List Request → KeyType → Period
+period h kind = periods kind
 
 -- ---- what the requests of a key give it
 
 -- the type of key k; of a number that no key has it says nothing
 abbrev pub type : List Request → ℕ → KeyType
-type h k = fold (λ before q. kind_after before q.command) DataEncryption (own h k)
+type h k = fold (λ before p. kind_after before p.request.command) DataEncryption (own h k)
 
--- the dates that the requests of key k give it, one after the other
+-- the dates that the requests of key k give it, one after the other, each by the period that its type had before it
 abbrev pub dates : List Request → ℕ → Dates
-dates h k = fold (λ d q. dates_after (type h k) d q.moment q.command) no_dates (own h k)
+dates h k =
+    fold (λ d p. dates_after (period p.before (type h k)) d p.request.moment p.request.command) no_dates (own h k)
 
 -- the owner that the latest of the key's requests which names one gives it
 abbrev pub owner : List Request → ℕ → List ℕ
-owner h k = fold (λ before q. owner_after before q.command) [] (own h k)
+owner h k = fold (λ before p. owner_after before p.request.command) [] (own h k)

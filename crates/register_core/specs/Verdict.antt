@@ -21,6 +21,7 @@ use Rattle.lifecycle_core.specs.declared.dates.Dates.{Dates}
 use Rattle.period_core.specs.declared.filling.DateRefusal.{DateRefusal}
 use Rattle.period_core.specs.declared.filling.DateRefusal.TheVariants as dates
 use Rattle.period_core.specs.Fitting.{first_that_holds, fill_of, trim_of}
+use Rattle.period_core.specs.Period.{periods}
 use Rattle.register_core.specs.Name.{is_among}
 use Rattle.register_core.specs.History.{latest, count}
 use Rattle.register_core.specs.KeptReply.{reply, kept, kept_under}
@@ -46,11 +47,14 @@ abbrev pub refused_dates : Result Dates DateRefusal → Option Refusal
 refused_dates (Ok d) = None
 refused_dates (Err refusal) = Some (refusal_of_dates refusal)
 
--- Fill, or at an activation Trim, refuses the dates that the command gives a key with this type and these dates at t
+-- Fill, or at an activation Trim, by the period of the key's type, refuses the dates that the command gives it at t
 abbrev pub unfit : Option Held → ℕ → Command → Option Refusal
-unfit key t (Register kind owner activation protect_stop deactivation purpose) = refused_dates (fill_of kind (given_dates t activation protect_stop deactivation))
-unfit (Some held) t (Activate key) = refused_dates (trim_of held.kind (record held.row.dates { activation = Some t }))
-unfit (Some held) t (SetDates key activation protect_stop deactivation) = refused_dates (fill_of held.kind (edited_dates activation protect_stop deactivation held.row.dates))
+unfit key t (Register kind owner activation protect_stop deactivation purpose) =
+    refused_dates (fill_of (periods kind) (given_dates t activation protect_stop deactivation))
+unfit (Some held) t (Activate key) =
+    refused_dates (trim_of (periods held.kind) (record held.row.dates { activation = Some t }))
+unfit (Some held) t (SetDates key activation protect_stop deactivation) =
+    refused_dates (fill_of (periods held.kind) (edited_dates activation protect_stop deactivation held.row.dates))
 unfit _ t _ = None
 
 -- the command names a key that is not there

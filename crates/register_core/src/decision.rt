@@ -14,6 +14,7 @@ use crate::request::{Command, Request};
 use crate::verdict::judge;
 use crate::view::{Held, View};
 use moment_core::Moment;
+use period_core::period_of;
 
 /// What the accepted request makes of the key that it names by this number.
 fn held_change(key: u32, held: &Held, request: &Request) -> Change
@@ -25,7 +26,7 @@ fn held_change(key: u32, held: &Held, request: &Request) -> Change
     Change::Held {
         key,
         owner: owner_after(held.owner, command),
-        row: row_at(dates_after(held.kind, dates, at, command), at),
+        row: row_at(dates_after(period_of(held.kind), dates, at, command), at),
         custody: custody_change(dates, request.caller, command),
     }
 }
@@ -43,7 +44,7 @@ fn change_by(named: &Option<Held>, request: &Request) -> Change
         ..
     } = *command
     {
-        let row = row_at(dates_after(kind, &no_dates(), at, command), at);
+        let row = row_at(dates_after(period_of(kind), &no_dates(), at, command), at);
         return Change::Made(Key {
             kind,
             owner,

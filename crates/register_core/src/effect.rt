@@ -9,7 +9,7 @@ use crate::name::Name;
 use crate::request::{Command, Edit};
 use lifecycle_core::{Dates, Row, state_of};
 use moment_core::Moment;
-use period_core::{KeyType, filled, trimmed};
+use period_core::{Period, filled, trimmed};
 
 /// The dates of a key before it is registered: none is set.
 pub(crate) fn no_dates() -> Dates
@@ -92,23 +92,22 @@ fn no_later_than(at: Moment, date: Option<Moment>) -> Option<Moment>
     }
 }
 
-/// The dates of a key of this type after the command at the moment.
-pub(crate) fn dates_after(kind: KeyType, dates: &Dates, at: Moment, command: &Command) -> Dates
-    ensures { result ≡ dates_after kind dates.now at command.now }
+/// The dates of a key after the command at the moment, where this is the period of its type.
+pub(crate) fn dates_after(period: Period, dates: &Dates, at: Moment, command: &Command) -> Dates
+    ensures { result ≡ dates_after period dates.now at command.now }
 {
     match *command {
         Command::Register {
-            kind,
             activation,
             protect_stop,
             deactivation,
             ..
         } => filled(
-            kind,
+            period,
             given_dates(at, activation, protect_stop, deactivation),
         ),
         Command::Activate { .. } => trimmed(
-            kind,
+            period,
             Dates {
                 activation: Some(at),
                 ..*dates
@@ -120,7 +119,7 @@ pub(crate) fn dates_after(kind: KeyType, dates: &Dates, at: Moment, command: &Co
             deactivation,
             ..
         } => filled(
-            kind,
+            period,
             edited_dates(activation, protect_stop, deactivation, dates),
         ),
         Command::Revoke {

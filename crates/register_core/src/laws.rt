@@ -5,6 +5,7 @@ ghost use Rattle.std.specs.List.{AllByRecursion};
 ghost use Rattle.lifecycle_core.specs.State.{state_at};
 ghost use Rattle.lifecycle_core.specs.Transition.{Leads};
 ghost use Rattle.period_core.specs.Fitting.{Fits, is_not_after};
+ghost use Rattle.period_core.specs.Period.{periods};
 ghost use Rattle.register_core.specs.declared.request.Request.{Request};
 ghost use Rattle.register_core.specs.declared.request.Command.{Command};
 ghost use Rattle.register_core.specs.declared.reply.Refusal.TheVariants.{RequestReused};
@@ -60,7 +61,7 @@ pub fn kept_replies_are_in_range()
 /// The dates of each key fit its type, after each request that is accepted.
 pub fn dates_fit()
     ensures { (h : List Request) (q : Request) → IsAccepted h q → (k : ℕ) → HasKey (h ++ q ∷ []) k →
-        Fits (type (h ++ q ∷ []) k) (dates (h ++ q ∷ []) k) }
+        Fits (periods (type (h ++ q ∷ []) k)) (dates (h ++ q ∷ []) k) }
 {}
 
 /// Each request that is accepted takes each key along the standard's transitions, from the state

@@ -23,7 +23,7 @@ use crate::verdict::judge;
 use crate::view::{Held, View};
 use lifecycle_core::{Dates, Row, state_of};
 use moment_core::Moment;
-use period_core::KeyType;
+use period_core::{KeyType, Period, period_of};
 use std::alloc::{AllocError, Global};
 
 /// The latest moment of a history.
@@ -138,14 +138,14 @@ pub fn owner(history: &[Request], key: u32) -> Option<Name>
     owner
 }
 
-/// The dates of a key of this type after the request.
-fn dates_with(kind: KeyType, before: Dates, key: u32, made: u32, request: &Request) -> Dates
+/// The dates of a key after the request, where this is the period of its type.
+fn dates_with(period: Period, before: Dates, key: u32, made: u32, request: &Request) -> Dates
     requires { made + 1 < 2 ^ 32 }
     ensures { result ≡ (if is_key key (key_of made request.now.command)
-        then dates_after kind before request.now.moment request.now.command else before) }
+        then dates_after period before request.now.moment request.now.command else before) }
 {
     if concerns(key, made, &request.command) {
-        dates_after(kind, &before, request.moment, &request.command)
+        dates_after(period, &before, request.moment, &request.command)
     } else {
         before
     }
@@ -160,7 +160,7 @@ pub fn dates(history: &[Request], key: u32) -> Dates
     let mut dates = no_dates();
     let mut made = 0;
     for request in history {
-        dates = dates_with(kind, dates, key, made, request);
+        dates = dates_with(period_of(kind), dates, key, made, request);
         made += made_by(&request.command);
     }
     dates

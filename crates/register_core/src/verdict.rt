@@ -15,7 +15,7 @@ use crate::request::{Command, Edit, Request};
 use crate::view::{Held, View};
 use lifecycle_core::{Dates, State, state_of};
 use moment_core::Moment;
-use period_core::{KeyType, fill, trim};
+use period_core::{Period, fill, period_of, trim};
 
 /// The moment is below the latest.
 fn behind(latest: Moment, at: Moment) -> Option<Refusal>
@@ -117,22 +117,22 @@ fn frozen(key: &Option<Held>, at: Moment, command: &Command) -> Option<Refusal>
     }
 }
 
-/// The refusal of dates that do not fit the type with their defaults, if they have one.
-fn refused(kind: KeyType, mut dates: Dates) -> Option<Refusal>
-    ensures { result ≡ refused_dates (fill_of kind dates) }
+/// The refusal of dates that do not fit the period with their defaults, if they have one.
+fn refused(period: Period, mut dates: Dates) -> Option<Refusal>
+    ensures { result ≡ refused_dates (fill_of period dates) }
 {
-    match fill(kind, &mut dates) {
+    match fill(period, &mut dates) {
         Ok(()) => None,
         Err(refusal) => Some(Refusal::from(refusal)),
     }
 }
 
-/// The refusal of dates that do not fit the type once they are trimmed to it, if they have one.
-fn refused_trimmed(kind: KeyType, mut dates: Dates) -> Option<Refusal>
+/// The refusal of dates that do not fit the period once they are trimmed to it, if they have one.
+fn refused_trimmed(period: Period, mut dates: Dates) -> Option<Refusal>
     requires { IsSome dates.activation }
-    ensures { result ≡ refused_dates (trim_of kind dates) }
+    ensures { result ≡ refused_dates (trim_of period dates) }
 {
-    match trim(kind, &mut dates) {
+    match trim(period, &mut dates) {
         Ok(()) => None,
         Err(refusal) => Some(Refusal::from(refusal)),
     }
@@ -153,11 +153,11 @@ fn unfit(key: &Option<Held>, at: Moment, command: &Command) -> Option<Refusal>
                 ..
             },
         ) => refused(
-            kind,
+            period_of(kind),
             given_dates(at, activation, protect_stop, deactivation),
         ),
         (Some(held), Command::Activate { .. }) => refused_trimmed(
-            held.kind,
+            period_of(held.kind),
             Dates {
                 activation: Some(at),
                 ..held.row.dates
@@ -172,7 +172,7 @@ fn unfit(key: &Option<Held>, at: Moment, command: &Command) -> Option<Refusal>
                 ..
             },
         ) => refused(
-            held.kind,
+            period_of(held.kind),
             edited_dates(activation, protect_stop, deactivation, &held.row.dates),
         ),
         _ => None,
