@@ -38,12 +38,16 @@ registered_key t new = record {
   row = row_at (filled (periods new.kind) (given_dates t new.activation new.protect_stop new.deactivation)) t;
 }
 
+-- what an accepted command that is about no key changes of what the register keeps besides keys: nothing yet
+abbrev pub change_without_key : Command → Change
+change_without_key c = change.Nothing
+
 -- what an accepted request about this subject changes, where the key that it names stands so
 abbrev pub change_of : Subject → Option Held → Request → Change
 change_of (Makes registration) key q = change.Made (registered_key q.moment registration)
 change_of (Names key) None q = change.Nothing
 change_of (Names key) (Some held) q = held_change key held q
-change_of NoKey key q = change.Nothing
+change_of NoKey key q = change_without_key q.command
 
 abbrev pub change_by : Option Held → Request → Change
 change_by key q = change_of (subject q.command) key q

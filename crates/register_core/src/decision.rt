@@ -3,6 +3,7 @@ ghost use Rattle.std.specs.Prelude.{◌≡◌, ◌≤◌, List, Some, IfOk, IfEr
 ghost use Rattle.register_core.specs.KeptReply.{reply};
 ghost use Rattle.register_core.specs.Verdict.{max_keys, judge_view, judgement};
 ghost use Rattle.register_core.specs.Decision.{IsRightKey, IsViewOf, LeadsTo, held_change};
+ghost use Rattle.register_core.specs.Decision.{change_without_key};
 ghost use Rattle.register_core.specs.Decision.{change_by, reply_to, reply_of_view};
 ghost use Rattle.register_core.specs.Need.{Suffices};
 
@@ -31,6 +32,13 @@ fn held_change(key: u32, held: &Held, request: &Request) -> Change
     }
 }
 
+/// What the accepted command changes that is about no key, of what the register keeps besides keys: nothing yet.
+fn change_without_key(_command: &Command) -> Change
+    ensures { result ≡ change_without_key _command.now }
+{
+    Change::Nothing
+}
+
 /// What the accepted request changes, where it names this key.
 fn change_by(named: &Option<Held>, request: &Request) -> Change
     ensures { result ≡ change_by named.now request.now }
@@ -54,7 +62,8 @@ fn change_by(named: &Option<Held>, request: &Request) -> Change
     }
     match (command.key(), named) {
         (Some(key), Some(held)) => held_change(key, held, request),
-        _ => Change::Nothing,
+        (Some(_), None) => Change::Nothing,
+        (None, _) => change_without_key(command),
     }
 }
 
