@@ -6,6 +6,7 @@ pub mod Number
 pub mod Purpose
 pub mod Reply
 pub mod Answer
+pub mod CommandKind
 pub mod Request
 pub mod CommandText
 pub mod Subject
