@@ -10,7 +10,7 @@ use lifecycle_core::{Row, State, state_of};
 use moment_core::Moment;
 use period_core::KeyType;
 use register_core::{
-    Command, Held, MIN_APPROVALS, Name, Names, Purpose, Refusal, Reply, Request, View,
+    Command, CommandKind, Held, MIN_APPROVALS, Name, Names, Purpose, Refusal, Reply, Request, View,
     command_text, given_dates, plain, read_command, read_request, reply_line,
 };
 use std::alloc::{AllocError, Global};
@@ -146,28 +146,48 @@ fn lines_of_answers(rt: HostRuntime) {
     assert!(rt; is_line_of_limit(63072000, "refused 10 PeriodTooLong limit=63072000\n"));
 }
 
-/// The texts of commands on custodians, approvals and destruction.
-const COMMANDS: [&str; 5] = [
-    "add-custodian 1 cat",
-    "remove-custodian 1 cat",
-    "approve 1",
-    "withdraw 1",
-    "destroy 1",
+/// A text of each kind of command, and the word that it begins with.
+#[rattlefmt::skip]
+const COMMANDS: [(CommandKind, &str, &str); 11] = [
+    (CommandKind::Register, "register", "register data-encryption bob 0 - - payroll disks"),
+    (CommandKind::Activate, "activate", "activate 1"),
+    (CommandKind::SetDates, "set", "set 1 = - 3000"),
+    (CommandKind::Revoke, "revoke", "revoke 1 2 50"),
+    (CommandKind::Assign, "assign", "assign 1 eve"),
+    (CommandKind::AddCustodian, "add-custodian", "add-custodian 1 cat"),
+    (CommandKind::RemoveCustodian, "remove-custodian", "remove-custodian 1 cat"),
+    (CommandKind::Approve, "approve", "approve 1"),
+    (CommandKind::Withdraw, "withdraw", "withdraw 1"),
+    (CommandKind::Destroy, "destroy", "destroy 1"),
+    (CommandKind::Advance, "advance", "advance"),
 ];
 
-/// Whether the text is read as a command that has this text.
-fn is_command(text: &str) -> bool {
+/// Whether the word is the kind's, and the kind the word's.
+fn is_word_of(kind: CommandKind, word: &str) -> bool {
+    kind.text() == word && CommandKind::from_text(word.as_bytes()) == Some(kind)
+}
+
+/// Whether the text is read as a command of this kind that has this text.
+fn is_command(kind: CommandKind, text: &str) -> bool {
     match read_command(text.as_bytes()) {
-        Some(command) => command_text(&command).as_bytes() == text.as_bytes(),
+        Some(command) => {
+            command.kind() == kind && command_text(&command).as_bytes() == text.as_bytes()
+        }
         None => false,
     }
 }
 
 #[test]
 fn texts_of_commands(rt: HostRuntime) {
-    for text in &COMMANDS {
-        assert!(rt; is_command(text), "{text}");
+    for (kind, word, text) in &COMMANDS {
+        assert!(rt; is_word_of(*kind, word), "{word}");
+        assert!(rt; is_command(*kind, text), "{text}");
     }
+    assert!(rt; CommandKind::from_text(b"").is_none());
+    assert!(rt; CommandKind::from_text(b"Destroy").is_none());
+    assert!(rt; CommandKind::from_text(b"set ").is_none());
+    assert!(rt; read_command(b"advance ").is_none());
+    assert!(rt; read_command(b"destroy").is_none());
     assert!(rt; read_command(b"approve 01").is_none());
     assert!(rt; read_command(b"destroy 1 ").is_none());
     assert!(rt; read_command(b"add-custodian 1").is_none());

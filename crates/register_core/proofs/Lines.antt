@@ -1,13 +1,12 @@
 -- What is read is the request whose line it is, and each line of a request is read.
-use Rattle.std.proofs.Common.{◌≡◌, ℕ, ◌<◌, ◌^◌, nat_lt, Bool, true, false, not, cond, List, [], ◌∷◌, ◌++◌, length, Option, Some, None, ◌⊎◌, inl, inr, refl, sym, ap, subst, ◌∙◌, append_assoc, arith}
+use Rattle.std.proofs.Common.{◌≡◌, ℕ, ◌<◌, ◌^◌, nat_lt, Bool, true, false, not, cond, List, [], ◌∷◌, ◌++◌, length, Option, Some, None, refl, sym, ap, subst, ◌∙◌, append_assoc, arith}
 use Rattle.std.specs.Prelude.{codes, decimal}
 use Rattle.std.specs.List.{list_all}
-use Rattle.std.specs.Str.{bytes_eq}
 use Rattle.std.specs.Str.Parse.{AllDigits}
 use Rattle.std.proofs.lemmas.Bool.{and_parts, and_from, ltb-false, le-ltb}
 use Rattle.std.proofs.lemmas.Bool.Decides.{nat_tests}
+use Rattle.std.proofs.lemmas.List.{append-nil}
 use Rattle.std.proofs.lemmas.Fmt.{decimal_is_IsNumeral}
-use Rattle.std.proofs.lemmas.Slice.Eq.{bytes_eq-Decides}
 use Rattle.std.proofs.lemmas.Str.Parse.{digit_from_value}
 use Rattle.lifecycle_core.specs.declared.reason.Reason.{Reason}
 use Rattle.lifecycle_core.specs.Reason.{reason_code}
@@ -15,7 +14,9 @@ use Rattle.period_core.specs.declared.key_type.KeyType.{KeyType}
 use Rattle.period_core.specs.declared.key_type.KeyType.TheVariants.{DataEncryption, Authentication, KeyWrapping, PrivateSignature, PrivateAuthentication, PrivateTransport, Master}
 use Rattle.register_core.specs.declared.request.Request.{Request}
 use Rattle.register_core.specs.declared.request.Command.{Command}
-use Rattle.register_core.specs.declared.request.Command.TheVariants.{Register, Activate, SetDates, Revoke, Assign, AddCustodian, RemoveCustodian, Approve, Withdraw, Destroy, Advance}
+use Rattle.register_core.specs.declared.request.Command.TheVariants.{Register, SetDates, Revoke, Advance}
+use Rattle.register_core.specs.declared.command_kind.CommandKind.{CommandKind}
+use Rattle.register_core.specs.declared.command_kind.CommandKind.TheVariants as kinds
 use Rattle.register_core.specs.declared.request.Edit.{Edit}
 use Rattle.register_core.specs.declared.request.Edit.TheVariants.{Keep, Clear, Set}
 use Rattle.moment_core.specs.Moment.{IsMoment}
@@ -23,11 +24,12 @@ use Rattle.register_core.specs.Name.{IsName, is_name_byte}
 use Rattle.register_core.specs.Number.{IsNumber}
 use Rattle.register_core.specs.Purpose.{IsPurpose}
 use Rattle.period_core.specs.KeyType.{key_type_text}
-use Rattle.register_core.specs.Request.{max_line_length, IsCommand, IsDate, IsEdit, IsKeyNumber, IsRequest, IsLineOf, StandsFor, IsItem, date_text, edit_text, command_text, request_text}
+use Rattle.register_core.specs.CommandKind.{command_kind_text, kind_of}
+use Rattle.register_core.specs.Request.{max_line_length, IsCommand, IsDate, IsEdit, IsKeyNumber, IsRequest, IsLineOf, StandsFor, IsItem, date_text, edit_text, fields_text, command_text, request_text}
 use Rattle.register_core.specs.CommandText.{IsCommandText, IsCommandItem}
-use Rattle.register_core.specs.Reading.{◌>>=◌, is_space, field_at, field_then, moment_at, date_at, edit_at, key_number_at, reason_at, occurrence_at, request_number_at, name_at, key_type_at, purpose_at, registered, register_at, dates_set, set_at, revoked, revoke_at, key_and_name_at, key_command, name_command, keyed_by, keyed_at, behind_at, worded_at, command_at, requested, fields_at, request_at}
+use Rattle.register_core.specs.Reading.{◌>>=◌, is_space, field_at, field_then, moment_at, date_at, edit_at, key_number_at, reason_at, occurrence_at, request_number_at, name_at, key_type_at, purpose_at, registered, register_at, dates_set, set_at, revoked, revoke_at, key_and_name_at, keyed_at, named_at, kind_at, fielded_at, behind_at, split_by, word_at, command_at, requested, fields_at, request_at}
 use Rattle.register_core.proofs.Fields.{bind_some, some_is, none_from, IsReader, HasNoSpace, field_takes, field_again, then_reader}
-use Rattle.register_core.proofs.Readers.{moment_reader, date_reader, edit_reader, moment_small, key_number_reader, key_number_small, request_number_reader, request_number_small, name_reader, purpose_reader, key_type_reader, reason_reader, reason_text, reason_small, IsOccurrence, occurrence_reader, not_space}
+use Rattle.register_core.proofs.Readers.{moment_reader, date_reader, edit_reader, moment_small, key_number_reader, key_number_small, request_number_reader, request_number_small, name_reader, purpose_reader, key_type_reader, kind_reader, reason_reader, reason_text, reason_small, IsOccurrence, occurrence_reader, not_space}
 
 -- ---- what has no space
 
@@ -84,41 +86,51 @@ key_type_solid Master = refl
 abbrev before : List ℕ → List ℕ → List ℕ
 before field rest = field ++ (32 ∷ rest)
 
-joined_register : (k o a p d u : List ℕ) → codes "register " ++ k ++ codes " " ++ o ++ codes " " ++ a ++ codes " " ++ p ++ codes " " ++ d ++ codes " " ++ u
-    ≡ before (codes "register") (before k (before o (before a (before p (before d u)))))
+-- a field with a space before it
+abbrev spaced : List ℕ → List ℕ
+spaced field = 32 ∷ field
+
+joined_register : (k o a p d u : List ℕ)
+    → codes " " ++ k ++ codes " " ++ o ++ codes " " ++ a ++ codes " " ++ p ++ codes " " ++ d ++ codes " " ++ u
+    ≡ spaced (before k (before o (before a (before p (before d u)))))
 joined_register k o a p d u = simp append_assoc
 
-joined_set : (k a p d : List ℕ) → codes "set " ++ k ++ codes " " ++ a ++ codes " " ++ p ++ codes " " ++ d ≡ before (codes "set") (before k (before a (before p d)))
+joined_set : (k a p d : List ℕ) → codes " " ++ k ++ codes " " ++ a ++ codes " " ++ p ++ codes " " ++ d
+    ≡ spaced (before k (before a (before p d)))
 joined_set k a p d = simp append_assoc
 
-joined_revoke : (k r o : List ℕ) → codes "revoke " ++ k ++ codes " " ++ r ++ codes " " ++ o ≡ before (codes "revoke") (before k (before r o))
+joined_revoke : (k r o : List ℕ) → codes " " ++ k ++ codes " " ++ r ++ codes " " ++ o ≡ spaced (before k (before r o))
 joined_revoke k r o = simp append_assoc
 
-joined_named : (word k n : List ℕ) → (word ++ codes " ") ++ k ++ codes " " ++ n ≡ before word (before k n)
-joined_named word k n = simp append_assoc
+joined_named : (k n : List ℕ) → codes " " ++ k ++ codes " " ++ n ≡ spaced (before k n)
+joined_named k n = simp append_assoc
 
 joined_request : (m c n d : List ℕ) → m ++ codes " " ++ c ++ codes " " ++ n ++ codes " " ++ d ≡ before m (before c (before n d))
 joined_request m c n d = simp append_assoc
 
--- ---- what stands behind the words register, set and revoke
+-- ---- what stands behind a command's word
 
--- what is read behind a word
-record IsBehind (word bytes : List ℕ) (q : Command) : Type 0 where
+-- what stands behind a word, with the space before it
+abbrev behind_text : Option (List ℕ) → List ℕ
+behind_text None = []
+behind_text (Some fields) = spaced fields
+
+-- what is read as the command of a kind
+record IsOfKind (kind : CommandKind) (behind : Option (List ℕ)) (q : Command) : Type 0 where
   in_range : IsCommand q
-  text : before word bytes ≡ command_text q
+  of_kind : kind_of q ≡ kind
+  text : behind_text behind ≡ fields_text q
 
--- the command that was read behind this word
-behind_this : (this bytes : List ℕ) (made q : Command) → IsCommand made → before this bytes ≡ command_text made → Some made ≡ Some q → IsBehind this bytes q
-behind_this this bytes made q in_range text e = subst (IsBehind this bytes) (some_is made q e) (record { in_range = in_range; text = text })
-
--- the command that is made of fields which were read behind this word
-made_behind : {A : Type 0} {read_by : List ℕ → Option A} {text : A → List ℕ} {P : A → Type 0} → IsReader read_by text P → (this : List ℕ) (made : A → Command)
-    → ((x : A) → P x → IsCommand (made x)) → ((x : A) → command_text (made x) ≡ before this (text x))
-    → (bytes : List ℕ) (q : Command) → (read_by bytes >>= λ x. Some (made x)) ≡ Some q → IsBehind this bytes q
-made_behind {A} {read_by} own this made in_range text bytes q e =
+-- the command that is made of fields which were read
+made_of : {A : Type 0} {read_by : List ℕ → Option A} {text : A → List ℕ} {P : A → Type 0} → IsReader read_by text P
+    → (kind : CommandKind) (made : A → Command) → ((x : A) → P x → IsCommand (made x))
+    → ((x : A) → kind_of (made x) ≡ kind) → ((x : A) → fields_text (made x) ≡ spaced (text x))
+    → (bytes : List ℕ) (q : Command) → (read_by bytes >>= λ x. Some (made x)) ≡ Some q → IsOfKind kind (Some bytes) q
+made_of {A} {read_by} own kind made in_range of_kind text bytes q e =
     let x = bind_some (read_by bytes) (λ x. Some (made x)) q e in
     let taken = own.takes bytes x.0 x.1 in
-    behind_this this bytes (made x.0) q (in_range x.0 taken.0) (ap (before this) taken.1 ∙ sym (text x.0)) x.2
+    subst (IsOfKind kind (Some bytes)) (some_is (made x.0) q x.2)
+    (record { in_range = in_range x.0 taken.0; of_kind = of_kind x.0; text = ap spaced taken.1 ∙ sym (text x.0) })
 
 name_solid : (name : List ℕ) → IsName name → HasNoSpace name
 name_solid name in_range = name_bytes_solid name in_range.2
@@ -143,13 +155,16 @@ registered_ranges : (x : Registered) → AreRegistered x → IsCommand (register
 registered_ranges (kind, (owner, (activation, (protect_stop, (deactivation, purpose))))) (is_kind, (is_owner, (is_activation, (is_protect_stop, (is_deactivation, is_purpose))))) =
     (is_owner, is_activation, is_protect_stop, is_deactivation, is_purpose)
 
-registered_text : (x : Registered) → command_text (registered x) ≡ before (codes "register") (text_of_registered x)
+registered_kind : (x : Registered) → kind_of (registered x) ≡ kinds.Register
+registered_kind (kind, (owner, (activation, (protect_stop, (deactivation, purpose))))) = refl
+
+registered_text : (x : Registered) → fields_text (registered x) ≡ spaced (text_of_registered x)
 registered_text (kind, (owner, (activation, (protect_stop, (deactivation, purpose))))) =
     joined_register (key_type_text kind) owner (date_text activation) (date_text protect_stop) (date_text deactivation) purpose
 
-register_takes : (bytes : List ℕ) (q : Command) → register_at bytes ≡ Some q → IsBehind (codes "register") bytes q
+register_takes : (bytes : List ℕ) (q : Command) → register_at bytes ≡ Some q → IsOfKind kinds.Register (Some bytes) q
 unfolding register_at
-register_takes = made_behind register_reader (codes "register") registered registered_ranges registered_text
+register_takes = made_of register_reader kinds.Register registered registered_ranges registered_kind registered_text
 
 register_again : (k : KeyType) (o : List ℕ) (a p d : Option ℕ) (u : List ℕ) → IsCommand (Register k o a p d u)
     → register_at (before (key_type_text k) (before o (before (date_text a) (before (date_text p) (before (date_text d) u))))) ≡ Some (Register k o a p d u)
@@ -166,10 +181,10 @@ set_reader : IsReader (field_then key_number_at (λ _. field_then edit_at (λ _.
     (λ (x : DatesSet). IsKeyNumber x.0 × (IsEdit x.1.0 × (IsEdit x.1.1.0 × IsEdit x.1.1.1)))
 set_reader = then_reader key_number_reader key_number_solid (λ _. then_reader edit_reader edit_solid (λ _. then_reader edit_reader edit_solid (λ _. edit_reader)))
 
-set_takes : (bytes : List ℕ) (q : Command) → set_at bytes ≡ Some q → IsBehind (codes "set") bytes q
+set_takes : (bytes : List ℕ) (q : Command) → set_at bytes ≡ Some q → IsOfKind kinds.SetDates (Some bytes) q
 unfolding set_at
 set_takes =
-    made_behind set_reader (codes "set") dates_set (λ x h. (h.0, h.1.0, h.1.1.0, h.1.1.1))
+    made_of set_reader kinds.SetDates dates_set (λ x h. (h.0, h.1.0, h.1.1.0, h.1.1.1)) (λ x. refl)
     (λ x. joined_set (decimal x.0) (edit_text x.1.0) (edit_text x.1.1.0) (edit_text x.1.1.1))
 
 set_again : (key : ℕ) (a p d : Edit) → IsCommand (SetDates key a p d)
@@ -185,10 +200,11 @@ revoke_reader : IsReader (field_then key_number_at (λ _. field_then reason_at o
     (λ (x : Revoked). before (decimal x.0) (before (reason_text x.1.0) (date_text x.1.1))) (λ (x : Revoked). IsKeyNumber x.0 × (Unit {0} × IsOccurrence x.1.0 x.1.1))
 revoke_reader = then_reader key_number_reader key_number_solid (λ _. then_reader reason_reader (λ r _. reason_solid r) occurrence_reader)
 
-revoke_takes : (bytes : List ℕ) (q : Command) → revoke_at bytes ≡ Some q → IsBehind (codes "revoke") bytes q
+revoke_takes : (bytes : List ℕ) (q : Command) → revoke_at bytes ≡ Some q → IsOfKind kinds.Revoke (Some bytes) q
 unfolding revoke_at
 revoke_takes =
-    made_behind revoke_reader (codes "revoke") revoked (λ x h. (h.0, h.1.1.0, h.1.1.1)) (λ x. joined_revoke (decimal x.0) (reason_text x.1.0) (date_text x.1.1))
+    made_of revoke_reader kinds.Revoke revoked (λ x h. (h.0, h.1.1.0, h.1.1.1)) (λ x. refl)
+    (λ x. joined_revoke (decimal x.0) (reason_text x.1.0) (date_text x.1.1))
 
 revoke_again : (key : ℕ) (r : Reason) (o : Option ℕ) → IsCommand (Revoke key r o) → revoke_at (before (decimal key) (before (reason_text r) (date_text o))) ≡ Some (Revoke key r o)
 unfolding revoke_at
@@ -201,23 +217,34 @@ key_and_name_reader : IsReader key_and_name_at (λ (y : ℕ × List ℕ). before
 unfolding key_and_name_at
 key_and_name_reader = then_reader key_number_reader key_number_solid (λ _. name_reader)
 
--- a number alone has no name behind it
-no_space_in : (xs rest : List ℕ) → HasNoSpace (before xs rest) → ⊥
-no_space_in [] rest solid = cc
-no_space_in (x ∷ xs) rest solid = no_space_in xs rest (and_parts _ _ solid).1
-
-no_name : (key : ℕ) → IsKeyNumber key → key_and_name_at (decimal key) ≡ None
-no_name key in_range =
-    none_from (key_and_name_at (decimal key)) (λ (y : ℕ × List ℕ) (e : key_and_name_at (decimal key) ≡ Some y).
-    no_space_in (decimal y.0) y.1 (subst HasNoSpace (key_and_name_reader.takes (decimal key) y e).1 (key_number_solid key in_range)))
-
-single_again : (word : List ℕ) (key : ℕ) (q : Command) → IsKeyNumber key → key_command word key ≡ Some q → keyed_at word (decimal key) ≡ Some q
+keyed_takes : (kind : CommandKind) (made : ℕ → Command) (bytes : List ℕ) (q : Command) → keyed_at made bytes ≡ Some q
+    → ((key : ℕ) → IsKeyNumber key → IsCommand (made key)) → ((key : ℕ) → kind_of (made key) ≡ kind)
+    → ((key : ℕ) → fields_text (made key) ≡ spaced (decimal key)) → IsOfKind kind (Some bytes) q
 unfolding keyed_at
-single_again word key q in_range read = rw (no_name key in_range, key_number_reader.again key in_range) read
+keyed_takes kind made bytes q e in_range of_kind text =
+    made_of key_number_reader kind made in_range of_kind text bytes q e
 
-pair_again : (word : List ℕ) (key : ℕ) (n : List ℕ) (q : Command) → IsKeyNumber key → IsName n → name_command word key n ≡ Some q → keyed_at word (before (decimal key) n) ≡ Some q
+named_takes : (kind : CommandKind) (made : ℕ → List ℕ → Command) (bytes : List ℕ) (q : Command)
+    → named_at made bytes ≡ Some q
+    → ((key : ℕ) (name : List ℕ) → IsKeyNumber key × IsName name → IsCommand (made key name))
+    → ((key : ℕ) (name : List ℕ) → kind_of (made key name) ≡ kind)
+    → ((key : ℕ) (name : List ℕ) → fields_text (made key name) ≡ codes " " ++ decimal key ++ codes " " ++ name)
+    → IsOfKind kind (Some bytes) q
+unfolding named_at
+named_takes kind made bytes q e in_range of_kind text =
+    made_of key_and_name_reader kind (λ y. made y.0 y.1) (λ y. in_range y.0 y.1) (λ y. of_kind y.0 y.1)
+    (λ y. text y.0 y.1 ∙ joined_named (decimal y.0) y.1) bytes q e
+
+-- a command on a key alone, and one on a key and a name, is read again
+keyed_again : (made : ℕ → Command) (key : ℕ) → IsKeyNumber key → keyed_at made (decimal key) ≡ Some (made key)
 unfolding keyed_at
-pair_again word key n q in_range name read = rw (key_and_name_reader.again (key, n) (in_range, name)) read
+keyed_again made key in_range = rw (key_number_reader.again key in_range) refl
+
+named_again : (made : ℕ → List ℕ → Command) (key : ℕ) (name : List ℕ) → IsKeyNumber key × IsName name
+    → named_at made (decimal key ++ codes " " ++ name) ≡ Some (made key name)
+unfolding named_at
+named_again made key name in_range =
+    rw (append_assoc, key_and_name_reader.again (key, name) (in_range.0, in_range.1)) refl
 
 -- ---- texts that are read exactly where they are a value's
 
@@ -233,115 +260,112 @@ module _ {A : Type 0} (read_by : List ℕ → Option A) (IsText : List ℕ → A
   same_value : (bytes : List ℕ) (x y : A) → IsText bytes x → IsText bytes y → x ≡ y
   same_value bytes x y hx hy = some_is x y (sym (again bytes x hx) ∙ again bytes y hy)
 
+-- ---- the word, and the fields of its kind
+
+-- a field with a space in it is none
+no_space_in : (xs rest : List ℕ) → HasNoSpace (before xs rest) → ⊥
+no_space_in [] rest solid = cc
+no_space_in (x ∷ xs) rest solid = no_space_in xs rest (and_parts _ _ solid).1
+
+no_field : (word : List ℕ) → HasNoSpace word → field_at word ≡ None
+no_field word solid =
+    none_from (field_at word) (λ (x : List ℕ × List ℕ) (e : field_at word ≡ Some x).
+    no_space_in x.0 x.1 (subst HasNoSpace (field_takes word x e) solid))
+
+word_takes : (bytes : List ℕ) → bytes ≡ (word_at bytes).0 ++ behind_text (word_at bytes).1
+unfolding word_at
+word_takes bytes = by (field_at bytes) refl
+  where
+    by : (o : Option (List ℕ × List ℕ)) → field_at bytes ≡ o
+        → bytes ≡ (split_by bytes o).0 ++ behind_text (split_by bytes o).1
+    by (Some x) e = field_takes bytes x e
+    by None e = sym (append-nil bytes)
+
+word_again : (word : List ℕ) (behind : Option (List ℕ)) → HasNoSpace word
+    → word_at (word ++ behind_text behind) ≡ (word, behind)
+unfolding word_at
+word_again word None solid = rw (append-nil, no_field word solid) refl
+word_again word (Some fields) solid = rw (field_again word fields solid) refl
+
+kind_solid : (kind : CommandKind) → HasNoSpace (command_kind_text kind)
+kind_solid kinds.Advance = refl
+kind_solid kind = refl
+
 -- ---- commands
 
-pick : (b : Bool) (x y : Option Command) (q : Command) → cond b x y ≡ Some q → ((b ≡ true) × (x ≡ Some q)) ⊎ ((b ≡ false) × (y ≡ Some q))
-pick true x y q e = inl (refl, e)
-pick false x y q e = inr (refl, e)
+-- The last row has every kind of command on a key alone, and on a key and a name.
+fielded_takes : (kind : CommandKind) (bytes : List ℕ) (q : Command) → fielded_at kind bytes ≡ Some q
+    → IsOfKind kind (Some bytes) q
+fielded_takes kinds.Register bytes q e = register_takes bytes q e
+fielded_takes kinds.SetDates bytes q e = set_takes bytes q e
+fielded_takes kinds.Revoke bytes q e = revoke_takes bytes q e
+fielded_takes kinds.Advance bytes q e = absurd cc
+fielded_takes kind bytes q e = first_of (search keyed_takes, search named_takes)
 
-none_read : (q : Command) → None ≡ Some q → ⊥
-none_read q e = absurd cc
-
--- the word is this one, and then what reads behind it takes the rest, or else the other words have it
-worded_as : (word this bytes : List ℕ) (q : Command) (read other : Option Command) → cond (bytes_eq word this) read other ≡ Some q
-    → (read ≡ Some q → IsBehind this bytes q) → (other ≡ Some q → IsBehind word bytes q) → IsBehind word bytes q
-worded_as word this bytes q read other e here behind = elim (pick (bytes_eq word this) read other q e) [
-  | inl own ↦
-      let same : this ≡ word = sym ((bytes_eq-Decides word this).0 own.0) in
-      subst (λ (w : List ℕ). IsBehind w bytes q) same (here own.1)
-  | inr rest ↦ behind rest.1
-]
-
-key_command_takes : (word : List ℕ) (key : ℕ) (q : Command) → IsKeyNumber key → key_command word key ≡ Some q → IsBehind word (decimal key) q
-unfolding key_command
-key_command_takes word key q in_range e =
-    let bytes = decimal key in
-    worded_as word (codes "activate") bytes q _ _ e (behind_this (codes "activate") bytes (Activate key) q in_range refl) (λ e1.
-    worded_as word (codes "approve") bytes q _ _ e1 (behind_this (codes "approve") bytes (Approve key) q in_range refl) (λ e2.
-    worded_as word (codes "withdraw") bytes q _ _ e2 (behind_this (codes "withdraw") bytes (Withdraw key) q in_range refl) (λ e3.
-    worded_as word (codes "destroy") bytes q _ _ e3 (behind_this (codes "destroy") bytes (Destroy key) q in_range refl) (λ e4. absurd (none_read q e4)))))
-
-name_command_takes : (word : List ℕ) (key : ℕ) (n : List ℕ) (q : Command) → IsKeyNumber key → IsName n → name_command word key n ≡ Some q → IsBehind word (before (decimal key) n) q
-unfolding name_command
-name_command_takes word key n q number name e =
-    let bytes = before (decimal key) n in
-    let text = λ (this : List ℕ). sym (joined_named this (decimal key) n) in
-    worded_as word (codes "assign") bytes q _ _ e (behind_this (codes "assign") bytes (Assign key n) q (number, name) (text (codes "assign"))) (λ e1.
-    worded_as word (codes "add-custodian") bytes q _ _ e1 (behind_this (codes "add-custodian") bytes (AddCustodian key n) q (number, name) (text (codes "add-custodian"))) (λ e2.
-    worded_as word (codes "remove-custodian") bytes q _ _ e2 (behind_this (codes "remove-custodian") bytes (RemoveCustodian key n) q (number, name) (text (codes "remove-custodian"))) (λ e3.
-    absurd (none_read q e3))))
-
-keyed_takes : (word bytes : List ℕ) (q : Command) → keyed_at word bytes ≡ Some q → IsBehind word bytes q
-unfolding keyed_at
-keyed_takes word bytes q e = by (key_and_name_at bytes) refl e
-  where
-    by : (o : Option (ℕ × List ℕ)) → key_and_name_at bytes ≡ o → keyed_by word bytes o ≡ Some q → IsBehind word bytes q
-    by (Some y) is read =
-        let taken = key_and_name_reader.takes bytes y is in
-        subst (λ (b : List ℕ). IsBehind word b q) (sym taken.1) (name_command_takes word y.0 y.1 q taken.0.0 taken.0.1 read)
-    by None is read =
-        let k = bind_some (key_number_at bytes) (λ key. key_command word key) q read in
-        let taken = key_number_reader.takes bytes k.0 k.1 in
-        subst (λ (b : List ℕ). IsBehind word b q) (sym taken.1) (key_command_takes word k.0 q taken.0 k.2)
-
-behind_takes : (word bytes : List ℕ) (q : Command) → behind_at word bytes ≡ Some q → IsBehind word bytes q
-behind_takes word bytes q e =
-    worded_as word (codes "register") bytes q _ _ e (register_takes bytes q) (λ e1.
-    worded_as word (codes "set") bytes q _ _ e1 (set_takes bytes q) (λ e2.
-    worded_as word (codes "revoke") bytes q _ _ e2 (revoke_takes bytes q) (keyed_takes word bytes q)))
-
-worded_takes : (bytes : List ℕ) (q : Command) → worded_at bytes ≡ Some q → IsCommandText bytes q
-unfolding worded_at
-worded_takes bytes q e =
-    let w = bind_some (field_at bytes) (λ word. behind_at word.0 word.1) q e in
-    let taken = behind_takes w.0.0 w.0.1 q w.2 in
-    (taken.in_range, field_takes bytes w.0 w.1 ∙ taken.text)
+behind_takes : (kind : CommandKind) (behind : Option (List ℕ)) (q : Command) → behind_at kind behind ≡ Some q
+    → IsOfKind kind behind q
+behind_takes kind (Some bytes) q e = fielded_takes kind bytes q e
+behind_takes kinds.Advance None q e =
+    subst (IsOfKind kinds.Advance None) (some_is Advance q e) (record { in_range = tt; of_kind = refl; text = refl })
+behind_takes kind None q e = absurd cc
 
 command_takes : (bytes : List ℕ) (q : Command) → command_at bytes ≡ Some q → IsCommandText bytes q
 unfolding command_at
-command_takes bytes q e = elim (pick (bytes_eq bytes (codes "advance")) (Some Advance) (worded_at bytes) q e) [
-  | inl here ↦ subst (IsCommandText bytes) (some_is Advance q here.1) (tt, (bytes_eq-Decides bytes (codes "advance")).0 here.0)
-  | inr behind ↦ worded_takes bytes q behind.1
-]
+command_takes bytes q e =
+    let word = word_at bytes in
+    let kind = bind_some (kind_at word.0) (λ kind. behind_at kind word.1) q e in
+    let taken = behind_takes kind.0 word.1 q kind.2 in
+    let text = command_kind_text (kind_of q) in
+    let word_is : word.0 ≡ text =
+    (kind_reader.takes word.0 kind.0 kind.1).1 ∙ ap command_kind_text (sym taken.of_kind) in
+    let split : bytes ≡ text ++ behind_text word.1 =
+    word_takes bytes ∙ ap (λ (w : List ℕ). w ++ behind_text word.1) word_is in
+    (taken.in_range, split ∙ ap (λ (behind : List ℕ). text ++ behind) taken.text)
 
--- a word, and behind it what is read as the command behind this word
-worded_again : (word bytes : List ℕ) (q : Command) → HasNoSpace word → bytes_eq (before word bytes) (codes "advance") ≡ false → behind_at word bytes ≡ Some q
-    → command_at (before word bytes) ≡ Some q
-unfolding command_at worded_at
-worded_again word bytes q solid other read = rw (other, field_again word bytes solid) read
+-- the command is read of what stands behind its word
+record IsReadAgain (q : Command) : Type 0 where
+  behind : Option (List ℕ)
+  text : fields_text q ≡ behind_text behind
+  read : behind_at (kind_of q) behind ≡ Some q
 
-single_text : (word : List ℕ) (key : ℕ) (q : Command) → HasNoSpace word → bytes_eq (before word (decimal key)) (codes "advance") ≡ false
-    → behind_at word (decimal key) ≡ keyed_at word (decimal key) → IsKeyNumber key → key_command word key ≡ Some q → command_at (before word (decimal key)) ≡ Some q
-single_text word key q solid other behind in_range read = worded_again word (decimal key) q solid other (behind ∙ single_again word key q in_range read)
+-- what has its space before it
+abbrev rest_of : List ℕ → Option (List ℕ)
+rest_of [] = None
+rest_of (space ∷ fields) = Some fields
 
-pair_text : (word : List ℕ) (key : ℕ) (n : List ℕ) (q : Command) → HasNoSpace word → bytes_eq (before word (before (decimal key) n)) (codes "advance") ≡ false
-    → behind_at word (before (decimal key) n) ≡ keyed_at word (before (decimal key) n) → IsKeyNumber key → IsName n → name_command word key n ≡ Some q
-    → command_at ((word ++ codes " ") ++ decimal key ++ codes " " ++ n) ≡ Some q
-pair_text word key n q solid other behind in_range name read =
-    ap command_at (joined_named word (decimal key) n) ∙ worded_again word (before (decimal key) n) q solid other (behind ∙ pair_again word key n q in_range name read)
+-- The last row has every command on a key alone, and on a key and a name.
+read_again : (q : Command) → IsCommand q → IsReadAgain q
+read_again (Register k o a p d u) in_range = record {
+  behind = Some (text_of_registered (k, (o, (a, (p, (d, u))))));
+  text = joined_register (key_type_text k) o (date_text a) (date_text p) (date_text d) u;
+  read = register_again k o a p d u in_range;
+}
+read_again (SetDates key a p d) in_range = record {
+  behind = Some (before (decimal key) (before (edit_text a) (before (edit_text p) (edit_text d))));
+  text = joined_set (decimal key) (edit_text a) (edit_text p) (edit_text d);
+  read = set_again key a p d in_range;
+}
+read_again (Revoke key r o) in_range = record {
+  behind = Some (before (decimal key) (before (reason_text r) (date_text o)));
+  text = joined_revoke (decimal key) (reason_text r) (date_text o);
+  read = revoke_again key r o in_range;
+}
+read_again Advance in_range = record { behind = None; text = refl; read = refl }
+read_again q in_range = record {
+  behind = rest_of (fields_text q);
+  text = refl;
+  read = first_of (search keyed_again, search named_again);
+}
 
 command_again : (q : Command) → IsCommand q → command_at (command_text q) ≡ Some q
-unfolding command_at key_command name_command
-command_again Advance in_range = refl
-command_again (Register k o a p d u) in_range =
-    let behind : List ℕ = before (key_type_text k) (before o (before (date_text a) (before (date_text p) (before (date_text d) u)))) in
-    ap command_at (joined_register (key_type_text k) o (date_text a) (date_text p) (date_text d) u)
-    ∙ worded_again (codes "register") behind _ refl refl (register_again k o a p d u in_range)
-command_again (SetDates key a p d) in_range =
-    let behind : List ℕ = before (decimal key) (before (edit_text a) (before (edit_text p) (edit_text d))) in
-    ap command_at (joined_set (decimal key) (edit_text a) (edit_text p) (edit_text d))
-    ∙ worded_again (codes "set") behind _ refl refl (set_again key a p d in_range)
-command_again (Revoke key r o) in_range =
-    let behind : List ℕ = before (decimal key) (before (reason_text r) (date_text o)) in
-    ap command_at (joined_revoke (decimal key) (reason_text r) (date_text o))
-    ∙ worded_again (codes "revoke") behind _ refl refl (revoke_again key r o in_range)
-command_again (Activate key) in_range = single_text (codes "activate") key _ refl refl refl in_range refl
-command_again (Approve key) in_range = single_text (codes "approve") key _ refl refl refl in_range refl
-command_again (Withdraw key) in_range = single_text (codes "withdraw") key _ refl refl refl in_range refl
-command_again (Destroy key) in_range = single_text (codes "destroy") key _ refl refl refl in_range refl
-command_again (Assign key n) in_range = pair_text (codes "assign") key n _ refl refl refl in_range.0 in_range.1 refl
-command_again (AddCustodian key n) in_range = pair_text (codes "add-custodian") key n _ refl refl refl in_range.0 in_range.1 refl
-command_again (RemoveCustodian key n) in_range = pair_text (codes "remove-custodian") key n _ refl refl refl in_range.0 in_range.1 refl
+unfolding command_at
+command_again q in_range =
+    let again = read_again q in_range in
+    let word = command_kind_text (kind_of q) in
+    let split : word_at (command_text q) ≡ (word, again.behind) =
+    ap (λ (fields : List ℕ). word_at (word ++ fields)) again.text
+    ∙ word_again word again.behind (kind_solid (kind_of q)) in
+    rw (split, kind_reader.again (kind_of q) tt) again.read
 
 command_read : (bytes : List ℕ) (q : Command) → IsCommandText bytes q → command_at bytes ≡ Some q
 command_read bytes q h = ap command_at h.1 ∙ command_again q h.0

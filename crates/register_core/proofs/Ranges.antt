@@ -4,7 +4,7 @@ use Rattle.std.specs.Prelude.{nat_lt}
 use Rattle.std.proofs.lemmas.Bool.{lt-ltb}
 use Rattle.lifecycle_core.specs.Reason.{is_compromise}
 use Rattle.register_core.specs.declared.request.Command.{Command}
-use Rattle.register_core.specs.declared.request.Command.TheVariants.{Register as Registers, Activate, SetDates, Revoke, Assign, AddCustodian, RemoveCustodian, Approve, Withdraw, Destroy, Advance}
+use Rattle.register_core.specs.declared.request.Command.TheVariants.{Register as Registers, Revoke, Advance}
 use Rattle.register_core.specs.Request.{IsCommand, IsKeyNumber, has_text}
 use Rattle.register_core.specs.Subject.{named}
 
@@ -15,30 +15,18 @@ of_compromise : {A : Type 0} (b : Bool) (x : A) → (b ≡ false → Some x ≡ 
 of_compromise true x only = refl
 of_compromise false x only = absurd (let e = only refl in cc)
 
+-- The last row has every other command: each names a key, and has nothing else that its types leave open.
 pub in_range_has_text : (c : Command) → IsCommand c → has_text c ≡ true
 in_range_has_text (Registers kind owner activation protect_stop deactivation purpose) is = refl
-in_range_has_text (Activate key) is = both key true is refl
-in_range_has_text (SetDates key activation protect_stop deactivation) is = both key true is.0 refl
-in_range_has_text (Revoke key reason None) is = both key true is.0 refl
 in_range_has_text (Revoke key reason (Some occurrence)) is = both key (is_compromise reason) is.0 (of_compromise (is_compromise reason) occurrence is.2)
-in_range_has_text (Assign key owner) is = both key true is.0 refl
-in_range_has_text (AddCustodian key name) is = both key true is.0 refl
-in_range_has_text (RemoveCustodian key name) is = both key true is.0 refl
-in_range_has_text (Approve key) is = both key true is refl
-in_range_has_text (Withdraw key) is = both key true is refl
-in_range_has_text (Destroy key) is = both key true is refl
 in_range_has_text Advance is = refl
+in_range_has_text c is = both _ true (omega arith, omega arith) refl
+
+same_number : (key k : ℕ) → Some key ≡ Some k → IsKeyNumber key → IsKeyNumber k
+same_number key k names in_range = let same : key ≡ k = cc in subst IsKeyNumber same in_range
 
 -- the key that it names has a number in its range
 pub named_in_range : (c : Command) (k : ℕ) → IsCommand c → named c ≡ Some k → IsKeyNumber k
 named_in_range (Registers kind owner activation protect_stop deactivation purpose) k is names = absurd cc
-named_in_range (Activate key) k is names = let same : key ≡ k = cc in subst IsKeyNumber same is
-named_in_range (SetDates key activation protect_stop deactivation) k is names = let same : key ≡ k = cc in subst IsKeyNumber same is.0
-named_in_range (Revoke key reason occurrence) k is names = let same : key ≡ k = cc in subst IsKeyNumber same is.0
-named_in_range (Assign key owner) k is names = let same : key ≡ k = cc in subst IsKeyNumber same is.0
-named_in_range (AddCustodian key name) k is names = let same : key ≡ k = cc in subst IsKeyNumber same is.0
-named_in_range (RemoveCustodian key name) k is names = let same : key ≡ k = cc in subst IsKeyNumber same is.0
-named_in_range (Approve key) k is names = let same : key ≡ k = cc in subst IsKeyNumber same is
-named_in_range (Withdraw key) k is names = let same : key ≡ k = cc in subst IsKeyNumber same is
-named_in_range (Destroy key) k is names = let same : key ≡ k = cc in subst IsKeyNumber same is
 named_in_range Advance k is names = absurd cc
+named_in_range c k is names = same_number _ k names (omega arith, omega arith)

@@ -1,7 +1,7 @@
 -- Each field's reader reads exactly the texts of its values, and finds what the code finds.
-use Rattle.std.proofs.Common.{◌≡◌, ◌≢◌, ℕ, ◌-◌, ◌<◌, ◌≤◌, ◌^◌, nat_le, Bool, true, false, not, ◌&&◌, cond, List, [], ◌∷◌, length, get_or, Option, Some, None, IfSome, IfNone, IsSome, ◌↔◌, ◌⊎◌, inl, inr, refl, sym, ap, subst, ◌∙◌, arith}
+use Rattle.std.proofs.Common.{◌≡◌, ◌≢◌, ℕ, suc, ◌-◌, ◌<◌, ◌≤◌, ◌^◌, nat_le, Bool, true, false, not, ◌&&◌, cond, List, [], ◌∷◌, length, get_or, Option, Some, None, IfSome, IfNone, IsSome, ◌↔◌, ◌⊎◌, inl, inr, refl, sym, ap, subst, ◌∙◌, arith}
 use Rattle.std.specs.Prelude.{◌==◌, decimal, find, codes}
-use Rattle.std.specs.List.{list_all}
+use Rattle.std.specs.List.{All, list_all}
 use Rattle.std.specs.Str.{bytes_eq, is_utf8}
 use Rattle.std.specs.Str.Parse.{digits_value, AllDigits}
 use Rattle.std.proofs.lemmas.Bool.{and_parts, and_from, leb-true, le-leb, eqb-true}
@@ -16,15 +16,18 @@ use Rattle.lifecycle_core.specs.declared.reason.Reason.TheVariants.{Unspecified,
 use Rattle.lifecycle_core.specs.Reason.{reason_code, is_compromise}
 use Rattle.period_core.specs.declared.key_type.KeyType.{KeyType}
 use Rattle.period_core.specs.declared.key_type.KeyType.TheVariants.{DataEncryption, Authentication, KeyWrapping, PrivateSignature, PrivateAuthentication, PrivateTransport, Master}
+use Rattle.register_core.specs.declared.command_kind.CommandKind.{CommandKind}
+use Rattle.register_core.specs.declared.command_kind.CommandKind.TheVariants.{Advance}
 use Rattle.register_core.specs.declared.request.Edit.{Edit}
 use Rattle.register_core.specs.declared.request.Edit.TheVariants.{Keep, Clear, Set}
 use Rattle.register_core.specs.Name.{is_name_byte, max_name_length, IsName}
 use Rattle.register_core.specs.Number.{max_request_number, IsNumber}
 use Rattle.register_core.specs.Purpose.{is_purpose_byte, max_purpose_length, IsPurpose}
 use Rattle.period_core.specs.KeyType.{key_type_text}
-use Rattle.register_core.specs.Reading.{◌>>=◌, number_at, moment_at, date_at, edit_at, key_number_at, reasons, reason_at, occurrence_at, request_number_at, name_at, purpose_at, key_types, key_type_at, is_space, is_trimmed}
+use Rattle.register_core.specs.CommandKind.{command_kind_text}
+use Rattle.register_core.specs.Reading.{◌>>=◌, number_at, moment_at, date_at, edit_at, key_number_at, reasons, reason_at, occurrence_at, request_number_at, name_at, purpose_at, key_types, key_type_at, command_kinds, kind_at, is_space, is_trimmed}
 use Rattle.register_core.specs.Request.{IsDate, IsKeyNumber, IsEdit, date_text, edit_text}
-use Rattle.register_core.proofs.Fields.{IsReader, is_read, bind_some}
+use Rattle.register_core.proofs.Fields.{IsReader, is_read, bind_some, some_is}
 
 -- ---- numbers
 
@@ -242,7 +245,7 @@ purpose_reader = record {
       rw (low, high, utf8, purpose.printable, ends) refl;
 }
 
--- ---- types of keys and reasons
+-- ---- types of keys, kinds of commands and reasons
 
 found_step : {A : Type 0} (b : Bool) (x : A) (o : Option A) (k : A) → cond b (Some x) o ≡ Some k → ((b ≡ true) × (x ≡ k)) ⊎ (o ≡ Some k)
 found_step true x o k e = inl (refl, cc)
@@ -271,6 +274,40 @@ key_type_takes field k e = sym ((bytes_eq-Decides (key_type_text k) field).0 (fi
 
 pub key_type_reader : IsReader key_type_at key_type_text (λ _. Unit {0})
 key_type_reader = record { takes = λ field k e. (tt, key_type_takes field k e); again = λ k _. key_type_again k }
+
+kind_again : (k : CommandKind) → kind_at (command_kind_text k) ≡ Some k
+unfolding kind_at
+kind_again Advance = refl
+kind_again k = refl
+
+kind_takes : (word : List ℕ) (k : CommandKind) → kind_at word ≡ Some k → word ≡ command_kind_text k
+unfolding kind_at
+kind_takes word k e =
+    let passes = find_passes (λ kind. bytes_eq (command_kind_text kind) word) command_kinds k e in
+    sym ((bytes_eq-Decides (command_kind_text k) word).0 passes)
+
+pub kind_reader : IsReader kind_at command_kind_text (λ _. Unit {0})
+kind_reader = record { takes = λ word k e. (tt, kind_takes word k e); again = λ k _. kind_again k }
+
+-- No two kinds have one word.
+pub same_kind : (j k : CommandKind) → command_kind_text j ≡ command_kind_text k → j ≡ k
+same_kind j k e = some_is j k (sym (kind_again j) ∙ ap kind_at e ∙ kind_again k)
+
+-- what holds of each element of a list holds of the one that is found
+holds_of_found : {A : Type 0} (P : A → Type 0) (p : A → Bool) (xs : List A) (k : A) → All P xs → find p xs ≡ Some k
+    → P k
+holds_of_found P p [] k all e = absurd cc
+holds_of_found P p (x ∷ xs) k all e = elim (found_step (p x) x (find p xs) k e) [
+  | inl here ↦ subst P here.1 (all 0 x (omega arith))
+  | inr behind ↦ holds_of_found P p xs k (λ i d lt. all (suc i) d (omega arith)) behind
+]
+
+-- What holds of each kind in the list holds of each kind.
+pub each_kind : (P : CommandKind → Type 0) → All P command_kinds → (k : CommandKind) → P k
+unfolding kind_at
+each_kind P all k =
+    holds_of_found P (λ kind. bytes_eq (command_kind_text kind) (command_kind_text k)) command_kinds k all
+    (kind_again k)
 
 abbrev pub reason_text : Reason → List ℕ
 reason_text reason = decimal (reason_code reason)

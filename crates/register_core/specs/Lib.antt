@@ -7,6 +7,7 @@ pub mod Number
 pub mod Purpose
 pub mod Reply
 pub mod Answer
+pub mod CommandKind
 pub mod Request
 pub mod CommandRule
 pub mod CommandText

@@ -11,12 +11,15 @@ use Rattle.period_core.specs.declared.key_type.KeyType.TheVariants.{DataEncrypti
 use Rattle.register_core.specs.declared.request.Request.{Request}
 use Rattle.register_core.specs.declared.request.Command.{Command}
 use Rattle.register_core.specs.declared.request.Command.TheVariants.{Register, Activate, SetDates, Revoke, Assign, AddCustodian, RemoveCustodian, Approve, Withdraw, Destroy, Advance}
+use Rattle.register_core.specs.declared.command_kind.CommandKind.{CommandKind}
+use Rattle.register_core.specs.declared.command_kind.CommandKind.TheVariants as kinds
 use Rattle.register_core.specs.declared.request.Edit.{Edit}
 use Rattle.register_core.specs.declared.request.Edit.TheVariants.{Keep, Clear, Set}
 use Rattle.moment_core.specs.Moment.{last_second}
 use Rattle.register_core.specs.Name.{is_name_byte, max_name_length}
 use Rattle.register_core.specs.Number.{max_request_number}
 use Rattle.register_core.specs.Purpose.{is_purpose_byte, max_purpose_length}
+use Rattle.register_core.specs.CommandKind.{command_kind_text}
 use Rattle.register_core.specs.Request.{max_line_length}
 use Rattle.period_core.specs.KeyType.{key_type_text}
 
@@ -108,6 +111,16 @@ key_types = DataEncryption ∷ Authentication ∷ KeyWrapping ∷ PrivateSignatu
 unfoldable pub key_type_at : List ℕ → Option KeyType
 key_type_at field = find (λ kind. bytes_eq (key_type_text kind) field) key_types
 
+-- each kind of command once
+abbrev pub command_kinds : List CommandKind
+command_kinds =
+    kinds.Register ∷ kinds.Activate ∷ kinds.SetDates ∷ kinds.Revoke ∷ kinds.Assign ∷ kinds.AddCustodian
+    ∷ kinds.RemoveCustodian ∷ kinds.Approve ∷ kinds.Withdraw ∷ kinds.Destroy ∷ kinds.Advance ∷ []
+
+-- the kind whose word this is
+unfoldable pub kind_at : List ℕ → Option CommandKind
+kind_at word = find (λ kind. bytes_eq (command_kind_text kind) word) command_kinds
+
 -- ---- the line
 
 -- a field that read_by reads, and what stands behind its space
@@ -128,7 +141,7 @@ field_then read_by read_behind bytes = do
 abbrev pub registered : KeyType × (List ℕ × (Option ℕ × (Option ℕ × (Option ℕ × List ℕ)))) → Command
 registered (kind, (owner, (activation, (protect_stop, (deactivation, purpose))))) = Register kind owner activation protect_stop deactivation purpose
 
--- what stands behind the word register
+-- the registration whose fields these are
 unfoldable pub register_at : List ℕ → Option Command
 register_at bytes = do
   read ← field_then key_type_at (λ _. field_then name_at (λ _. field_then date_at (λ _. field_then date_at (λ _. field_then date_at (λ _. purpose_at))))) bytes
@@ -142,7 +155,7 @@ key_and_name_at bytes = field_then key_number_at (λ _. name_at) bytes
 abbrev pub dates_set : ℕ × (Edit × (Edit × Edit)) → Command
 dates_set (key, (activation, (protect_stop, deactivation))) = SetDates key activation protect_stop deactivation
 
--- what stands behind the word set
+-- the change of dates whose fields these are
 unfoldable pub set_at : List ℕ → Option Command
 set_at bytes = do
   read ← field_then key_number_at (λ _. field_then edit_at (λ _. field_then edit_at (λ _. edit_at))) bytes
@@ -152,54 +165,61 @@ set_at bytes = do
 abbrev pub revoked : ℕ × (Reason × Option ℕ) → Command
 revoked (key, (reason, occurrence)) = Revoke key reason occurrence
 
--- what stands behind the word revoke
+-- the revocation whose fields these are
 unfoldable pub revoke_at : List ℕ → Option Command
 revoke_at bytes = do
   read ← field_then key_number_at (λ _. field_then reason_at occurrence_at) bytes
   Some (revoked read)
 
--- the command on a key alone with this word
-unfoldable pub key_command : List ℕ → ℕ → Option Command
-key_command word key =
-    if bytes_eq word (codes "activate") then Some (Activate key)
-    else if bytes_eq word (codes "approve") then Some (Approve key)
-    else if bytes_eq word (codes "withdraw") then Some (Withdraw key)
-    else if bytes_eq word (codes "destroy") then Some (Destroy key)
-    else None
+-- the command on a key alone
+unfoldable pub keyed_at : (ℕ → Command) → List ℕ → Option Command
+keyed_at made bytes = do
+  key ← key_number_at bytes
+  Some (made key)
 
--- the command on a key and a name with this word
-unfoldable pub name_command : List ℕ → ℕ → List ℕ → Option Command
-name_command word key name =
-    if bytes_eq word (codes "assign") then Some (Assign key name)
-    else if bytes_eq word (codes "add-custodian") then Some (AddCustodian key name)
-    else if bytes_eq word (codes "remove-custodian") then Some (RemoveCustodian key name)
-    else None
+-- the command on a key and a name
+unfoldable pub named_at : (ℕ → List ℕ → Command) → List ℕ → Option Command
+named_at made bytes = do
+  read ← key_and_name_at bytes
+  Some (made read.0 read.1)
 
-abbrev pub keyed_by : List ℕ → List ℕ → Option (ℕ × List ℕ) → Option Command
-keyed_by word bytes (Some named) = name_command word named.0 named.1
-keyed_by word bytes None = key_number_at bytes >>= λ key. key_command word key
+-- the command of this kind with these fields, which stand behind its word
+abbrev pub fielded_at : CommandKind → List ℕ → Option Command
+fielded_at kinds.Register fields = register_at fields
+fielded_at kinds.Activate fields = keyed_at Activate fields
+fielded_at kinds.SetDates fields = set_at fields
+fielded_at kinds.Revoke fields = revoke_at fields
+fielded_at kinds.Assign fields = named_at Assign fields
+fielded_at kinds.AddCustodian fields = named_at AddCustodian fields
+fielded_at kinds.RemoveCustodian fields = named_at RemoveCustodian fields
+fielded_at kinds.Approve fields = keyed_at Approve fields
+fielded_at kinds.Withdraw fields = keyed_at Withdraw fields
+fielded_at kinds.Destroy fields = keyed_at Destroy fields
+fielded_at kinds.Advance fields = None
 
--- what stands behind a word of a key alone, or of a key and a name
-unfoldable pub keyed_at : List ℕ → List ℕ → Option Command
-keyed_at word bytes = keyed_by word bytes (key_and_name_at bytes)
+-- the command of a kind whose word stands alone
+abbrev pub bare_at : CommandKind → Option Command
+bare_at kinds.Advance = Some Advance
+bare_at kind = None
 
--- what stands behind its word
-abbrev pub behind_at : List ℕ → List ℕ → Option Command
-behind_at word bytes =
-    if bytes_eq word (codes "register") then register_at bytes
-    else if bytes_eq word (codes "set") then set_at bytes
-    else if bytes_eq word (codes "revoke") then revoke_at bytes
-    else keyed_at word bytes
+-- the command of this kind with these fields, or with none
+abbrev pub behind_at : CommandKind → Option (List ℕ) → Option Command
+behind_at kind None = bare_at kind
+behind_at kind (Some fields) = fielded_at kind fields
 
--- a command that begins with its word
-unfoldable pub worded_at : List ℕ → Option Command
-worded_at bytes = do
-  word ← field_at bytes
-  behind_at word.0 word.1
+abbrev pub split_by : List ℕ → Option (List ℕ × List ℕ) → List ℕ × Option (List ℕ)
+split_by bytes None = (bytes, None)
+split_by bytes (Some split) = (split.0, Some split.1)
 
--- a command, with its fields where it has any
+-- the word at the front, and what stands behind its space; a word that has no space behind it is all there is
+unfoldable pub word_at : List ℕ → List ℕ × Option (List ℕ)
+word_at bytes = split_by bytes (field_at bytes)
+
+-- a command: the kind that its word tells, and the fields of that kind
 unfoldable pub command_at : List ℕ → Option Command
-command_at bytes = if bytes_eq bytes (codes "advance") then Some Advance else worded_at bytes
+command_at bytes = do
+  kind ← kind_at (word_at bytes).0
+  behind_at kind (word_at bytes).1
 
 -- the request of the fields that fields_at reads
 abbrev pub requested : ℕ × (List ℕ × (ℕ × Command)) → Request

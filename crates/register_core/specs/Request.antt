@@ -1,5 +1,5 @@
 -- Requests in their ranges, and the one line of each. All of it is this register's own.
-use Rattle.std.specs.Prelude.{◌≡◌, Bool, true, false, ◌&&◌, nat_lt, ℕ, ◌≤◌, List, ◌++◌, length, codes, decimal, Option, None, Some}
+use Rattle.std.specs.Prelude.{◌≡◌, Bool, true, false, ◌&&◌, nat_lt, ℕ, ◌≤◌, List, [], ◌++◌, length, codes, decimal, Option, None, Some}
 use Rattle.moment_core.specs.Moment.{IsMoment}
 use Rattle.register_core.specs.Name.{IsName}
 use Rattle.register_core.specs.Number.{IsNumber}
@@ -11,6 +11,7 @@ use Rattle.register_core.specs.declared.request.Command.TheVariants.{Register, A
 use Rattle.register_core.specs.declared.request.Edit.{Edit}
 use Rattle.register_core.specs.declared.request.Edit.TheVariants.{Keep, Clear, Set}
 use Rattle.lifecycle_core.specs.Reason.{reason_code, is_compromise}
+use Rattle.register_core.specs.CommandKind.{command_kind_text, kind_of}
 use Rattle.register_core.specs.Subject.{named}
 
 -- how many bytes a request line has at most
@@ -85,21 +86,28 @@ edit_text Keep = codes "="
 edit_text Clear = codes "-"
 edit_text (Set date) = decimal date
 
-abbrev pub command_text : Command → List ℕ
-command_text (Register kind owner activation protect_stop deactivation purpose) =
-    codes "register " ++ key_type_text kind ++ codes " " ++ owner ++ codes " " ++ date_text activation
+-- what stands behind a command's word: its fields, each with a space before it
+abbrev pub fields_text : Command → List ℕ
+fields_text (Register kind owner activation protect_stop deactivation purpose) =
+    codes " " ++ key_type_text kind ++ codes " " ++ owner ++ codes " " ++ date_text activation
     ++ codes " " ++ date_text protect_stop ++ codes " " ++ date_text deactivation ++ codes " " ++ purpose
-command_text (Activate key) = codes "activate " ++ decimal key
-command_text (SetDates key activation protect_stop deactivation) =
-    codes "set " ++ decimal key ++ codes " " ++ edit_text activation ++ codes " " ++ edit_text protect_stop ++ codes " " ++ edit_text deactivation
-command_text (Revoke key reason occurrence) = codes "revoke " ++ decimal key ++ codes " " ++ decimal (reason_code reason) ++ codes " " ++ date_text occurrence
-command_text (Assign key owner) = codes "assign " ++ decimal key ++ codes " " ++ owner
-command_text (AddCustodian key name) = codes "add-custodian " ++ decimal key ++ codes " " ++ name
-command_text (RemoveCustodian key name) = codes "remove-custodian " ++ decimal key ++ codes " " ++ name
-command_text (Approve key) = codes "approve " ++ decimal key
-command_text (Withdraw key) = codes "withdraw " ++ decimal key
-command_text (Destroy key) = codes "destroy " ++ decimal key
-command_text Advance = codes "advance"
+fields_text (Activate key) = codes " " ++ decimal key
+fields_text (SetDates key activation protect_stop deactivation) =
+    codes " " ++ decimal key ++ codes " " ++ edit_text activation ++ codes " " ++ edit_text protect_stop
+    ++ codes " " ++ edit_text deactivation
+fields_text (Revoke key reason occurrence) =
+    codes " " ++ decimal key ++ codes " " ++ decimal (reason_code reason) ++ codes " " ++ date_text occurrence
+fields_text (Assign key owner) = codes " " ++ decimal key ++ codes " " ++ owner
+fields_text (AddCustodian key name) = codes " " ++ decimal key ++ codes " " ++ name
+fields_text (RemoveCustodian key name) = codes " " ++ decimal key ++ codes " " ++ name
+fields_text (Approve key) = codes " " ++ decimal key
+fields_text (Withdraw key) = codes " " ++ decimal key
+fields_text (Destroy key) = codes " " ++ decimal key
+fields_text Advance = []
+
+-- the word of a command's kind, and its fields behind it
+abbrev pub command_text : Command → List ℕ
+command_text c = command_kind_text (kind_of c) ++ fields_text c
 
 abbrev pub request_text : Request → List ℕ
 request_text q = decimal q.moment ++ codes " " ++ q.caller ++ codes " " ++ decimal q.number ++ codes " " ++ command_text q.command

@@ -1,17 +1,18 @@
-//! The text of a command, which is the end of a request's line.
-ghost use Rattle.std.specs.Prelude.{◌≡◌, ◌+◌, ◌≤◌, ◌++◌, codes, decimal, length};
+//! The text of a command, which is the end of a request's line: the word of its kind, and behind it the kind's fields.
+ghost use Rattle.std.specs.Prelude.{◌≡◌, ◌+◌, ◌≤◌, ◌++◌, codes, decimal, length, option_map};
 ghost use Rattle.arrayvec.specs.ArrayString.{array_string_len};
 ghost use Rattle.register_core.specs.declared.request.Command.TheVariants.{Register, SetDates};
-ghost use Rattle.register_core.specs.declared.request.Command.TheVariants.{Revoke, Advance};
-ghost use Rattle.register_core.specs.Request.{command_text};
+ghost use Rattle.register_core.specs.declared.request.Command.TheVariants.{Revoke};
+ghost use Rattle.register_core.specs.Request.{fields_text, command_text};
 ghost use Rattle.register_core.specs.CommandText.{IsCommandItem};
 ghost use Rattle.register_core.specs.Reading.{register_at, set_at, revoke_at, key_and_name_at};
-ghost use Rattle.register_core.specs.Reading.{key_command, name_command, keyed_at, worded_at};
-ghost use Rattle.register_core.specs.Reading.{command_at};
+ghost use Rattle.register_core.specs.Reading.{fielded_at, bare_at, word_at, command_at};
 
+use crate::command_kind::{CommandKind, MAX_WORD_LENGTH};
 use crate::field::{
-    date_of, edit_of, key_number_of, key_type_of, name_of, next_field, occurrence_of, purpose_of,
-    put_date, put_edit, put_number, reason_of, split_field, split_key_number,
+    command_kind_of, date_of, edit_of, key_number_of, key_type_of, name_of, next_field,
+    occurrence_of, purpose_of, put_date, put_edit, put_number, reason_of, split_field,
+    split_key_number,
 };
 use crate::name::Name;
 use crate::purpose::Purpose;
@@ -25,10 +26,7 @@ use period_core::KeyType;
 /// How many bytes the text of a command has at most.
 pub const MAX_COMMAND_LENGTH: usize = 400;
 
-/// How many bytes the word of a command has at most, with the space behind it.
-const MAX_WORD_LENGTH: usize = 17;
-
-/// The command behind the word `register`.
+/// The registration whose fields these are.
 #[tactic(auto, unfolding(crate::specs::Reading::register_at))]
 fn register_of(bytes: &[u8]) -> Option<Command>
     ensures { result ≡ register_at bytes.now }
@@ -54,7 +52,7 @@ fn key_and_name_of(bytes: &[u8]) -> Option<(u32, Name)>
     Some((key, name))
 }
 
-/// The command behind the word `set`.
+/// The change of dates whose fields these are.
 #[tactic(auto, unfolding(crate::specs::Reading::set_at))]
 fn set_of(bytes: &[u8]) -> Option<Command>
     ensures { result ≡ set_at bytes.now }
@@ -68,7 +66,7 @@ fn set_of(bytes: &[u8]) -> Option<Command>
     })
 }
 
-/// The command behind the word `revoke`.
+/// The revocation whose fields these are.
 #[tactic(auto, unfolding(crate::specs::Reading::revoke_at))]
 fn revoke_of(bytes: &[u8]) -> Option<Command>
     ensures { result ≡ revoke_at bytes.now }
@@ -84,66 +82,54 @@ fn revoke_of(bytes: &[u8]) -> Option<Command>
     })
 }
 
-/// The command on a key alone whose word this is.
-#[tactic(auto, unfolding(crate::specs::Reading::key_command))]
-fn key_command(word: &[u8], key: u32) -> Option<Command>
-    ensures { result ≡ key_command word.now key }
+/// The command of this kind with these fields.
+#[tactic(auto, unfolding(crate::specs::Reading::keyed_at, crate::specs::Reading::named_at))]
+fn fielded_command(kind: CommandKind, fields: &[u8]) -> Option<Command>
+    ensures { result ≡ fielded_at kind fields.now }
 {
-    if word == b"activate".as_slice() {
-        Some(Command::Activate { key })
-    } else if word == b"approve".as_slice() {
-        Some(Command::Approve { key })
-    } else if word == b"withdraw".as_slice() {
-        Some(Command::Withdraw { key })
-    } else if word == b"destroy".as_slice() {
-        Some(Command::Destroy { key })
-    } else {
-        None
+    match kind {
+        CommandKind::Register => register_of(fields),
+        CommandKind::Activate => key_number_of(fields).map(|key| Command::Activate { key }),
+        CommandKind::SetDates => set_of(fields),
+        CommandKind::Revoke => revoke_of(fields),
+        CommandKind::Assign => {
+            let (key, owner) = key_and_name_of(fields)?;
+            Some(Command::Assign { key, owner })
+        }
+        CommandKind::AddCustodian => {
+            let (key, name) = key_and_name_of(fields)?;
+            Some(Command::AddCustodian { key, name })
+        }
+        CommandKind::RemoveCustodian => {
+            let (key, name) = key_and_name_of(fields)?;
+            Some(Command::RemoveCustodian { key, name })
+        }
+        CommandKind::Approve => key_number_of(fields).map(|key| Command::Approve { key }),
+        CommandKind::Withdraw => key_number_of(fields).map(|key| Command::Withdraw { key }),
+        CommandKind::Destroy => key_number_of(fields).map(|key| Command::Destroy { key }),
+        CommandKind::Advance => None,
     }
 }
 
-/// The command on a key and a name whose word this is.
-#[tactic(auto, unfolding(crate::specs::Reading::name_command))]
-fn name_command(word: &[u8], key: u32, name: Name) -> Option<Command>
-    ensures { result ≡ name_command word.now key name }
+/// The command of this kind, whose word stands alone.
+fn bare_command(kind: CommandKind) -> Option<Command>
+    ensures { result ≡ bare_at kind }
 {
-    if word == b"assign".as_slice() {
-        Some(Command::Assign { key, owner: name })
-    } else if word == b"add-custodian".as_slice() {
-        Some(Command::AddCustodian { key, name })
-    } else if word == b"remove-custodian".as_slice() {
-        Some(Command::RemoveCustodian { key, name })
-    } else {
-        None
+    match kind {
+        CommandKind::Advance => Some(Command::Advance),
+        _ => None,
     }
 }
 
-/// A command on a key alone, or on a key and a name: its word, and what stands behind it.
-#[tactic(auto, unfolding(crate::specs::Reading::keyed_at))]
-fn keyed_of(word: &[u8], rest: &[u8]) -> Option<Command>
-    ensures { result ≡ keyed_at word.now rest.now }
+/// The word at the front, and what stands behind its space where it has one.
+#[tactic(auto, unfolding(crate::specs::Reading::word_at))]
+fn split_word(bytes: &[u8]) -> (&[u8], Option<&[u8]>)
+    ensures word { result.0.now ≡ (word_at bytes.now).0 }
+    ensures behind { option_map (λ fields. fields.now) result.1 ≡ (word_at bytes.now).1 }
 {
-    if let Some((key, name)) = key_and_name_of(rest) {
-        return name_command(word, key, name);
-    }
-    let key = key_number_of(rest)?;
-    key_command(word, key)
-}
-
-/// A command that begins with its word.
-#[tactic(auto, unfolding(crate::specs::Reading::worded_at))]
-fn worded_of(bytes: &[u8]) -> Option<Command>
-    ensures { result ≡ worded_at bytes.now }
-{
-    let (word, rest) = split_field(bytes)?;
-    if word == b"register".as_slice() {
-        register_of(rest)
-    } else if word == b"set".as_slice() {
-        set_of(rest)
-    } else if word == b"revoke".as_slice() {
-        revoke_of(rest)
-    } else {
-        keyed_of(word, rest)
+    match split_field(bytes) {
+        Some((word, fields)) => (word, Some(fields)),
+        None => (bytes, None),
     }
 }
 
@@ -152,10 +138,11 @@ fn worded_of(bytes: &[u8]) -> Option<Command>
 pub(crate) fn command_of(bytes: &[u8]) -> Option<Command>
     ensures { result ≡ command_at bytes.now }
 {
-    if bytes == b"advance".as_slice() {
-        Some(Command::Advance)
-    } else {
-        worded_of(bytes)
+    let (word, behind) = split_word(bytes);
+    let kind = command_kind_of(word)?;
+    match behind {
+        Some(fields) => fielded_command(kind, fields),
+        None => bare_command(kind),
     }
 }
 
@@ -169,100 +156,91 @@ pub fn read_command(bytes: &[u8]) -> Option<Command>
 /// The text of a command.
 pub type CommandText = ShortText<MAX_COMMAND_LENGTH>;
 
-/// A word, with its space, and behind it the number of a key.
-fn key_text(word: &str, key: u32) -> ArrayString<MAX_COMMAND_LENGTH>
-    requires { length word.now ≤ MAX_WORD_LENGTH }
-    ensures text { result.bytes ≡ word.now ++ decimal key }
-    ensures short { array_string_len result ≤ MAX_WORD_LENGTH + 20 }
+/// Appends a space, and behind it the number of a key.
+fn put_key(text: &mut ArrayString<MAX_COMMAND_LENGTH>, key: u32)
+    requires { array_string_len text.old ≤ MAX_WORD_LENGTH }
+    ensures bytes { text.new.bytes ≡ text.old.bytes ++ codes " " ++ decimal key }
+    ensures short { array_string_len text.new ≤ array_string_len text.old + 21 }
 {
-    let mut text = ArrayString::new();
-    text.push_str(word);
-    put_number(&mut text, u64::from(key));
-    text
+    text.push_str(" ");
+    put_number(text, u64::from(key));
 }
 
 /// The same with a name behind the number.
-fn key_and_name_text(word: &str, key: u32, name: &Name) -> ArrayString<MAX_COMMAND_LENGTH>
-    requires { length word.now ≤ MAX_WORD_LENGTH }
-    ensures { result.bytes ≡ word.now ++ decimal key ++ codes " " ++ name.now }
+fn put_key_and_name(text: &mut ArrayString<MAX_COMMAND_LENGTH>, key: u32, name: &Name)
+    requires { array_string_len text.old ≤ MAX_WORD_LENGTH }
+    ensures { text.new.bytes ≡ text.old.bytes ++ (codes " " ++ decimal key ++ codes " " ++ name.now) }
 {
-    let mut text = key_text(word, key);
+    put_key(text, key);
     text.push_str(" ");
     text.push_str(name.text());
-    text
 }
 
-/// The text that registers a key.
-fn register_text(
+/// Appends the fields of a registration.
+fn put_registration(
+    text: &mut ArrayString<MAX_COMMAND_LENGTH>,
     kind: KeyType,
     owner: &Name,
     activation: Option<Moment>,
     protect_stop: Option<Moment>,
     deactivation: Option<Moment>,
     purpose: &Purpose,
-) -> ArrayString<MAX_COMMAND_LENGTH>
-    ensures { result.bytes ≡
-        command_text (Register kind owner.now activation protect_stop deactivation purpose.now) }
+)
+    requires { array_string_len text.old ≤ MAX_WORD_LENGTH }
+    ensures { text.new.bytes ≡ text.old.bytes ++
+        fields_text (Register kind owner.now activation protect_stop deactivation purpose.now) }
 {
-    let mut text = ArrayString::new();
-    text.push_str("register ");
+    text.push_str(" ");
     text.push_str(kind.text());
     text.push_str(" ");
     text.push_str(owner.text());
-    put_date(&mut text, activation);
-    put_date(&mut text, protect_stop);
-    put_date(&mut text, deactivation);
+    put_date(text, activation);
+    put_date(text, protect_stop);
+    put_date(text, deactivation);
     text.push_str(" ");
     text.push_str(purpose.text());
-    text
 }
 
-/// The text that changes a key's dates.
-fn set_text(
+/// Appends the fields of a change of dates.
+fn put_dates(
+    text: &mut ArrayString<MAX_COMMAND_LENGTH>,
     key: u32,
     activation: Edit,
     protect_stop: Edit,
     deactivation: Edit,
-) -> ArrayString<MAX_COMMAND_LENGTH>
-    ensures { result.bytes ≡ command_text (SetDates key activation protect_stop deactivation) }
+)
+    requires { array_string_len text.old ≤ MAX_WORD_LENGTH }
+    ensures { text.new.bytes ≡ text.old.bytes ++
+        fields_text (SetDates key activation protect_stop deactivation) }
 {
-    let mut text = key_text("set ", key);
-    put_edit(&mut text, activation);
-    put_edit(&mut text, protect_stop);
-    put_edit(&mut text, deactivation);
-    text
+    put_key(text, key);
+    put_edit(text, activation);
+    put_edit(text, protect_stop);
+    put_edit(text, deactivation);
 }
 
-/// The text that revokes a key.
-fn revoke_text(
+/// Appends the fields of a revocation.
+fn put_revocation(
+    text: &mut ArrayString<MAX_COMMAND_LENGTH>,
     key: u32,
     reason: Reason,
     occurrence: Option<Moment>,
-) -> ArrayString<MAX_COMMAND_LENGTH>
-    ensures { result.bytes ≡ command_text (Revoke key reason occurrence) }
+)
+    requires { array_string_len text.old ≤ MAX_WORD_LENGTH }
+    ensures { text.new.bytes ≡ text.old.bytes ++ fields_text (Revoke key reason occurrence) }
 {
-    let mut text = key_text("revoke ", key);
+    put_key(text, key);
     text.push_str(" ");
-    put_number(&mut text, u64::from(reason.code()));
-    put_date(&mut text, occurrence);
-    text
+    put_number(text, u64::from(reason.code()));
+    put_date(text, occurrence);
 }
 
-/// The text that only lets the moment come.
-fn advance_text() -> ArrayString<MAX_COMMAND_LENGTH>
-    ensures { result.bytes ≡ command_text Advance }
+/// Appends the fields of the command, each with a space before it.
+fn put_fields(text: &mut ArrayString<MAX_COMMAND_LENGTH>, command: &Command)
+    requires { array_string_len text.old ≤ MAX_WORD_LENGTH }
+    ensures { text.new.bytes ≡ text.old.bytes ++ fields_text command.now }
 {
-    let mut text = ArrayString::new();
-    text.push_str("advance");
-    text
-}
-
-/// The text of the command.
-pub fn command_text(command: &Command) -> CommandText
-    ensures text { result ≡ command_text command.now }
-    ensures short { length result ≤ MAX_COMMAND_LENGTH }
-{
-    let text = match *command {
+    match *command {
         Command::Register {
             kind,
             ref owner,
@@ -270,30 +248,47 @@ pub fn command_text(command: &Command) -> CommandText
             protect_stop,
             deactivation,
             ref purpose,
-        } => register_text(kind, owner, activation, protect_stop, deactivation, purpose),
-        Command::Activate { key } => key_text("activate ", key),
+        } => put_registration(
+            text,
+            kind,
+            owner,
+            activation,
+            protect_stop,
+            deactivation,
+            purpose,
+        ),
         Command::SetDates {
             key,
             ref activation,
             ref protect_stop,
             ref deactivation,
-        } => set_text(key, *activation, *protect_stop, *deactivation),
+        } => put_dates(text, key, *activation, *protect_stop, *deactivation),
         Command::Revoke {
             key,
             reason,
             occurrence,
-        } => revoke_text(key, reason, occurrence),
-        Command::Assign { key, ref owner } => key_and_name_text("assign ", key, owner),
-        Command::AddCustodian { key, ref name } => key_and_name_text("add-custodian ", key, name),
-        Command::RemoveCustodian { key, ref name } => key_and_name_text(
-            "remove-custodian ",
+        } => put_revocation(text, key, reason, occurrence),
+        Command::Assign {
             key,
-            name,
-        ),
-        Command::Approve { key } => key_text("approve ", key),
-        Command::Withdraw { key } => key_text("withdraw ", key),
-        Command::Destroy { key } => key_text("destroy ", key),
-        Command::Advance => advance_text(),
-    };
+            owner: ref name,
+        }
+        | Command::AddCustodian { key, ref name }
+        | Command::RemoveCustodian { key, ref name } => put_key_and_name(text, key, name),
+        Command::Activate { key }
+        | Command::Approve { key }
+        | Command::Withdraw { key }
+        | Command::Destroy { key } => put_key(text, key),
+        Command::Advance => {}
+    }
+}
+
+/// The text of the command.
+pub fn command_text(command: &Command) -> CommandText
+    ensures text { result ≡ command_text command.now }
+    ensures short { length result ≤ MAX_COMMAND_LENGTH }
+{
+    let mut text = ArrayString::new();
+    text.push_str(command.kind().text());
+    put_fields(&mut text, command);
     ShortText::new(text)
 }

@@ -7,8 +7,9 @@ ghost use Rattle.register_core.specs.Request.{IsKeyNumber, date_text, edit_text}
 ghost use Rattle.register_core.specs.Reading.{Gives, is_space, field_at, field_as, moment_at};
 ghost use Rattle.register_core.specs.Reading.{date_at, edit_at, key_number_at, reason_at};
 ghost use Rattle.register_core.specs.Reading.{occurrence_at, request_number_at, name_at};
-ghost use Rattle.register_core.specs.Reading.{key_type_at, purpose_at};
+ghost use Rattle.register_core.specs.Reading.{key_type_at, kind_at, purpose_at};
 
+use crate::command_kind::CommandKind;
 use crate::name::Name;
 use crate::number::RequestNumber;
 use crate::purpose::Purpose;
@@ -177,6 +178,13 @@ pub(crate) fn key_type_of(field: &[u8]) -> Option<KeyType>
     ensures { result ≡ key_type_at field.now }
 {
     KeyType::from_text(field)
+}
+
+/// The kind of command whose word the field is.
+pub(crate) fn command_kind_of(field: &[u8]) -> Option<CommandKind>
+    ensures { result ≡ kind_at field.now }
+{
+    CommandKind::from_text(field)
 }
 
 /// The purpose that the bytes are.
