@@ -24,7 +24,8 @@ use Rattle.register_core.specs.Name.{IsName, is_name_byte}
 use Rattle.register_core.specs.Number.{IsNumber}
 use Rattle.register_core.specs.Purpose.{IsPurpose}
 use Rattle.period_core.specs.KeyType.{key_type_text}
-use Rattle.register_core.specs.CommandKind.{command_kind_text, kind_of}
+use Rattle.register_core.specs.CommandKind.{command_kind_text}
+use Rattle.register_core.specs.CommandRule.{kind_of}
 use Rattle.register_core.specs.Request.{max_line_length, IsCommand, IsDate, IsEdit, IsKeyNumber, IsRequest, IsLineOf, StandsFor, IsItem, date_text, edit_text, fields_text, command_text, request_text}
 use Rattle.register_core.specs.CommandText.{IsCommandText, IsCommandItem}
 use Rattle.register_core.specs.Reading.{◌>>=◌, is_space, field_at, field_then, moment_at, date_at, edit_at, key_number_at, reason_at, occurrence_at, request_number_at, name_at, key_type_at, purpose_at, registered, register_at, dates_set, set_at, revoked, revoke_at, key_and_name_at, keyed_at, named_at, kind_at, fielded_at, behind_at, split_by, word_at, command_at, requested, fields_at, request_at}

@@ -1,6 +1,6 @@
--- The rule of each command: who may give it, of a key in which states, and whether a decision on it looks at the key's
--- custodians, or at the approvals of its destruction. All of it is this register's own, within the transitions of the State
--- attribute, KMIP 1.2 section 3.22.
+-- The rule of each command: of which kind it is, who may give it, of a key in which states, and whether a decision on it
+-- looks at the key's custodians, or at the approvals of its destruction. All of it is this register's own, within the
+-- transitions of the State attribute, KMIP 1.2 section 3.22.
 use Rattle.std.specs.Prelude.{◌==◌, Bool, true, false, List, [], ◌∷◌, if◌then◌else◌}
 use Rattle.std.specs.List.{list_any}
 use Rattle.lifecycle_core.specs.declared.state.State.{State}
@@ -8,6 +8,8 @@ use Rattle.lifecycle_core.specs.declared.state.State.TheVariants.{PreActive, Act
 use Rattle.lifecycle_core.specs.declared.state.State.TheVariants.{Destroyed, DestroyedCompromised}
 use Rattle.lifecycle_core.specs.State.{state_code}
 use Rattle.lifecycle_core.specs.Reason.{is_compromise}
+use Rattle.register_core.specs.declared.command_kind.CommandKind.{CommandKind}
+use Rattle.register_core.specs.declared.command_kind.CommandKind.TheVariants as kinds
 use Rattle.register_core.specs.declared.command_rule.Giver.{Giver}
 use Rattle.register_core.specs.declared.command_rule.Giver.TheVariants.{Anybody, Owner, Custodian}
 use Rattle.register_core.specs.declared.request.Command.{Command}
@@ -16,6 +18,7 @@ use Rattle.register_core.specs.declared.request.Command.TheVariants.{AddCustodia
 use Rattle.register_core.specs.declared.request.Command.TheVariants.{Destroy, Advance}
 
 pub record Rule : Type 0 where
+  pub kind : CommandKind
   pub giver : Giver
   pub states : List State
   pub looks_at_custody : Bool
@@ -38,24 +41,33 @@ before_compromise = PreActive ∷ Active ∷ Deactivated ∷ Destroyed ∷ []
 
 abbrev pub rule : Command → Rule
 rule (Register kind owner activation protect_stop deactivation purpose) =
-    record { giver = Anybody; states = any_state; looks_at_custody = false }
-rule (Activate key) = record { giver = Owner; states = PreActive ∷ []; looks_at_custody = false }
+    record { kind = kinds.Register; giver = Anybody; states = any_state; looks_at_custody = false }
+rule (Activate key) = record { kind = kinds.Activate; giver = Owner; states = PreActive ∷ []; looks_at_custody = false }
 rule (SetDates key activation protect_stop deactivation) =
-    record { giver = Owner; states = PreActive ∷ Active ∷ []; looks_at_custody = false }
+    record { kind = kinds.SetDates; giver = Owner; states = PreActive ∷ Active ∷ []; looks_at_custody = false }
 rule (Revoke key reason occurrence) = record {
+  kind = kinds.Revoke;
   giver = if is_compromise reason then Anybody else Owner;
   states = if is_compromise reason then before_compromise else Active ∷ [];
   looks_at_custody = false;
 }
-rule (Assign key owner) = record { giver = Owner; states = any_state; looks_at_custody = true }
-rule (AddCustodian key name) = record { giver = Owner; states = any_state; looks_at_custody = true }
-rule (RemoveCustodian key name) = record { giver = Owner; states = not_destroyed; looks_at_custody = true }
-rule (Approve key) = record { giver = Custodian; states = before_destruction; looks_at_custody = true }
-rule (Withdraw key) = record { giver = Custodian; states = not_destroyed; looks_at_custody = true }
-rule (Destroy key) = record { giver = Owner; states = before_destruction; looks_at_custody = true }
-rule Advance = record { giver = Anybody; states = any_state; looks_at_custody = false }
+rule (Assign key owner) = record { kind = kinds.Assign; giver = Owner; states = any_state; looks_at_custody = true }
+rule (AddCustodian key name) =
+    record { kind = kinds.AddCustodian; giver = Owner; states = any_state; looks_at_custody = true }
+rule (RemoveCustodian key name) =
+    record { kind = kinds.RemoveCustodian; giver = Owner; states = not_destroyed; looks_at_custody = true }
+rule (Approve key) =
+    record { kind = kinds.Approve; giver = Custodian; states = before_destruction; looks_at_custody = true }
+rule (Withdraw key) =
+    record { kind = kinds.Withdraw; giver = Custodian; states = not_destroyed; looks_at_custody = true }
+rule (Destroy key) =
+    record { kind = kinds.Destroy; giver = Owner; states = before_destruction; looks_at_custody = true }
+rule Advance = record { kind = kinds.Advance; giver = Anybody; states = any_state; looks_at_custody = false }
 
 -- ---- what it says
+
+abbrev pub kind_of : Command → CommandKind
+kind_of c = (rule c).kind
 
 -- only this one may give the command
 abbrev pub is_for_owner : Giver → Bool

@@ -11,7 +11,8 @@ use Rattle.register_core.specs.declared.request.Command.TheVariants.{Register, A
 use Rattle.register_core.specs.declared.request.Edit.{Edit}
 use Rattle.register_core.specs.declared.request.Edit.TheVariants.{Keep, Clear, Set}
 use Rattle.lifecycle_core.specs.Reason.{reason_code, is_compromise}
-use Rattle.register_core.specs.CommandKind.{command_kind_text, kind_of}
+use Rattle.register_core.specs.CommandKind.{command_kind_text}
+use Rattle.register_core.specs.CommandRule.{kind_of}
 use Rattle.register_core.specs.Subject.{named}
 
 -- how many bytes a request line has at most

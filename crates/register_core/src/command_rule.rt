@@ -1,6 +1,7 @@
 //! The rule of each command, as a table.
 ghost use Rattle.std.specs.Prelude.{◌≡◌};
 
+use crate::command_kind::CommandKind;
 use crate::request::Command;
 use lifecycle_core::State;
 
@@ -17,6 +18,7 @@ pub enum Giver {
 /// What a command asks for before anything else: all of it is this register's own.
 #[derive(Clone, Copy, Debug)]
 pub struct Rule {
+    pub kind: CommandKind,
     pub giver: Giver,
     /// Those in which a key may be for it.
     pub states: &'static [State],
@@ -51,33 +53,64 @@ static ACTIVE: [State; 1] = [State::Active];
 static DATED_BY_HAND: [State; 2] = [State::PreActive, State::Active];
 
 impl Command {
-    ghost use Rattle.register_core.specs.CommandRule.{rule, is_owners, is_custodians, is_for};
-    ghost use Rattle.register_core.specs.CommandRule.{looks_at_custody};
+    ghost use Rattle.register_core.specs.CommandRule.{rule, kind_of, is_owners, is_custodians};
+    ghost use Rattle.register_core.specs.CommandRule.{is_for, looks_at_custody};
 
     /// The command's rule.
     #[rattlefmt::skip]
     pub fn rule(&self) -> Rule
+        ensures kind { result.kind ≡ (rule self.now).kind }
         ensures giver { result.giver ≡ (rule self.now).giver }
         ensures states { result.states.now ≡ (rule self.now).states }
         ensures custody { result.looks_at_custody ≡ (rule self.now).looks_at_custody }
     {
+        use CommandKind as Kind;
         use Giver::{Anybody, Custodian, Owner};
         match *self {
-            Command::Register { .. } => Rule { giver: Anybody, states: &State::ALL, looks_at_custody: false },
-            Command::Activate { .. } => Rule { giver: Owner, states: &PRE_ACTIVE, looks_at_custody: false },
-            Command::SetDates { .. } => Rule { giver: Owner, states: &DATED_BY_HAND, looks_at_custody: false },
-            Command::Revoke { reason, .. } if reason.is_compromise() => {
-                Rule { giver: Anybody, states: &BEFORE_COMPROMISE, looks_at_custody: false }
+            Command::Register { .. } => {
+                Rule { kind: Kind::Register, giver: Anybody, states: &State::ALL, looks_at_custody: false }
             }
-            Command::Revoke { .. } => Rule { giver: Owner, states: &ACTIVE, looks_at_custody: false },
-            Command::Assign { .. } => Rule { giver: Owner, states: &State::ALL, looks_at_custody: true },
-            Command::AddCustodian { .. } => Rule { giver: Owner, states: &State::ALL, looks_at_custody: true },
-            Command::RemoveCustodian { .. } => Rule { giver: Owner, states: &NOT_DESTROYED, looks_at_custody: true },
-            Command::Approve { .. } => Rule { giver: Custodian, states: &BEFORE_DESTRUCTION, looks_at_custody: true },
-            Command::Withdraw { .. } => Rule { giver: Custodian, states: &NOT_DESTROYED, looks_at_custody: true },
-            Command::Destroy { .. } => Rule { giver: Owner, states: &BEFORE_DESTRUCTION, looks_at_custody: true },
-            Command::Advance => Rule { giver: Anybody, states: &State::ALL, looks_at_custody: false },
+            Command::Activate { .. } => {
+                Rule { kind: Kind::Activate, giver: Owner, states: &PRE_ACTIVE, looks_at_custody: false }
+            }
+            Command::SetDates { .. } => {
+                Rule { kind: Kind::SetDates, giver: Owner, states: &DATED_BY_HAND, looks_at_custody: false }
+            }
+            Command::Revoke { reason, .. } if reason.is_compromise() => {
+                Rule { kind: Kind::Revoke, giver: Anybody, states: &BEFORE_COMPROMISE, looks_at_custody: false }
+            }
+            Command::Revoke { .. } => {
+                Rule { kind: Kind::Revoke, giver: Owner, states: &ACTIVE, looks_at_custody: false }
+            }
+            Command::Assign { .. } => {
+                Rule { kind: Kind::Assign, giver: Owner, states: &State::ALL, looks_at_custody: true }
+            }
+            Command::AddCustodian { .. } => {
+                Rule { kind: Kind::AddCustodian, giver: Owner, states: &State::ALL, looks_at_custody: true }
+            }
+            Command::RemoveCustodian { .. } => {
+                Rule { kind: Kind::RemoveCustodian, giver: Owner, states: &NOT_DESTROYED, looks_at_custody: true }
+            }
+            Command::Approve { .. } => {
+                Rule { kind: Kind::Approve, giver: Custodian, states: &BEFORE_DESTRUCTION, looks_at_custody: true }
+            }
+            Command::Withdraw { .. } => {
+                Rule { kind: Kind::Withdraw, giver: Custodian, states: &NOT_DESTROYED, looks_at_custody: true }
+            }
+            Command::Destroy { .. } => {
+                Rule { kind: Kind::Destroy, giver: Owner, states: &BEFORE_DESTRUCTION, looks_at_custody: true }
+            }
+            Command::Advance => {
+                Rule { kind: Kind::Advance, giver: Anybody, states: &State::ALL, looks_at_custody: false }
+            }
         }
+    }
+
+    /// The kind of the command.
+    pub fn kind(&self) -> CommandKind
+        ensures { result ≡ kind_of self.now }
+    {
+        self.rule().kind
     }
 
     /// Whether the command is one for the key's owner alone.

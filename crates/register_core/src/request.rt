@@ -1,5 +1,4 @@
 //! A request, and the commands that a request can carry.
-use crate::command_kind::CommandKind;
 use crate::name::Name;
 use crate::number::RequestNumber;
 use crate::purpose::Purpose;
@@ -81,28 +80,8 @@ pub enum Command {
 
 impl Command {
     ghost use Rattle.std.specs.Prelude.{◌≡◌};
-    ghost use Rattle.register_core.specs.CommandKind.{kind_of};
     ghost use Rattle.register_core.specs.Request.{is_dated, has_text};
     ghost use Rattle.register_core.specs.Subject.{named};
-
-    /// The kind of the command.
-    pub fn kind(&self) -> CommandKind
-        ensures { result ≡ kind_of self.now }
-    {
-        match *self {
-            Command::Register { .. } => CommandKind::Register,
-            Command::Activate { .. } => CommandKind::Activate,
-            Command::SetDates { .. } => CommandKind::SetDates,
-            Command::Revoke { .. } => CommandKind::Revoke,
-            Command::Assign { .. } => CommandKind::Assign,
-            Command::AddCustodian { .. } => CommandKind::AddCustodian,
-            Command::RemoveCustodian { .. } => CommandKind::RemoveCustodian,
-            Command::Approve { .. } => CommandKind::Approve,
-            Command::Withdraw { .. } => CommandKind::Withdraw,
-            Command::Destroy { .. } => CommandKind::Destroy,
-            Command::Advance => CommandKind::Advance,
-        }
-    }
 
     /// The number of the key that the command names, if it names one.
     pub fn key(&self) -> Option<u32>
