@@ -1,27 +1,37 @@
--- Two commands with one JSON value are the same: the value can be read back.
-use Rattle.std.proofs.Common.{◌≡◌, ℕ, List, Option, None, Some, refl, sym, ap, ◌∙◌}
-use Rattle.std.specs.Prelude.{codes, decimal, if◌then◌else◌}
-use Rattle.std.specs.Str.{bytes_eq}
-use Rattle.serde_json.specs.Data.{Data, Members, member, no_members, null, number, object, string, unsigned}
-use Rattle.register_core.specs.Reading.{◌>>=◌, key_type_at, reason_at}
+-- Two commands with one JSON value are the same.
+use Rattle.std.proofs.Common.{◌≡◌, ℕ, Option, None, Some, refl, sym, ap, ◌∙◌}
+use Rattle.std.specs.Prelude.{codes, decimal}
+use Rattle.serde_json.specs.Data.{Data, Members, number, object, string, unsigned}
+use Rattle.serde_json.specs.Find.{get}
+use Rattle.lifecycle_core.specs.declared.reason.Reason.{Reason}
+use Rattle.lifecycle_core.specs.Reason.{reason_code}
+use Rattle.period_core.specs.declared.key_type.KeyType.{KeyType}
+use Rattle.period_core.specs.KeyType.{key_type_text}
+use Rattle.register_core.specs.CommandRule.{kind_of}
+use Rattle.register_core.specs.Reading.{key_type_at, reason_at}
+use Rattle.register_core.specs.declared.command_kind.CommandKind.{CommandKind}
 use Rattle.register_core.specs.declared.request.Command.{Command}
-use Rattle.register_core.specs.declared.request.Command.TheVariants.{Register, Activate, SetDates, Revoke}
-use Rattle.register_core.specs.declared.request.Command.TheVariants.{Assign, AddCustodian, RemoveCustodian}
-use Rattle.register_core.specs.declared.request.Command.TheVariants.{Approve, Withdraw, Destroy, Advance}
+use Rattle.register_core.specs.declared.request.Command.TheVariants.{Register, SetDates, Revoke, Advance}
 use Rattle.register_core.specs.declared.request.Edit.{Edit}
 use Rattle.register_core.specs.declared.request.Edit.TheVariants.{Keep, Clear, Set}
-use Rattle.register_core.proofs.Readers.{key_type_reader, reason_reader}
-use Rattle.http_messages.specs.CommandValue.{command_data, date_data, edit_data}
+use Rattle.register_core.proofs.Fields.{some_is}
+use Rattle.register_core.proofs.Readers.{key_type_reader, reason_reader, same_kind}
+use Rattle.http_messages.specs.CommandValue.{command_data, command_members, kind_data, date_data, edit_data}
+
+-- ---- the kind of a value
+
+-- the value of a command's kind stands in the member `kind`, whatever the command
+kind_member : (kind : Data) (c : Command) → get (codes "kind") (object (command_members kind c)) ≡ Some kind
+kind_member kind Advance = refl
+kind_member kind c = refl
+
+kind_found : (c : Command) → get (codes "kind") (command_data c) ≡ Some (kind_data (kind_of c))
+kind_found c = kind_member (kind_data (kind_of c)) c
+
+one_kind : (j k : CommandKind) → Some (kind_data j) ≡ Some (kind_data k) → j ≡ k
+one_kind j k e = same_kind j k cc
 
 -- ---- the values of members, read back
-
-abbrev number_in : Data → ℕ
-number_in (number (unsigned n)) = n
-number_in _ = 0
-
-abbrev text_in : Data → List ℕ
-text_in (string text) = text
-text_in _ = codes ""
 
 abbrev date_in : Data → Option ℕ
 date_in (number (unsigned date)) = Some date
@@ -30,6 +40,9 @@ date_in _ = None
 date_again : (date : Option ℕ) → date_in (date_data date) ≡ date
 date_again None = refl
 date_again (Some date) = refl
+
+one_date : (a b : Option ℕ) → date_data a ≡ date_data b → a ≡ b
+one_date a b e = sym (date_again a) ∙ ap date_in e ∙ date_again b
 
 abbrev edit_in : Data → Edit
 edit_in (string text) = Keep
@@ -41,83 +54,45 @@ edit_again Keep = refl
 edit_again Clear = refl
 edit_again (Set date) = refl
 
--- ---- commands, read back
+one_edit : (a b : Edit) → edit_data a ≡ edit_data b → a ≡ b
+one_edit a b e = sym (edit_again a) ∙ ap edit_in e ∙ edit_again b
 
--- the value of the member of this name
-abbrev value_at : List ℕ → Members → Data
-value_at name no_members = null
-value_at name (member other value members) =
-    if bytes_eq name other then value else value_at name members
+one_type : (a b : KeyType) → key_type_text a ≡ key_type_text b → a ≡ b
+one_type a b e = some_is a b (sym (key_type_reader.again a tt) ∙ ap key_type_at e ∙ key_type_reader.again b tt)
 
-abbrev key_in : Members → ℕ
-key_in members = number_in (value_at (codes "key") members)
+one_reason : (a b : Reason) → reason_code a ≡ reason_code b → a ≡ b
+one_reason a b e =
+    some_is a b (sym (reason_reader.again a tt) ∙ ap (λ code. reason_at (decimal code)) e ∙ reason_reader.again b tt)
 
-abbrev text_at : List ℕ → Members → List ℕ
-text_at name members = text_in (value_at name members)
+-- ---- commands
 
-abbrev date_at : List ℕ → Members → Option ℕ
-date_at name members = date_in (value_at name members)
+-- The last two rows have every other two commands: of two kinds, or with members that show their fields as they are.
+same_members : (kind : Data) (p q : Command) → kind_of p ≡ kind_of q
+    → command_members kind p ≡ command_members kind q → p ≡ q
+same_members kind (Register type owner a p d purpose) (Register other name a2 p2 d2 aim) same e =
+    let types = one_type type other cc in
+    let activations = one_date a a2 cc in
+    let protect_stops = one_date p p2 cc in
+    let deactivations = one_date d d2 cc in
+    cc (types, activations, protect_stops, deactivations)
+same_members kind (SetDates key a p d) (SetDates other a2 p2 d2) same e =
+    let activations = one_edit a a2 cc in
+    let protect_stops = one_edit p p2 cc in
+    let deactivations = one_edit d d2 cc in
+    cc (activations, protect_stops, deactivations)
+same_members kind (Revoke key reason occurrence) (Revoke other why date) same e =
+    let reasons = one_reason reason why cc in
+    let occurrences = one_date occurrence date cc in
+    cc (reasons, occurrences)
+same_members kind p Advance same e = cc
+same_members kind p q same e = cc
 
-abbrev edit_at : List ℕ → Members → Edit
-edit_at name members = edit_in (value_at name members)
-
-abbrev register_in : Members → Option Command
-register_in members = do
-  type ← key_type_at (text_at (codes "type") members)
-  Some (Register type (text_at (codes "owner") members) (date_at (codes "activation") members)
-      (date_at (codes "protect_stop") members) (date_at (codes "deactivation") members)
-      (text_at (codes "purpose") members))
-
-abbrev set_in : Members → Command
-set_in members =
-    SetDates (key_in members) (edit_at (codes "activation") members)
-    (edit_at (codes "protect_stop") members) (edit_at (codes "deactivation") members)
-
-abbrev revoke_in : Members → Option Command
-revoke_in members = do
-  reason ← reason_at (decimal (number_in (value_at (codes "reason") members)))
-  Some (Revoke (key_in members) reason (date_at (codes "occurrence") members))
-
--- a command that names a key and a name, which stands in the member called `field`
-abbrev named_in : (ℕ → List ℕ → Command) → List ℕ → Members → Option Command
-named_in named field members = Some (named (key_in members) (text_at field members))
-
--- the command of this kind
-abbrev command_of_kind : List ℕ → Members → Option Command
-command_of_kind kind members =
-    if bytes_eq kind (codes "register") then register_in members
-    else if bytes_eq kind (codes "activate") then Some (Activate (key_in members))
-    else if bytes_eq kind (codes "set") then Some (set_in members)
-    else if bytes_eq kind (codes "revoke") then revoke_in members
-    else if bytes_eq kind (codes "assign") then named_in Assign (codes "owner") members
-    else if bytes_eq kind (codes "add-custodian") then named_in AddCustodian (codes "name") members
-    else if bytes_eq kind (codes "remove-custodian") then named_in RemoveCustodian (codes "name") members
-    else if bytes_eq kind (codes "approve") then Some (Approve (key_in members))
-    else if bytes_eq kind (codes "withdraw") then Some (Withdraw (key_in members))
-    else if bytes_eq kind (codes "destroy") then Some (Destroy (key_in members))
-    else Some Advance
-
-abbrev command_in : Data → Option Command
-command_in (object members) = command_of_kind (text_at (codes "kind") members) members
-command_in _ = None
-
-command_again : (c : Command) → command_in (command_data c) ≡ Some c
-command_again (Register type owner activation protect_stop deactivation purpose) =
-    rw (key_type_reader.again type tt, date_again activation, date_again protect_stop)
-    (rw (date_again deactivation) refl)
-command_again (Activate key) = refl
-command_again (SetDates key activation protect_stop deactivation) =
-    rw (edit_again activation, edit_again protect_stop, edit_again deactivation) refl
-command_again (Revoke key reason occurrence) =
-    rw (reason_reader.again reason tt, date_again occurrence) refl
-command_again (Assign key owner) = refl
-command_again (AddCustodian key name) = refl
-command_again (RemoveCustodian key name) = refl
-command_again (Approve key) = refl
-command_again (Withdraw key) = refl
-command_again (Destroy key) = refl
-command_again Advance = refl
+some_members : (a b : Members) → object a ≡ object b → a ≡ b
+some_members a b e = cc
 
 pub one_command_data : (p q : Command) → command_data p ≡ command_data q → p ≡ q
 one_command_data p q e =
-    let read : Some p ≡ Some q = sym (command_again p) ∙ ap command_in e ∙ command_again q in cc
+    let found = sym (kind_found p) ∙ ap (get (codes "kind")) e ∙ kind_found q in
+    let same : kind_of p ≡ kind_of q = one_kind (kind_of p) (kind_of q) found in
+    same_members (kind_data (kind_of p)) p q same
+    (some_members _ _ (e ∙ ap (λ kind. object (command_members (kind_data kind) q)) (sym same)))

@@ -8,6 +8,11 @@ pub behind : {k : List ℕ} {a b : Data} {all rest more : Members} → all ≡ m
     → all ≡ member k b more → rest ≡ more
 behind first whole = cc (first, whole)
 
+-- the first, and then what is known to stand behind it
+pub onto : {k : List ℕ} {a : Data} {all rest more : Members} → all ≡ member k a rest → rest ≡ more
+    → all ≡ member k a more
+onto first whole = cc (first, whole)
+
 pub object_of : (d : Data) (ms : Members) → Some ms ≡ as_object d → object ms ≡ d
 object_of null ms e = absurd (cc)
 object_of (boolean b) ms e = absurd (cc)

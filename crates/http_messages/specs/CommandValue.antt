@@ -1,7 +1,10 @@
 -- The JSON value of each command. Which text is read as that value is `serde_json`'s matter.
-use Rattle.std.specs.Prelude.{ℕ, List, codes, Option, Some, None}
+use Rattle.std.specs.Prelude.{◌≡◌, ℕ, List, codes, Option, Some, None}
 use Rattle.lifecycle_core.specs.Reason.{reason_code}
 use Rattle.period_core.specs.KeyType.{key_type_text}
+use Rattle.register_core.specs.CommandKind.{command_kind_text}
+use Rattle.register_core.specs.CommandRule.{kind_of}
+use Rattle.register_core.specs.declared.command_kind.CommandKind.{CommandKind}
 use Rattle.register_core.specs.declared.request.Command.{Command}
 use Rattle.register_core.specs.declared.request.Command.TheVariants.{Register, Activate, SetDates}
 use Rattle.register_core.specs.declared.request.Command.TheVariants.{Revoke, Assign, AddCustodian}
@@ -57,33 +60,36 @@ register_members activation deactivation kind owner protect_stop purpose type =
 
 -- ---- commands
 
--- a command that names a key alone
-abbrev pub keyed_data : List ℕ → ℕ → Data
-keyed_data kind key = object (keyed_members (number_data key) (string kind))
+-- the value of a kind
+abbrev pub kind_data : CommandKind → Data
+kind_data kind = string (command_kind_text kind)
 
--- a command that names a key and a name
-abbrev pub named_data : List ℕ → List ℕ → ℕ → List ℕ → Data
-named_data kind field key name =
-    object (named_members field (number_data key) (string kind) (string name))
+-- the members of a command, with this value of its kind among them
+abbrev pub command_members : Data → Command → Members
+command_members kind (Register type owner activation protect_stop deactivation purpose) =
+    register_members (date_data activation) (date_data deactivation) kind (string owner)
+    (date_data protect_stop) (string purpose) (string (key_type_text type))
+command_members kind (Activate key) = keyed_members (number_data key) kind
+command_members kind (SetDates key activation protect_stop deactivation) =
+    set_members (edit_data activation) (edit_data deactivation) (number_data key) kind
+    (edit_data protect_stop)
+command_members kind (Revoke key reason occurrence) =
+    revoke_members (number_data key) kind (date_data occurrence) (number_data (reason_code reason))
+command_members kind (Assign key owner) =
+    named_members (codes "owner") (number_data key) kind (string owner)
+command_members kind (AddCustodian key name) =
+    named_members (codes "name") (number_data key) kind (string name)
+command_members kind (RemoveCustodian key name) =
+    named_members (codes "name") (number_data key) kind (string name)
+command_members kind (Approve key) = keyed_members (number_data key) kind
+command_members kind (Withdraw key) = keyed_members (number_data key) kind
+command_members kind (Destroy key) = keyed_members (number_data key) kind
+command_members kind Advance = member (codes "kind") kind no_members
 
 -- the JSON value of a command
 abbrev pub command_data : Command → Data
-command_data (Register type owner activation protect_stop deactivation purpose) =
-    object (register_members (date_data activation) (date_data deactivation)
-    (string (codes "register")) (string owner) (date_data protect_stop) (string purpose)
-    (string (key_type_text type)))
-command_data (Activate key) = keyed_data (codes "activate") key
-command_data (SetDates key activation protect_stop deactivation) =
-    object (set_members (edit_data activation) (edit_data deactivation) (number_data key)
-    (string (codes "set")) (edit_data protect_stop))
-command_data (Revoke key reason occurrence) =
-    object (revoke_members (number_data key) (string (codes "revoke")) (date_data occurrence)
-    (number_data (reason_code reason)))
-command_data (Assign key owner) = named_data (codes "assign") (codes "owner") key owner
-command_data (AddCustodian key name) = named_data (codes "add-custodian") (codes "name") key name
-command_data (RemoveCustodian key name) =
-    named_data (codes "remove-custodian") (codes "name") key name
-command_data (Approve key) = keyed_data (codes "approve") key
-command_data (Withdraw key) = keyed_data (codes "withdraw") key
-command_data (Destroy key) = keyed_data (codes "destroy") key
-command_data Advance = object (member (codes "kind") (string (codes "advance")) no_members)
+command_data c = object (command_members (kind_data (kind_of c)) c)
+
+-- the members are a command's, whatever the value of its kind among them
+abbrev pub HasMembers : Members → Command → Type 0
+HasMembers members c = (kind : Data) × (members ≡ command_members kind c)

@@ -1,178 +1,121 @@
-//! The command that a JSON value is.
+//! The command that a JSON value is: first its kind, and then the members of that kind.
 ghost use Rattle.std.specs.Prelude.{◌≡◌, ◌≢◌, ℕ, List, Option, IfSome, IfNone};
-ghost use Rattle.serde_json.specs.Data.{Data, object};
+ghost use Rattle.serde_json.specs.Data.{Data, string};
 ghost use Rattle.serde_json.specs.View.{view, members_view};
 ghost use Rattle.period_core.specs.declared.key_type.KeyType.{KeyType};
 ghost use Rattle.lifecycle_core.specs.declared.reason.Reason.{Reason};
 ghost use Rattle.register_core.specs.declared.request.Edit.{Edit};
 ghost use Rattle.register_core.specs.declared.request.Command.{Command};
-ghost use Rattle.register_core.specs.declared.request.Command.TheVariants.{Register, Activate};
+ghost use Rattle.register_core.specs.declared.command_kind.CommandKind.TheVariants as kinds;
+ghost use Rattle.register_core.specs.declared.request.Command.TheVariants.{Register};
 ghost use Rattle.register_core.specs.declared.request.Command.TheVariants.{SetDates, Revoke};
-ghost use Rattle.register_core.specs.declared.request.Command.TheVariants.{Assign, AddCustodian};
-ghost use Rattle.register_core.specs.declared.request.Command.TheVariants.{RemoveCustodian};
-ghost use Rattle.register_core.specs.declared.request.Command.TheVariants.{Approve, Withdraw};
-ghost use Rattle.register_core.specs.declared.request.Command.TheVariants.{Destroy, Advance};
-ghost use Rattle.register_core.specs.Request.{IsCommand};
-ghost use Rattle.http_messages.specs.CommandValue.{command_data};
+ghost use Rattle.register_core.specs.declared.request.Command.TheVariants.{Advance};
+ghost use Rattle.register_core.specs.Name.{IsName};
+ghost use Rattle.register_core.specs.Request.{IsCommand, IsKeyNumber};
+ghost use Rattle.register_core.specs.CommandRule.{kind_of};
+ghost use Rattle.http_messages.specs.CommandValue.{number_data, command_data, HasMembers};
 ghost use Rattle.http_messages.specs.CommandValue.{keyed_members, named_members, revoke_members};
 ghost use Rattle.http_messages.specs.CommandValue.{set_members, register_members};
 
 use crate::members::{
-    date_of, edit_of, is_text, key_of, key_type_of, last_named, name_of, next_named, purpose_of,
+    date_of, edit_of, key_of, key_type_of, kind_of, last_named, name_of, next_named, purpose_of,
     reason_of,
 };
-use register_core::Command;
+use register_core::{Command, CommandKind, Name};
 use serde_json::{Map, Value};
 
-/// The values of the members that name a key alone.
-#[derive(Drop)]
-struct KeyedMembers<'v> {
-    key: &'v Value,
-    kind: &'v Value,
-}
-
-/// The members that name a key alone.
-fn keyed_members_of<'v>(members: &'v Map<String, Value>) -> Option<KeyedMembers<'v>>
-    ensures found { IfSome result (λ m. members_view members.now.entries
-        ≡ keyed_members (view m.key.now) (view m.kind.now)) }
+/// The value of the key among members that name a key alone.
+fn keyed_value_of(members: &Map<String, Value>) -> Option<&Value>
+    ensures found { IfSome result (λ key. (kind : Data) ×
+        (members_view members.now.entries ≡ keyed_members (view key.now) kind)) }
     ensures none { IfNone result ((key kind : Data) →
         members_view members.now.entries ≢ keyed_members key kind) }
 {
     let mut rest = members.iter();
     let key = next_named(&mut rest, "key")?;
-    let kind = last_named(&mut rest, "kind")?;
-    Some(KeyedMembers { key, kind })
+    let _kind = last_named(&mut rest, "kind")?;
+    Some(key)
 }
 
-/// A command on a key alone.
-fn key_command_of(members: &Map<String, Value>) -> Option<Command>
-    ensures found { IfSome result (λ c.
-        IsCommand c × (object (members_view members.now.entries) ≡ command_data c)) }
-    ensures activate { IfNone result ((key : ℕ) → IsCommand (Activate key) →
-        object (members_view members.now.entries) ≢ command_data (Activate key)) }
-    ensures approve { IfNone result ((key : ℕ) → IsCommand (Approve key) →
-        object (members_view members.now.entries) ≢ command_data (Approve key)) }
-    ensures withdraw { IfNone result ((key : ℕ) → IsCommand (Withdraw key) →
-        object (members_view members.now.entries) ≢ command_data (Withdraw key)) }
-    ensures destroy { IfNone result ((key : ℕ) → IsCommand (Destroy key) →
-        object (members_view members.now.entries) ≢ command_data (Destroy key)) }
+/// The key of members that name a key alone.
+fn keyed_of(members: &Map<String, Value>) -> Option<u32>
+    ensures found { IfSome result (λ key. IsKeyNumber key × ((kind : Data) ×
+        (members_view members.now.entries ≡ keyed_members (number_data key) kind))) }
+    ensures none { IfNone result ((key : ℕ) (kind : Data) → IsKeyNumber key →
+        members_view members.now.entries ≢ keyed_members (number_data key) kind) }
 {
-    let values = keyed_members_of(members)?;
-    let key = key_of(values.key)?;
-    if is_text(values.kind, "activate") {
-        Some(Command::Activate { key })
-    } else if is_text(values.kind, "approve") {
-        Some(Command::Approve { key })
-    } else if is_text(values.kind, "withdraw") {
-        Some(Command::Withdraw { key })
-    } else if is_text(values.kind, "destroy") {
-        Some(Command::Destroy { key })
-    } else {
-        None
-    }
+    key_of(keyed_value_of(members)?)
 }
 
-/// The members of an advance.
+/// An advance, which has no member beside its kind.
 fn advance_of(members: &Map<String, Value>) -> Option<Command>
-    ensures found { IfSome result (λ c.
-        IsCommand c × (object (members_view members.now.entries) ≡ command_data c)) }
-    ensures none { IfNone result (
-        object (members_view members.now.entries) ≢ command_data Advance) }
+    ensures found { IfSome result (λ c. IsCommand c × (kind_of c ≡ kinds.Advance) ×
+        HasMembers (members_view members.now.entries) c) }
+    ensures none { IfNone result (HasMembers (members_view members.now.entries) Advance → ⊥) }
 {
     let mut rest = members.iter();
-    if is_text(last_named(&mut rest, "kind")?, "advance") {
-        Some(Command::Advance)
-    } else {
-        None
-    }
+    let _kind = last_named(&mut rest, "kind")?;
+    Some(Command::Advance)
 }
 
 /// The values of the members that name a key, and a name.
 #[derive(Drop)]
 struct NamedMembers<'v> {
     key: &'v Value,
-    kind: &'v Value,
     name: &'v Value,
 }
 
 /// The members that name a key, and a name in the member of this name.
 fn named_members_of<'v>(members: &'v Map<String, Value>, field: &str) -> Option<NamedMembers<'v>>
-    ensures found { IfSome result (λ m. members_view members.now.entries
-        ≡ named_members field.now (view m.key.now) (view m.kind.now) (view m.name.now)) }
+    ensures found { IfSome result (λ m. (kind : Data) × (members_view members.now.entries
+        ≡ named_members field.now (view m.key.now) kind (view m.name.now))) }
     ensures none { IfNone result ((key kind name : Data) →
         members_view members.now.entries ≢ named_members field.now key kind name) }
 {
     let mut rest = members.iter();
     let key = next_named(&mut rest, "key")?;
-    let kind = next_named(&mut rest, "kind")?;
+    let _kind = next_named(&mut rest, "kind")?;
     let name = last_named(&mut rest, field)?;
-    Some(NamedMembers { key, kind, name })
+    Some(NamedMembers { key, name })
 }
 
-/// A command on a custodian of a key.
-fn custodian_command_of(members: &Map<String, Value>) -> Option<Command>
-    ensures found { IfSome result (λ c.
-        IsCommand c × (object (members_view members.now.entries) ≡ command_data c)) }
-    ensures add { IfNone result ((key : ℕ) (name : List ℕ) → IsCommand (AddCustodian key name) →
-        object (members_view members.now.entries) ≢ command_data (AddCustodian key name)) }
-    ensures remove { IfNone result ((key : ℕ) (name : List ℕ) →
-        IsCommand (RemoveCustodian key name) →
-        object (members_view members.now.entries) ≢ command_data (RemoveCustodian key name)) }
+/// The key and the name of members that name a key, and a name in the member of this name.
+fn named_of(members: &Map<String, Value>, field: &str) -> Option<(u32, Name)>
+    ensures found { IfSome result (λ x. (IsKeyNumber x.0 × IsName x.1) × ((kind : Data) ×
+        (members_view members.now.entries
+        ≡ named_members field.now (number_data x.0) kind (string x.1)))) }
+    ensures none { IfNone result ((key : ℕ) (name : List ℕ) (kind : Data) →
+        IsKeyNumber key × IsName name → members_view members.now.entries
+        ≢ named_members field.now (number_data key) kind (string name)) }
 {
-    let values = named_members_of(members, "name")?;
+    let values = named_members_of(members, field)?;
     let key = key_of(values.key)?;
     let name = name_of(values.name)?;
-    if is_text(values.kind, "add-custodian") {
-        Some(Command::AddCustodian { key, name })
-    } else if is_text(values.kind, "remove-custodian") {
-        Some(Command::RemoveCustodian { key, name })
-    } else {
-        None
-    }
-}
-
-/// An assignment of a key to an owner.
-fn assign_of(members: &Map<String, Value>) -> Option<Command>
-    ensures found { IfSome result (λ c.
-        IsCommand c × (object (members_view members.now.entries) ≡ command_data c)) }
-    ensures none { IfNone result ((key : ℕ) (owner : List ℕ) → IsCommand (Assign key owner) →
-        object (members_view members.now.entries) ≢ command_data (Assign key owner)) }
-{
-    let values = named_members_of(members, "owner")?;
-    let key = key_of(values.key)?;
-    let owner = name_of(values.name)?;
-    if is_text(values.kind, "assign") {
-        Some(Command::Assign { key, owner })
-    } else {
-        None
-    }
+    Some((key, name))
 }
 
 /// The values of the members of a revocation.
 #[derive(Drop)]
 struct RevokeMembers<'v> {
     key: &'v Value,
-    kind: &'v Value,
     occurrence: &'v Value,
     reason: &'v Value,
 }
 
 /// The members that a revocation has.
 fn revoke_members_of<'v>(members: &'v Map<String, Value>) -> Option<RevokeMembers<'v>>
-    ensures found { IfSome result (λ m. members_view members.now.entries
-        ≡ revoke_members (view m.key.now) (view m.kind.now) (view m.occurrence.now)
-        (view m.reason.now)) }
+    ensures found { IfSome result (λ m. (kind : Data) × (members_view members.now.entries
+        ≡ revoke_members (view m.key.now) kind (view m.occurrence.now) (view m.reason.now))) }
     ensures none { IfNone result ((key kind occurrence reason : Data) →
         members_view members.now.entries ≢ revoke_members key kind occurrence reason) }
 {
     let mut rest = members.iter();
     let key = next_named(&mut rest, "key")?;
-    let kind = next_named(&mut rest, "kind")?;
+    let _kind = next_named(&mut rest, "kind")?;
     let occurrence = next_named(&mut rest, "occurrence")?;
     let reason = last_named(&mut rest, "reason")?;
     Some(RevokeMembers {
         key,
-        kind,
         occurrence,
         reason,
     })
@@ -180,16 +123,13 @@ fn revoke_members_of<'v>(members: &'v Map<String, Value>) -> Option<RevokeMember
 
 /// A revocation. It has an occurrence only where its reason is a compromise.
 fn revoke_of(members: &Map<String, Value>) -> Option<Command>
-    ensures found { IfSome result (λ c.
-        IsCommand c × (object (members_view members.now.entries) ≡ command_data c)) }
+    ensures found { IfSome result (λ c. IsCommand c × (kind_of c ≡ kinds.Revoke) ×
+        HasMembers (members_view members.now.entries) c) }
     ensures none { IfNone result ((key : ℕ) (reason : Reason) (occurrence : Option ℕ) →
         IsCommand (Revoke key reason occurrence) →
-        object (members_view members.now.entries) ≢ command_data (Revoke key reason occurrence)) }
+        HasMembers (members_view members.now.entries) (Revoke key reason occurrence) → ⊥) }
 {
     let values = revoke_members_of(members)?;
-    if !is_text(values.kind, "revoke") {
-        return None;
-    }
     let key = key_of(values.key)?;
     let occurrence = date_of(values.occurrence)?;
     let reason = reason_of(values.reason)?;
@@ -209,15 +149,14 @@ struct SetMembers<'v> {
     activation: &'v Value,
     deactivation: &'v Value,
     key: &'v Value,
-    kind: &'v Value,
     protect_stop: &'v Value,
 }
 
 /// The members that a change of dates has.
 fn set_members_of<'v>(members: &'v Map<String, Value>) -> Option<SetMembers<'v>>
-    ensures found { IfSome result (λ m. members_view members.now.entries
-        ≡ set_members (view m.activation.now) (view m.deactivation.now) (view m.key.now)
-        (view m.kind.now) (view m.protect_stop.now)) }
+    ensures found { IfSome result (λ m. (kind : Data) × (members_view members.now.entries
+        ≡ set_members (view m.activation.now) (view m.deactivation.now) (view m.key.now) kind
+        (view m.protect_stop.now))) }
     ensures none { IfNone result ((activation deactivation key kind protect_stop : Data) →
         members_view members.now.entries
         ≢ set_members activation deactivation key kind protect_stop) }
@@ -226,30 +165,26 @@ fn set_members_of<'v>(members: &'v Map<String, Value>) -> Option<SetMembers<'v>>
     let activation = next_named(&mut rest, "activation")?;
     let deactivation = next_named(&mut rest, "deactivation")?;
     let key = next_named(&mut rest, "key")?;
-    let kind = next_named(&mut rest, "kind")?;
+    let _kind = next_named(&mut rest, "kind")?;
     let protect_stop = last_named(&mut rest, "protect_stop")?;
     Some(SetMembers {
         activation,
         deactivation,
         key,
-        kind,
         protect_stop,
     })
 }
 
 /// A change of a key's dates.
 fn set_of(members: &Map<String, Value>) -> Option<Command>
-    ensures found { IfSome result (λ c.
-        IsCommand c × (object (members_view members.now.entries) ≡ command_data c)) }
+    ensures found { IfSome result (λ c. IsCommand c × (kind_of c ≡ kinds.SetDates) ×
+        HasMembers (members_view members.now.entries) c) }
     ensures none { IfNone result ((key : ℕ) (activation protect_stop deactivation : Edit) →
         IsCommand (SetDates key activation protect_stop deactivation) →
-        object (members_view members.now.entries)
-        ≢ command_data (SetDates key activation protect_stop deactivation)) }
+        HasMembers (members_view members.now.entries)
+        (SetDates key activation protect_stop deactivation) → ⊥) }
 {
     let values = set_members_of(members)?;
-    if !is_text(values.kind, "set") {
-        return None;
-    }
     Some(Command::SetDates {
         key: key_of(values.key)?,
         activation: edit_of(values.activation)?,
@@ -263,7 +198,6 @@ fn set_of(members: &Map<String, Value>) -> Option<Command>
 struct RegisterMembers<'v> {
     activation: &'v Value,
     deactivation: &'v Value,
-    kind: &'v Value,
     owner: &'v Value,
     protect_stop: &'v Value,
     purpose: &'v Value,
@@ -272,10 +206,10 @@ struct RegisterMembers<'v> {
 
 /// The members that a registration has.
 fn register_members_of<'v>(members: &'v Map<String, Value>) -> Option<RegisterMembers<'v>>
-    ensures found { IfSome result (λ m. members_view members.now.entries
-        ≡ register_members (view m.activation.now) (view m.deactivation.now) (view m.kind.now)
+    ensures found { IfSome result (λ m. (kind : Data) × (members_view members.now.entries
+        ≡ register_members (view m.activation.now) (view m.deactivation.now) kind
         (view m.owner.now) (view m.protect_stop.now) (view m.purpose.now)
-        (view m.key_type.now)) }
+        (view m.key_type.now))) }
     ensures none { IfNone result (
         (activation deactivation kind owner protect_stop purpose type : Data) →
         members_view members.now.entries
@@ -284,7 +218,7 @@ fn register_members_of<'v>(members: &'v Map<String, Value>) -> Option<RegisterMe
     let mut rest = members.iter();
     let activation = next_named(&mut rest, "activation")?;
     let deactivation = next_named(&mut rest, "deactivation")?;
-    let kind = next_named(&mut rest, "kind")?;
+    let _kind = next_named(&mut rest, "kind")?;
     let owner = next_named(&mut rest, "owner")?;
     let protect_stop = next_named(&mut rest, "protect_stop")?;
     let purpose = next_named(&mut rest, "purpose")?;
@@ -292,7 +226,6 @@ fn register_members_of<'v>(members: &'v Map<String, Value>) -> Option<RegisterMe
     Some(RegisterMembers {
         activation,
         deactivation,
-        kind,
         owner,
         protect_stop,
         purpose,
@@ -302,18 +235,15 @@ fn register_members_of<'v>(members: &'v Map<String, Value>) -> Option<RegisterMe
 
 /// A registration.
 fn register_of(members: &Map<String, Value>) -> Option<Command>
-    ensures found { IfSome result (λ c.
-        IsCommand c × (object (members_view members.now.entries) ≡ command_data c)) }
+    ensures found { IfSome result (λ c. IsCommand c × (kind_of c ≡ kinds.Register) ×
+        HasMembers (members_view members.now.entries) c) }
     ensures none { IfNone result ((type : KeyType) (owner : List ℕ)
         (activation protect_stop deactivation : Option ℕ) (purpose : List ℕ) →
         IsCommand (Register type owner activation protect_stop deactivation purpose) →
-        object (members_view members.now.entries)
-        ≢ command_data (Register type owner activation protect_stop deactivation purpose)) }
+        HasMembers (members_view members.now.entries)
+        (Register type owner activation protect_stop deactivation purpose) → ⊥) }
 {
     let values = register_members_of(members)?;
-    if !is_text(values.kind, "register") {
-        return None;
-    }
     Some(Command::Register {
         kind: key_type_of(values.key_type)?,
         owner: name_of(values.owner)?,
@@ -324,30 +254,43 @@ fn register_of(members: &Map<String, Value>) -> Option<Command>
     })
 }
 
+/// The command of this kind with these members, whatever the value of `kind` among them.
+fn command_with(kind: CommandKind, members: &Map<String, Value>) -> Option<Command>
+    ensures found { IfSome result (λ c. IsCommand c × (kind_of c ≡ kind) ×
+        HasMembers (members_view members.now.entries) c) }
+    ensures none { IfNone result ((c : Command) → IsCommand c → kind_of c ≡ kind →
+        HasMembers (members_view members.now.entries) c → ⊥) }
+{
+    match kind {
+        CommandKind::Register => register_of(members),
+        CommandKind::Activate => keyed_of(members).map(|key| Command::Activate { key }),
+        CommandKind::SetDates => set_of(members),
+        CommandKind::Revoke => revoke_of(members),
+        CommandKind::Assign => {
+            let (key, owner) = named_of(members, "owner")?;
+            Some(Command::Assign { key, owner })
+        }
+        CommandKind::AddCustodian => {
+            let (key, name) = named_of(members, "name")?;
+            Some(Command::AddCustodian { key, name })
+        }
+        CommandKind::RemoveCustodian => {
+            let (key, name) = named_of(members, "name")?;
+            Some(Command::RemoveCustodian { key, name })
+        }
+        CommandKind::Approve => keyed_of(members).map(|key| Command::Approve { key }),
+        CommandKind::Withdraw => keyed_of(members).map(|key| Command::Withdraw { key }),
+        CommandKind::Destroy => keyed_of(members).map(|key| Command::Destroy { key }),
+        CommandKind::Advance => advance_of(members),
+    }
+}
+
 /// The command that the value is.
 pub(crate) fn command_of(value: &Value) -> Option<Command>
     ensures found { IfSome result (λ c. IsCommand c × (view value.now ≡ command_data c)) }
     ensures none { IfNone result ((c : Command) → IsCommand c →
         view value.now ≢ command_data c) }
 {
-    let members = value.as_object()?;
-    if let Some(command) = key_command_of(members) {
-        return Some(command);
-    }
-    if let Some(command) = custodian_command_of(members) {
-        return Some(command);
-    }
-    if let Some(command) = assign_of(members) {
-        return Some(command);
-    }
-    if let Some(command) = revoke_of(members) {
-        return Some(command);
-    }
-    if let Some(command) = set_of(members) {
-        return Some(command);
-    }
-    if let Some(command) = register_of(members) {
-        return Some(command);
-    }
-    advance_of(members)
+    let kind = kind_of(value.get("kind")?)?;
+    command_with(kind, value.as_object()?)
 }

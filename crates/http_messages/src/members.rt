@@ -11,12 +11,13 @@ ghost use Rattle.register_core.specs.Name.{IsName};
 ghost use Rattle.register_core.specs.Purpose.{IsPurpose};
 ghost use Rattle.register_core.specs.Request.{IsDate, IsEdit, IsKeyNumber};
 ghost use Rattle.register_core.specs.declared.request.Edit.{Edit};
-ghost use Rattle.http_messages.specs.CommandValue.{number_data, date_data, edit_data};
+ghost use Rattle.register_core.specs.declared.command_kind.CommandKind.{CommandKind};
+ghost use Rattle.http_messages.specs.CommandValue.{number_data, date_data, edit_data, kind_data};
 
 use lifecycle_core::Reason;
 use moment_core::Moment;
 use period_core::KeyType;
-use register_core::{Edit, Name, Purpose};
+use register_core::{CommandKind, Edit, Name, Purpose};
 use serde_json::Value;
 use std::collections::btree_map::Iter;
 
@@ -93,7 +94,7 @@ pub(crate) fn text_of(value: &Value) -> Option<&str>
 }
 
 /// Whether the value is this text.
-pub(crate) fn is_text(value: &Value, text: &str) -> bool
+fn is_text(value: &Value, text: &str) -> bool
     ensures { IsTrue result ↔ (view value.now ≡ string text.now) }
 {
     match text_of(value) {
@@ -133,6 +134,14 @@ pub(crate) fn purpose_of(value: &Value) -> Option<Purpose>
         view value.now ≢ string purpose) }
 {
     Purpose::new(text_of(value)?.as_bytes())
+}
+
+/// The kind of command whose word the value is.
+pub(crate) fn kind_of(value: &Value) -> Option<CommandKind>
+    ensures found { IfSome result (λ kind. view value.now ≡ kind_data kind) }
+    ensures none { IfNone result ((kind : CommandKind) → view value.now ≢ kind_data kind) }
+{
+    CommandKind::from_text(text_of(value)?.as_bytes())
 }
 
 /// The type of key whose text the value is.
