@@ -10,8 +10,9 @@ use lifecycle_core::{Row, State, state_of};
 use moment_core::Moment;
 use period_core::KeyType;
 use register_core::{
-    Command, CommandKind, Held, MIN_APPROVALS, Name, Names, Purpose, Refusal, Reply, Request, View,
-    command_text, given_dates, plain, read_command, read_request, reply_line,
+    Command, CommandKind, Giver, Held, MIN_APPROVALS, Name, Names, Purpose, Refusal, Reply,
+    Request, Version, View, command_text, given_dates, plain, read_command, read_request,
+    reply_line,
 };
 use std::alloc::{AllocError, Global};
 use std::fmt;
@@ -191,6 +192,52 @@ fn texts_of_commands(rt: HostRuntime) {
     assert!(rt; read_command(b"approve 01").is_none());
     assert!(rt; read_command(b"destroy 1 ").is_none());
     assert!(rt; read_command(b"add-custodian 1").is_none());
+}
+
+/// Commands, who may give each, in how many states of its key, and whether a refusal of it looks at custody.
+#[rattlefmt::skip]
+const RULES: [(&str, Giver, usize, bool); 12] = [
+    ("register data-encryption bob 0 - - payroll disks", Giver::Anybody, 6, false),
+    ("activate 1", Giver::Owner, 1, false),
+    ("set 1 = - 3000", Giver::Owner, 2, false),
+    ("revoke 1 1 -", Giver::Owner, 1, false),
+    ("revoke 1 2 -", Giver::Anybody, 4, false),
+    ("assign 1 eve", Giver::Owner, 6, true),
+    ("add-custodian 1 cat", Giver::Owner, 6, true),
+    ("remove-custodian 1 cat", Giver::Owner, 4, true),
+    ("approve 1", Giver::Custodian, 3, true),
+    ("withdraw 1", Giver::Custodian, 4, true),
+    ("destroy 1", Giver::Owner, 3, true),
+    ("advance", Giver::Anybody, 6, false),
+];
+
+/// Whether the command with this text has this rule.
+fn is_rule_of(text: &str, giver: Giver, states: usize, looks_at_custody: bool) -> bool {
+    match read_command(text.as_bytes()) {
+        Some(command) => {
+            let rule = command.rule();
+            rule.giver == giver
+                && rule.states.len() == states
+                && command.looks_at_custody() == looks_at_custody
+        }
+        None => false,
+    }
+}
+
+#[test]
+fn rules_of_commands(rt: HostRuntime) {
+    for (text, giver, states, looks_at_custody) in &RULES {
+        assert!(rt;
+            is_rule_of(text, *giver, *states, *looks_at_custody),
+            "{text}"
+        );
+    }
+}
+
+#[test]
+fn this_version(rt: HostRuntime) {
+    assert_eq!(rt; Version::CURRENT.number(), 1);
+    assert_eq!(rt; Version::CURRENT.max_custodians(), 8);
 }
 
 /// Registration lines, and the Protect Stop and the Deactivation that the specification gives their

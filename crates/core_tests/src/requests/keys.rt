@@ -6,7 +6,9 @@ ghost use Rattle.register_core.specs.Decision.{IsRightKey};
 use lifecycle_core::{Dates, Row, State, state_of};
 use moment_core::Moment;
 use period_core::KeyType;
-use register_core::{Accept, Change, Held, MIN_APPROVALS, Name, Names, Refusal, Reply, Request, View, decide};
+use register_core::{
+    Accept, Change, Held, MIN_APPROVALS, Name, Names, Refusal, Reply, Request, View, decide,
+};
 use std::alloc::Global;
 use std::test::Fail;
 
