@@ -147,20 +147,24 @@ fn lines_of_answers(rt: HostRuntime) {
     assert!(rt; is_line_of_limit(63072000, "refused 10 PeriodTooLong limit=63072000\n"));
 }
 
-/// A text of each kind of command, and the word that it begins with.
+/// A command: its kind, the word that it begins with, its text; who may give it, in how many states of its key, and
+/// whether a refusal of it looks at custody.
+type CommandRow = (CommandKind, &'static str, &'static str, Giver, usize, bool);
+
 #[rattlefmt::skip]
-const COMMANDS: [(CommandKind, &str, &str); 11] = [
-    (CommandKind::Register, "register", "register data-encryption bob 0 - - payroll disks"),
-    (CommandKind::Activate, "activate", "activate 1"),
-    (CommandKind::SetDates, "set", "set 1 = - 3000"),
-    (CommandKind::Revoke, "revoke", "revoke 1 2 50"),
-    (CommandKind::Assign, "assign", "assign 1 eve"),
-    (CommandKind::AddCustodian, "add-custodian", "add-custodian 1 cat"),
-    (CommandKind::RemoveCustodian, "remove-custodian", "remove-custodian 1 cat"),
-    (CommandKind::Approve, "approve", "approve 1"),
-    (CommandKind::Withdraw, "withdraw", "withdraw 1"),
-    (CommandKind::Destroy, "destroy", "destroy 1"),
-    (CommandKind::Advance, "advance", "advance"),
+const COMMANDS: [CommandRow; 12] = [
+    (CommandKind::Register, "register", "register data-encryption bob 0 - - payroll disks", Giver::Anybody, 6, false),
+    (CommandKind::Activate, "activate", "activate 1", Giver::Owner, 1, false),
+    (CommandKind::SetDates, "set", "set 1 = - 3000", Giver::Owner, 2, false),
+    (CommandKind::Revoke, "revoke", "revoke 1 1 -", Giver::Owner, 1, false),
+    (CommandKind::Revoke, "revoke", "revoke 1 2 50", Giver::Anybody, 4, false),
+    (CommandKind::Assign, "assign", "assign 1 eve", Giver::Owner, 6, true),
+    (CommandKind::AddCustodian, "add-custodian", "add-custodian 1 cat", Giver::Owner, 6, true),
+    (CommandKind::RemoveCustodian, "remove-custodian", "remove-custodian 1 cat", Giver::Owner, 4, true),
+    (CommandKind::Approve, "approve", "approve 1", Giver::Custodian, 3, true),
+    (CommandKind::Withdraw, "withdraw", "withdraw 1", Giver::Custodian, 4, true),
+    (CommandKind::Destroy, "destroy", "destroy 1", Giver::Owner, 3, true),
+    (CommandKind::Advance, "advance", "advance", Giver::Anybody, 6, false),
 ];
 
 /// Whether the word is the kind's, and the kind the word's.
@@ -168,21 +172,27 @@ fn is_word_of(kind: CommandKind, word: &str) -> bool {
     kind.text() == word && CommandKind::from_text(word.as_bytes()) == Some(kind)
 }
 
-/// Whether the text is read as a command of this kind that has this text.
-fn is_command(kind: CommandKind, text: &str) -> bool {
+/// Whether the row's text is read as a command of its kind, with this text and its rule.
+fn is_command(row: &CommandRow) -> bool {
+    let (kind, _, text, giver, states, looks_at_custody) = *row;
     match read_command(text.as_bytes()) {
         Some(command) => {
-            command.kind() == kind && command_text(&command).as_bytes() == text.as_bytes()
+            let rule = command.rule();
+            command.kind() == kind
+                && command_text(&command).as_bytes() == text.as_bytes()
+                && rule.giver == giver
+                && rule.states.len() == states
+                && command.looks_at_custody() == looks_at_custody
         }
         None => false,
     }
 }
 
 #[test]
-fn texts_of_commands(rt: HostRuntime) {
-    for (kind, word, text) in &COMMANDS {
-        assert!(rt; is_word_of(*kind, word), "{word}");
-        assert!(rt; is_command(*kind, text), "{text}");
+fn texts_and_rules_of_commands(rt: HostRuntime) {
+    for row in &COMMANDS {
+        assert!(rt; is_word_of(row.0, row.1), "{}", row.1);
+        assert!(rt; is_command(row), "{}", row.2);
     }
     assert!(rt; CommandKind::from_text(b"").is_none());
     assert!(rt; CommandKind::from_text(b"Destroy").is_none());
@@ -192,46 +202,6 @@ fn texts_of_commands(rt: HostRuntime) {
     assert!(rt; read_command(b"approve 01").is_none());
     assert!(rt; read_command(b"destroy 1 ").is_none());
     assert!(rt; read_command(b"add-custodian 1").is_none());
-}
-
-/// Commands, who may give each, in how many states of its key, and whether a refusal of it looks at custody.
-#[rattlefmt::skip]
-const RULES: [(&str, Giver, usize, bool); 12] = [
-    ("register data-encryption bob 0 - - payroll disks", Giver::Anybody, 6, false),
-    ("activate 1", Giver::Owner, 1, false),
-    ("set 1 = - 3000", Giver::Owner, 2, false),
-    ("revoke 1 1 -", Giver::Owner, 1, false),
-    ("revoke 1 2 -", Giver::Anybody, 4, false),
-    ("assign 1 eve", Giver::Owner, 6, true),
-    ("add-custodian 1 cat", Giver::Owner, 6, true),
-    ("remove-custodian 1 cat", Giver::Owner, 4, true),
-    ("approve 1", Giver::Custodian, 3, true),
-    ("withdraw 1", Giver::Custodian, 4, true),
-    ("destroy 1", Giver::Owner, 3, true),
-    ("advance", Giver::Anybody, 6, false),
-];
-
-/// Whether the command with this text has this rule.
-fn is_rule_of(text: &str, giver: Giver, states: usize, looks_at_custody: bool) -> bool {
-    match read_command(text.as_bytes()) {
-        Some(command) => {
-            let rule = command.rule();
-            rule.giver == giver
-                && rule.states.len() == states
-                && command.looks_at_custody() == looks_at_custody
-        }
-        None => false,
-    }
-}
-
-#[test]
-fn rules_of_commands(rt: HostRuntime) {
-    for (text, giver, states, looks_at_custody) in &RULES {
-        assert!(rt;
-            is_rule_of(text, *giver, *states, *looks_at_custody),
-            "{text}"
-        );
-    }
 }
 
 #[test]

@@ -5,7 +5,7 @@ use Rattle.std.specs.Option.{option_map}
 use Rattle.lifecycle_core.specs.declared.reason.Reason.{Reason}
 use Rattle.lifecycle_core.specs.Reason.{is_compromise}
 use Rattle.period_core.specs.Fitting.{first_that_holds}
-use Rattle.register_core.specs.declared.command_rule.Giver.TheVariants.{Anybody, Owner}
+use Rattle.register_core.specs.declared.command_rule.Giver.TheVariants.{Anybody, Owner, Custodian}
 use Rattle.register_core.specs.declared.request.Request.{Request}
 use Rattle.register_core.specs.declared.request.Command.{Command}
 use Rattle.register_core.specs.declared.request.Command.TheVariants.{Approve, Revoke}
@@ -18,7 +18,7 @@ use Rattle.register_core.specs.History.{latest, count}
 use Rattle.register_core.specs.Subject.{Subject, Makes, Names, NoKey, subject}
 use Rattle.register_core.specs.KeptReply.{reply}
 use Rattle.register_core.specs.Name.{is_among}
-use Rattle.register_core.specs.CommandRule.{is_for_custodian}
+use Rattle.register_core.specs.CommandRule.{is_same_giver}
 use Rattle.register_core.specs.CustodyRefusal.{refused_custody}
 use Rattle.register_core.specs.Verdict.{not_custodian, judge, judgement, named_key}
 use Rattle.register_core.specs.Decision.{change_of, change_by, reply_to, LeadsTo}
@@ -32,7 +32,7 @@ revoked_so : (held : Held) (caller : List ℕ) (key : ℕ) (reason : Reason) (oc
     → not_custodian (Some held) caller (Revoke key reason occurrence) ≡ None
 revoked_so held caller key reason occurrence = by (is_compromise reason)
   where
-    by : (b : Bool) → cond (is_for_custodian (cond b Anybody Owner) && not (is_among caller held.custodians))
+    by : (b : Bool) → cond (is_same_giver Custodian (cond b Anybody Owner) && not (is_among caller held.custodians))
         (Some NotCustodian) None ≡ None
     by true = refl
     by false = refl

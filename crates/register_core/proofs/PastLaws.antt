@@ -72,6 +72,12 @@ revoked false t d key reason occurrence past early = record {
   occurrence = past.occurrence;
 }
 
+-- whatever the dates are that may be given
+past_with : (t : ℕ) (d : Dates) (a s e : Option ℕ) → IsPast t d
+    → IsPast t (record d { activation = a; protect_stop = s; deactivation = e })
+past_with t d a s e past =
+    record { initial = past.initial; destroy = past.destroy; compromise = past.compromise; occurrence = past.occurrence }
+
 -- what the command that names the key at t makes of its dates
 past_after : (p : Period) (d : Dates) (t k : ℕ) (c : Command) → named c ≡ Some k → occurs_later t c ≡ None
     → IsPast t d → IsPast t (dates_after p d t c)
@@ -79,22 +85,10 @@ past_after p d t k (Registers of_kind owner activation protect_stop deactivation
     absurd cc
 past_after p d t k (Activate key) names early past =
     let given : Dates = record d { activation = Some t } in
-    kept t given _ (trimmed_keeps p given)
-    (record {
-      initial = past.initial;
-      destroy = past.destroy;
-      compromise = past.compromise;
-      occurrence = past.occurrence;
-    })
+    kept t given _ (trimmed_keeps p given) (past_with t d _ _ _ past)
 past_after p d t k (SetDates key activation protect_stop deactivation) names early past =
     let given : Dates = edited_dates activation protect_stop deactivation d in
-    kept t given _ (filled_keeps p given)
-    (record {
-      initial = past.initial;
-      destroy = past.destroy;
-      compromise = past.compromise;
-      occurrence = past.occurrence;
-    })
+    kept t given _ (filled_keeps p given) (past_with t d _ _ _ past)
 past_after p d t k (Revoke key reason occurrence) names early past =
     revoked (is_compromise reason) t d key reason occurrence past early
 past_after p d t k (Destroy key) names early past = record {

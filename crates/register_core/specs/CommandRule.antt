@@ -69,22 +69,19 @@ rule Advance = record { kind = kinds.Advance; giver = Anybody; states = any_stat
 abbrev pub kind_of : Command → CommandKind
 kind_of c = (rule c).kind
 
--- only this one may give the command
-abbrev pub is_for_owner : Giver → Bool
-is_for_owner Owner = true
-is_for_owner _ = false
-
-abbrev pub is_for_custodian : Giver → Bool
-is_for_custodian Custodian = true
-is_for_custodian _ = false
+abbrev pub is_same_giver : Giver → Giver → Bool
+is_same_giver Owner Owner = true
+is_same_giver Custodian Custodian = true
+is_same_giver Anybody Anybody = true
+is_same_giver _ _ = false
 
 -- the command is one for the key's owner alone
 abbrev pub is_owners : Command → Bool
-is_owners c = is_for_owner (rule c).giver
+is_owners c = is_same_giver Owner (rule c).giver
 
 -- the command is one for a custodian of the key alone
 abbrev pub is_custodians : Command → Bool
-is_custodians c = is_for_custodian (rule c).giver
+is_custodians c = is_same_giver Custodian (rule c).giver
 
 abbrev pub is_one_of : List State → State → Bool
 is_one_of states state = list_any (λ s. state_code s == state_code state) states
