@@ -187,11 +187,7 @@ fn attempt(
 
 /// Sends all again over the register in the files, which is made where one was to be made and none is there. Whether it
 /// is answered as it was, and the files.
-fn repeated(
-    lab: Lab,
-    trial: &Trial,
-    files: &Files<Memory>,
-) -> Result<(bool, Files<Memory>), Fail> {
+fn repeated(lab: Lab, trial: &Trial, files: &Files<Memory>) -> Result<(bool, Files<Memory>), Fail> {
     let repeating = Repeating { trial };
     let (reached, left) = lab.tried_at_desk(files, HONEST, Entry::Opening, &repeating)?;
     match (reached, trial.way) {
