@@ -26,7 +26,7 @@ use Rattle.register_core.specs.declared.view.Held.{Held}
 use Rattle.register_core.specs.Decision.{change_by, change_of, reply_to}
 use Rattle.register_core.specs.KeptReply.{kept_with, IsKeptReply}
 use Rattle.register_core.specs.Subject.{Subject, Makes, Names, NoKey, subject}
-use Rattle.register_core.specs.Verdict.{answer_by, Repeats, Refuses}
+use Rattle.register_core.specs.Verdict.{answer_by, judge, Repeats, Refuses}
 use Rattle.register_core.proofs.Lawful.{all_more}
 use Rattle.register_store.specs.Change.{made_count, with_change}
 use Rattle.register_store.specs.Making as tabled
@@ -97,7 +97,8 @@ module _ {S : Type 0} (g : store.Ghosts S) (old new : Desk S g) (t : Tables) (q 
     (whole : old.is_broken ≡ false) (over : IsOver g old t) (in_range : IsKeptReply (kept_with q given))
     (at : given.moment ≡ q.moment)
     (is : made ≡ change_by key q)
-    (told : given ≡ reply_to old.keys q.moment made) where
+    (told : given ≡ reply_to old.keys q.moment made)
+    (accepted : judge old.latest old.keys key q ≡ None) where
   abbrev after : Tables
   after = with_request (length t.keys) made (kept_with q given) t
 
@@ -123,6 +124,9 @@ module _ {S : Type 0} (g : store.Ghosts S) (old new : Desk S g) (t : Tables) (q 
   over_request (Err e) written settled moment counted = tt
   over_request (Ok x) written settled moment counted = record {
     key = key;
+    accepted =
+        subst (λ (n : ℕ). judge n (length t.keys) key q ≡ None) over.latest_is
+        (subst (λ (n : ℕ). judge old.latest n key q ≡ None) (sym over.counted) accepted);
     change = made;
     decided = is;
     told = told ∙ ap (λ (n : ℕ). reply_to n q.moment made) (sym over.counted);
