@@ -1,6 +1,6 @@
 -- A desk that is over some tables is after an accepted request over what its change makes of them, whatever history
 -- they are of, if any.
-use Rattle.std.proofs.Common.{◌≡◌, ℕ, ◌+◌, Bool, true, false, if◌then◌else◌, cond, List, [], ◌∷◌, ◌++◌, length, map}
+use Rattle.std.proofs.Common.{◌≡◌, ℕ, ◌+◌, Bool, true, false, if◌then◌else◌, cond, List, [], ◌∷◌, length, map}
 use Rattle.std.proofs.Common.{Option, None, Some, Result, Ok, Err, IsTrue, refl, sym, ap, subst, ◌∙◌, arith}
 use Rattle.std.specs.Prelude.{◌==◌, OnOk}
 use Rattle.std.specs.List.{AllByRecursion, enumerate_from}
@@ -13,7 +13,6 @@ use Rattle.sql_steps.specs.Steps.{TransactsBy}
 use Rattle.sql_steps.proofs.Stepping.{leaves_alone}
 use Rattle.lifecycle_core.specs.declared.row.Row.{Row}
 use Rattle.lifecycle_core.specs.Row.{IsRightAt}
-use Rattle.register_core.specs.declared.answer.Answer.{Answer}
 use Rattle.register_core.specs.declared.change.Change.{Change}
 use Rattle.register_core.specs.declared.change.Change.TheVariants.{Made, Nothing}
 use Rattle.register_core.specs.declared.change.Change.TheVariants as change
