@@ -18,8 +18,8 @@ ghost use Rattle.http_messages.specs.CommandValue.{keyed_members, named_members,
 ghost use Rattle.http_messages.specs.CommandValue.{set_members, register_members};
 
 use crate::members::{
-    date_of, edit_of, key_of, key_type_of, kind_of, last_named, name_of, next_named, purpose_of,
-    reason_of,
+    command_kind_of, date_of, edit_of, key_of, key_type_of, last_named, name_of, next_named,
+    purpose_of, reason_of,
 };
 use register_core::{Command, CommandKind, Name};
 use serde_json::{Map, Value};
@@ -291,6 +291,6 @@ pub(crate) fn command_of(value: &Value) -> Option<Command>
     ensures none { IfNone result ((c : Command) → IsCommand c →
         view value.now ≢ command_data c) }
 {
-    let kind = kind_of(value.get("kind")?)?;
+    let kind = command_kind_of(value.get("kind")?)?;
     command_with(kind, value.as_object()?)
 }

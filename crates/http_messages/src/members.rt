@@ -137,7 +137,7 @@ pub(crate) fn purpose_of(value: &Value) -> Option<Purpose>
 }
 
 /// The kind of command whose word the value is.
-pub(crate) fn kind_of(value: &Value) -> Option<CommandKind>
+pub(crate) fn command_kind_of(value: &Value) -> Option<CommandKind>
     ensures found { IfSome result (λ kind. view value.now ≡ kind_data kind) }
     ensures none { IfNone result ((kind : CommandKind) → view value.now ≢ kind_data kind) }
 {

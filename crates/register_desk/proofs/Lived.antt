@@ -1,6 +1,6 @@
 -- The life that a call over items was, whatever its reader told.
-use Rattle.std.proofs.Common.{◌≡◌, ℕ, ◌+◌, Bool, true, false, List, [], ◌∷◌, ◌++◌, length, take, Option, None, Some}
-use Rattle.std.proofs.Common.{inl, inr, refl, sym, ap, subst, ◌∙◌, arith}
+use Rattle.std.proofs.Common.{◌≡◌, ℕ, ◌+◌, Bool, true, false, List, [], ◌∷◌, ◌++◌, take, Option, None, Some}
+use Rattle.std.proofs.Common.{inl, inr, refl, sym, subst, ◌∙◌, arith}
 use Rattle.std.proofs.lemmas.List.{append-nil}
 use Rattle.std.proofs.lemmas.Option.{slice_get_within}
 use Rattle.register_store.specs.Schema.{Holds}
@@ -22,7 +22,7 @@ use Rattle.register_core.specs.Fold.{IsLawful}
 use Rattle.register_desk.proofs.Lives.{empty_lawful, lawful_on}
 use Rattle.register_desk.specs.Files.{FileLife, HoldsAfter, HoldsOneOf, HoldsRegister, LeadOn, left_by}
 use Rattle.register_desk.specs.Input.{AreItems}
-use Rattle.register_desk.specs.Leaving.{IsBroken, IsClean, IsWhole}
+use Rattle.register_desk.specs.Leaving.{IsClean, IsWhole}
 use Rattle.register_desk.specs.Lives.{after, applied, AreInRange, IsLife, LeavesLife, life_of, LivesSome}
 use Rattle.register_desk.specs.Lives.{MayApplyOneMore}
 use Rattle.register_desk.specs.Register.{StandsFor, tables}

@@ -1,6 +1,6 @@
 -- A desk that is over some tables is after an accepted request over what its change makes of them, whatever history
 -- they are of, if any.
-use Rattle.std.proofs.Common.{◌≡◌, ℕ, ◌+◌, Bool, true, false, if◌then◌else◌, cond, List, [], ◌∷◌, ◌++◌, length, map}
+use Rattle.std.proofs.Common.{◌≡◌, ℕ, ◌+◌, Bool, true, false, if◌then◌else◌, cond, List, [], ◌∷◌, length, map}
 use Rattle.std.proofs.Common.{Option, None, Some, Result, Ok, Err, IsTrue, refl, sym, ap, subst, ◌∙◌, arith}
 use Rattle.std.specs.Prelude.{◌==◌, OnOk}
 use Rattle.std.specs.List.{AllByRecursion, enumerate_from}
@@ -13,7 +13,6 @@ use Rattle.sql_steps.specs.Steps.{TransactsBy}
 use Rattle.sql_steps.proofs.Stepping.{leaves_alone}
 use Rattle.lifecycle_core.specs.declared.row.Row.{Row}
 use Rattle.lifecycle_core.specs.Row.{IsRightAt}
-use Rattle.register_core.specs.declared.answer.Answer.{Answer}
 use Rattle.register_core.specs.declared.change.Change.{Change}
 use Rattle.register_core.specs.declared.change.Change.TheVariants.{Made, Nothing}
 use Rattle.register_core.specs.declared.change.Change.TheVariants as change
@@ -26,7 +25,7 @@ use Rattle.register_core.specs.declared.view.Held.{Held}
 use Rattle.register_core.specs.Decision.{change_by, change_of, reply_to}
 use Rattle.register_core.specs.KeptReply.{kept_with, IsKeptReply}
 use Rattle.register_core.specs.Subject.{Subject, Makes, Names, NoKey, subject}
-use Rattle.register_core.specs.Verdict.{answer_by, Repeats, Refuses}
+use Rattle.register_core.specs.Verdict.{answer_by, judge, Repeats, Refuses}
 use Rattle.register_core.proofs.Lawful.{all_more}
 use Rattle.register_store.specs.Change.{made_count, with_change}
 use Rattle.register_store.specs.Making as tabled
@@ -97,7 +96,8 @@ module _ {S : Type 0} (g : store.Ghosts S) (old new : Desk S g) (t : Tables) (q 
     (whole : old.is_broken ≡ false) (over : IsOver g old t) (in_range : IsKeptReply (kept_with q given))
     (at : given.moment ≡ q.moment)
     (is : made ≡ change_by key q)
-    (told : given ≡ reply_to old.keys q.moment made) where
+    (told : given ≡ reply_to old.keys q.moment made)
+    (accepted : judge old.latest old.keys key q ≡ None) where
   abbrev after : Tables
   after = with_request (length t.keys) made (kept_with q given) t
 
@@ -123,6 +123,9 @@ module _ {S : Type 0} (g : store.Ghosts S) (old new : Desk S g) (t : Tables) (q 
   over_request (Err e) written settled moment counted = tt
   over_request (Ok x) written settled moment counted = record {
     key = key;
+    accepted =
+        subst (λ (n : ℕ). judge n (length t.keys) key q ≡ None) over.latest_is
+        (subst (λ (n : ℕ). judge old.latest n key q ≡ None) (sym over.counted) accepted);
     change = made;
     decided = is;
     told = told ∙ ap (λ (n : ℕ). reply_to n q.moment made) (sym over.counted);

@@ -14,7 +14,8 @@ use std::alloc::Global;
 /// [`OpenRefusal::Memory`] where memory gave out before the database was there; [`OpenRefusal::Store`] behind it.
 pub fn create_in_memory(alloc: Global) -> Result<Desk<MemStore>, OpenRefusal>
     ensures stands { IfOk result (λ desk. StandsFor over_memory desk []) }
-    ensures refused { IfErr result (λ refusal. (refusal ≡ OpenRefusal.Memory) ⊎ (refusal ≡ OpenRefusal.Store)) }
+    ensures refused { IfErr result (λ refusal.
+        (refusal ≡ OpenRefusal.Memory) ⊎ (refusal ≡ OpenRefusal.Store)) }
 {
     let connection = match Connection::open_in_memory(alloc) {
         Ok(connection) => connection,

@@ -1,6 +1,6 @@
 -- How an import leaves things, by how it ended: as a run over the items of its rows.
 use Rattle.std.proofs.Common.{◌≡◌, ℕ, ◌+◌, true, false, List, [], ◌∷◌, ◌++◌, length, take, Option}
-use Rattle.std.proofs.Common.{None, Some, refl, sym, ap, subst, ◌∙◌, arith, inl, inr}
+use Rattle.std.proofs.Common.{None, Some, refl, sym, ap, subst, ◌∙◌, inl, inr}
 use Rattle.std.proofs.lemmas.List.{append-nil, take_at}
 use Rattle.sqlite_trees.specs.declared.store.Store.{Ghosts}
 use Rattle.csv.specs.Machine.{next_record}

@@ -1,6 +1,6 @@
 -- The rows of which the lines were written so far.
-use Rattle.std.proofs.Common.{◌≡◌, ◌≢◌, ◌+◌, ℕ, List, [], ◌∷◌, ◌++◌, length, Bool, true, false}
-use Rattle.std.proofs.Common.{Option, Some, None, Result, Ok, Err, IfOk, OnOk, refl, sym, ap, subst}
+use Rattle.std.proofs.Common.{◌≡◌, ◌≢◌, ◌+◌, ℕ, List, [], ◌∷◌, ◌++◌, length}
+use Rattle.std.proofs.Common.{Option, Some, None, Result, Ok, Err, OnOk, refl, sym, ap, subst}
 use Rattle.std.proofs.Common.{◌∙◌, append_assoc, length-append, arith}
 use Rattle.std.proofs.lemmas.List.{append-nil}
 use Rattle.std.specs.Prelude.{IsErrAnd}
@@ -18,7 +18,7 @@ use Rattle.register_desk.specs.Rows.{AreAll, AreSoFar, GiveNext, HaveGiven, all_
 use Rattle.register_desk.proofs.Readings.{nothing_done, nothing_then, stands_still}
 use Rattle.register_report.specs.declared.table.Table.{Table}
 use Rattle.register_report.specs.Table.{line_text, lines_text}
-use Rattle.register_report.specs.Writing.{GivesRows, Puts, PutsRows, PutsText}
+use Rattle.register_report.specs.Writing.{Puts, PutsRows, PutsText}
 use Rattle.register_report.proofs.TextLemmas.{front_whole, no_fault, puts_nothing, text_failed, text_same, text_then}
 
 -- the lines of one row more

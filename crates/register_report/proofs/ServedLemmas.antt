@@ -6,11 +6,9 @@ use Rattle.csv.specs.Reading.{Reached, ReadRecord, default_config, reader_config
 use Rattle.csv.specs.Records.{AllText}
 use Rattle.csv.specs.declared.reader.Reader.{Reader}
 use Rattle.csv.proofs.ReadFacts.{rows-more}
-use Rattle.register_core.specs.declared.request.Request.{Request}
 use Rattle.register_core.proofs.Lawful.{all_more}
 use Rattle.register_desk.specs.declared.end.End.{End}
 use Rattle.register_desk.specs.declared.end.End.TheVariants.{Memory, Store, Broken, ReadFault, WriteFault, BadHeader}
-use Rattle.register_desk.specs.declared.runs.Finish.{Finish}
 use Rattle.register_desk.specs.declared.runs.Finish.TheVariants.{Ended}
 use Rattle.register_desk.specs.declared.desk.Desk.{Desk}
 use Rattle.register_desk.specs.Leaving.{GoesOn}

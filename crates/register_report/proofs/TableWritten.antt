@@ -1,6 +1,6 @@
 -- A table that was written, or a front of it: its head, its lines, its foot.
-use Rattle.std.proofs.Common.{◌≡◌, ◌≢◌, ℕ, List, [], ◌∷◌, ◌++◌, length, Bool, true, false, Option}
-use Rattle.std.proofs.Common.{Result, Ok, Err, OnOk, refl, sym, ap, subst, ◌∙◌}
+use Rattle.std.proofs.Common.{◌≡◌, ◌≢◌, ℕ, List, [], ◌++◌, true, false, Option}
+use Rattle.std.proofs.Common.{Result, Ok, Err, OnOk, refl, sym, ap, subst}
 use Rattle.std.specs.Prelude.{IsErrAnd}
 use Rattle.sqlite_trees.specs.declared.store.Store.{Ghosts}
 use Rattle.streams.specs.declared.watched.Watched.{Watched}
@@ -9,7 +9,7 @@ use Rattle.register_desk.specs.declared.end.End.TheVariants.{WriteFault}
 use Rattle.register_desk.specs.declared.rows.KeyRows.{KeyRows}
 use Rattle.register_desk.specs.Rows.{all_rows}
 use Rattle.register_report.specs.declared.table.Table.{Table}
-use Rattle.register_report.specs.Table.{foot_text, head_text, lines_text, table_text}
+use Rattle.register_report.specs.Table.{foot_text, head_text, lines_text}
 use Rattle.register_report.specs.Writing.{PutsRows, PutsTable, PutsText}
 use Rattle.register_report.proofs.TextLemmas.{text_failed, text_longer, text_nothing, text_same, text_then}
 

@@ -1,14 +1,12 @@
 -- What is written one piece after another.
-use Rattle.std.proofs.Common.{◌≡◌, ◌≢◌, ◌≤◌, ◌+◌, ℕ, List, [], ◌∷◌, ◌++◌, length, take, drop, Bool}
-use Rattle.std.proofs.Common.{true, false, Option, Result, Ok, Err, IfOk, OnOk, refl, sym, ap}
+use Rattle.std.proofs.Common.{◌≡◌, ◌≢◌, ℕ, List, [], ◌++◌}
+use Rattle.std.proofs.Common.{Option, Result, Ok, Err, IfOk, OnOk, refl, sym, ap}
 use Rattle.std.proofs.Common.{subst, ◌∙◌, append_assoc, length-append, arith}
-use Rattle.std.proofs.lemmas.List.{append-nil, take-append-drop}
-use Rattle.std.specs.Io.KnownBytes.{Appends}
+use Rattle.std.proofs.lemmas.List.{append-nil}
 use Rattle.streams.specs.declared.watched.Watched.{Watched}
-use Rattle.streams.specs.Watched.{IsFaulted}
 use Rattle.register_desk.specs.declared.end.End.{End}
-use Rattle.register_desk.specs.declared.end.End.TheVariants.{Memory, Store, Broken, ReadFault, WriteFault, BadHeader}
-use Rattle.register_desk.specs.Run.{IsFrontOf, max_idle_turns}
+use Rattle.register_desk.specs.declared.end.End.TheVariants.{WriteFault}
+use Rattle.register_desk.specs.Run.{IsFrontOf}
 use Rattle.register_desk.proofs.Answering.{appends_none, appends_then}
 use Rattle.register_report.specs.Writing.{Puts, PutsText}
 

@@ -33,20 +33,6 @@ ExplainsEnd remaining start reader Broken = ⊥
 ExplainsEnd remaining start reader WriteFault = ⊥
 ExplainsEnd remaining start reader BadHeader = ⊥
 
--- a further row was read
-pub record HasFurther {R : Type 0} (remaining : R → Option (List ℕ)) : Type 0 where
-  pub start : Reader R
-  pub last : Reader R
-  pub fields : Row
-  pub read : ReadRecord remaining start last true fields
-
--- why the rows that were read ended before the input did: a row came behind as many as an import answers, or the next
--- was none that can be read
-abbrev pub EndsReading : {R : Type 0} → (R → Option (List ℕ)) → ℕ → Type 0
-EndsReading {R} remaining replies =
-    ((replies ≡ max_rows) × HasFurther remaining)
-    ⊎ ((start : Reader R) × (last : Reader R) × ExplainsEnd remaining start last ReadFault)
-
 -- why no header row was read: no record could be read, or there was none, or another one
 abbrev pub ExplainsNoHeader : {R : Type 0} → (R → Option (List ℕ)) → Reader R → Reader R → End
     → Type 0
@@ -105,6 +91,15 @@ module _ {S R : Type 0} (g : Ghosts S) (remaining : R → Option (List ℕ)) (mo
     pub read : ReadRecord remaining reader next true row
     pub stands_for : IsRowItem moment caller (first + replies) row item
     pub leaves : LeavesItem g mid now so_far new item end part
+
+  -- Why the rows ended before the input did: behind those that were served a row came, and they were as many as an import
+  -- answers, or what came was none that can be read.
+  pub record EndsEarly (start last : Reader R) (old new : Option (List ℕ)) (kept now : Desk S g)
+      (replies : ℕ) : Type 0 where
+    pub reader : Reader R
+    pub served : ServedRows start reader old new kept now replies
+    pub why : ((replies ≡ max_rows) × ((fields : Row) × ReadRecord remaining reader last true fields))
+        ⊎ ExplainsEnd remaining reader last ReadFault
 
   -- memory may give out in reading a row, and in applying its item
   abbrev pub ServesRowsTo : Reader R → Option (List ℕ) → Option (List ℕ) → Desk S g → Desk S g → ℕ

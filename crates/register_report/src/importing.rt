@@ -15,7 +15,7 @@ ghost use Rattle.register_desk.specs.Lives.{LivesSome};
 ghost use Rattle.register_report.specs.Import.{DoesNothing, EndsWithoutHeader, ImportsBroken};
 ghost use Rattle.register_report.specs.Rows.{AreTexts, BeginsWithHeader, HasRowItems, HasRows};
 ghost use Rattle.register_report.specs.Rows.{header, max_rows};
-ghost use Rattle.register_report.specs.Serving.{EndsReading, ExplainsEnd, ExplainsNoHeader, ServesRowsTo};
+ghost use Rattle.register_report.specs.Serving.{EndsEarly, ExplainsEnd, ExplainsNoHeader, ServesRowsTo};
 
 use crate::row::{is_header, row_item};
 use csv::{ErrorKind, Reader, ReaderBuilder, StringRecord};
@@ -93,7 +93,10 @@ fn serve_rows<R: Read, W: Write, S: Alter>(
         desk.old desk.new result.replies result.end }
     ensures limit { result.replies ≤ max_rows }
     // No row is refused for its number but the one behind as many as there may be.
-    ensures cause { result.end ≡ Finish.Ended End.ReadFault → EndsReading R.remaining result.replies }
+    ensures cause { result.end ≡ Finish.Ended End.ReadFault
+        → EndsEarly S.Store R.remaining moment caller first reader.old reader.new
+        (W.contents writer.old.inner) (W.contents writer.new.inner)
+        desk.old desk.new result.replies }
     ensures writer { LeavesWriter W.contents writer.old writer.new result }
     ensures desk { LeavesDesk desk.old desk.new result.end }
     ensures uncounted { result.read ≡ 0 }

@@ -2,7 +2,6 @@ use Rattle.std.proofs.Common.{ap, ap₂, sym, subst, ◌∙◌}
 use Rattle.streams.specs.declared.watched.Watched.{Watched}
 use Rattle.key_rows.specs.DueRows.{AreDue}
 use Rattle.key_rows.specs.Report.{horizon, report_text}
-use Rattle.register_core.specs.History.{latest}
 use Rattle.register_desk.specs.declared.runs.Outcome.{Outcome}
 use Rattle.register_desk.specs.Rows.{all_rows}
 use Rattle.register_report.proofs.WholeTable.{agrees, report_is}

@@ -80,15 +80,11 @@ pub returns-then-replies-eq-MAX_ROWS-clause-cause
     : goal.returns-then-replies-eq-MAX_ROWS-clause-cause
 returns-then-replies-eq-MAX_ROWS-clause-cause g c is =
     let row = rw c.in-Ok-true.field-0-test at c.in-Ok-true.ensures.reads in
-    inl (
-      c.if-replies-eq-MAX_ROWS.true,
-      record {
-        start = c.loop-row.reader;
-        last = c.next_row.new.reader;
-        fields = fields_of c.next_row.new.row;
-        read = row;
-      },
-    )
+    record {
+      reader = c.loop-row.reader;
+      served = c.loop-row.invariant.served;
+      why = inl (c.if-replies-eq-MAX_ROWS.true, (fields_of c.next_row.new.row, row));
+    }
 
 -- ---- a row whose item ended it
 
@@ -182,9 +178,10 @@ returns-in-Err-clause-desk g c =
 pub returns-in-Err-clause-cause : goal.returns-in-Err-clause-cause
 returns-in-Err-clause-cause g c is =
     let fault : c.in-Err.end ≡ ReadFault = cc in
-    inr (
-      c.loop-row.reader,
-      c.next_row.new.reader,
-      subst (λ (end : End). ExplainsEnd g.R.Read.remaining
-          c.loop-row.reader c.next_row.new.reader end) fault c.in-Err.ensures.end,
-    )
+    record {
+      reader = c.loop-row.reader;
+      served = c.loop-row.invariant.served;
+      why =
+          inr (subst (λ (end : End). ExplainsEnd g.R.Read.remaining c.loop-row.reader
+          c.next_row.new.reader end) fault c.in-Err.ensures.end);
+    }

@@ -1,4 +1,4 @@
-use Rattle.std.proofs.Common.{◌≡◌, Some, None, Ok, Err, IfOk, refl, sym, subst, ◌∙◌, arith}
+use Rattle.std.proofs.Common.{◌≡◌, refl, subst, ◌∙◌, arith}
 use Rattle.std.specs.Prelude.{OnSome}
 use Rattle.register_desk.specs.Rows.{GoOn}
 use Rattle.register_report.specs.Table.{line_text}
