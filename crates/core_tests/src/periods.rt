@@ -1,7 +1,7 @@
 //! What Fill and Trim make of dates, compared with outcomes that were worked out by hand.
 use lifecycle_core::Dates;
 use moment_core::{LAST_SECOND, Moment};
-use period_core::{DateRefusal, KeyType, fill, period_of, trim};
+use period_core::{DateRefusal, KeyType, Period, fill, is_long, period_of, trim};
 use std::test::Fail;
 
 /// Activation, Protect Stop and Deactivation, in seconds.
@@ -160,6 +160,62 @@ fn trim_by_rows(rt: HostRuntime) {
     for (name, kind, given, outcome) in &TRIMS {
         let is = is_same(after_trim(*kind, given), expected(outcome, given));
         assert!(rt; is, "{name}");
+    }
+}
+
+/// Months of either use, and whether they are a period.
+const PERIODS: [(u16, u16, bool); 7] = [
+    (0, 0, false),
+    (1, 0, true),
+    (1200, 0, true),
+    (1201, 0, false),
+    (12, 36, true),
+    (1, 1200, true),
+    (1, 1201, false),
+];
+
+/// Whether a period has these months, or there is none of them.
+fn is_period(originator: u16, recipient: u16, is: bool) -> bool {
+    match Period::new(originator, recipient) {
+        Some(period) => {
+            is && period.originator() == originator && period.recipient() == recipient
+        }
+        None => !is,
+    }
+}
+
+#[test]
+fn periods_have_their_ranges(rt: HostRuntime) {
+    for (originator, recipient, is) in &PERIODS {
+        assert!(rt;
+            is_period(*originator, *recipient, *is),
+            "{originator} {recipient}"
+        );
+    }
+}
+
+/// Dates, and whether either use is longer than 12 and 36 months.
+#[rattlefmt::skip]
+const USES: [(&str, Given, bool); 8] = [
+    ("to the limits", (Some(0), Some(31_536_000), Some(126_230_400)), false),
+    ("originator use a second longer", (Some(0), Some(31_536_001), Some(126_230_400)), true),
+    ("recipient use a second longer", (Some(0), Some(31_536_000), Some(126_230_401)), true),
+    ("no Protect Stop", (Some(0), None, Some(126_230_401)), false),
+    ("no Activation", (None, Some(31_536_001), None), false),
+    ("no date", (None, None, None), false),
+    ("out of order", (Some(40_000_000), Some(0), None), false),
+    ("limits past the range", (Some(LAST_SECOND - 1), Some(LAST_SECOND), Some(LAST_SECOND)), false),
+];
+
+/// Whether the dates are so by that period.
+fn is_use(given: &Given, long: bool) -> Option<bool> {
+    Some(is_long(Period::new(12, 36)?, &dates_of(given)?) == long)
+}
+
+#[test]
+fn long_uses(rt: HostRuntime) {
+    for (name, given, long) in &USES {
+        assert_eq!(rt; is_use(given, *long), Some(true), "{name}");
     }
 }
 

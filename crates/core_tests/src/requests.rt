@@ -11,8 +11,7 @@ use moment_core::Moment;
 use period_core::KeyType;
 use register_core::{
     Command, CommandKind, Giver, Held, MIN_APPROVALS, Name, Names, Purpose, Refusal, Reply,
-    Request, Version, View, command_text, given_dates, plain, read_command, read_request,
-    reply_line,
+    Request, Version, View, command_text, given_dates, read_command, read_request, reply_line,
 };
 use std::alloc::{AllocError, Global};
 use std::fmt;
@@ -231,8 +230,8 @@ fn has_defaults(
     let Some(request) = read_request(line.as_bytes()) else {
         return false;
     };
-    let dates = plain::dates(&[request], 1);
-    matches!(plain::judgement(alloc, &[], &request), Ok(None))
+    let dates = plain_register::dates(&[request], 1);
+    matches!(plain_register::judgement(alloc, &[], &request), Ok(None))
         && dates.protect_stop.map(Moment::seconds) == protect_stop
         && dates.deactivation.map(Moment::seconds) == deactivation
 }
@@ -313,7 +312,7 @@ fn is_deactivated(alloc: Global, registration: &str, revocation: &str) -> Result
     ) else {
         return Ok(false);
     };
-    match plain::held(alloc, &[registered, revoked], 1)? {
+    match plain_register::held(alloc, &[registered, revoked], 1)? {
         Some(held) => Ok(
             held.row.state == State::Deactivated
                 && held.row.dates.protect_stop == Moment::new(250)
@@ -351,10 +350,10 @@ fn is_key_of_history(held: &Held) -> bool {
 
 /// Whether the history makes key 1, as it should, and no key 2.
 fn makes_one_key(alloc: Global, history: &[Request; 3]) -> Result<bool, AllocError> {
-    if plain::held(alloc, history, 2)?.is_some() {
+    if plain_register::held(alloc, history, 2)?.is_some() {
         return Ok(false);
     }
-    match plain::held(alloc, history, 1)? {
+    match plain_register::held(alloc, history, 1)? {
         Some(held) => Ok(is_key_of_history(&held)),
         None => Ok(false),
     }
@@ -363,14 +362,14 @@ fn makes_one_key(alloc: Global, history: &[Request; 3]) -> Result<bool, AllocErr
 /// Whether the last request is refused when it comes again.
 fn is_refused_again(alloc: Global, history: &[Request; 3]) -> Result<bool, AllocError> {
     let state = State::Compromised;
-    let judgement = plain::judgement(alloc, history, &history[2])?;
+    let judgement = plain_register::judgement(alloc, history, &history[2])?;
     Ok(judgement == Some(Refusal::WrongState { state }))
 }
 
 /// Whether each request is accepted.
 fn are_accepted(alloc: Global, history: &[Request; 3]) -> Result<bool, AllocError> {
     let items = [Some(history[0]), Some(history[1]), Some(history[2])];
-    let answers = plain::answers(alloc, &items)?;
+    let answers = plain_register::answers(alloc, &items)?;
     Ok(answers.iter().all(|answer| answer.is_ok()))
 }
 
@@ -378,8 +377,8 @@ fn are_accepted(alloc: Global, history: &[Request; 3]) -> Result<bool, AllocErro
 #[test]
 fn plain_history(rt: HostRuntime) -> Result<(), Fail> {
     let history = history().ok_or("a history")?;
-    assert_eq!(rt; plain::count(&history), 1);
-    assert_eq!(rt; plain::latest(&history).seconds(), 250);
+    assert_eq!(rt; plain_register::count(&history), 1);
+    assert_eq!(rt; plain_register::latest(&history).seconds(), 250);
     assert!(rt; makes_one_key(rt.alloc(), &history)?);
     assert!(rt; is_refused_again(rt.alloc(), &history)?);
     assert!(rt; are_accepted(rt.alloc(), &history)?);

@@ -2,7 +2,7 @@
 //! moment and with another command.
 use crate::fresh_run::fresh_run;
 use crate::rows::lines_of;
-use register_core::{Request, plain, read_request};
+use register_core::{Request, read_request};
 use std::alloc::{AllocError, Global};
 use std::test::Fail;
 
@@ -91,7 +91,7 @@ fn plain_replies(alloc: Global, requests: &[u8]) -> Result<Vec<u8>, AllocError> 
     if lines.len() > 100 {
         return Ok(Vec::new(alloc));
     }
-    lines_of(alloc, &plain::answers(alloc, lines)?)
+    lines_of(alloc, &plain_register::answers(alloc, lines)?)
 }
 
 /// Whether each command of the day is answered again as it was, by the program and by the plain one.

@@ -3,7 +3,7 @@
 use crate::cases::first_wrong;
 use crate::fresh_run::{desk_after, fresh_run};
 use lifecycle_core::Dates;
-use register_core::{Name, Refusal, Reply, Request, plain, read_request, reply_line};
+use register_core::{Name, Refusal, Reply, Request, read_request, reply_line};
 use register_desk::{Finish, Outcome};
 use register_faults::{Interrupted, OneByte, Short};
 use std::alloc::{AllocError, Global};
@@ -71,12 +71,15 @@ fn is_plain(
     if items.len() > 20 {
         return Ok(false);
     }
-    let answers = plain::answers(alloc, &items)?;
+    let answers = plain_register::answers(alloc, &items)?;
     let history = history_of(alloc, &items, &answers)?;
     if history.len() > 20 {
         return Ok(false);
     }
-    let came_to = (plain::latest(&history).seconds(), plain::count(&history));
+    let came_to = (
+        plain_register::latest(&history).seconds(),
+        plain_register::count(&history),
+    );
     Ok(stands == came_to && lines_of(alloc, &answers)?.as_slice() == output)
 }
 

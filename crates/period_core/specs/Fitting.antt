@@ -1,9 +1,9 @@
 -- Which dates fit a usage period, and what Fill and Trim make of dates. All of it is this register's
 -- own.
-use Rattle.std.specs.Prelude.{◌≡◌, ◌≤◌, ℕ, nat_lt, nat_le, min, Bool, true, ◌&&◌, ◌||◌, List, [], ◌∷◌, Option, None, Some, is_some, is_none, Result, Ok, Err, IsTrue, if◌then◌else◌}
+use Rattle.std.specs.Prelude.{◌≡◌, ◌≤◌, ℕ, nat_lt, nat_le, min, Bool, true, not, ◌&&◌, ◌||◌, List, [], ◌∷◌, Option, None, Some, is_some, is_none, Result, Ok, Err, IsTrue, if◌then◌else◌}
 use Rattle.lifecycle_core.specs.declared.dates.Dates.{Dates}
 use Rattle.moment_core.specs.Calendar.{months_after}
-use Rattle.period_core.specs.declared.period.Period.{Period}
+use Rattle.period_core.specs.Period.{Period}
 use Rattle.period_core.specs.declared.filling.DateRefusal.{DateRefusal}
 use Rattle.period_core.specs.declared.filling.DateRefusal.TheVariants.{DateOrder, PeriodTooLong, DateRange}
 
@@ -37,6 +37,11 @@ pub record Fits (p : Period) (d : Dates) : Type 0 where
   pub order : IsTrue (are_in_order d)
   pub originator : IsTrue (is_not_after d.protect_stop (originator_limit p d))
   pub recipient : IsTrue (is_not_after d.deactivation (recipient_limit p d))
+
+-- either use is longer than its months
+abbrev pub is_long : Period → Dates → Bool
+is_long p d =
+    not (is_not_after d.protect_stop (originator_limit p d)) || not (is_not_after d.deactivation (recipient_limit p d))
 
 -- ---- defaults
 

@@ -1,10 +1,31 @@
--- The usage periods of the key types, in months. The months are this register's own; what they
--- bound is modelled on SP 800-57 Part 1 Revision 5, sections 5.3.4 and 5.3.5.
+-- Usage periods, in months. The months and their ranges are this register's own; what they bound is modelled on SP 800-57
+-- Part 1 Revision 5, sections 5.3.4 and 5.3.5.
+use Rattle.std.specs.Prelude.{ℕ, ◌≤◌}
 use Rattle.period_core.specs.declared.key_type.KeyType.{KeyType}
-use Rattle.period_core.specs.declared.key_type.KeyType.TheVariants.{DataEncryption, Authentication, KeyWrapping, PrivateSignature, PrivateAuthentication, PrivateTransport, Master}
-use Rattle.period_core.specs.declared.period.Period.{Period}
+use Rattle.period_core.specs.declared.key_type.KeyType.TheVariants.{DataEncryption, Authentication, KeyWrapping}
+use Rattle.period_core.specs.declared.key_type.KeyType.TheVariants.{PrivateSignature, PrivateAuthentication}
+use Rattle.period_core.specs.declared.key_type.KeyType.TheVariants.{PrivateTransport, Master}
 
--- from Activation to Protect Stop at the longest, and from there to Deactivation
+-- from Activation to Protect Stop at the longest, in which protection is applied, and from there to Deactivation, in
+-- which protected data is still processed
+pub record Period : Type 0 where
+  pub originator : ℕ
+  pub recipient : ℕ
+
+abbrev pub of_months : ℕ → ℕ → Period
+of_months originator recipient = record { originator = originator; recipient = recipient }
+
+-- how many months either use has at most
+abbrev pub max_months : ℕ
+max_months = 1200
+
+-- at least one month of originator use; recipient use may end with it
+pub record IsPeriod (p : Period) : Type 0 where
+  pub some : 1 ≤ p.originator
+  pub originator : p.originator ≤ max_months
+  pub recipient : p.recipient ≤ max_months
+
+-- the period of a type
 abbrev pub periods : KeyType → Period
 periods DataEncryption = record { originator = 24; recipient = 36 }
 periods Authentication = record { originator = 24; recipient = 36 }

@@ -1,7 +1,7 @@
 //! Which dates fit a usage period, and what a date becomes that is not given, rule by rule.
 ghost use Rattle.std.specs.Prelude.{◌≡◌, ◌↔◌, ◌||◌, ◌&&◌, is_some, is_none, IsTrue};
 ghost use Rattle.period_core.specs.Fitting.{Fits, is_not_after, are_in_order, originator_limit};
-ghost use Rattle.period_core.specs.Fitting.{recipient_limit, earlier, cut, with_protect_stop};
+ghost use Rattle.period_core.specs.Fitting.{recipient_limit, is_long, earlier, cut, with_protect_stop};
 ghost use Rattle.period_core.specs.Fitting.{with_deactivation, filled, trimmed};
 
 use crate::period::Period;
@@ -19,7 +19,7 @@ pub fn is_not_after(first: Option<Moment>, second: Option<Moment>) -> bool
 }
 
 /// Whether Activation, Protect Stop and Deactivation are in this order.
-pub(crate) fn are_in_order(dates: &Dates) -> bool
+pub fn are_in_order(dates: &Dates) -> bool
     ensures { result ≡ are_in_order dates.now }
 {
     is_not_after(dates.activation, dates.protect_stop)
@@ -32,7 +32,7 @@ pub(crate) fn originator_limit(period: Period, dates: &Dates) -> Option<Moment>
     ensures { result ≡ originator_limit period dates.now }
 {
     match dates.activation {
-        Some(activation) => activation.plus_months(period.originator),
+        Some(activation) => activation.plus_months(period.originator()),
         None => None,
     }
 }
@@ -42,7 +42,7 @@ pub(crate) fn recipient_limit(period: Period, dates: &Dates) -> Option<Moment>
     ensures { result ≡ recipient_limit period dates.now }
 {
     match dates.protect_stop {
-        Some(protect_stop) => protect_stop.plus_months(period.recipient),
+        Some(protect_stop) => protect_stop.plus_months(period.recipient()),
         None => None,
     }
 }
@@ -54,6 +54,15 @@ pub fn fits(period: Period, dates: &Dates) -> bool
     are_in_order(dates)
         && is_not_after(dates.protect_stop, originator_limit(period, dates))
         && is_not_after(dates.deactivation, recipient_limit(period, dates))
+}
+
+/// Whether either use is longer than its months, whatever the order of the dates. A limit past the last moment limits
+/// nothing.
+pub fn is_long(period: Period, dates: &Dates) -> bool
+    ensures { result ≡ is_long period dates.now }
+{
+    !is_not_after(dates.protect_stop, originator_limit(period, dates))
+        || !is_not_after(dates.deactivation, recipient_limit(period, dates))
 }
 
 /// The earlier of two dates; one that has no value counts as later than every moment.

@@ -17,6 +17,6 @@ pub mod laws;
 mod period;
 
 pub use filling::{DateRefusal, fill, trim};
-pub use fitting::{filled, fits, is_not_after, trimmed};
+pub use fitting::{are_in_order, filled, fits, is_long, is_not_after, trimmed};
 pub use key_type::KeyType;
-pub use period::{Period, period_of};
+pub use period::{MAX_MONTHS, Period, period_of};

@@ -3,29 +3,87 @@ ghost use Rattle.std.specs.Prelude.{◌≡◌};
 ghost use Rattle.period_core.specs.Period.{periods};
 
 use crate::key_type::KeyType;
+use std::marker::Model;
 
-/// The two usage periods of keys, in calendar months.
+/// How many months either use of a period has at most (this register's own).
+pub const MAX_MONTHS: u16 = 1200;
+
+/// Two usage periods, in calendar months: one of originator use, from Activation to Protect Stop, in which protection is
+/// applied, and one of recipient use, from there to Deactivation, in which protected data is still processed.
 #[derive(Clone, Copy, Debug, PartialEq, Eq)]
 pub struct Period {
-    /// From Activation to Protect Stop, in which protection is applied.
-    pub originator: u16,
-    /// From Protect Stop to Deactivation, in which protected data is still processed.
-    pub recipient: u16,
+    originator: u16,
+    recipient: u16,
 }
 
-/// The longest usage periods of a type. The months are this register's own, chosen with the
-/// cryptoperiods that SP 800-57 Part 1 suggests in view.
+impl Model for Period {
+    ghost use Rattle.period_core.specs.Period.{Period, IsPeriod, of_months};
+
+    ghost Value = { Period };
+
+    ghost view = { λ p. of_months p.originator p.recipient };
+
+    ghost invariant = { λ p. IsPeriod (of_months p.originator p.recipient) };
+
+    ghost inverse = { λ p. record { originator = p.originator; recipient = p.recipient } };
+}
+
+impl Period {
+    ghost use Rattle.std.specs.Prelude.{◌↔◌, IsSome, IfSome};
+    ghost use Rattle.period_core.specs.Period.{IsPeriod, of_months};
+
+    /// The period of so many months, or `None` where they are out of range: from 1 to [`MAX_MONTHS`] of originator use, and at
+    /// most [`MAX_MONTHS`] of recipient use.
+    pub fn new(originator: u16, recipient: u16) -> Option<Self>
+        ensures in_range { IsSome result ↔ IsPeriod (of_months originator recipient) }
+        ensures value { IfSome result (λ p. p ≡ of_months originator recipient) }
+    {
+        if (1..=MAX_MONTHS).contains(&originator) && recipient <= MAX_MONTHS {
+            Some(Period {
+                originator,
+                recipient,
+            })
+        } else {
+            None
+        }
+    }
+
+    /// The months of originator use.
+    pub fn originator(self) -> u16
+        ensures { result ≡ self.originator }
+    {
+        self.originator
+    }
+
+    /// The months of recipient use.
+    pub fn recipient(self) -> u16
+        ensures { result ≡ self.recipient }
+    {
+        self.recipient
+    }
+}
+
+/// The usage periods of a type. The months are this register's own, chosen with the cryptoperiods that SP 800-57 Part 1
+/// suggests in view.
 pub fn period_of(kind: KeyType) -> Period
     ensures { result ≡ periods kind }
 {
-    let (originator, recipient) = match kind {
-        KeyType::DataEncryption | KeyType::Authentication | KeyType::KeyWrapping => (24, 36),
-        KeyType::PrivateSignature => (36, 0),
-        KeyType::PrivateAuthentication | KeyType::PrivateTransport => (24, 0),
-        KeyType::Master => (12, 0),
-    };
-    Period {
-        originator,
-        recipient,
+    match kind {
+        KeyType::DataEncryption | KeyType::Authentication | KeyType::KeyWrapping => Period {
+            originator: 24,
+            recipient: 36,
+        },
+        KeyType::PrivateSignature => Period {
+            originator: 36,
+            recipient: 0,
+        },
+        KeyType::PrivateAuthentication | KeyType::PrivateTransport => Period {
+            originator: 24,
+            recipient: 0,
+        },
+        KeyType::Master => Period {
+            originator: 12,
+            recipient: 0,
+        },
     }
 }

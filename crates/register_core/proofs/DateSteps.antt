@@ -9,7 +9,7 @@ use Rattle.lifecycle_core.specs.State.{state_at, is_reached_at}
 use Rattle.lifecycle_core.specs.Reason.{is_compromise}
 use Rattle.moment_core.specs.Calendar.{months_after}
 use Rattle.moment_core.proofs.Forward.{months_forward}
-use Rattle.period_core.specs.declared.period.Period.{Period}
+use Rattle.period_core.specs.Period.{Period}
 use Rattle.period_core.specs.Period.{periods}
 use Rattle.period_core.specs.Fitting.{is_not_after, months_on_date, Fits, KeepsDate, cut, filled, trimmed}
 use Rattle.register_core.specs.declared.request.Command.{Command}

@@ -3,7 +3,7 @@ use Rattle.std.proofs.Common.{◌≡◌, ℕ, nat_le, Bool, true, false, ◌&&�
 use Rattle.std.specs.Prelude.{nat_lt, min, is_some, is_none}
 use Rattle.std.proofs.lemmas.Bool.{ltb-false, le-leb}
 use Rattle.lifecycle_core.specs.declared.dates.Dates.{Dates}
-use Rattle.period_core.specs.declared.period.Period.{Period}
+use Rattle.period_core.specs.Period.{Period}
 use Rattle.period_core.specs.declared.filling.DateRefusal.{DateRefusal}
 use Rattle.period_core.specs.declared.filling.DateRefusal.TheVariants.{DateOrder, PeriodTooLong, DateRange}
 use Rattle.period_core.specs.Fitting.{is_not_after, originator_limit, recipient_limit, Fits, earlier, with_protect_stop, with_deactivation, cut, filled, trimmed, over_limit, out_of_order, out_of_range, unless_refused, fill_of, trim_of}

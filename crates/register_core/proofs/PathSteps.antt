@@ -8,7 +8,7 @@ use Rattle.lifecycle_core.specs.State.{state_at, is_reached_at}
 use Rattle.lifecycle_core.specs.Reason.{is_compromise}
 use Rattle.lifecycle_core.specs.Transition.{IsPath, Leads}
 use Rattle.lifecycle_core.proofs.Transitions.{is_transition, listed}
-use Rattle.period_core.specs.declared.period.Period.{Period}
+use Rattle.period_core.specs.Period.{Period}
 use Rattle.period_core.specs.Fitting.{filled, trimmed}
 use Rattle.register_core.specs.declared.request.Command.{Command}
 use Rattle.register_core.specs.declared.request.Command.TheVariants.{Register as Registers, Activate, SetDates, Revoke, Destroy}

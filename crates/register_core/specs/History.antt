@@ -5,7 +5,7 @@ use Rattle.std.specs.List.{filter_map}
 use Rattle.lifecycle_core.specs.declared.dates.Dates.{Dates}
 use Rattle.period_core.specs.declared.key_type.KeyType.{KeyType}
 use Rattle.period_core.specs.declared.key_type.KeyType.TheVariants.{DataEncryption}
-use Rattle.period_core.specs.declared.period.Period.{Period}
+use Rattle.period_core.specs.Period.{Period}
 use Rattle.period_core.specs.Period.{periods}
 use Rattle.register_core.specs.declared.request.Request.{Request}
 use Rattle.register_core.specs.Subject.{Registration, registration_of, key_of, is_key}

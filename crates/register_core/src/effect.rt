@@ -93,7 +93,7 @@ fn no_later_than(at: Moment, date: Option<Moment>) -> Option<Moment>
 }
 
 /// The dates of a key after the command at the moment, where this is the period of its type.
-pub(crate) fn dates_after(period: Period, dates: &Dates, at: Moment, command: &Command) -> Dates
+pub fn dates_after(period: Period, dates: &Dates, at: Moment, command: &Command) -> Dates
     ensures { result ≡ dates_after period dates.now at command.now }
 {
     match *command {

@@ -224,7 +224,7 @@ fn refused_entry(view: &View, request: &Request) -> Option<Refusal>
 }
 
 /// The first refusal of the request that holds, or `None`: it is accepted.
-pub(crate) fn judge(view: &View, request: &Request) -> Option<Refusal>
+pub fn judge(view: &View, request: &Request) -> Option<Refusal>
     ensures { result ≡ judge_view view.now request.now }
 {
     let at = request.moment;

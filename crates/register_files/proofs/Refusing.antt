@@ -30,32 +30,43 @@ not_none : {X A : Type 0} (o : Option X) (x : X) → o ≡ Some x → o ≡ None
 not_none o x is none = let both = sym is ∙ none in absurd (cc)
 
 -- the register of a history is left, and nothing else
-left_as_registered : (found : Image) (may_leave : Image → Type 0) (h : List Request) → HoldsRegister h found → LeavesFound found may_leave → LeavesInFiles h h may_leave
+left_as_registered : (found : Image) (may_leave : Image → Type 0) (h : List Request) → HoldsRegister h found
+    → LeavesFound found may_leave → LeavesInFiles h h may_leave
 left_as_registered found may_leave h holds leaves left may = ∥∥₁_map (leaves left may) (λ one.
-    inl (record { db = holds.db; tables_are = holds.tables_are; found = subst (HoldsDatabase left) (one.1.holds holds.db.trees holds.found) one.2 }))
+    inl (record { db = holds.db; tables_are = holds.tables_are;
+        found = subst (HoldsDatabase left) (one.1.holds holds.db.trees holds.found) one.2 }))
 
 module _ {S : Type 0} (g : Ghosts S) (may_leave : S → Image → Type 0) (found : Image) where
   -- no register was made
-  pub made_none : (P : Refused S → Type 0) (result : Result S (Refused S)) → IsErrAnd result P → IfErr result (RefusesMaking g may_leave found) → MakesRegister g may_leave found result
+  pub made_none : (P : Refused S → Type 0) (result : Result S (Refused S)) → IsErrAnd result P
+      → IfErr result (RefusesMaking g may_leave found) → MakesRegister g may_leave found result
   made_none P (Ok store) is refuses = absurd is
   made_none P (Err refused) is refuses = record { leaves = λ none. tt; refuses = refuses }
 
   -- files that were not opened at all
-  pub refuses_closed : (refusal : OpenRefusal) (refused : Refused S) → refused ≡ record { refusal = refusal; store = None } → RefusesNoTable refusal → Refuses g may_leave found refused
-  refuses_closed refusal refused is none = subst (Refuses g may_leave found) (sym is) (record { cause = tt; spares = λ h lawful holds. tt; unopened = λ same. none })
+  pub refuses_closed : (refusal : OpenRefusal) (refused : Refused S)
+      → refused ≡ record { refusal = refusal; store = None } → RefusesNoTable refusal
+      → Refuses g may_leave found refused
+  refuses_closed refusal refused is none = subst (Refuses g may_leave found) (sym is)
+      (record { cause = tt; spares = λ h lawful holds. tt; unopened = λ same. none })
 
-  pub refuses_unopened : {X : Type 0} (refusal : OpenRefusal) (result : Result X (Refused S)) → IsErrAnd result (λ refused. refused ≡ record { refusal = refusal; store = None }) → RefusesNoTable refusal
+  pub refuses_unopened : {X : Type 0} (refusal : OpenRefusal) (result : Result X (Refused S))
+      → IsErrAnd result (λ refused. refused ≡ record { refusal = refusal; store = None }) → RefusesNoTable refusal
       → IfErr result (Refuses g may_leave found)
   refuses_unopened refusal (Ok x) is none = absurd is
   refuses_unopened refusal (Err refused) is none = refuses_closed refusal refused is none
 
-  pub refuses_unmade : {X : Type 0} (refusal : OpenRefusal) (result : Result X (Refused S)) → IsErrAnd result (λ refused. refused ≡ record { refusal = refusal; store = None }) → RefusesNoTable refusal
+  pub refuses_unmade : {X : Type 0} (refusal : OpenRefusal) (result : Result X (Refused S))
+      → IsErrAnd result (λ refused. refused ≡ record { refusal = refusal; store = None }) → RefusesNoTable refusal
       → IfErr result (RefusesMaking g may_leave found)
   refuses_unmade refusal (Ok x) is none = absurd is
-  refuses_unmade refusal (Err refused) is none = subst (RefusesMaking g may_leave found) (sym is) (record { cause = tt; unopened = λ same. none })
+  refuses_unmade refusal (Err refused) is none = subst (RefusesMaking g may_leave found) (sym is)
+      (record { cause = tt; unopened = λ same. none })
 
-  module _ (opens_again : (it : S) → IsTrue (g.view it).is_numbered → AreDatabases (g.recovers it) → (left : Image) → may_leave it left → ∥ ((db : Trees) × (g.recovers it db) × HoldsDatabase left db) ∥₁)
-      (old new : Held S) (shows : HasCleanDisk (state g old) → ShowsFiles found (state g old)) (earlier : HasCleanDisk (state g new) → HasCleanDisk (state g old)) where
+  module _ (opens_again : (it : S) → IsTrue (g.view it).is_numbered → AreDatabases (g.recovers it) → (left : Image)
+      → may_leave it left → ∥ ((db : Trees) × (g.recovers it db) × HoldsDatabase left db) ∥₁)
+      (old new : Held S) (shows : HasCleanDisk (state g old) → ShowsFiles found (state g old))
+          (earlier : HasCleanDisk (state g new) → HasCleanDisk (state g old)) where
     module _ (it : S) (closes : ClosesAs g new it) (clean : IsCleanStore (g.view it)) where
       shown : ShowsFiles found (state g old)
       shown = shows (earlier (closes.clean clean))
@@ -65,64 +76,83 @@ module _ {S : Type 0} (g : Ghosts S) (may_leave : S → Image → Type 0) (found
 
       left_as_found : LeavesCommitted (state g old) (state g new) → LeavesFound found (may_leave it)
       left_as_found committed left may = ∥∥₁_map (reopens left may) (λ one.
-          let same : one.0 ≡ (state g old).committed.trees = committed shown.opens.is_open (closes.clean clean) one.0 (closes.outcomes one.0 one.1) in
-          (one.0, record { reads = subst (AreFoundIn found) (sym same) shown.finds.reads; holds = λ other holds. same ∙ shown.finds.holds other holds }, one.2))
+          let same : one.0 ≡ (state g old).committed.trees =
+              committed shown.opens.is_open (closes.clean clean) one.0 (closes.outcomes one.0 one.1) in
+          (one.0, record { reads = subst (AreFoundIn found) (sym same) shown.finds.reads; holds = λ other holds. same
+              ∙ shown.finds.holds other holds }, one.2))
 
       left_as_made : LeavesMade (state g old) (state g new)
-          → (left : Image) → may_leave it left → ∥ ((db : Trees) × HoldsDatabase left db × ((db ≡ (state g old).committed.trees) ⊎ IsMadeIn (state g old) db)) ∥₁
-      left_as_made made left may = ∥∥₁_map (reopens left may) (λ one. (one.0, one.2, made shown.opens.is_open (closes.clean clean) one.0 (closes.outcomes one.0 one.1)))
+          → (left : Image) → may_leave it left → ∥ ((db : Trees) × HoldsDatabase left db
+              × ((db ≡ (state g old).committed.trees) ⊎ IsMadeIn (state g old) db)) ∥₁
+      left_as_made made left may = ∥∥₁_map (reopens left may)
+          (λ one. (one.0, one.2, made shown.opens.is_open (closes.clean clean) one.0 (closes.outcomes one.0 one.1)))
 
     -- an opening that was refused
-    module _ (refusal : OpenRefusal) (reason : HasCleanDisk (state g new) → IsReasonOf (state g old) (state g new) refusal)
-        (spared : (h : List Request) → IsLawful h → HasCommitted (tables h) (state g old) → HasCleanDisk (state g new) → RefusesNoTable refusal)
+    module _ (refusal : OpenRefusal) (reason : HasCleanDisk (state g new)
+        → IsReasonOf (state g old) (state g new) refusal)
+        (spared : (h : List Request) → IsLawful h → HasCommitted (tables h) (state g old) → HasCleanDisk (state g new)
+            → RefusesNoTable refusal)
         (committed : LeavesCommitted (state g old) (state g new)) where
-      refuses_files : (it : S) → ClosesAs g new it → (given : OpenRefusal) → given ≡ refusal → IsCleanStore (g.view it) → RefusesFiles g found given (may_leave it)
+      refuses_files : (it : S) → ClosesAs g new it → (given : OpenRefusal) → given ≡ refusal
+          → IsCleanStore (g.view it) → RefusesFiles g found given (may_leave it)
       refuses_files it closes given same clean = record {
         old = old;
         new = new;
         shows = shown it closes clean;
-        reason = subst (λ (r : OpenRefusal). IsReasonOf (state g old) (state g new) r) (sym same) (reason (closes.clean clean));
+        reason = subst (λ (r : OpenRefusal). IsReasonOf (state g old) (state g new) r) (sym same)
+            (reason (closes.clean clean));
         leaves = left_as_found it closes clean committed;
       }
 
-      spares_register : (it : S) → ClosesAs g new it → (given : OpenRefusal) → given ≡ refusal → (h : List Request) → IsLawful h → HoldsRegister h found → IsCleanStore (g.view it) → SparesRegister h given (may_leave it)
+      spares_register : (it : S) → ClosesAs g new it → (given : OpenRefusal) → given ≡ refusal → (h : List Request)
+          → IsLawful h → HoldsRegister h found → IsCleanStore (g.view it) → SparesRegister h given (may_leave it)
       spares_register it closes given same h lawful holds clean = (
-        subst RefusesNoTable (sym same) (spared h lawful (finds_register h found (state g old) holds (shown it closes clean)) (closes.clean clean)),
+        subst RefusesNoTable (sym same) (spared h lawful
+            (finds_register h found (state g old) holds (shown it closes clean)) (closes.clean clean)),
         left_as_registered found (may_leave it) h holds (left_as_found it closes clean committed),
       )
 
-      pub refuses_opened : {X : Type 0} (unopened : Unopened S) (result : Result X (Refused S)) → IsErrAnd result (GivesBack g unopened) → unopened.refusal ≡ refusal → unopened.connection ≡ new
+      pub refuses_opened : {X : Type 0} (unopened : Unopened S) (result : Result X (Refused S))
+          → IsErrAnd result (GivesBack g unopened) → unopened.refusal ≡ refusal → unopened.connection ≡ new
           → IfErr result (Refuses g may_leave found)
       refuses_opened unopened (Ok x) gives was is = absurd gives
       refuses_opened unopened (Err refused) gives was is =
           let closes = subst (λ (k : Held S). ClosesAs g k gives.store) is gives.closes in
           let same = gives.same ∙ was in
           record {
-            cause = of_some (λ it. IsCleanStore (g.view it) → RefusesFiles g found refused.refusal (may_leave it)) refused.store gives.store gives.back (refuses_files gives.store closes refused.refusal same);
-            spares = λ h lawful holds. of_some (λ it. IsCleanStore (g.view it) → SparesRegister h refused.refusal (may_leave it)) refused.store gives.store gives.back
+            cause = of_some (λ it. IsCleanStore (g.view it) → RefusesFiles g found refused.refusal (may_leave it))
+                refused.store gives.store gives.back (refuses_files gives.store closes refused.refusal same);
+            spares = λ h lawful holds. of_some (λ it. IsCleanStore (g.view it)
+                → SparesRegister h refused.refusal (may_leave it)) refused.store gives.store gives.back
                 (spares_register gives.store closes refused.refusal same h lawful holds);
             unopened = λ none. not_none refused.store gives.store gives.back none;
           }
 
     -- a making that was refused
-    module _ (refusal : OpenRefusal) (no_version : (refusal ≡ Store) ⊎ (refusal ≡ NotARegister)) (there : refusal ≡ NotARegister → HasCleanDisk (state g new) → ShowsTable (state g old))
-        (committed : refusal ≡ NotARegister → LeavesCommitted (state g old) (state g new)) (made : LeavesMade (state g old) (state g new)) where
-      refuses_to_make : (it : S) → ClosesAs g new it → (given : OpenRefusal) → given ≡ refusal → IsCleanStore (g.view it) → RefusesToMake g found given (may_leave it)
+    module _ (refusal : OpenRefusal) (no_version : (refusal ≡ Store) ⊎ (refusal ≡ NotARegister))
+        (there : refusal ≡ NotARegister → HasCleanDisk (state g new) → ShowsTable (state g old))
+        (committed : refusal ≡ NotARegister → LeavesCommitted (state g old) (state g new))
+            (made : LeavesMade (state g old) (state g new)) where
+      refuses_to_make : (it : S) → ClosesAs g new it → (given : OpenRefusal) → given ≡ refusal
+          → IsCleanStore (g.view it) → RefusesToMake g found given (may_leave it)
       refuses_to_make it closes given same clean = record {
         old = old;
         shows = shown it closes clean;
         no_version = subst (λ (r : OpenRefusal). (r ≡ Store) ⊎ (r ≡ NotARegister)) (sym same) no_version;
-        there = λ is. let blamed = sym same ∙ is in (there blamed (closes.clean clean), left_as_found it closes clean (committed blamed));
+        there = λ is. let blamed = sym same ∙ is in
+            (there blamed (closes.clean clean), left_as_found it closes clean (committed blamed));
         leaves = left_as_made it closes clean made;
       }
 
-      pub refuses_making : {X : Type 0} (unopened : Unopened S) (result : Result X (Refused S)) → IsErrAnd result (GivesBack g unopened) → unopened.refusal ≡ refusal → unopened.connection ≡ new
+      pub refuses_making : {X : Type 0} (unopened : Unopened S) (result : Result X (Refused S))
+          → IsErrAnd result (GivesBack g unopened) → unopened.refusal ≡ refusal → unopened.connection ≡ new
           → IfErr result (RefusesMaking g may_leave found)
       refuses_making unopened (Ok x) gives was is = absurd gives
       refuses_making unopened (Err refused) gives was is =
           let closes = subst (λ (k : Held S). ClosesAs g k gives.store) is gives.closes in
           record {
-            cause = of_some (λ it. IsCleanStore (g.view it) → RefusesToMake g found refused.refusal (may_leave it)) refused.store gives.store gives.back
+            cause = of_some (λ it. IsCleanStore (g.view it) → RefusesToMake g found refused.refusal (may_leave it))
+                refused.store gives.store gives.back
                 (refuses_to_make gives.store closes refused.refusal (gives.same ∙ was));
             unopened = λ none. not_none refused.store gives.store gives.back none;
           }

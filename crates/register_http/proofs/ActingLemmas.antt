@@ -90,7 +90,8 @@ module _ {S : Type 0} (g : Ghosts S) where
     }
 
     -- a text was made of the answer, or memory for it gave out
-    pub acts_text : (made : Result (String Global) AllocError) (result : Result (String Global) End) → Went → ChangesNothing g old new ⊎ MayChange asked result
+    pub acts_text : (made : Result (String Global) AllocError) (result : Result (String Global) End) → Went
+        → ChangesNothing g old new ⊎ MayChange asked result
         → ((rejection : Rejection) → asked ≡ Reject rejection → (new ≡ old) × IfOk made (IsTextOf (reply_of rejection)))
         → ((h : List Request) → StandsFor g old h → IsClean g new → IfOk made (IsTextOf (reply_to h moment asked)))
         → IfOk made (λ s. result ≡ Ok s) → OnErr made (result ≡ Err Memory) → Acts g moment asked old new result
@@ -125,7 +126,8 @@ module _ {S : Type 0} (g : Ghosts S) where
         → ((h : List Request) → StandsFor g old h → StandsFor g new h)
         → ((h : List Request) → StandsFor g old h → IsWhole old → IsClean g new → LeavesEither g h (history_after h moment asked) new)
         → ChangesNothing g old new ⊎ MayChange asked (Err end) → result ≡ Err end → Acts g moment asked old new result
-    acts_end end result uses asks clean ends stands leaves changes is = subst (Acts g moment asked old new) (sym is) (record {
+    acts_end end result uses asks clean ends stands leaves changes is =
+        subst (Acts g moment asked old new) (sym is) (record {
       changes = changes;
       clean = clean;
       ends = stops_by old new end ends;
@@ -142,7 +144,8 @@ module _ {S : Type 0} (g : Ghosts S) where
         → result ≡ Err end → Acts g moment asked old new result
     question_ends end result question ends reads is =
         acts_end end result question.uses question.asks reads.clean ends (λ h s. stands_still h old new reads s)
-        (λ h s whole clean. subst (λ k. LeavesEither g h k new) (sym (question.same h)) (leaves_still g h old new reads s whole clean)) (inl reads) is
+        (λ h s whole clean. subst (λ k. LeavesEither g h k new) (sym (question.same h))
+            (leaves_still g h old new reads s whole clean)) (inl reads) is
 
     -- the request was applied, and answered
     pub went_applied : (h' : List Request → List Request) → ((h : List Request) → history_after h moment asked ≡ h' h) → (IsClean g new → IsClean g old) → IsWhole old × IsWhole new
@@ -164,7 +167,8 @@ module _ {S : Type 0} (g : Ghosts S) where
     leaves_applied WriteFault h other ends s whole clean store same = absurd ends
     leaves_applied BadHeader h other ends s whole clean store same = absurd ends
 
-    changes_applied : (end : End) → EndsBy old new end → (end ≢ Store → ChangesNothing g old new) → MayChange asked (Err Store) → ChangesNothing g old new ⊎ MayChange asked (Err end)
+    changes_applied : (end : End) → EndsBy old new end → (end ≢ Store → ChangesNothing g old new)
+        → MayChange asked (Err Store) → ChangesNothing g old new ⊎ MayChange asked (Err end)
     changes_applied Memory ends same may = inl (same (λ e. absurd (cc)))
     changes_applied Store ends same may = inr may
     changes_applied Broken ends same may = inl (same (λ e. absurd (cc)))
@@ -177,22 +181,32 @@ module _ {S : Type 0} (g : Ghosts S) where
         → (IsClean g new → IsClean g old) → EndsBy old new end → ((h : List Request) → StandsFor g old h → StandsFor g new h)
         → (h' : List Request → List Request) → ((h : List Request) → history_after h moment asked ≡ h' h)
         → ((h : List Request) → StandsFor g old h → IsClean g new → end ≡ Store → LeavesEither g h (h' h) new)
-        → (end ≢ Store → ChangesNothing g old new) → MayChange asked (Err Store) → result ≡ Err end → Acts g moment asked old new result
+        → (end ≢ Store → ChangesNothing g old new) → MayChange asked (Err Store) → result ≡ Err end
+            → Acts g moment asked old new result
     applied_ends end result uses asks clean ends stands h' after store same may is =
         acts_end end result uses asks clean ends stands
-        (λ h s whole was_clean. subst (λ k. LeavesEither g h k new) (sym (after h)) (leaves_applied end h (h' h) ends s whole was_clean (store h s was_clean) same))
+        (λ h s whole was_clean. subst (λ k. LeavesEither g h k new) (sym (after h))
+            (leaves_applied end h (h' h) ends s whole was_clean (store h s was_clean) same))
         (changes_applied end ends same may) is
 
   -- the desk is as it was
   pub changes_none : (desk : Desk S g) → ChangesNothing g desk desk
-  changes_none desk = record { clean = λ clean. clean; counts = record { latest = refl; keys = refl }; rows = λ t sees. sees; stop = λ t sees whole clean. (sees whole clean).leaves }
+  changes_none desk = record { clean = λ clean. clean; counts = record { latest = refl; keys = refl };
+      rows = λ t sees. sees; stop = λ t sees whole clean. (sees whole clean).leaves }
 
   -- an answer that is no acceptance changed nothing, and what an acceptance is told is its reply
-  pub changes_answered : (old new : Desk S g) (answer : Answer) (made : Result (String Global) AllocError) (result : Result (String Global) End) → UnlessAccepted answer (ChangesNothing g old new)
-      → IfOk made (IsTextOf (outcome_reply (outcome answer))) → IfOk made (λ s. result ≡ Ok s) → OnErr made (result ≡ Err Memory)
-      → ChangesNothing g old new ⊎ ((result ≡ Err Store) ⊎ ((reply : core.Reply) × IfOk result (IsTextOf (outcome_reply (Ok reply)))))
-  changes_answered old new (Accepted reply) (Ok s) result same text ok err = inr (inr (reply, subst (λ (r : Result (String Global) End). IfOk r (IsTextOf (outcome_reply (Ok reply)))) (sym ok) text))
-  changes_answered old new (Accepted reply) (Err e) result same text ok err = inr (inr (reply, subst (λ (r : Result (String Global) End). IfOk r (IsTextOf (outcome_reply (Ok reply)))) (sym err) tt))
+  pub changes_answered : (old new : Desk S g) (answer : Answer) (made : Result (String Global) AllocError)
+      (result : Result (String Global) End) → UnlessAccepted answer (ChangesNothing g old new)
+      → IfOk made (IsTextOf (outcome_reply (outcome answer))) → IfOk made (λ s. result ≡ Ok s)
+          → OnErr made (result ≡ Err Memory)
+      → ChangesNothing g old new ⊎ ((result ≡ Err Store)
+          ⊎ ((reply : core.Reply) × IfOk result (IsTextOf (outcome_reply (Ok reply)))))
+  changes_answered old new (Accepted reply) (Ok s) result same text ok err =
+      inr (inr (reply, subst (λ (r : Result (String Global) End). IfOk r (IsTextOf (outcome_reply (Ok reply))))
+      (sym ok) text))
+  changes_answered old new (Accepted reply) (Err e) result same text ok err =
+      inr (inr (reply, subst (λ (r : Result (String Global) End). IfOk r (IsTextOf (outcome_reply (Ok reply))))
+      (sym err) tt))
   changes_answered old new (Repeated first) made result same text ok err = inl same
   changes_answered old new (Refused refusal) made result same text ok err = inl same
 

@@ -3,9 +3,7 @@ use super::keys::names_of;
 use lifecycle_core::State;
 use moment_core::Moment;
 use period_core::KeyType;
-use register_core::{
-    Answer, Held, Name, Names, Refusal, Reply, Request, plain, read_request, reply_line,
-};
+use register_core::{Answer, Held, Name, Names, Refusal, Reply, Request, read_request, reply_line};
 use std::alloc::{AllocError, Global};
 use std::process::Abort;
 use std::test::Fail;
@@ -64,12 +62,12 @@ fn key_after(rt: &impl Abort, alloc: Global, rows: &[Row]) -> Result<Option<Held
         .map(|(line, _)| read_request(line.as_bytes()))
         .collect(alloc)?;
     assert!(rt; items.len() < 100);
-    let answers = plain::answers(alloc, &items)?;
+    let answers = plain_register::answers(alloc, &items)?;
     assert_eq!(rt; answers.len(), rows.len());
     assert_eq!(rt; first_wrong(&answers, rows), None);
     let accepted = accepted_of(alloc, &items, &answers)?;
     assert!(rt; accepted.len() < 100);
-    plain::held(alloc, &accepted, 1)
+    plain_register::held(alloc, &accepted, 1)
 }
 
 /// The same of the lines of [`APPROVED`] and of those that follow.
@@ -138,9 +136,9 @@ fn a_key_is_told_by_its_history(rt: HostRuntime) -> Result<(), Fail> {
         .filter_map(|line| read_request(line.as_bytes()))
         .collect(rt.alloc())?;
     assert_eq!(rt; history.len(), 5);
-    assert_eq!(rt; plain::kind_of_key(&history, 1), KeyType::Master);
-    assert_eq!(rt; plain::owner(&history, 1), Name::new(b"eve"));
-    let key = plain::held(rt.alloc(), &history, 1)?.ok_or("a key")?;
+    assert_eq!(rt; plain_register::kind_of_key(&history, 1), KeyType::Master);
+    assert_eq!(rt; plain_register::owner(&history, 1), Name::new(b"eve"));
+    let key = plain_register::held(rt.alloc(), &history, 1)?.ok_or("a key")?;
     assert!(rt; are_names(&key.custodians, &["dan"]));
     Ok(())
 }
