@@ -135,7 +135,7 @@ module _ {S : Type 0} (g : store.Ghosts S) where
     }
 
   -- where an open connection sees what it saw, whatever came of the call, nothing is changed
-  sees_nothing : {T : Type 0} (Found : Tables → T → Type 0) (old new : Desk S g) (after : Counted S g)
+  pub sees_nothing : {T : Type 0} (Found : Tables → T → Type 0) (old new : Desk S g) (after : Counted S g)
       (r : Result T StoreError) → ReadsBy Found (seen g old.connection) (seen g after) r
       → KeepsSight (seen g old.connection) (seen g after) → new.connection ≡ after → KeepsCounts old new
       → new.is_broken ≡ old.is_broken → ChangesNothing g old new
@@ -164,13 +164,6 @@ module _ {S : Type 0} (g : store.Ghosts S) where
         subst (λ c. Leaves t (seen g c)) (sym same) (still_leaves t (seen g old.connection) (seen g after)
         (sees whole (reads.clean clean_after)).leaves reads.survives clean_after);
   }
-
-  -- so it is of a desk of which only the connection is another
-  pub sees_still : {T : Type 0} (Found : Tables → T → Type 0) (old : Desk S g) (after : Counted S g)
-      (r : Result T StoreError) → ReadsBy Found (seen g old.connection) (seen g after) r
-      → KeepsSight (seen g old.connection) (seen g after) → ChangesNothing g old (record old { connection = after })
-  sees_still Found old after r reads sight =
-      sees_nothing Found old _ after r reads sight refl (record { latest = refl; keys = refl }) refl
 
   -- what was found is of the tables that the desk saw
   module _ {T : Type 0} (Found : Tables → T → Type 0) (old : Desk S g) (after : Counted S g) (value : T)

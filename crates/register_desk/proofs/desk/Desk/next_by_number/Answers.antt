@@ -1,10 +1,10 @@
-use Rattle.std.proofs.Common.{◌+◌, Some, sym, ap, ◌∙◌, arith}
+use Rattle.std.proofs.Common.{◌+◌, Some, refl, sym, ap, ◌∙◌, arith}
 use Rattle.std.specs.Option.{option_map}
 use Rattle.register_store.specs.Reading.{HasRow}
 use Rattle.register_desk.specs.Register.{tables}
 use Rattle.register_desk.specs.Rows.{row_of}
 use Rattle.register_desk.proofs.Grows.{keys_counted}
-use Rattle.register_desk.proofs.Readings.{found_in, sees_still}
+use Rattle.register_desk.proofs.Readings.{found_in, sees_nothing}
 use Rattle.register_desk.proofs.RowWalk.{none_behind}
 use Rattle.register_desk.proofs.desk.Desk.next_by_number.Goals as goal
 
@@ -28,12 +28,15 @@ returns-in-None-clause-next g c h stands whole clean =
 
 pub returns-in_err-key-clause-reads : goal.returns-in_err-key-clause-reads
 returns-in_err-key-clause-reads g c =
-    sees_still g.S.Store (HasRow (c.args.last + 1)) _ _ _ c.each_key.ensures.reads c.each_key.ensures.sight
+    sees_nothing g.S.Store (HasRow (c.args.last + 1)) _ _ _ _ c.each_key.ensures.reads c.each_key.ensures.sight refl
+    (record { latest = refl; keys = refl }) refl
 
 pub returns-in-Some-clause-reads : goal.returns-in-Some-clause-reads
 returns-in-Some-clause-reads g c =
-    sees_still g.S.Store (HasRow (c.args.last + 1)) _ _ _ c.each_key.ensures.reads c.each_key.ensures.sight
+    sees_nothing g.S.Store (HasRow (c.args.last + 1)) _ _ _ _ c.each_key.ensures.reads c.each_key.ensures.sight refl
+    (record { latest = refl; keys = refl }) refl
 
 pub returns-in-None-clause-reads : goal.returns-in-None-clause-reads
 returns-in-None-clause-reads g c =
-    sees_still g.S.Store (HasRow (c.args.last + 1)) _ _ _ c.each_key.ensures.reads c.each_key.ensures.sight
+    sees_nothing g.S.Store (HasRow (c.args.last + 1)) _ _ _ _ c.each_key.ensures.reads c.each_key.ensures.sight refl
+    (record { latest = refl; keys = refl }) refl
