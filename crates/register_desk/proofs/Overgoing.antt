@@ -33,8 +33,9 @@ use Rattle.register_store.specs.Making.{AreRightAt, advanced, held_by, where_num
 use Rattle.register_store.specs.Reading.{seen}
 use Rattle.register_store.specs.Schema.{Holds}
 use Rattle.register_store.specs.Tables.{Tables}
+use Rattle.register_desk.specs.Custody.{key_needed}
 use Rattle.register_desk.specs.declared.desk.Desk.{Desk}
-use Rattle.register_desk.specs.Leaving.{IsOverAfter, IsOverWithRequest}
+use Rattle.register_desk.specs.Leaving.{AcceptsOver, IsOverAfter, IsOverWithRequest}
 use Rattle.register_desk.specs.Register.{IsOver}
 use Rattle.register_desk.specs.Step.{CanTake, with_request}
 
@@ -97,7 +98,7 @@ module _ {S : Type 0} (g : store.Ghosts S) (old new : Desk S g) (t : Tables) (q 
     (at : given.moment ≡ q.moment)
     (is : made ≡ change_by key q)
     (told : given ≡ reply_to old.keys q.moment made)
-    (accepted : judge old.latest old.keys key q ≡ None) where
+    (accepted : judge old.latest old.keys key q ≡ None) (seen_so : key ≡ key_needed t q) where
   abbrev after : Tables
   after = with_request (length t.keys) made (kept_with q given) t
 
@@ -113,6 +114,17 @@ module _ {S : Type 0} (g : store.Ghosts S) (old new : Desk S g) (t : Tables) (q 
       let right = subst (λ (c : Change). IsRightChange q.moment c) (sym is) (right_change (subject q.command) key q) in
       right_with made t given.moment (subst (λ (m : ℕ). IsRightChange m made) (sym at) right)
 
+  -- the decision rests on these tables
+  pub decided_over : AcceptsOver t q made given
+  decided_over = record {
+    accepted =
+        subst (λ (n : ℕ). judge n (length t.keys) (key_needed t q) q ≡ None) over.latest_is
+        (subst (λ (n : ℕ). judge old.latest n (key_needed t q) q ≡ None) (sym over.counted)
+        (subst (λ (k : Option Held). judge old.latest old.keys k q ≡ None) seen_so accepted));
+    change_is = is ∙ ap (λ (k : Option Held). change_by k q) seen_so;
+    reply_is = told ∙ ap (λ (n : ℕ). reply_to n q.moment made) (sym over.counted);
+  }
+
   pub over_request : {A E : Type 0} (r : Result A E)
       → TransactsBy (tabled.Makes (CanTake old.keys old.latest (kept_with q given))
       (with_request old.keys made (kept_with q given)))
@@ -122,13 +134,8 @@ module _ {S : Type 0} (g : store.Ghosts S) (old new : Desk S g) (t : Tables) (q 
       → OnOk r (IsOverWithRequest g t q given new)
   over_request (Err e) written settled moment counted = tt
   over_request (Ok x) written settled moment counted = record {
-    key = key;
-    accepted =
-        subst (λ (n : ℕ). judge n (length t.keys) key q ≡ None) over.latest_is
-        (subst (λ (n : ℕ). judge old.latest n key q ≡ None) (sym over.counted) accepted);
     change = made;
-    decided = is;
-    told = told ∙ ap (λ (n : ℕ). reply_to n q.moment made) (sym over.counted);
+    decision = decided_over;
     over = record {
       latest_is = moment;
       keys_are = counted ∙ ap (λ (n : ℕ). n + made_count made) (sym over.counted);
