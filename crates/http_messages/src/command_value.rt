@@ -285,6 +285,7 @@ fn command_with(kind: CommandKind, members: &Map<String, Value>) -> Option<Comma
     ensures none { IfNone result ((c : Command) → IsCommand c → kind_of c ≡ kind →
         HasMembers (members_view members.now.entries) (fields_of c) → ⊥) }
 {
+    // By reference: the checker makes no proof of a `?` on fields that are held by value.
     match &fields_with(kind.shape(), members) {
         Some(fields) => Command::with_fields(kind, fields),
         None => None,

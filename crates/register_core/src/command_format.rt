@@ -135,6 +135,7 @@ pub(crate) fn command_of(bytes: &[u8]) -> Option<Command>
 {
     let (word, behind) = split_word(bytes);
     let kind = command_kind_of(word)?;
+    // By reference: the checker makes no proof of a `?` on fields that are held by value.
     match &fields_behind(kind.shape(), behind) {
         Some(fields) => Command::with_fields(kind, fields),
         None => None,
