@@ -11,22 +11,26 @@ use Rattle.register_core.specs.CommandRule.{kind_of}
 use Rattle.register_core.specs.Reading.{key_type_at, reason_at}
 use Rattle.register_core.specs.declared.command_kind.CommandKind.{CommandKind}
 use Rattle.register_core.specs.declared.request.Command.{Command}
-use Rattle.register_core.specs.declared.request.Command.TheVariants.{Register, SetDates, Revoke, Advance}
+use Rattle.register_core.specs.declared.fields.Fields.{Fields}
+use Rattle.register_core.specs.declared.fields.Fields.TheVariants.{Nothing, Registration, DateEdits, Revocation}
+use Rattle.register_core.specs.CommandKind.{command_shape}
+use Rattle.register_core.specs.Fields.{fields_of, shape_of}
 use Rattle.register_core.specs.declared.request.Edit.{Edit}
 use Rattle.register_core.specs.declared.request.Edit.TheVariants.{Keep, Clear, Set}
-use Rattle.register_core.proofs.Fields.{some_is}
+use Rattle.register_core.proofs.Commands.{has_shape, same_command}
+use Rattle.register_core.proofs.FieldReading.{some_is}
 use Rattle.register_core.proofs.Readers.{key_type_reader, reason_reader, same_kind}
-use Rattle.http_messages.specs.CommandValue.{command_data, command_members, kind_data, date_data, edit_data}
+use Rattle.http_messages.specs.CommandValue.{command_data, fields_members, kind_data, date_data, edit_data}
 
 -- ---- the kind of a value
 
--- the value of a command's kind stands in the member `kind`, whatever the command
-kind_member : (kind : Data) (c : Command) → get (codes "kind") (object (command_members kind c)) ≡ Some kind
-kind_member kind Advance = refl
-kind_member kind c = refl
+-- the value of a command's kind stands in the member `kind`, whatever its fields
+kind_member : (kind : Data) (f : Fields) → get (codes "kind") (object (fields_members kind f)) ≡ Some kind
+kind_member kind Nothing = refl
+kind_member kind f = refl
 
 kind_found : (c : Command) → get (codes "kind") (command_data c) ≡ Some (kind_data (kind_of c))
-kind_found c = kind_member (kind_data (kind_of c)) c
+kind_found c = kind_member (kind_data (kind_of c)) (fields_of c)
 
 one_kind : (j k : CommandKind) → Some (kind_data j) ≡ Some (kind_data k) → j ≡ k
 one_kind j k e = same_kind j k cc
@@ -64,27 +68,26 @@ one_reason : (a b : Reason) → reason_code a ≡ reason_code b → a ≡ b
 one_reason a b e =
     some_is a b (sym (reason_reader.again a tt) ∙ ap (λ code. reason_at (decimal code)) e ∙ reason_reader.again b tt)
 
--- ---- commands
+-- ---- fields and commands
 
--- The last two rows have every other two commands: of two kinds, or with members that show their fields as they are.
-same_members : (kind : Data) (p q : Command) → kind_of p ≡ kind_of q
-    → command_members kind p ≡ command_members kind q → p ≡ q
-same_members kind (Register type owner a p d purpose) (Register other name a2 p2 d2 aim) same e =
+-- The last two rows have every other two fields: of two shapes, or such that the members show them as they are.
+same_members : (kind : Data) (p q : Fields) → shape_of p ≡ shape_of q → fields_members kind p ≡ fields_members kind q → p ≡ q
+same_members kind (Registration type owner a p d purpose) (Registration other name a2 p2 d2 aim) same e =
     let types = one_type type other cc in
     let activations = one_date a a2 cc in
     let protect_stops = one_date p p2 cc in
     let deactivations = one_date d d2 cc in
     cc (types, activations, protect_stops, deactivations)
-same_members kind (SetDates key a p d) (SetDates other a2 p2 d2) same e =
+same_members kind (DateEdits key a p d) (DateEdits other a2 p2 d2) same e =
     let activations = one_edit a a2 cc in
     let protect_stops = one_edit p p2 cc in
     let deactivations = one_edit d d2 cc in
     cc (activations, protect_stops, deactivations)
-same_members kind (Revoke key reason occurrence) (Revoke other why date) same e =
+same_members kind (Revocation key reason occurrence) (Revocation other why date) same e =
     let reasons = one_reason reason why cc in
     let occurrences = one_date occurrence date cc in
     cc (reasons, occurrences)
-same_members kind p Advance same e = cc
+same_members kind p Nothing same e = cc
 same_members kind p q same e = cc
 
 some_members : (a b : Members) → object a ≡ object b → a ≡ b
@@ -94,5 +97,7 @@ pub one_command_data : (p q : Command) → command_data p ≡ command_data q →
 one_command_data p q e =
     let found = sym (kind_found p) ∙ ap (get (codes "kind")) e ∙ kind_found q in
     let same : kind_of p ≡ kind_of q = one_kind (kind_of p) (kind_of q) found in
-    same_members (kind_data (kind_of p)) p q same
-    (some_members _ _ (e ∙ ap (λ kind. object (command_members (kind_data kind) q)) (sym same)))
+    let shapes = has_shape p ∙ ap command_shape same ∙ sym (has_shape q) in
+    let members = e ∙ ap (λ kind. object (fields_members (kind_data kind) (fields_of q))) (sym same) in
+    same_command p q same
+    (same_members (kind_data (kind_of p)) (fields_of p) (fields_of q) shapes (some_members _ _ members))

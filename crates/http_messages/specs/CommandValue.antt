@@ -6,10 +6,13 @@ use Rattle.register_core.specs.CommandKind.{command_kind_text}
 use Rattle.register_core.specs.CommandRule.{kind_of}
 use Rattle.register_core.specs.declared.command_kind.CommandKind.{CommandKind}
 use Rattle.register_core.specs.declared.request.Command.{Command}
-use Rattle.register_core.specs.declared.request.Command.TheVariants.{Register, Activate, SetDates}
-use Rattle.register_core.specs.declared.request.Command.TheVariants.{Revoke, Assign, AddCustodian}
-use Rattle.register_core.specs.declared.request.Command.TheVariants.{RemoveCustodian, Approve}
-use Rattle.register_core.specs.declared.request.Command.TheVariants.{Withdraw, Destroy, Advance}
+use Rattle.register_core.specs.declared.fields.Fields.{Fields}
+use Rattle.register_core.specs.declared.fields.Fields.TheVariants.{Nothing, Key, KeyAndName}
+use Rattle.register_core.specs.declared.fields.Fields.TheVariants.{KeyAndOwner, Registration}
+use Rattle.register_core.specs.declared.fields.Fields.TheVariants.{DateEdits, Revocation}
+use Rattle.register_core.specs.declared.fields.Shape.{Shape}
+use Rattle.register_core.specs.Fields.{fields_of, shape_of}
+use Rattle.register_core.specs.Request.{AreFields}
 use Rattle.register_core.specs.declared.request.Edit.{Edit}
 use Rattle.register_core.specs.declared.request.Edit.TheVariants.{Keep, Clear, Set}
 use Rattle.serde_json.specs.Data.{Data, null, number, unsigned, string, object, Members, member, no_members}
@@ -30,7 +33,7 @@ edit_data Keep = string (codes "keep")
 edit_data Clear = null
 edit_data (Set date) = number_data date
 
--- ---- the members of each shape of command, in the order of their names' bytes
+-- ---- the members of each shape, in the order of their names' bytes
 
 abbrev pub keyed_members : Data → Data → Members
 keyed_members key kind = member (codes "key") key (member (codes "kind") kind no_members)
@@ -58,38 +61,38 @@ register_members activation deactivation kind owner protect_stop purpose type =
     (member (codes "protect_stop") protect_stop (member (codes "purpose") purpose
     (member (codes "type") type no_members))))))
 
--- ---- commands
+-- ---- fields and commands
 
 -- the value of a kind
 abbrev pub kind_data : CommandKind → Data
 kind_data kind = string (command_kind_text kind)
 
--- the members of a command, with this value of its kind among them
-abbrev pub command_members : Data → Command → Members
-command_members kind (Register type owner activation protect_stop deactivation purpose) =
+-- the members of fields, with this value of the command's kind among them
+abbrev pub fields_members : Data → Fields → Members
+fields_members kind Nothing = member (codes "kind") kind no_members
+fields_members kind (Key key) = keyed_members (number_data key) kind
+fields_members kind (KeyAndName key name) =
+    named_members (codes "name") (number_data key) kind (string name)
+fields_members kind (KeyAndOwner key owner) =
+    named_members (codes "owner") (number_data key) kind (string owner)
+fields_members kind (Registration type owner activation protect_stop deactivation purpose) =
     register_members (date_data activation) (date_data deactivation) kind (string owner)
     (date_data protect_stop) (string purpose) (string (key_type_text type))
-command_members kind (Activate key) = keyed_members (number_data key) kind
-command_members kind (SetDates key activation protect_stop deactivation) =
+fields_members kind (DateEdits key activation protect_stop deactivation) =
     set_members (edit_data activation) (edit_data deactivation) (number_data key) kind
     (edit_data protect_stop)
-command_members kind (Revoke key reason occurrence) =
+fields_members kind (Revocation key reason occurrence) =
     revoke_members (number_data key) kind (date_data occurrence) (number_data (reason_code reason))
-command_members kind (Assign key owner) =
-    named_members (codes "owner") (number_data key) kind (string owner)
-command_members kind (AddCustodian key name) =
-    named_members (codes "name") (number_data key) kind (string name)
-command_members kind (RemoveCustodian key name) =
-    named_members (codes "name") (number_data key) kind (string name)
-command_members kind (Approve key) = keyed_members (number_data key) kind
-command_members kind (Withdraw key) = keyed_members (number_data key) kind
-command_members kind (Destroy key) = keyed_members (number_data key) kind
-command_members kind Advance = member (codes "kind") kind no_members
 
 -- the JSON value of a command
 abbrev pub command_data : Command → Data
-command_data c = object (command_members (kind_data (kind_of c)) c)
+command_data c = object (fields_members (kind_data (kind_of c)) (fields_of c))
 
--- the members are a command's, whatever the value of its kind among them
-abbrev pub HasMembers : Members → Command → Type 0
-HasMembers members c = (kind : Data) × (members ≡ command_members kind c)
+-- the members are those of fields, whatever the value of the kind among them
+abbrev pub HasMembers : Members → Fields → Type 0
+HasMembers members fields = (kind : Data) × (members ≡ fields_members kind fields)
+
+-- the members are those of fields of this shape, in their ranges
+abbrev pub IsShaped : Shape → Members → Fields → Type 0
+IsShaped shape members fields =
+    AreFields fields × (shape_of fields ≡ shape) × HasMembers members fields

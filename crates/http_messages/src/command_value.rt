@@ -1,4 +1,4 @@
-//! The command that a JSON value is: first its kind, and then the members of that kind.
+//! The command that a JSON value is: first its kind, and then the members of the fields of that kind's shape.
 ghost use Rattle.std.specs.Prelude.{◌≡◌, ◌≢◌, ℕ, List, Option, IfSome, IfNone};
 ghost use Rattle.serde_json.specs.Data.{Data, string};
 ghost use Rattle.serde_json.specs.View.{view, members_view};
@@ -6,14 +6,16 @@ ghost use Rattle.period_core.specs.declared.key_type.KeyType.{KeyType};
 ghost use Rattle.lifecycle_core.specs.declared.reason.Reason.{Reason};
 ghost use Rattle.register_core.specs.declared.request.Edit.{Edit};
 ghost use Rattle.register_core.specs.declared.request.Command.{Command};
-ghost use Rattle.register_core.specs.declared.command_kind.CommandKind.TheVariants as kinds;
-ghost use Rattle.register_core.specs.declared.request.Command.TheVariants.{Register};
-ghost use Rattle.register_core.specs.declared.request.Command.TheVariants.{SetDates, Revoke};
-ghost use Rattle.register_core.specs.declared.request.Command.TheVariants.{Advance};
+ghost use Rattle.register_core.specs.declared.fields.Fields.{Fields};
+ghost use Rattle.register_core.specs.declared.fields.Fields.TheVariants.{Nothing, Registration};
+ghost use Rattle.register_core.specs.declared.fields.Fields.TheVariants.{DateEdits, Revocation};
+ghost use Rattle.register_core.specs.declared.fields.Shape.TheVariants as shapes;
+ghost use Rattle.register_core.specs.Fields.{fields_of};
 ghost use Rattle.register_core.specs.Name.{IsName};
-ghost use Rattle.register_core.specs.Request.{IsCommand, IsKeyNumber};
+ghost use Rattle.register_core.specs.Request.{AreFields, IsCommand, IsKeyNumber};
 ghost use Rattle.register_core.specs.CommandRule.{kind_of};
 ghost use Rattle.http_messages.specs.CommandValue.{number_data, command_data, HasMembers};
+ghost use Rattle.http_messages.specs.CommandValue.{IsShaped};
 ghost use Rattle.http_messages.specs.CommandValue.{keyed_members, named_members, revoke_members};
 ghost use Rattle.http_messages.specs.CommandValue.{set_members, register_members};
 
@@ -21,7 +23,7 @@ use crate::members::{
     command_kind_of, date_of, edit_of, key_of, key_type_of, last_named, name_of, next_named,
     purpose_of, reason_of,
 };
-use register_core::{Command, CommandKind, Name};
+use register_core::{Command, CommandKind, Fields, Name, Shape};
 use serde_json::{Map, Value};
 
 /// The value of the key among members that name a key alone.
@@ -47,15 +49,14 @@ fn keyed_of(members: &Map<String, Value>) -> Option<u32>
     key_of(keyed_value_of(members)?)
 }
 
-/// An advance, which has no member beside its kind.
-fn advance_of(members: &Map<String, Value>) -> Option<Command>
-    ensures found { IfSome result (λ c. IsCommand c × (kind_of c ≡ kinds.Advance) ×
-        HasMembers (members_view members.now.entries) c) }
-    ensures none { IfNone result (HasMembers (members_view members.now.entries) Advance → ⊥) }
+/// No fields: there is no member beside the kind.
+fn nothing_of(members: &Map<String, Value>) -> Option<Fields>
+    ensures found { IfSome result (IsShaped shapes.Nothing (members_view members.now.entries)) }
+    ensures none { IfNone result (HasMembers (members_view members.now.entries) Nothing → ⊥) }
 {
     let mut rest = members.iter();
     let _kind = last_named(&mut rest, "kind")?;
-    Some(Command::Advance)
+    Some(Fields::Nothing)
 }
 
 /// The values of the members that name a key, and a name.
@@ -121,13 +122,13 @@ fn revoke_members_of<'v>(members: &'v Map<String, Value>) -> Option<RevokeMember
     })
 }
 
-/// A revocation. It has an occurrence only where its reason is a compromise.
-fn revoke_of(members: &Map<String, Value>) -> Option<Command>
-    ensures found { IfSome result (λ c. IsCommand c × (kind_of c ≡ kinds.Revoke) ×
-        HasMembers (members_view members.now.entries) c) }
+/// The fields of a revocation. It has an occurrence only where its reason is a compromise.
+fn revoke_of(members: &Map<String, Value>) -> Option<Fields>
+    ensures found { IfSome result
+        (IsShaped shapes.Revocation (members_view members.now.entries)) }
     ensures none { IfNone result ((key : ℕ) (reason : Reason) (occurrence : Option ℕ) →
-        IsCommand (Revoke key reason occurrence) →
-        HasMembers (members_view members.now.entries) (Revoke key reason occurrence) → ⊥) }
+        AreFields (Revocation key reason occurrence) →
+        HasMembers (members_view members.now.entries) (Revocation key reason occurrence) → ⊥) }
 {
     let values = revoke_members_of(members)?;
     let key = key_of(values.key)?;
@@ -136,7 +137,7 @@ fn revoke_of(members: &Map<String, Value>) -> Option<Command>
     if occurrence.is_some() && !reason.is_compromise() {
         return None;
     }
-    Some(Command::Revoke {
+    Some(Fields::Revocation {
         key,
         reason,
         occurrence,
@@ -175,17 +176,17 @@ fn set_members_of<'v>(members: &'v Map<String, Value>) -> Option<SetMembers<'v>>
     })
 }
 
-/// A change of a key's dates.
-fn set_of(members: &Map<String, Value>) -> Option<Command>
-    ensures found { IfSome result (λ c. IsCommand c × (kind_of c ≡ kinds.SetDates) ×
-        HasMembers (members_view members.now.entries) c) }
+/// The fields of a change of dates.
+fn edits_of(members: &Map<String, Value>) -> Option<Fields>
+    ensures found { IfSome result
+        (IsShaped shapes.DateEdits (members_view members.now.entries)) }
     ensures none { IfNone result ((key : ℕ) (activation protect_stop deactivation : Edit) →
-        IsCommand (SetDates key activation protect_stop deactivation) →
+        AreFields (DateEdits key activation protect_stop deactivation) →
         HasMembers (members_view members.now.entries)
-        (SetDates key activation protect_stop deactivation) → ⊥) }
+        (DateEdits key activation protect_stop deactivation) → ⊥) }
 {
     let values = set_members_of(members)?;
-    Some(Command::SetDates {
+    Some(Fields::DateEdits {
         key: key_of(values.key)?,
         activation: edit_of(values.activation)?,
         protect_stop: edit_of(values.protect_stop)?,
@@ -233,18 +234,18 @@ fn register_members_of<'v>(members: &'v Map<String, Value>) -> Option<RegisterMe
     })
 }
 
-/// A registration.
-fn register_of(members: &Map<String, Value>) -> Option<Command>
-    ensures found { IfSome result (λ c. IsCommand c × (kind_of c ≡ kinds.Register) ×
-        HasMembers (members_view members.now.entries) c) }
+/// The fields of a registration.
+fn register_of(members: &Map<String, Value>) -> Option<Fields>
+    ensures found { IfSome result
+        (IsShaped shapes.Registration (members_view members.now.entries)) }
     ensures none { IfNone result ((type : KeyType) (owner : List ℕ)
         (activation protect_stop deactivation : Option ℕ) (purpose : List ℕ) →
-        IsCommand (Register type owner activation protect_stop deactivation purpose) →
+        AreFields (Registration type owner activation protect_stop deactivation purpose) →
         HasMembers (members_view members.now.entries)
-        (Register type owner activation protect_stop deactivation purpose) → ⊥) }
+        (Registration type owner activation protect_stop deactivation purpose) → ⊥) }
 {
     let values = register_members_of(members)?;
-    Some(Command::Register {
+    Some(Fields::Registration {
         kind: key_type_of(values.key_type)?,
         owner: name_of(values.owner)?,
         activation: date_of(values.activation)?,
@@ -254,34 +255,40 @@ fn register_of(members: &Map<String, Value>) -> Option<Command>
     })
 }
 
+/// The fields of this shape with these members, whatever the value of `kind` among them.
+fn fields_with(shape: Shape, members: &Map<String, Value>) -> Option<Fields>
+    ensures found { IfSome result (IsShaped shape (members_view members.now.entries)) }
+    ensures none { IfNone result ((fields : Fields) →
+        IsShaped shape (members_view members.now.entries) fields → ⊥) }
+{
+    match shape {
+        Shape::Nothing => nothing_of(members),
+        Shape::Key => keyed_of(members).map(|key| Fields::Key { key }),
+        Shape::KeyAndName => {
+            let (key, name) = named_of(members, "name")?;
+            Some(Fields::KeyAndName { key, name })
+        }
+        Shape::KeyAndOwner => {
+            let (key, owner) = named_of(members, "owner")?;
+            Some(Fields::KeyAndOwner { key, owner })
+        }
+        Shape::Registration => register_of(members),
+        Shape::DateEdits => edits_of(members),
+        Shape::Revocation => revoke_of(members),
+    }
+}
+
 /// The command of this kind with these members, whatever the value of `kind` among them.
 fn command_with(kind: CommandKind, members: &Map<String, Value>) -> Option<Command>
     ensures found { IfSome result (λ c. IsCommand c × (kind_of c ≡ kind) ×
-        HasMembers (members_view members.now.entries) c) }
+        HasMembers (members_view members.now.entries) (fields_of c)) }
     ensures none { IfNone result ((c : Command) → IsCommand c → kind_of c ≡ kind →
-        HasMembers (members_view members.now.entries) c → ⊥) }
+        HasMembers (members_view members.now.entries) (fields_of c) → ⊥) }
 {
-    match kind {
-        CommandKind::Register => register_of(members),
-        CommandKind::Activate => keyed_of(members).map(|key| Command::Activate { key }),
-        CommandKind::SetDates => set_of(members),
-        CommandKind::Revoke => revoke_of(members),
-        CommandKind::Assign => {
-            let (key, owner) = named_of(members, "owner")?;
-            Some(Command::Assign { key, owner })
-        }
-        CommandKind::AddCustodian => {
-            let (key, name) = named_of(members, "name")?;
-            Some(Command::AddCustodian { key, name })
-        }
-        CommandKind::RemoveCustodian => {
-            let (key, name) = named_of(members, "name")?;
-            Some(Command::RemoveCustodian { key, name })
-        }
-        CommandKind::Approve => keyed_of(members).map(|key| Command::Approve { key }),
-        CommandKind::Withdraw => keyed_of(members).map(|key| Command::Withdraw { key }),
-        CommandKind::Destroy => keyed_of(members).map(|key| Command::Destroy { key }),
-        CommandKind::Advance => advance_of(members),
+    // By reference: the checker makes no proof of a `?` on fields that are held by value.
+    match &fields_with(kind.shape(), members) {
+        Some(fields) => Command::with_fields(kind, fields),
+        None => None,
     }
 }
 

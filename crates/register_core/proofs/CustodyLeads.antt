@@ -9,7 +9,7 @@ use Rattle.std.proofs.lemmas.List.{append-nil}
 use Rattle.lifecycle_core.specs.Reason.{is_compromise}
 use Rattle.register_core.specs.declared.request.Request.{Request}
 use Rattle.register_core.specs.declared.request.Command.{Command}
-use Rattle.register_core.specs.declared.request.Command.TheVariants.{Register as Registers, Revoke, AddCustodian, RemoveCustodian, Approve, Withdraw, Advance}
+use Rattle.register_core.specs.declared.request.Command.TheVariants.{Revoke, AddCustodian, RemoveCustodian, Approve, Withdraw, Advance}
 use Rattle.register_core.specs.declared.reply.Refusal.{Refusal}
 use Rattle.register_core.specs.declared.change.CustodyChange.{CustodyChange}
 use Rattle.register_core.specs.declared.change.CustodyChange.TheVariants.{Kept, ApprovalsEnded}
@@ -94,13 +94,29 @@ lead h q c key custody is cs given = record {
   approvals_are = all_approvals_grow h q ∙ ap (λ (x : Command). approvals_then h q.caller x (all_approvals h)) is ∙ given;
 }
 
+-- the command leaves the custodians and the approvals
+record LeavesNames (h : List Request) (caller : List ℕ) (c : Command) : Type 0 where
+  about : (entry : KeyName) → is_about entry c ≡ false
+  added : added_by c ≡ []
+  ends : (entry : KeyName) → ends_by h entry caller c ≡ false
+  approved : approved_by caller c ≡ []
+
+-- One that names no key does. The last row has every command that names one, and every other that does not.
+leaves : (h : List Request) (caller : List ℕ) (c : Command) → named c ≡ None → LeavesNames h caller c
+leaves h caller Advance none = record { about = λ entry. refl; added = refl; ends = λ entry. refl; approved = refl }
+leaves h caller c none = record { about = λ entry. cc; added = cc; ends = λ entry. cc; approved = cc }
+
+left : (p : KeyName → Bool) (more entries : List (KeyName)) → ((entry : KeyName) → p entry ≡ false) → more ≡ []
+    → filter (λ entry. not (p entry)) entries ++ more ≡ entries
+left p more entries none is =
+    ap (λ (added : List (KeyName)). filter (λ entry. not (p entry)) entries ++ added) is ∙ same_entries p none entries
+
 pub nobody_changes : (h : List Request) (q : Request) (key : ℕ) → named q.command ≡ None → CustodyLead h q key Kept
-nobody_changes h q key none = by q.command refl none
-  where
-    by : (c : Command) → q.command ≡ c → named c ≡ None → CustodyLead h q key Kept
-    by (Registers kind owner activation protect_stop deactivation purpose) is e = lead h q _ key Kept is (same_entries _ (λ entry. refl) _) (same_entries _ (λ entry. refl) _)
-    by Advance is e = lead h q _ key Kept is (same_entries _ (λ entry. refl) _) (same_entries _ (λ entry. refl) _)
-    by c is e = absurd cc
+nobody_changes h q key none =
+    let c = q.command in
+    let leaving = leaves h q.caller c none in
+    lead h q c key Kept refl (left (λ entry. is_about entry c) (added_by c) (all_custodians h) leaving.about leaving.added)
+    (left (λ entry. ends_by h entry q.caller c) (approved_by q.caller c) (all_approvals h) leaving.ends leaving.approved)
 
 and_both : (a b c : Bool) → b && c ≡ true → a && b && c ≡ a
 and_both true b c both = both

@@ -50,12 +50,17 @@ there : (h : List Request) (k : ℕ) → 1 ≤ k → k ≤ count h → is_there 
 there h k low high = ap (λ (b : Bool). b && nat_le k (count h)) (le-leb 1 k low) ∙ le-leb k (count h) high
 
 module _ (cs approving : List (List ℕ)) where
+  -- a key with this type, this owner and these dates at the moment t
+  abbrev standing_so : KeyType → List ℕ → Dates → ℕ → Held
+  standing_so kind by d t =
+      record { kind = kind; owner = by; row = row_at d t; need = min_approvals; custodians = cs; approvals = approving }
+
   abbrev assembled : Bool → KeyType → List ℕ → Dates → ℕ → Option Held
-  assembled is kind by d t = cond is (Some (record { kind = kind; owner = by; row = row_at d t; need = min_approvals; custodians = cs; approvals = approving })) None
+  assembled is kind by d t = cond is (Some (standing_so kind by d t)) None
 
   assembled_same : (is : Bool) (kind other_kind : KeyType) (by other_by : List ℕ) (d other_dates : Dates) (t other_t : ℕ) →
       is ≡ true → kind ≡ other_kind → by ≡ other_by → d ≡ other_dates → t ≡ other_t →
-      assembled is kind by d t ≡ Some (record { kind = other_kind; owner = other_by; row = row_at other_dates other_t; need = min_approvals; custodians = cs; approvals = approving })
+      assembled is kind by d t ≡ Some (standing_so other_kind other_by other_dates other_t)
   assembled_same is kind other_kind by other_by d other_dates t other_t e1 e2 e3 e4 e5 =
       ap (λ (b : Bool). assembled b kind by d t) e1
       ∙ ap (λ (x : KeyType). assembled true x by d t) e2

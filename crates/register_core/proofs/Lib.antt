@@ -7,7 +7,8 @@ pub mod Walks
 pub mod Folds
 pub mod NameTexts
 pub mod NameOrder
-pub mod Fields
+pub mod FieldReading
+pub mod Commands
 pub mod Readers
 pub mod Lines
 pub mod Refusals

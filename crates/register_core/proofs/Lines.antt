@@ -14,7 +14,12 @@ use Rattle.period_core.specs.declared.key_type.KeyType.{KeyType}
 use Rattle.period_core.specs.declared.key_type.KeyType.TheVariants.{DataEncryption, Authentication, KeyWrapping, PrivateSignature, PrivateAuthentication, PrivateTransport, Master}
 use Rattle.register_core.specs.declared.request.Request.{Request}
 use Rattle.register_core.specs.declared.request.Command.{Command}
-use Rattle.register_core.specs.declared.request.Command.TheVariants.{Register, SetDates, Revoke, Advance}
+use Rattle.register_core.specs.declared.fields.Fields.{Fields}
+use Rattle.register_core.specs.declared.fields.Fields.TheVariants.{Nothing, Key, KeyAndName, KeyAndOwner}
+use Rattle.register_core.specs.declared.fields.Fields.TheVariants.{Registration, DateEdits, Revocation}
+use Rattle.register_core.specs.declared.fields.Shape.{Shape}
+use Rattle.register_core.specs.declared.fields.Shape.TheVariants as shapes
+use Rattle.register_core.specs.Fields.{fields_of, command_with, shape_of}
 use Rattle.register_core.specs.declared.command_kind.CommandKind.{CommandKind}
 use Rattle.register_core.specs.declared.command_kind.CommandKind.TheVariants as kinds
 use Rattle.register_core.specs.declared.request.Edit.{Edit}
@@ -24,12 +29,13 @@ use Rattle.register_core.specs.Name.{IsName, is_name_byte}
 use Rattle.register_core.specs.Number.{IsNumber}
 use Rattle.register_core.specs.Purpose.{IsPurpose}
 use Rattle.period_core.specs.KeyType.{key_type_text}
-use Rattle.register_core.specs.CommandKind.{command_kind_text}
+use Rattle.register_core.specs.CommandKind.{command_kind_text, command_shape}
 use Rattle.register_core.specs.CommandRule.{kind_of}
-use Rattle.register_core.specs.Request.{max_line_length, IsCommand, IsDate, IsEdit, IsKeyNumber, IsRequest, IsLineOf, StandsFor, IsItem, date_text, edit_text, fields_text, command_text, request_text}
+use Rattle.register_core.specs.Request.{max_line_length, AreFields, IsCommand, IsDate, IsEdit, IsKeyNumber, IsRequest, IsLineOf, StandsFor, IsItem, date_text, edit_text, fields_text, command_text, request_text}
 use Rattle.register_core.specs.CommandText.{IsCommandText, IsCommandItem}
-use Rattle.register_core.specs.Reading.{◌>>=◌, is_space, field_at, field_then, moment_at, date_at, edit_at, key_number_at, reason_at, occurrence_at, request_number_at, name_at, key_type_at, purpose_at, registered, register_at, dates_set, set_at, revoked, revoke_at, key_and_name_at, keyed_at, named_at, kind_at, fielded_at, behind_at, split_by, word_at, command_at, requested, fields_at, request_at}
-use Rattle.register_core.proofs.Fields.{bind_some, some_is, none_from, IsReader, HasNoSpace, field_takes, field_again, then_reader}
+use Rattle.register_core.specs.Reading.{◌>>=◌, is_space, field_at, field_then, moment_at, date_at, edit_at, key_number_at, reason_at, occurrence_at, request_number_at, name_at, key_type_at, purpose_at, registered, register_at, edits, edits_at, revoked, revoke_at, key_and_name_at, keyed_at, named_at, kind_at, shaped_at, behind_at, split_by, word_at, command_at, requested, fields_at, request_at}
+use Rattle.register_core.proofs.Commands.{made, made_again, has_shape}
+use Rattle.register_core.proofs.FieldReading.{bind_some, some_is, none_from, IsReader, HasNoSpace, field_takes, field_again, then_reader}
 use Rattle.register_core.proofs.Readers.{moment_reader, date_reader, edit_reader, moment_small, key_number_reader, key_number_small, request_number_reader, request_number_small, name_reader, purpose_reader, key_type_reader, kind_reader, reason_reader, reason_text, reason_small, IsOccurrence, occurrence_reader, not_space}
 
 -- ---- what has no space
@@ -96,9 +102,9 @@ joined_register : (k o a p d u : List ℕ)
     ≡ spaced (before k (before o (before a (before p (before d u)))))
 joined_register k o a p d u = simp append_assoc
 
-joined_set : (k a p d : List ℕ) → codes " " ++ k ++ codes " " ++ a ++ codes " " ++ p ++ codes " " ++ d
+joined_edits : (k a p d : List ℕ) → codes " " ++ k ++ codes " " ++ a ++ codes " " ++ p ++ codes " " ++ d
     ≡ spaced (before k (before a (before p d)))
-joined_set k a p d = simp append_assoc
+joined_edits k a p d = simp append_assoc
 
 joined_revoke : (k r o : List ℕ) → codes " " ++ k ++ codes " " ++ r ++ codes " " ++ o ≡ spaced (before k (before r o))
 joined_revoke k r o = simp append_assoc
@@ -116,22 +122,20 @@ abbrev behind_text : Option (List ℕ) → List ℕ
 behind_text None = []
 behind_text (Some fields) = spaced fields
 
--- what is read as the command of a kind
-record IsOfKind (kind : CommandKind) (behind : Option (List ℕ)) (q : Command) : Type 0 where
-  in_range : IsCommand q
-  of_kind : kind_of q ≡ kind
-  text : behind_text behind ≡ fields_text q
+-- what is read as fields
+record AreRead (behind : Option (List ℕ)) (f : Fields) : Type 0 where
+  in_range : AreFields f
+  text : behind_text behind ≡ fields_text f
 
--- the command that is made of fields which were read
+-- the fields that are made of what was read
 made_of : {A : Type 0} {read_by : List ℕ → Option A} {text : A → List ℕ} {P : A → Type 0} → IsReader read_by text P
-    → (kind : CommandKind) (made : A → Command) → ((x : A) → P x → IsCommand (made x))
-    → ((x : A) → kind_of (made x) ≡ kind) → ((x : A) → fields_text (made x) ≡ spaced (text x))
-    → (bytes : List ℕ) (q : Command) → (read_by bytes >>= λ x. Some (made x)) ≡ Some q → IsOfKind kind (Some bytes) q
-made_of {A} {read_by} own kind made in_range of_kind text bytes q e =
-    let x = bind_some (read_by bytes) (λ x. Some (made x)) q e in
+    → (made : A → Fields) → ((x : A) → P x → AreFields (made x)) → ((x : A) → fields_text (made x) ≡ spaced (text x))
+    → (bytes : List ℕ) (f : Fields) → (read_by bytes >>= λ x. Some (made x)) ≡ Some f → AreRead (Some bytes) f
+made_of {A} {read_by} own made in_range text bytes f e =
+    let x = bind_some (read_by bytes) (λ x. Some (made x)) f e in
     let taken = own.takes bytes x.0 x.1 in
-    subst (IsOfKind kind (Some bytes)) (some_is (made x.0) q x.2)
-    (record { in_range = in_range x.0 taken.0; of_kind = of_kind x.0; text = ap spaced taken.1 ∙ sym (text x.0) })
+    subst (AreRead (Some bytes)) (some_is (made x.0) f x.2)
+    (record { in_range = in_range x.0 taken.0; text = ap spaced taken.1 ∙ sym (text x.0) })
 
 name_solid : (name : List ℕ) → IsName name → HasNoSpace name
 name_solid name in_range = name_bytes_solid name in_range.2
@@ -152,47 +156,44 @@ register_reader =
     then_reader key_type_reader (λ k _. key_type_solid k) (λ _. then_reader name_reader name_solid (λ _.
     then_reader date_reader date_solid (λ _. then_reader date_reader date_solid (λ _. then_reader date_reader date_solid (λ _. purpose_reader)))))
 
-registered_ranges : (x : Registered) → AreRegistered x → IsCommand (registered x)
+registered_ranges : (x : Registered) → AreRegistered x → AreFields (registered x)
 registered_ranges (kind, (owner, (activation, (protect_stop, (deactivation, purpose))))) (is_kind, (is_owner, (is_activation, (is_protect_stop, (is_deactivation, is_purpose))))) =
     (is_owner, is_activation, is_protect_stop, is_deactivation, is_purpose)
-
-registered_kind : (x : Registered) → kind_of (registered x) ≡ kinds.Register
-registered_kind (kind, (owner, (activation, (protect_stop, (deactivation, purpose))))) = refl
 
 registered_text : (x : Registered) → fields_text (registered x) ≡ spaced (text_of_registered x)
 registered_text (kind, (owner, (activation, (protect_stop, (deactivation, purpose))))) =
     joined_register (key_type_text kind) owner (date_text activation) (date_text protect_stop) (date_text deactivation) purpose
 
-register_takes : (bytes : List ℕ) (q : Command) → register_at bytes ≡ Some q → IsOfKind kinds.Register (Some bytes) q
+register_takes : (bytes : List ℕ) (f : Fields) → register_at bytes ≡ Some f → AreRead (Some bytes) f
 unfolding register_at
-register_takes = made_of register_reader kinds.Register registered registered_ranges registered_kind registered_text
+register_takes = made_of register_reader registered registered_ranges registered_text
 
-register_again : (k : KeyType) (o : List ℕ) (a p d : Option ℕ) (u : List ℕ) → IsCommand (Register k o a p d u)
-    → register_at (before (key_type_text k) (before o (before (date_text a) (before (date_text p) (before (date_text d) u))))) ≡ Some (Register k o a p d u)
+register_again : (k : KeyType) (o : List ℕ) (a p d : Option ℕ) (u : List ℕ) → AreFields (Registration k o a p d u)
+    → register_at (before (key_type_text k) (before o (before (date_text a) (before (date_text p) (before (date_text d) u))))) ≡ Some (Registration k o a p d u)
 unfolding register_at
 register_again k o a p d u in_range =
     ap (λ (read : Option Registered). read >>= λ x. Some (registered x))
     (register_reader.again (k, (o, (a, (p, (d, u))))) (tt, (in_range.0, (in_range.1, (in_range.2, (in_range.3, in_range.4))))))
 
-abbrev DatesSet : Type 0
-DatesSet = ℕ × (Edit × (Edit × Edit))
+abbrev Edits : Type 0
+Edits = ℕ × (Edit × (Edit × Edit))
 
-set_reader : IsReader (field_then key_number_at (λ _. field_then edit_at (λ _. field_then edit_at (λ _. edit_at))))
-    (λ (x : DatesSet). before (decimal x.0) (before (edit_text x.1.0) (before (edit_text x.1.1.0) (edit_text x.1.1.1))))
-    (λ (x : DatesSet). IsKeyNumber x.0 × (IsEdit x.1.0 × (IsEdit x.1.1.0 × IsEdit x.1.1.1)))
-set_reader = then_reader key_number_reader key_number_solid (λ _. then_reader edit_reader edit_solid (λ _. then_reader edit_reader edit_solid (λ _. edit_reader)))
+edits_reader : IsReader (field_then key_number_at (λ _. field_then edit_at (λ _. field_then edit_at (λ _. edit_at))))
+    (λ (x : Edits). before (decimal x.0) (before (edit_text x.1.0) (before (edit_text x.1.1.0) (edit_text x.1.1.1))))
+    (λ (x : Edits). IsKeyNumber x.0 × (IsEdit x.1.0 × (IsEdit x.1.1.0 × IsEdit x.1.1.1)))
+edits_reader = then_reader key_number_reader key_number_solid (λ _. then_reader edit_reader edit_solid (λ _. then_reader edit_reader edit_solid (λ _. edit_reader)))
 
-set_takes : (bytes : List ℕ) (q : Command) → set_at bytes ≡ Some q → IsOfKind kinds.SetDates (Some bytes) q
-unfolding set_at
-set_takes =
-    made_of set_reader kinds.SetDates dates_set (λ x h. (h.0, h.1.0, h.1.1.0, h.1.1.1)) (λ x. refl)
-    (λ x. joined_set (decimal x.0) (edit_text x.1.0) (edit_text x.1.1.0) (edit_text x.1.1.1))
+edits_take : (bytes : List ℕ) (f : Fields) → edits_at bytes ≡ Some f → AreRead (Some bytes) f
+unfolding edits_at
+edits_take =
+    made_of edits_reader edits (λ x h. (h.0, h.1.0, h.1.1.0, h.1.1.1))
+    (λ x. joined_edits (decimal x.0) (edit_text x.1.0) (edit_text x.1.1.0) (edit_text x.1.1.1))
 
-set_again : (key : ℕ) (a p d : Edit) → IsCommand (SetDates key a p d)
-    → set_at (before (decimal key) (before (edit_text a) (before (edit_text p) (edit_text d)))) ≡ Some (SetDates key a p d)
-unfolding set_at
-set_again key a p d in_range =
-    ap (λ (read : Option DatesSet). read >>= λ x. Some (dates_set x)) (set_reader.again (key, (a, (p, d))) (in_range.0, (in_range.1, (in_range.2, in_range.3))))
+edits_again : (key : ℕ) (a p d : Edit) → AreFields (DateEdits key a p d)
+    → edits_at (before (decimal key) (before (edit_text a) (before (edit_text p) (edit_text d)))) ≡ Some (DateEdits key a p d)
+unfolding edits_at
+edits_again key a p d in_range =
+    ap (λ (read : Option Edits). read >>= λ x. Some (edits x)) (edits_reader.again (key, (a, (p, d))) (in_range.0, (in_range.1, (in_range.2, in_range.3))))
 
 abbrev Revoked : Type 0
 Revoked = ℕ × (Reason × Option ℕ)
@@ -201,13 +202,14 @@ revoke_reader : IsReader (field_then key_number_at (λ _. field_then reason_at o
     (λ (x : Revoked). before (decimal x.0) (before (reason_text x.1.0) (date_text x.1.1))) (λ (x : Revoked). IsKeyNumber x.0 × (Unit {0} × IsOccurrence x.1.0 x.1.1))
 revoke_reader = then_reader key_number_reader key_number_solid (λ _. then_reader reason_reader (λ r _. reason_solid r) occurrence_reader)
 
-revoke_takes : (bytes : List ℕ) (q : Command) → revoke_at bytes ≡ Some q → IsOfKind kinds.Revoke (Some bytes) q
+revoke_takes : (bytes : List ℕ) (f : Fields) → revoke_at bytes ≡ Some f → AreRead (Some bytes) f
 unfolding revoke_at
 revoke_takes =
-    made_of revoke_reader kinds.Revoke revoked (λ x h. (h.0, h.1.1.0, h.1.1.1)) (λ x. refl)
+    made_of revoke_reader revoked (λ x h. (h.0, h.1.1.0, h.1.1.1))
     (λ x. joined_revoke (decimal x.0) (reason_text x.1.0) (date_text x.1.1))
 
-revoke_again : (key : ℕ) (r : Reason) (o : Option ℕ) → IsCommand (Revoke key r o) → revoke_at (before (decimal key) (before (reason_text r) (date_text o))) ≡ Some (Revoke key r o)
+revoke_again : (key : ℕ) (r : Reason) (o : Option ℕ) → AreFields (Revocation key r o)
+    → revoke_at (before (decimal key) (before (reason_text r) (date_text o))) ≡ Some (Revocation key r o)
 unfolding revoke_at
 revoke_again key r o in_range =
     ap (λ (read : Option Revoked). read >>= λ x. Some (revoked x)) (revoke_reader.again (key, (r, o)) (in_range.0, (tt, (in_range.1, in_range.2))))
@@ -218,34 +220,27 @@ key_and_name_reader : IsReader key_and_name_at (λ (y : ℕ × List ℕ). before
 unfolding key_and_name_at
 key_and_name_reader = then_reader key_number_reader key_number_solid (λ _. name_reader)
 
-keyed_takes : (kind : CommandKind) (made : ℕ → Command) (bytes : List ℕ) (q : Command) → keyed_at made bytes ≡ Some q
-    → ((key : ℕ) → IsKeyNumber key → IsCommand (made key)) → ((key : ℕ) → kind_of (made key) ≡ kind)
-    → ((key : ℕ) → fields_text (made key) ≡ spaced (decimal key)) → IsOfKind kind (Some bytes) q
+keyed_takes : (bytes : List ℕ) (f : Fields) → keyed_at bytes ≡ Some f → AreRead (Some bytes) f
 unfolding keyed_at
-keyed_takes kind made bytes q e in_range of_kind text =
-    made_of key_number_reader kind made in_range of_kind text bytes q e
+keyed_takes = made_of key_number_reader Key (λ key h. h) (λ key. refl)
 
-named_takes : (kind : CommandKind) (made : ℕ → List ℕ → Command) (bytes : List ℕ) (q : Command)
-    → named_at made bytes ≡ Some q
-    → ((key : ℕ) (name : List ℕ) → IsKeyNumber key × IsName name → IsCommand (made key name))
-    → ((key : ℕ) (name : List ℕ) → kind_of (made key name) ≡ kind)
+named_takes : (made : ℕ → List ℕ → Fields)
+    → ((key : ℕ) (name : List ℕ) → IsKeyNumber key × IsName name → AreFields (made key name))
     → ((key : ℕ) (name : List ℕ) → fields_text (made key name) ≡ codes " " ++ decimal key ++ codes " " ++ name)
-    → IsOfKind kind (Some bytes) q
+    → (bytes : List ℕ) (f : Fields) → named_at made bytes ≡ Some f → AreRead (Some bytes) f
 unfolding named_at
-named_takes kind made bytes q e in_range of_kind text =
-    made_of key_and_name_reader kind (λ y. made y.0 y.1) (λ y. in_range y.0 y.1) (λ y. of_kind y.0 y.1)
-    (λ y. text y.0 y.1 ∙ joined_named (decimal y.0) y.1) bytes q e
+named_takes made in_range text =
+    made_of key_and_name_reader (λ y. made y.0 y.1) (λ y. in_range y.0 y.1)
+    (λ y. text y.0 y.1 ∙ joined_named (decimal y.0) y.1)
 
--- a command on a key alone, and one on a key and a name, is read again
-keyed_again : (made : ℕ → Command) (key : ℕ) → IsKeyNumber key → keyed_at made (decimal key) ≡ Some (made key)
+keyed_again : (key : ℕ) → IsKeyNumber key → keyed_at (decimal key) ≡ Some (Key key)
 unfolding keyed_at
-keyed_again made key in_range = rw (key_number_reader.again key in_range) refl
+keyed_again key in_range = rw (key_number_reader.again key in_range) refl
 
-named_again : (made : ℕ → List ℕ → Command) (key : ℕ) (name : List ℕ) → IsKeyNumber key × IsName name
-    → named_at made (decimal key ++ codes " " ++ name) ≡ Some (made key name)
+named_again : (made : ℕ → List ℕ → Fields) (key : ℕ) (name : List ℕ) → IsKeyNumber key × IsName name
+    → named_at made (before (decimal key) name) ≡ Some (made key name)
 unfolding named_at
-named_again made key name in_range =
-    rw (append_assoc, key_and_name_reader.again (key, name) (in_range.0, in_range.1)) refl
+named_again made key name in_range = rw (key_and_name_reader.again (key, name) (in_range.0, in_range.1)) refl
 
 -- ---- texts that are read exactly where they are a value's
 
@@ -292,81 +287,89 @@ kind_solid : (kind : CommandKind) → HasNoSpace (command_kind_text kind)
 kind_solid kinds.Advance = refl
 kind_solid kind = refl
 
+-- ---- fields
+
+shaped_takes : (shape : Shape) (bytes : List ℕ) (f : Fields) → shaped_at shape bytes ≡ Some f → AreRead (Some bytes) f
+shaped_takes shapes.Nothing bytes f e = absurd cc
+shaped_takes shapes.Key bytes f e = keyed_takes bytes f e
+shaped_takes shapes.KeyAndName bytes f e = named_takes KeyAndName (λ key name h. h) (λ key name. refl) bytes f e
+shaped_takes shapes.KeyAndOwner bytes f e = named_takes KeyAndOwner (λ key name h. h) (λ key name. refl) bytes f e
+shaped_takes shapes.Registration bytes f e = register_takes bytes f e
+shaped_takes shapes.DateEdits bytes f e = edits_take bytes f e
+shaped_takes shapes.Revocation bytes f e = revoke_takes bytes f e
+
+behind_takes : (shape : Shape) (behind : Option (List ℕ)) (f : Fields) → behind_at shape behind ≡ Some f
+    → AreRead behind f
+behind_takes shape (Some bytes) f e = shaped_takes shape bytes f e
+behind_takes shapes.Nothing None f e =
+    subst (AreRead None) (some_is Nothing f e) (record { in_range = tt; text = refl })
+behind_takes shape None f e = absurd cc
+
+-- the fields are read of what stands behind their word
+record AreReadAgain (f : Fields) : Type 0 where
+  behind : Option (List ℕ)
+  text : fields_text f ≡ behind_text behind
+  read : behind_at (shape_of f) behind ≡ Some f
+
+read_again : (f : Fields) → AreFields f → AreReadAgain f
+read_again Nothing in_range = record { behind = None; text = refl; read = refl }
+read_again (Key key) in_range = record { behind = Some (decimal key); text = refl; read = keyed_again key in_range }
+read_again (KeyAndName key name) in_range = record {
+  behind = Some (before (decimal key) name);
+  text = joined_named (decimal key) name;
+  read = named_again KeyAndName key name in_range;
+}
+read_again (KeyAndOwner key owner) in_range = record {
+  behind = Some (before (decimal key) owner);
+  text = joined_named (decimal key) owner;
+  read = named_again KeyAndOwner key owner in_range;
+}
+read_again (Registration k o a p d u) in_range = record {
+  behind = Some (text_of_registered (k, (o, (a, (p, (d, u))))));
+  text = joined_register (key_type_text k) o (date_text a) (date_text p) (date_text d) u;
+  read = register_again k o a p d u in_range;
+}
+read_again (DateEdits key a p d) in_range = record {
+  behind = Some (before (decimal key) (before (edit_text a) (before (edit_text p) (edit_text d))));
+  text = joined_edits (decimal key) (edit_text a) (edit_text p) (edit_text d);
+  read = edits_again key a p d in_range;
+}
+read_again (Revocation key r o) in_range = record {
+  behind = Some (before (decimal key) (before (reason_text r) (date_text o)));
+  text = joined_revoke (decimal key) (reason_text r) (date_text o);
+  read = revoke_again key r o in_range;
+}
+
 -- ---- commands
-
--- The last row has every kind of command on a key alone, and on a key and a name.
-fielded_takes : (kind : CommandKind) (bytes : List ℕ) (q : Command) → fielded_at kind bytes ≡ Some q
-    → IsOfKind kind (Some bytes) q
-fielded_takes kinds.Register bytes q e = register_takes bytes q e
-fielded_takes kinds.SetDates bytes q e = set_takes bytes q e
-fielded_takes kinds.Revoke bytes q e = revoke_takes bytes q e
-fielded_takes kinds.Advance bytes q e = absurd cc
-fielded_takes kind bytes q e = first_of (search keyed_takes, search named_takes)
-
-behind_takes : (kind : CommandKind) (behind : Option (List ℕ)) (q : Command) → behind_at kind behind ≡ Some q
-    → IsOfKind kind behind q
-behind_takes kind (Some bytes) q e = fielded_takes kind bytes q e
-behind_takes kinds.Advance None q e =
-    subst (IsOfKind kinds.Advance None) (some_is Advance q e) (record { in_range = tt; of_kind = refl; text = refl })
-behind_takes kind None q e = absurd cc
 
 command_takes : (bytes : List ℕ) (q : Command) → command_at bytes ≡ Some q → IsCommandText bytes q
 unfolding command_at
 command_takes bytes q e =
     let word = word_at bytes in
-    let kind = bind_some (kind_at word.0) (λ kind. behind_at kind word.1) q e in
-    let taken = behind_takes kind.0 word.1 q kind.2 in
+    let kind = bind_some (kind_at word.0) (λ kind. behind_at (command_shape kind) word.1 >>= command_with kind) q e in
+    let fields = bind_some (behind_at (command_shape kind.0) word.1) (command_with kind.0) q kind.2 in
+    let taken = behind_takes (command_shape kind.0) word.1 fields.0 fields.1 in
+    let of = made fields.0 kind.0 q fields.2 in
     let text = command_kind_text (kind_of q) in
     let word_is : word.0 ≡ text =
-    (kind_reader.takes word.0 kind.0 kind.1).1 ∙ ap command_kind_text (sym taken.of_kind) in
+    (kind_reader.takes word.0 kind.0 kind.1).1 ∙ ap command_kind_text (sym of.kind_is) in
     let split : bytes ≡ text ++ behind_text word.1 =
-    word_takes bytes ∙ ap (λ (w : List ℕ). w ++ behind_text word.1) word_is in
-    (taken.in_range, split ∙ ap (λ (behind : List ℕ). text ++ behind) taken.text)
-
--- the command is read of what stands behind its word
-record IsReadAgain (q : Command) : Type 0 where
-  behind : Option (List ℕ)
-  text : fields_text q ≡ behind_text behind
-  read : behind_at (kind_of q) behind ≡ Some q
-
--- what has its space before it
-abbrev rest_of : List ℕ → Option (List ℕ)
-rest_of [] = None
-rest_of (space ∷ fields) = Some fields
-
--- The last row has every command on a key alone, and on a key and a name.
-read_again : (q : Command) → IsCommand q → IsReadAgain q
-read_again (Register k o a p d u) in_range = record {
-  behind = Some (text_of_registered (k, (o, (a, (p, (d, u))))));
-  text = joined_register (key_type_text k) o (date_text a) (date_text p) (date_text d) u;
-  read = register_again k o a p d u in_range;
-}
-read_again (SetDates key a p d) in_range = record {
-  behind = Some (before (decimal key) (before (edit_text a) (before (edit_text p) (edit_text d))));
-  text = joined_set (decimal key) (edit_text a) (edit_text p) (edit_text d);
-  read = set_again key a p d in_range;
-}
-read_again (Revoke key r o) in_range = record {
-  behind = Some (before (decimal key) (before (reason_text r) (date_text o)));
-  text = joined_revoke (decimal key) (reason_text r) (date_text o);
-  read = revoke_again key r o in_range;
-}
-read_again Advance in_range = record { behind = None; text = refl; read = refl }
-read_again q in_range = record {
-  behind = rest_of (fields_text q);
-  text = refl;
-  read = first_of (search keyed_again, search named_again);
-}
+    word_takes bytes ∙ ap (λ (w : List ℕ). w ++ behind_text word.1) word_is in (
+      subst AreFields (sym of.fields_are) taken.in_range,
+      split ∙ ap (λ (behind : List ℕ). text ++ behind) (taken.text ∙ ap fields_text (sym of.fields_are)),
+    )
 
 command_again : (q : Command) → IsCommand q → command_at (command_text q) ≡ Some q
 unfolding command_at
 command_again q in_range =
-    let again = read_again q in_range in
+    let again = read_again (fields_of q) in_range in
     let word = command_kind_text (kind_of q) in
     let split : word_at (command_text q) ≡ (word, again.behind) =
     ap (λ (fields : List ℕ). word_at (word ++ fields)) again.text
     ∙ word_again word again.behind (kind_solid (kind_of q)) in
-    rw (split, kind_reader.again (kind_of q) tt) again.read
+    let read : behind_at (command_shape (kind_of q)) again.behind ≡ Some (fields_of q) =
+    ap (λ (shape : Shape). behind_at shape again.behind) (sym (has_shape q)) ∙ again.read in
+    rw (split, kind_reader.again (kind_of q) tt, read) (made_again q)
 
 command_read : (bytes : List ℕ) (q : Command) → IsCommandText bytes q → command_at bytes ≡ Some q
 command_read bytes q h = ap command_at h.1 ∙ command_again q h.0

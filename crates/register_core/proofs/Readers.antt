@@ -27,7 +27,7 @@ use Rattle.period_core.specs.KeyType.{key_type_text}
 use Rattle.register_core.specs.CommandKind.{command_kind_text}
 use Rattle.register_core.specs.Reading.{◌>>=◌, number_at, moment_at, date_at, edit_at, key_number_at, reasons, reason_at, occurrence_at, request_number_at, name_at, purpose_at, key_types, key_type_at, command_kinds, kind_at, is_space, is_trimmed}
 use Rattle.register_core.specs.Request.{IsDate, IsKeyNumber, IsEdit, date_text, edit_text}
-use Rattle.register_core.proofs.Fields.{IsReader, is_read, bind_some, some_is}
+use Rattle.register_core.proofs.FieldReading.{IsReader, is_read, bind_some, some_is}
 
 -- ---- numbers
 

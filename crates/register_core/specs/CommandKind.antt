@@ -2,17 +2,32 @@
 use Rattle.std.specs.Prelude.{ℕ, List, codes}
 use Rattle.register_core.specs.declared.command_kind.CommandKind.{CommandKind}
 use Rattle.register_core.specs.declared.command_kind.CommandKind.TheVariants as kinds
+use Rattle.register_core.specs.declared.fields.Shape.{Shape}
+use Rattle.register_core.specs.declared.fields.Shape.TheVariants.{Nothing, Key, KeyAndName, KeyAndOwner}
+use Rattle.register_core.specs.declared.fields.Shape.TheVariants.{Registration, DateEdits, Revocation}
+
+-- what the commands of a kind look like: their word, and the shape of the fields behind it
+pub record Form : Type 0 where
+  pub word : List ℕ
+  pub shape : Shape
+
+abbrev pub form : CommandKind → Form
+form kinds.Register = record { word = codes "register"; shape = Registration }
+form kinds.Activate = record { word = codes "activate"; shape = Key }
+form kinds.SetDates = record { word = codes "set"; shape = DateEdits }
+form kinds.Revoke = record { word = codes "revoke"; shape = Revocation }
+form kinds.Assign = record { word = codes "assign"; shape = KeyAndOwner }
+form kinds.AddCustodian = record { word = codes "add-custodian"; shape = KeyAndName }
+form kinds.RemoveCustodian = record { word = codes "remove-custodian"; shape = KeyAndName }
+form kinds.Approve = record { word = codes "approve"; shape = Key }
+form kinds.Withdraw = record { word = codes "withdraw"; shape = Key }
+form kinds.Destroy = record { word = codes "destroy"; shape = Key }
+form kinds.Advance = record { word = codes "advance"; shape = Nothing }
 
 -- the word of a kind
 abbrev pub command_kind_text : CommandKind → List ℕ
-command_kind_text kinds.Register = codes "register"
-command_kind_text kinds.Activate = codes "activate"
-command_kind_text kinds.SetDates = codes "set"
-command_kind_text kinds.Revoke = codes "revoke"
-command_kind_text kinds.Assign = codes "assign"
-command_kind_text kinds.AddCustodian = codes "add-custodian"
-command_kind_text kinds.RemoveCustodian = codes "remove-custodian"
-command_kind_text kinds.Approve = codes "approve"
-command_kind_text kinds.Withdraw = codes "withdraw"
-command_kind_text kinds.Destroy = codes "destroy"
-command_kind_text kinds.Advance = codes "advance"
+command_kind_text kind = (form kind).word
+
+-- the shape of its commands' fields
+abbrev pub command_shape : CommandKind → Shape
+command_shape kind = (form kind).shape

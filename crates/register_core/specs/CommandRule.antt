@@ -1,6 +1,6 @@
--- The rule of each command: of which kind it is, who may give it, of a key in which states, and whether a decision on it
--- looks at the key's custodians, or at the approvals of its destruction. All of it is this register's own, within the
--- transitions of the State attribute, KMIP 1.2 section 3.22.
+-- The rule of each command: of which kind it is, who may give it, of a key in which states, and whether a decision on
+-- it looks at the key's custodians, or at the approvals of its destruction. All of it is this register's own, within
+-- the transitions of the State attribute, KMIP 1.2 section 3.22.
 use Rattle.std.specs.Prelude.{◌==◌, Bool, true, false, List, [], ◌∷◌, if◌then◌else◌}
 use Rattle.std.specs.List.{list_any}
 use Rattle.lifecycle_core.specs.declared.state.State.{State}
@@ -39,12 +39,16 @@ before_destruction = PreActive ∷ Deactivated ∷ Compromised ∷ []
 abbrev pub before_compromise : List State
 before_compromise = PreActive ∷ Active ∷ Deactivated ∷ Destroyed ∷ []
 
+-- one in which the key's dates may be changed by hand
+abbrev pub dated_by_hand : List State
+dated_by_hand = PreActive ∷ Active ∷ []
+
 abbrev pub rule : Command → Rule
 rule (Register kind owner activation protect_stop deactivation purpose) =
     record { kind = kinds.Register; giver = Anybody; states = any_state; looks_at_custody = false }
 rule (Activate key) = record { kind = kinds.Activate; giver = Owner; states = PreActive ∷ []; looks_at_custody = false }
 rule (SetDates key activation protect_stop deactivation) =
-    record { kind = kinds.SetDates; giver = Owner; states = PreActive ∷ Active ∷ []; looks_at_custody = false }
+    record { kind = kinds.SetDates; giver = Owner; states = dated_by_hand; looks_at_custody = false }
 rule (Revoke key reason occurrence) = record {
   kind = kinds.Revoke;
   giver = if is_compromise reason then Anybody else Owner;

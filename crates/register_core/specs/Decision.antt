@@ -38,7 +38,7 @@ registered_key t new = record {
   row = row_at (filled (periods new.kind) (given_dates t new.activation new.protect_stop new.deactivation)) t;
 }
 
--- what an accepted command that is about no key changes of what the register keeps besides keys: nothing yet
+-- what an accepted command that is about no key changes of what the register keeps besides keys: nothing
 abbrev pub change_without_key : Command → Change
 change_without_key c = change.Nothing
 

@@ -8,6 +8,7 @@ pub mod Purpose
 pub mod Reply
 pub mod Answer
 pub mod CommandKind
+pub mod Fields
 pub mod Request
 pub mod CommandRule
 pub mod CommandText

@@ -10,7 +10,12 @@ use Rattle.period_core.specs.declared.key_type.KeyType.{KeyType}
 use Rattle.period_core.specs.declared.key_type.KeyType.TheVariants.{DataEncryption, Authentication, KeyWrapping, PrivateSignature, PrivateAuthentication, PrivateTransport, Master}
 use Rattle.register_core.specs.declared.request.Request.{Request}
 use Rattle.register_core.specs.declared.request.Command.{Command}
-use Rattle.register_core.specs.declared.request.Command.TheVariants.{Register, Activate, SetDates, Revoke, Assign, AddCustodian, RemoveCustodian, Approve, Withdraw, Destroy, Advance}
+use Rattle.register_core.specs.declared.fields.Fields.{Fields}
+use Rattle.register_core.specs.declared.fields.Fields.TheVariants.{Nothing, Key, KeyAndName, KeyAndOwner}
+use Rattle.register_core.specs.declared.fields.Fields.TheVariants.{Registration, DateEdits, Revocation}
+use Rattle.register_core.specs.declared.fields.Shape.{Shape}
+use Rattle.register_core.specs.declared.fields.Shape.TheVariants as shapes
+use Rattle.register_core.specs.Fields.{command_with}
 use Rattle.register_core.specs.declared.command_kind.CommandKind.{CommandKind}
 use Rattle.register_core.specs.declared.command_kind.CommandKind.TheVariants as kinds
 use Rattle.register_core.specs.declared.request.Edit.{Edit}
@@ -19,7 +24,7 @@ use Rattle.moment_core.specs.Moment.{last_second}
 use Rattle.register_core.specs.Name.{is_name_byte, max_name_length}
 use Rattle.register_core.specs.Number.{max_request_number}
 use Rattle.register_core.specs.Purpose.{is_purpose_byte, max_purpose_length}
-use Rattle.register_core.specs.CommandKind.{command_kind_text}
+use Rattle.register_core.specs.CommandKind.{command_kind_text, command_shape}
 use Rattle.register_core.specs.Request.{max_line_length}
 use Rattle.period_core.specs.KeyType.{key_type_text}
 
@@ -137,12 +142,13 @@ field_then read_by read_behind bytes = do
   behind ← read_behind value.0 value.1
   Some (value.0, behind)
 
--- the command of the fields that register_at reads
-abbrev pub registered : KeyType × (List ℕ × (Option ℕ × (Option ℕ × (Option ℕ × List ℕ)))) → Command
-registered (kind, (owner, (activation, (protect_stop, (deactivation, purpose))))) = Register kind owner activation protect_stop deactivation purpose
+-- what register_at reads, as fields
+abbrev pub registered : KeyType × (List ℕ × (Option ℕ × (Option ℕ × (Option ℕ × List ℕ)))) → Fields
+registered (kind, (owner, (activation, (protect_stop, (deactivation, purpose))))) =
+    Registration kind owner activation protect_stop deactivation purpose
 
--- the registration whose fields these are
-unfoldable pub register_at : List ℕ → Option Command
+-- the fields of a registration
+unfoldable pub register_at : List ℕ → Option Fields
 register_at bytes = do
   read ← field_then key_type_at (λ _. field_then name_at (λ _. field_then date_at (λ _. field_then date_at (λ _. field_then date_at (λ _. purpose_at))))) bytes
   Some (registered read)
@@ -151,61 +157,57 @@ register_at bytes = do
 unfoldable pub key_and_name_at : List ℕ → Option (ℕ × List ℕ)
 key_and_name_at bytes = field_then key_number_at (λ _. name_at) bytes
 
--- the command of the fields that set_at reads
-abbrev pub dates_set : ℕ × (Edit × (Edit × Edit)) → Command
-dates_set (key, (activation, (protect_stop, deactivation))) = SetDates key activation protect_stop deactivation
+-- what edits_at reads, as fields
+abbrev pub edits : ℕ × (Edit × (Edit × Edit)) → Fields
+edits (key, (activation, (protect_stop, deactivation))) = DateEdits key activation protect_stop deactivation
 
--- the change of dates whose fields these are
-unfoldable pub set_at : List ℕ → Option Command
-set_at bytes = do
+-- the fields of a change of dates
+unfoldable pub edits_at : List ℕ → Option Fields
+edits_at bytes = do
   read ← field_then key_number_at (λ _. field_then edit_at (λ _. field_then edit_at (λ _. edit_at))) bytes
-  Some (dates_set read)
+  Some (edits read)
 
--- the command of the fields that revoke_at reads
-abbrev pub revoked : ℕ × (Reason × Option ℕ) → Command
-revoked (key, (reason, occurrence)) = Revoke key reason occurrence
+-- what revoke_at reads, as fields
+abbrev pub revoked : ℕ × (Reason × Option ℕ) → Fields
+revoked (key, (reason, occurrence)) = Revocation key reason occurrence
 
--- the revocation whose fields these are
-unfoldable pub revoke_at : List ℕ → Option Command
+-- the fields of a revocation
+unfoldable pub revoke_at : List ℕ → Option Fields
 revoke_at bytes = do
   read ← field_then key_number_at (λ _. field_then reason_at occurrence_at) bytes
   Some (revoked read)
 
--- the command on a key alone
-unfoldable pub keyed_at : (ℕ → Command) → List ℕ → Option Command
-keyed_at made bytes = do
+-- a key's number alone
+unfoldable pub keyed_at : List ℕ → Option Fields
+keyed_at bytes = do
   key ← key_number_at bytes
-  Some (made key)
+  Some (Key key)
 
--- the command on a key and a name
-unfoldable pub named_at : (ℕ → List ℕ → Command) → List ℕ → Option Command
+-- a key's number and a name, as these fields
+unfoldable pub named_at : (ℕ → List ℕ → Fields) → List ℕ → Option Fields
 named_at made bytes = do
   read ← key_and_name_at bytes
   Some (made read.0 read.1)
 
--- the command of this kind with these fields, which stand behind its word
-abbrev pub fielded_at : CommandKind → List ℕ → Option Command
-fielded_at kinds.Register fields = register_at fields
-fielded_at kinds.Activate fields = keyed_at Activate fields
-fielded_at kinds.SetDates fields = set_at fields
-fielded_at kinds.Revoke fields = revoke_at fields
-fielded_at kinds.Assign fields = named_at Assign fields
-fielded_at kinds.AddCustodian fields = named_at AddCustodian fields
-fielded_at kinds.RemoveCustodian fields = named_at RemoveCustodian fields
-fielded_at kinds.Approve fields = keyed_at Approve fields
-fielded_at kinds.Withdraw fields = keyed_at Withdraw fields
-fielded_at kinds.Destroy fields = keyed_at Destroy fields
-fielded_at kinds.Advance fields = None
+-- the fields of this shape, which stand behind the space behind a word
+abbrev pub shaped_at : Shape → List ℕ → Option Fields
+shaped_at shapes.Nothing bytes = None
+shaped_at shapes.Key bytes = keyed_at bytes
+shaped_at shapes.KeyAndName bytes = named_at KeyAndName bytes
+shaped_at shapes.KeyAndOwner bytes = named_at KeyAndOwner bytes
+shaped_at shapes.Registration bytes = register_at bytes
+shaped_at shapes.DateEdits bytes = edits_at bytes
+shaped_at shapes.Revocation bytes = revoke_at bytes
 
--- the command of a kind whose word stands alone
-abbrev pub bare_at : CommandKind → Option Command
-bare_at kinds.Advance = Some Advance
-bare_at kind = None
+-- the same where no space stands behind the word
+abbrev pub bare_at : Shape → Option Fields
+bare_at shapes.Nothing = Some Nothing
+bare_at shape = None
 
--- the command of this kind with these fields, or with none
-abbrev pub behind_at : CommandKind → Option (List ℕ) → Option Command
-behind_at kind None = bare_at kind
-behind_at kind (Some fields) = fielded_at kind fields
+-- the fields of this shape behind a word
+abbrev pub behind_at : Shape → Option (List ℕ) → Option Fields
+behind_at shape None = bare_at shape
+behind_at shape (Some bytes) = shaped_at shape bytes
 
 abbrev pub split_by : List ℕ → Option (List ℕ × List ℕ) → List ℕ × Option (List ℕ)
 split_by bytes None = (bytes, None)
@@ -215,11 +217,12 @@ split_by bytes (Some split) = (split.0, Some split.1)
 unfoldable pub word_at : List ℕ → List ℕ × Option (List ℕ)
 word_at bytes = split_by bytes (field_at bytes)
 
--- a command: the kind that its word tells, and the fields of that kind
+-- a command: the kind that its word tells, and the fields of that kind's shape
 unfoldable pub command_at : List ℕ → Option Command
 command_at bytes = do
   kind ← kind_at (word_at bytes).0
-  behind_at kind (word_at bytes).1
+  fields ← behind_at (command_shape kind) (word_at bytes).1
+  command_with kind fields
 
 -- the request of the fields that fields_at reads
 abbrev pub requested : ℕ × (List ℕ × (ℕ × Command)) → Request

@@ -7,7 +7,10 @@ use Rattle.register_core.specs.Purpose.{IsPurpose}
 use Rattle.period_core.specs.KeyType.{key_type_text}
 use Rattle.register_core.specs.declared.request.Request.{Request}
 use Rattle.register_core.specs.declared.request.Command.{Command}
-use Rattle.register_core.specs.declared.request.Command.TheVariants.{Register, Activate, SetDates, Revoke, Assign, AddCustodian, RemoveCustodian, Approve, Withdraw, Destroy, Advance}
+use Rattle.register_core.specs.declared.fields.Fields.{Fields}
+use Rattle.register_core.specs.declared.fields.Fields.TheVariants.{Nothing, Key, KeyAndName, KeyAndOwner}
+use Rattle.register_core.specs.declared.fields.Fields.TheVariants.{Registration, DateEdits, Revocation}
+use Rattle.register_core.specs.Fields.{fields_of}
 use Rattle.register_core.specs.declared.request.Edit.{Edit}
 use Rattle.register_core.specs.declared.request.Edit.TheVariants.{Keep, Clear, Set}
 use Rattle.lifecycle_core.specs.Reason.{reason_code, is_compromise}
@@ -40,19 +43,21 @@ IsEdit Keep = Unit {0}
 IsEdit Clear = Unit {0}
 IsEdit (Set date) = IsMoment date
 
-abbrev pub IsCommand : Command → Type 0
-IsCommand (Register kind owner activation protect_stop deactivation purpose) =
+-- the fields of a command are in their ranges
+abbrev pub AreFields : Fields → Type 0
+AreFields Nothing = Unit {0}
+AreFields (Key key) = IsKeyNumber key
+AreFields (KeyAndName key name) = IsKeyNumber key × IsName name
+AreFields (KeyAndOwner key owner) = IsKeyNumber key × IsName owner
+AreFields (Registration kind owner activation protect_stop deactivation purpose) =
     IsName owner × IsDate activation × IsDate protect_stop × IsDate deactivation × IsPurpose purpose
-IsCommand (Activate key) = IsKeyNumber key
-IsCommand (SetDates key activation protect_stop deactivation) = IsKeyNumber key × IsEdit activation × IsEdit protect_stop × IsEdit deactivation
-IsCommand (Revoke key reason occurrence) = IsKeyNumber key × IsDate occurrence × (is_compromise reason ≡ false → occurrence ≡ None)
-IsCommand (Assign key owner) = IsKeyNumber key × IsName owner
-IsCommand (AddCustodian key name) = IsKeyNumber key × IsName name
-IsCommand (RemoveCustodian key name) = IsKeyNumber key × IsName name
-IsCommand (Approve key) = IsKeyNumber key
-IsCommand (Withdraw key) = IsKeyNumber key
-IsCommand (Destroy key) = IsKeyNumber key
-IsCommand Advance = Unit {0}
+AreFields (DateEdits key activation protect_stop deactivation) =
+    IsKeyNumber key × IsEdit activation × IsEdit protect_stop × IsEdit deactivation
+AreFields (Revocation key reason occurrence) =
+    IsKeyNumber key × IsDate occurrence × (is_compromise reason ≡ false → occurrence ≡ None)
+
+abbrev pub IsCommand : Command → Type 0
+IsCommand c = AreFields (fields_of c)
 
 pub record IsRequest (q : Request) : Type 0 where
   pub moment : IsMoment q.moment
@@ -66,13 +71,13 @@ is_numbered None = true
 is_numbered (Some key) = nat_lt 0 key
 
 -- and an occurrence is given only with a compromise.
-abbrev pub is_dated : Command → Bool
-is_dated (Revoke key reason (Some occurrence)) = is_compromise reason
-is_dated c = true
+abbrev pub is_dated : Fields → Bool
+is_dated (Revocation key reason (Some occurrence)) = is_compromise reason
+is_dated fields = true
 
 -- the command has a text
 abbrev pub has_text : Command → Bool
-has_text c = is_numbered (named c) && is_dated c
+has_text c = is_numbered (named c) && is_dated (fields_of c)
 
 -- ---- texts
 
@@ -88,27 +93,23 @@ edit_text Clear = codes "-"
 edit_text (Set date) = decimal date
 
 -- what stands behind a command's word: its fields, each with a space before it
-abbrev pub fields_text : Command → List ℕ
-fields_text (Register kind owner activation protect_stop deactivation purpose) =
+abbrev pub fields_text : Fields → List ℕ
+fields_text Nothing = []
+fields_text (Key key) = codes " " ++ decimal key
+fields_text (KeyAndName key name) = codes " " ++ decimal key ++ codes " " ++ name
+fields_text (KeyAndOwner key owner) = codes " " ++ decimal key ++ codes " " ++ owner
+fields_text (Registration kind owner activation protect_stop deactivation purpose) =
     codes " " ++ key_type_text kind ++ codes " " ++ owner ++ codes " " ++ date_text activation
     ++ codes " " ++ date_text protect_stop ++ codes " " ++ date_text deactivation ++ codes " " ++ purpose
-fields_text (Activate key) = codes " " ++ decimal key
-fields_text (SetDates key activation protect_stop deactivation) =
+fields_text (DateEdits key activation protect_stop deactivation) =
     codes " " ++ decimal key ++ codes " " ++ edit_text activation ++ codes " " ++ edit_text protect_stop
     ++ codes " " ++ edit_text deactivation
-fields_text (Revoke key reason occurrence) =
+fields_text (Revocation key reason occurrence) =
     codes " " ++ decimal key ++ codes " " ++ decimal (reason_code reason) ++ codes " " ++ date_text occurrence
-fields_text (Assign key owner) = codes " " ++ decimal key ++ codes " " ++ owner
-fields_text (AddCustodian key name) = codes " " ++ decimal key ++ codes " " ++ name
-fields_text (RemoveCustodian key name) = codes " " ++ decimal key ++ codes " " ++ name
-fields_text (Approve key) = codes " " ++ decimal key
-fields_text (Withdraw key) = codes " " ++ decimal key
-fields_text (Destroy key) = codes " " ++ decimal key
-fields_text Advance = []
 
 -- the word of a command's kind, and its fields behind it
 abbrev pub command_text : Command → List ℕ
-command_text c = command_kind_text (kind_of c) ++ fields_text c
+command_text c = command_kind_text (kind_of c) ++ fields_text (fields_of c)
 
 abbrev pub request_text : Request → List ℕ
 request_text q = decimal q.moment ++ codes " " ++ q.caller ++ codes " " ++ decimal q.number ++ codes " " ++ command_text q.command

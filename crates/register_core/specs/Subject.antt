@@ -2,7 +2,9 @@
 use Rattle.std.specs.Prelude.{ℕ, ◌+◌, ◌==◌, Bool, false, List, Option, None, Some}
 use Rattle.period_core.specs.declared.key_type.KeyType.{KeyType}
 use Rattle.register_core.specs.declared.request.Command.{Command}
-use Rattle.register_core.specs.declared.request.Command.TheVariants.{Register, Activate, SetDates, Revoke, Assign, AddCustodian, RemoveCustodian, Approve, Withdraw, Destroy, Advance}
+use Rattle.register_core.specs.declared.fields.Fields.{Fields}
+use Rattle.register_core.specs.declared.fields.Fields.TheVariants as fields
+use Rattle.register_core.specs.Fields.{fields_of}
 
 -- what a registration gives its key
 pub record Registration : Type 0 where
@@ -18,20 +20,26 @@ pub data Subject : Type 0 where
   Names : ℕ → Subject
   NoKey : Subject
 
--- the one table of all commands
+-- what a command with these fields is about
+abbrev pub subject_by : Fields → Subject
+subject_by fields.Nothing = NoKey
+subject_by (fields.Registration kind owner activation protect_stop deactivation purpose) = Makes (record {
+  kind = kind;
+  owner = owner;
+  activation = activation;
+  protect_stop = protect_stop;
+  deactivation = deactivation;
+  purpose = purpose;
+})
+subject_by (fields.Key key) = Names key
+subject_by (fields.KeyAndName key name) = Names key
+subject_by (fields.KeyAndOwner key owner) = Names key
+subject_by (fields.DateEdits key activation protect_stop deactivation) = Names key
+subject_by (fields.Revocation key reason occurrence) = Names key
+
+-- what a command is about
 abbrev pub subject : Command → Subject
-subject (Register kind owner activation protect_stop deactivation purpose) =
-    Makes (record { kind = kind; owner = owner; activation = activation; protect_stop = protect_stop; deactivation = deactivation; purpose = purpose })
-subject (Activate key) = Names key
-subject (SetDates key activation protect_stop deactivation) = Names key
-subject (Revoke key reason occurrence) = Names key
-subject (Assign key owner) = Names key
-subject (AddCustodian key name) = Names key
-subject (RemoveCustodian key name) = Names key
-subject (Approve key) = Names key
-subject (Withdraw key) = Names key
-subject (Destroy key) = Names key
-subject Advance = NoKey
+subject c = subject_by (fields_of c)
 
 abbrev pub registration_by : Subject → Option Registration
 registration_by (Makes registration) = Some registration

@@ -1,19 +1,20 @@
 //! The text of a command, which is the end of a request's line: the word of its kind, and behind it the kind's fields.
 ghost use Rattle.std.specs.Prelude.{◌≡◌, ◌+◌, ◌≤◌, ◌++◌, codes, decimal, length, option_map};
 ghost use Rattle.arrayvec.specs.ArrayString.{array_string_len};
-ghost use Rattle.register_core.specs.declared.request.Command.TheVariants.{Register, SetDates};
-ghost use Rattle.register_core.specs.declared.request.Command.TheVariants.{Revoke};
+ghost use Rattle.register_core.specs.declared.fields.Fields.TheVariants.{Registration, DateEdits};
+ghost use Rattle.register_core.specs.declared.fields.Fields.TheVariants.{Revocation};
 ghost use Rattle.register_core.specs.Request.{fields_text, command_text};
 ghost use Rattle.register_core.specs.CommandText.{IsCommandItem};
-ghost use Rattle.register_core.specs.Reading.{register_at, set_at, revoke_at, key_and_name_at};
-ghost use Rattle.register_core.specs.Reading.{fielded_at, bare_at, word_at, command_at};
+ghost use Rattle.register_core.specs.Reading.{register_at, edits_at, revoke_at, key_and_name_at};
+ghost use Rattle.register_core.specs.Reading.{shaped_at, behind_at, word_at, command_at};
 
-use crate::command_kind::{CommandKind, MAX_WORD_LENGTH};
+use crate::command_kind::MAX_WORD_LENGTH;
 use crate::field::{
     command_kind_of, date_of, edit_of, key_number_of, key_type_of, name_of, next_field,
     occurrence_of, purpose_of, put_date, put_edit, put_number, reason_of, split_field,
     split_key_number,
 };
+use crate::fields::{Fields, Shape};
 use crate::name::Name;
 use crate::purpose::Purpose;
 use crate::request::{Command, Edit};
@@ -26,13 +27,13 @@ use period_core::KeyType;
 /// How many bytes the text of a command has at most.
 pub const MAX_COMMAND_LENGTH: usize = 400;
 
-/// The registration whose fields these are.
+/// The fields of a registration.
 #[tactic(auto, unfolding(crate::specs::Reading::register_at))]
-fn register_of(bytes: &[u8]) -> Option<Command>
+fn register_of(bytes: &[u8]) -> Option<Fields>
     ensures { result ≡ register_at bytes.now }
 {
     let mut rest = bytes;
-    Some(Command::Register {
+    Some(Fields::Registration {
         kind: key_type_of(next_field(&mut rest)?)?,
         owner: name_of(next_field(&mut rest)?)?,
         activation: date_of(next_field(&mut rest)?)?,
@@ -52,13 +53,13 @@ fn key_and_name_of(bytes: &[u8]) -> Option<(u32, Name)>
     Some((key, name))
 }
 
-/// The change of dates whose fields these are.
-#[tactic(auto, unfolding(crate::specs::Reading::set_at))]
-fn set_of(bytes: &[u8]) -> Option<Command>
-    ensures { result ≡ set_at bytes.now }
+/// The fields of a change of dates.
+#[tactic(auto, unfolding(crate::specs::Reading::edits_at))]
+fn edits_of(bytes: &[u8]) -> Option<Fields>
+    ensures { result ≡ edits_at bytes.now }
 {
     let (key, mut rest) = split_key_number(bytes)?;
-    Some(Command::SetDates {
+    Some(Fields::DateEdits {
         key,
         activation: edit_of(next_field(&mut rest)?)?,
         protect_stop: edit_of(next_field(&mut rest)?)?,
@@ -66,58 +67,52 @@ fn set_of(bytes: &[u8]) -> Option<Command>
     })
 }
 
-/// The revocation whose fields these are.
+/// The fields of a revocation.
 #[tactic(auto, unfolding(crate::specs::Reading::revoke_at))]
-fn revoke_of(bytes: &[u8]) -> Option<Command>
+fn revoke_of(bytes: &[u8]) -> Option<Fields>
     ensures { result ≡ revoke_at bytes.now }
 {
     let (key, rest) = split_key_number(bytes)?;
     let (field, rest) = split_field(rest)?;
     let reason = reason_of(field)?;
     let occurrence = occurrence_of(reason, rest)?;
-    Some(Command::Revoke {
+    Some(Fields::Revocation {
         key,
         reason,
         occurrence,
     })
 }
 
-/// The command of this kind with these fields.
+/// The fields of this shape, which stand behind the space behind a word.
 #[tactic(auto, unfolding(crate::specs::Reading::keyed_at, crate::specs::Reading::named_at))]
-fn fielded_command(kind: CommandKind, fields: &[u8]) -> Option<Command>
-    ensures { result ≡ fielded_at kind fields.now }
+fn shaped_fields(shape: Shape, bytes: &[u8]) -> Option<Fields>
+    ensures { result ≡ shaped_at shape bytes.now }
 {
-    match kind {
-        CommandKind::Register => register_of(fields),
-        CommandKind::Activate => key_number_of(fields).map(|key| Command::Activate { key }),
-        CommandKind::SetDates => set_of(fields),
-        CommandKind::Revoke => revoke_of(fields),
-        CommandKind::Assign => {
-            let (key, owner) = key_and_name_of(fields)?;
-            Some(Command::Assign { key, owner })
+    match shape {
+        Shape::Nothing => None,
+        Shape::Key => key_number_of(bytes).map(|key| Fields::Key { key }),
+        Shape::KeyAndName => {
+            let (key, name) = key_and_name_of(bytes)?;
+            Some(Fields::KeyAndName { key, name })
         }
-        CommandKind::AddCustodian => {
-            let (key, name) = key_and_name_of(fields)?;
-            Some(Command::AddCustodian { key, name })
+        Shape::KeyAndOwner => {
+            let (key, owner) = key_and_name_of(bytes)?;
+            Some(Fields::KeyAndOwner { key, owner })
         }
-        CommandKind::RemoveCustodian => {
-            let (key, name) = key_and_name_of(fields)?;
-            Some(Command::RemoveCustodian { key, name })
-        }
-        CommandKind::Approve => key_number_of(fields).map(|key| Command::Approve { key }),
-        CommandKind::Withdraw => key_number_of(fields).map(|key| Command::Withdraw { key }),
-        CommandKind::Destroy => key_number_of(fields).map(|key| Command::Destroy { key }),
-        CommandKind::Advance => None,
+        Shape::Registration => register_of(bytes),
+        Shape::DateEdits => edits_of(bytes),
+        Shape::Revocation => revoke_of(bytes),
     }
 }
 
-/// The command of this kind, whose word stands alone.
-fn bare_command(kind: CommandKind) -> Option<Command>
-    ensures { result ≡ bare_at kind }
+/// The fields of this shape behind a word, which has a space behind it or stands alone.
+fn fields_behind(shape: Shape, behind: Option<&[u8]>) -> Option<Fields>
+    ensures { result ≡ behind_at shape (option_map (λ bytes. bytes.now) behind.entry) }
 {
-    match kind {
-        CommandKind::Advance => Some(Command::Advance),
-        _ => None,
+    match (behind, shape) {
+        (Some(bytes), _) => shaped_fields(shape, bytes),
+        (None, Shape::Nothing) => Some(Fields::Nothing),
+        (None, _) => None,
     }
 }
 
@@ -140,9 +135,10 @@ pub(crate) fn command_of(bytes: &[u8]) -> Option<Command>
 {
     let (word, behind) = split_word(bytes);
     let kind = command_kind_of(word)?;
-    match behind {
-        Some(fields) => fielded_command(kind, fields),
-        None => bare_command(kind),
+    // By reference: the checker makes no proof of a `?` on fields that are held by value.
+    match &fields_behind(kind.shape(), behind) {
+        Some(fields) => Command::with_fields(kind, fields),
+        None => None,
     }
 }
 
@@ -169,7 +165,8 @@ fn put_key(text: &mut ArrayString<MAX_COMMAND_LENGTH>, key: u32)
 /// The same with a name behind the number.
 fn put_key_and_name(text: &mut ArrayString<MAX_COMMAND_LENGTH>, key: u32, name: &Name)
     requires { array_string_len text.old ≤ MAX_WORD_LENGTH }
-    ensures { text.new.bytes ≡ text.old.bytes ++ (codes " " ++ decimal key ++ codes " " ++ name.now) }
+    ensures { text.new.bytes ≡ text.old.bytes ++
+        (codes " " ++ decimal key ++ codes " " ++ name.now) }
 {
     put_key(text, key);
     text.push_str(" ");
@@ -188,7 +185,7 @@ fn put_registration(
 )
     requires { array_string_len text.old ≤ MAX_WORD_LENGTH }
     ensures { text.new.bytes ≡ text.old.bytes ++
-        fields_text (Register kind owner.now activation protect_stop deactivation purpose.now) }
+        fields_text (Registration kind owner.now activation protect_stop deactivation purpose.now) }
 {
     text.push_str(" ");
     text.push_str(kind.text());
@@ -202,7 +199,7 @@ fn put_registration(
 }
 
 /// Appends the fields of a change of dates.
-fn put_dates(
+fn put_edits(
     text: &mut ArrayString<MAX_COMMAND_LENGTH>,
     key: u32,
     activation: Edit,
@@ -211,7 +208,7 @@ fn put_dates(
 )
     requires { array_string_len text.old ≤ MAX_WORD_LENGTH }
     ensures { text.new.bytes ≡ text.old.bytes ++
-        fields_text (SetDates key activation protect_stop deactivation) }
+        fields_text (DateEdits key activation protect_stop deactivation) }
 {
     put_key(text, key);
     put_edit(text, activation);
@@ -227,7 +224,7 @@ fn put_revocation(
     occurrence: Option<Moment>,
 )
     requires { array_string_len text.old ≤ MAX_WORD_LENGTH }
-    ensures { text.new.bytes ≡ text.old.bytes ++ fields_text (Revoke key reason occurrence) }
+    ensures { text.new.bytes ≡ text.old.bytes ++ fields_text (Revocation key reason occurrence) }
 {
     put_key(text, key);
     text.push_str(" ");
@@ -235,13 +232,20 @@ fn put_revocation(
     put_date(text, occurrence);
 }
 
-/// Appends the fields of the command, each with a space before it.
-fn put_fields(text: &mut ArrayString<MAX_COMMAND_LENGTH>, command: &Command)
+/// Appends the fields, each with a space before it.
+fn put_fields(text: &mut ArrayString<MAX_COMMAND_LENGTH>, fields: &Fields)
     requires { array_string_len text.old ≤ MAX_WORD_LENGTH }
-    ensures { text.new.bytes ≡ text.old.bytes ++ fields_text command.now }
+    ensures { text.new.bytes ≡ text.old.bytes ++ fields_text fields.now }
 {
-    match *command {
-        Command::Register {
+    match *fields {
+        Fields::Nothing => {}
+        Fields::Key { key } => put_key(text, key),
+        Fields::KeyAndName { key, ref name }
+        | Fields::KeyAndOwner {
+            key,
+            owner: ref name,
+        } => put_key_and_name(text, key, name),
+        Fields::Registration {
             kind,
             ref owner,
             activation,
@@ -257,28 +261,17 @@ fn put_fields(text: &mut ArrayString<MAX_COMMAND_LENGTH>, command: &Command)
             deactivation,
             purpose,
         ),
-        Command::SetDates {
+        Fields::DateEdits {
             key,
             ref activation,
             ref protect_stop,
             ref deactivation,
-        } => put_dates(text, key, *activation, *protect_stop, *deactivation),
-        Command::Revoke {
+        } => put_edits(text, key, *activation, *protect_stop, *deactivation),
+        Fields::Revocation {
             key,
             reason,
             occurrence,
         } => put_revocation(text, key, reason, occurrence),
-        Command::Assign {
-            key,
-            owner: ref name,
-        }
-        | Command::AddCustodian { key, ref name }
-        | Command::RemoveCustodian { key, ref name } => put_key_and_name(text, key, name),
-        Command::Activate { key }
-        | Command::Approve { key }
-        | Command::Withdraw { key }
-        | Command::Destroy { key } => put_key(text, key),
-        Command::Advance => {}
     }
 }
 
@@ -289,6 +282,6 @@ pub fn command_text(command: &Command) -> CommandText
 {
     let mut text = ArrayString::new();
     text.push_str(command.kind().text());
-    put_fields(&mut text, command);
+    put_fields(&mut text, &command.fields());
     ShortText::new(text)
 }

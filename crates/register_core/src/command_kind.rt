@@ -1,5 +1,7 @@
-//! The kinds of commands, each with its word.
+//! The kinds of commands, each with its word and the shape of its fields.
 ghost use Rattle.std.specs.Prelude.{◌≡◌};
+
+use crate::fields::Shape;
 
 /// How many bytes the word of a kind has at most.
 pub const MAX_WORD_LENGTH: usize = 16;
@@ -20,10 +22,18 @@ pub enum CommandKind {
     Advance,
 }
 
+/// What the commands of a kind look like.
+#[derive(Clone, Copy, Debug)]
+struct Form {
+    word: &'static str,
+    /// That of the fields behind the word.
+    shape: Shape,
+}
+
 impl CommandKind {
     ghost use Rattle.std.specs.Prelude.{◌≢◌, ◌≤◌, IfSome, IfNone, All, length};
     ghost use Rattle.register_core.specs.declared.command_kind.CommandKind.{CommandKind};
-    ghost use Rattle.register_core.specs.CommandKind.{command_kind_text};
+    ghost use Rattle.register_core.specs.CommandKind.{form, command_kind_text, command_shape};
 
     /// Each kind once.
     pub const ALL: [CommandKind; 11] = [
@@ -40,24 +50,41 @@ impl CommandKind {
         CommandKind::Advance,
     ];
 
+    /// The one table of all kinds.
+    #[rattlefmt::skip]
+    fn form(self) -> Form
+        ensures word { result.word.now ≡ (form self).word }
+        ensures short { length result.word.now ≤ MAX_WORD_LENGTH }
+        ensures shape { result.shape ≡ (form self).shape }
+    {
+        match self {
+            CommandKind::Register => Form { word: "register", shape: Shape::Registration },
+            CommandKind::Activate => Form { word: "activate", shape: Shape::Key },
+            CommandKind::SetDates => Form { word: "set", shape: Shape::DateEdits },
+            CommandKind::Revoke => Form { word: "revoke", shape: Shape::Revocation },
+            CommandKind::Assign => Form { word: "assign", shape: Shape::KeyAndOwner },
+            CommandKind::AddCustodian => Form { word: "add-custodian", shape: Shape::KeyAndName },
+            CommandKind::RemoveCustodian => Form { word: "remove-custodian", shape: Shape::KeyAndName },
+            CommandKind::Approve => Form { word: "approve", shape: Shape::Key },
+            CommandKind::Withdraw => Form { word: "withdraw", shape: Shape::Key },
+            CommandKind::Destroy => Form { word: "destroy", shape: Shape::Key },
+            CommandKind::Advance => Form { word: "advance", shape: Shape::Nothing },
+        }
+    }
+
     /// The kind's word, in the texts and in the JSON values of commands: at most 16 bytes.
     pub fn text(self) -> &'static str
         ensures text { result.now ≡ command_kind_text self }
         ensures short { length result.now ≤ MAX_WORD_LENGTH }
     {
-        match self {
-            CommandKind::Register => "register",
-            CommandKind::Activate => "activate",
-            CommandKind::SetDates => "set",
-            CommandKind::Revoke => "revoke",
-            CommandKind::Assign => "assign",
-            CommandKind::AddCustodian => "add-custodian",
-            CommandKind::RemoveCustodian => "remove-custodian",
-            CommandKind::Approve => "approve",
-            CommandKind::Withdraw => "withdraw",
-            CommandKind::Destroy => "destroy",
-            CommandKind::Advance => "advance",
-        }
+        self.form().word
+    }
+
+    /// The shape of the fields behind that word.
+    pub fn shape(self) -> Shape
+        ensures { result ≡ command_shape self }
+    {
+        self.form().shape
     }
 
     /// The kind whose word this is, or `None` where it is the word of none.

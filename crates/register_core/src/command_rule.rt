@@ -15,7 +15,7 @@ pub enum Giver {
     Custodian,
 }
 
-/// What a command asks for before anything else: all of it is this register's own.
+/// What is asked of a command beside its moment, its key and its dates: all of it is this register's own.
 #[derive(Clone, Copy, Debug)]
 pub struct Rule {
     pub kind: CommandKind,

@@ -32,7 +32,7 @@ fn held_change(key: u32, held: &Held, request: &Request) -> Change
     }
 }
 
-/// What the accepted command changes that is about no key, of what the register keeps besides keys: nothing yet.
+/// What the accepted command changes that is about no key, of what the register keeps besides keys: nothing.
 fn change_without_key(_command: &Command) -> Change
     ensures { result ≡ change_without_key _command.now }
 {

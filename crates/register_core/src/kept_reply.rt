@@ -1,6 +1,7 @@
 //! What is kept of an accepted request, so that it acts once.
 use crate::answer::Answer;
 use crate::command_format::command_text;
+use crate::fields::Fields;
 use crate::name::Name;
 use crate::number::RequestNumber;
 use crate::reply::{Refusal, Reply};
@@ -33,13 +34,13 @@ impl KeptReply {
         }
     }
 
-    /// Whether the reply has a key and a state exactly where the command is about a key: only
-    /// `Advance` is about none.
+    /// Whether the reply has a key and a state exactly where the command is about a key: one with no
+    /// fields is about none.
     pub fn is_whole(&self) -> bool
         ensures { result ≡ is_whole self.now }
     {
-        match self.command {
-            Command::Advance => self.reply.key == 0 && self.reply.state.is_none(),
+        match self.command.fields() {
+            Fields::Nothing => self.reply.key == 0 && self.reply.state.is_none(),
             _ => self.reply.key > 0 && self.reply.state.is_some(),
         }
     }

@@ -80,39 +80,14 @@ pub enum Command {
 
 impl Command {
     ghost use Rattle.std.specs.Prelude.{◌≡◌};
-    ghost use Rattle.register_core.specs.Request.{is_dated, has_text};
+    ghost use Rattle.register_core.specs.Request.{has_text};
     ghost use Rattle.register_core.specs.Subject.{named};
 
     /// The number of the key that the command names, if it names one.
     pub fn key(&self) -> Option<u32>
         ensures { result ≡ named self.now }
     {
-        match *self {
-            Command::Register { .. } | Command::Advance => None,
-            Command::Activate { key }
-            | Command::SetDates { key, .. }
-            | Command::Revoke { key, .. }
-            | Command::Assign { key, .. }
-            | Command::AddCustodian { key, .. }
-            | Command::RemoveCustodian { key, .. }
-            | Command::Approve { key }
-            | Command::Withdraw { key }
-            | Command::Destroy { key } => Some(key),
-        }
-    }
-
-    /// An occurrence is given only with a reason that is a compromise.
-    fn is_dated(&self) -> bool
-        ensures { result ≡ is_dated self.now }
-    {
-        match *self {
-            Command::Revoke {
-                reason,
-                occurrence: Some(_),
-                ..
-            } => reason.is_compromise(),
-            _ => true,
-        }
+        self.fields().key()
     }
 
     /// Whether the command has a text, as that of each line has: a key that it names has a number from 1 on, and an
@@ -121,11 +96,12 @@ impl Command {
     pub fn has_text(&self) -> bool
         ensures { result ≡ has_text self.now }
     {
-        let is_numbered = match self.key() {
+        let fields = self.fields();
+        let is_numbered = match fields.key() {
             Some(key) => key > 0,
             None => true,
         };
-        is_numbered && self.is_dated()
+        is_numbered && fields.is_dated()
     }
 }
 

@@ -22,7 +22,7 @@ use Rattle.register_core.specs.Name.{IsName}
 use Rattle.register_core.specs.Number.{IsNumber, max_request_number}
 use Rattle.register_core.specs.Purpose.{IsPurpose}
 use Rattle.register_core.specs.Request.{IsDate, IsRequest}
-use Rattle.register_core.proofs.Fields.{IsReader}
+use Rattle.register_core.proofs.FieldReading.{IsReader}
 use Rattle.register_core.proofs.Readers.{key_type_reader, name_reader, purpose_reader}
 use Rattle.register_report.specs.Rows.{AreRowItems, BeginsWithHeader, HasRowItems, HasRows}
 use Rattle.register_report.specs.Rows.{IsRowItem, IsRowOf, Item, Row, date_field, header}

@@ -1,63 +1,59 @@
-use Rattle.std.proofs.Common.{◌≡◌, ℕ, List, Option, None, Some, IfNone}
+use Rattle.std.proofs.Common.{◌≡◌, Option, None, Some, IfSome, IfNone, sym, ap, subst, ◌∙◌}
 use Rattle.serde_json.specs.Data.{Members}
 use Rattle.serde_json.specs.View.{members_view}
-use Rattle.period_core.specs.declared.key_type.KeyType.{KeyType}
-use Rattle.lifecycle_core.specs.declared.reason.Reason.{Reason}
 use Rattle.register_core.specs.declared.command_kind.CommandKind.{CommandKind}
-use Rattle.register_core.specs.declared.command_kind.CommandKind.TheVariants as kinds
+use Rattle.register_core.specs.declared.fields.Fields.{Fields}
+use Rattle.register_core.specs.declared.fields.Shape.{Shape}
 use Rattle.register_core.specs.declared.request.Command.{Command}
-use Rattle.register_core.specs.declared.request.Command.TheVariants.{Register, SetDates, Revoke}
-use Rattle.register_core.specs.declared.request.Edit.{Edit}
-use Rattle.register_core.specs.Request.{IsCommand}
+use Rattle.register_core.specs.CommandKind.{command_shape}
 use Rattle.register_core.specs.CommandRule.{kind_of}
-use Rattle.http_messages.specs.CommandValue.{HasMembers}
+use Rattle.register_core.specs.Fields.{fields_of, command_with}
+use Rattle.register_core.specs.Request.{IsCommand, AreFields}
+use Rattle.register_core.proofs.Commands.{made, has_shape, some_made}
+use Rattle.http_messages.specs.CommandValue.{HasMembers, IsShaped}
 use Rattle.http_messages.proofs.command_value.command_with.Goals as goal
 
--- no command of the kind has these members
+-- a command of the kind has these members
+abbrev Has : CommandKind → Members → Command → Type 0
+Has kind ms c = IsCommand c × (kind_of c ≡ kind) × HasMembers ms (fields_of c)
+
+-- and none has
 abbrev NoneHas : CommandKind → Members → Type 0
-NoneHas kind ms = (q : Command) → IsCommand q → kind_of q ≡ kind → HasMembers ms q → ⊥
+NoneHas kind ms = (c : Command) → IsCommand c → kind_of c ≡ kind → HasMembers ms (fields_of c) → ⊥
 
-no_registration : (kind : CommandKind) (ms : Members) (o : Option Command) → kind ≡ kinds.Register
-    → IfNone o ((t : KeyType) (n : List ℕ) (a p d : Option ℕ) (u : List ℕ) → IsCommand (Register t n a p d u)
-    → HasMembers ms (Register t n a p d u) → ⊥) → IfNone o (NoneHas kind ms)
-no_registration kind ms (Some x) is none = tt
-no_registration kind ms None is none = by
-  where
-    by : NoneHas kind ms
-    by (Register t n a p d u) in_range same has = none t n a p d u in_range has
-    by q in_range same has = absurd (cc (is, same))
+module _ (kind : CommandKind) (ms : Members) (shape : Shape) (is_shape : shape ≡ command_shape kind) where
+  -- the fields that were found are some of the kind's shape
+  found_fields : (o : Option Fields) (f : Fields) → o ≡ Some f → IfSome o (IsShaped shape ms) → IsShaped (command_shape kind) ms f
+  found_fields o f is found =
+      subst (λ (s : Shape). IsShaped s ms f) is_shape (subst (λ (x : Option Fields). IfSome x (IsShaped shape ms)) is found)
 
-no_dates : (kind : CommandKind) (ms : Members) (o : Option Command) → kind ≡ kinds.SetDates
-    → IfNone o ((key : ℕ) (a p d : Edit) → IsCommand (SetDates key a p d)
-    → HasMembers ms (SetDates key a p d) → ⊥) → IfNone o (NoneHas kind ms)
-no_dates kind ms (Some x) is none = tt
-no_dates kind ms None is none = by
-  where
-    by : NoneHas kind ms
-    by (SetDates key a p d) in_range same has = none key a p d in_range has
-    by q in_range same has = absurd (cc (is, same))
+  some_command : (f : Fields) (o : Option Command) → o ≡ command_with kind f → IsShaped (command_shape kind) ms f → IfSome o (Has kind ms)
+  some_command f None is has = tt
+  some_command f (Some c) is has =
+      let of = made f kind c (sym is) in
+      (subst AreFields (sym of.fields_are) has.0, of.kind_is, subst (HasMembers ms) (sym of.fields_are) has.2)
 
-no_revocation : (kind : CommandKind) (ms : Members) (o : Option Command) → kind ≡ kinds.Revoke
-    → IfNone o ((key : ℕ) (r : Reason) (d : Option ℕ) → IsCommand (Revoke key r d)
-    → HasMembers ms (Revoke key r d) → ⊥) → IfNone o (NoneHas kind ms)
-no_revocation kind ms (Some x) is none = tt
-no_revocation kind ms None is none = by
-  where
-    by : NoneHas kind ms
-    by (Revoke key r d) in_range same has = none key r d in_range has
-    by q in_range same has = absurd (cc (is, same))
+  always_some : (f : Fields) (o : Option Command) → o ≡ command_with kind f → IsShaped (command_shape kind) ms f → IfNone o (NoneHas kind ms)
+  always_some f None is has = absurd (some_made f kind has.1 (sym is))
+  always_some f (Some c) is has = tt
 
-pub returns-in-Register-clause-none : goal.returns-in-Register-clause-none
-returns-in-Register-clause-none c =
+  no_command : (o : Option Fields) → o ≡ None → IfNone o ((f : Fields) → IsShaped shape ms f → ⊥) → NoneHas kind ms
+  no_command None is none c in_range same has =
+      none (fields_of c) (in_range, has_shape c ∙ ap command_shape same ∙ sym is_shape, has)
+  no_command (Some f) is none c in_range same has = absurd cc
+
+pub returns-in-Some-clause-found : goal.returns-in-Some-clause-found
+returns-in-Some-clause-found c =
     let ms = members_view c.args.members.now.entries in
-    no_registration c.args.kind ms c.register_of.result c.in-Register.is c.register_of.ensures.none
+    let has = found_fields c.args.kind ms c.shape.result c.shape.ensures c.fields_with.result c.in-Some.fields c.in-Some.is c.fields_with.ensures.found in
+    some_command c.args.kind ms c.shape.result c.shape.ensures c.in-Some.fields c.with_fields.result c.with_fields.ensures has
 
-pub returns-in-SetDates-clause-none : goal.returns-in-SetDates-clause-none
-returns-in-SetDates-clause-none c =
+pub returns-in-Some-clause-none : goal.returns-in-Some-clause-none
+returns-in-Some-clause-none c =
     let ms = members_view c.args.members.now.entries in
-    no_dates c.args.kind ms c.set_of.result c.in-SetDates.is c.set_of.ensures.none
+    let has = found_fields c.args.kind ms c.shape.result c.shape.ensures c.fields_with.result c.in-Some.fields c.in-Some.is c.fields_with.ensures.found in
+    always_some c.args.kind ms c.shape.result c.shape.ensures c.in-Some.fields c.with_fields.result c.with_fields.ensures has
 
-pub returns-in-Revoke-clause-none : goal.returns-in-Revoke-clause-none
-returns-in-Revoke-clause-none c =
-    let ms = members_view c.args.members.now.entries in
-    no_revocation c.args.kind ms c.revoke_of.result c.in-Revoke.is c.revoke_of.ensures.none
+pub returns-in-None-clause-none : goal.returns-in-None-clause-none
+returns-in-None-clause-none c =
+    no_command c.args.kind (members_view c.args.members.now.entries) c.shape.result c.shape.ensures c.fields_with.result c.in-None.is c.fields_with.ensures.none
