@@ -1,17 +1,14 @@
 -- The test of the table of approvals.
-use Rattle.std.proofs.Common.{◌≡◌, ℕ, Result, Ok, Err, List, [], ◌∷◌, ◌++◌, sym, subst, refl}
+use Rattle.std.proofs.Common.{◌≡◌, ℕ, Result, Ok, Err, List, [], ◌∷◌, ◌++◌, sym, subst}
 use Rattle.std.specs.List.{AllByRecursion}
 use Rattle.std.specs.Global.{Vec}
 use Rattle.sqlite.specs.Effect.{Database as Db}
 use Rattle.sqlite.specs.Order.{Row}
 use Rattle.sqlite.specs.State.{State, HasCleanDisk, IsUnchanged, Survives}
-use Rattle.sqlite_resolve.specs.Compile.{first}
-use Rattle.sqlite_tied.specs.Compute.{everything}
 use Rattle.row_tests.specs.declared.error.RowsError.{RowsError}
 use Rattle.row_tests.specs.declared.error.RowsError.TheVariants.{NoMeaning, Refused, Memory}
-use Rattle.row_tests.specs.Showing.{HasNoMeaning, IsQuery, ShowsAll, ShowsFirst}
+use Rattle.row_tests.specs.Showing.{HasNoMeaning, ShowsAll, ShowsFirst}
 use Rattle.row_tests.proofs.Each.{show_same}
-use Rattle.row_tests.proofs.Selects.{IsSelect, select_plain}
 use Rattle.register_core.specs.KeyName.{KeyName}
 use Rattle.register_store.specs.declared.error.CheckError.{CheckError}
 use Rattle.register_store.specs.declared.table.TableName.TheVariants.{Approval}
@@ -27,13 +24,6 @@ use Rattle.register_store.proofs.EachTested.{odd_on}
 use Rattle.register_store.proofs.EntriesShown.{all_permuted, own_entries}
 use Rattle.register_store.proofs.MetaTested.{newer_not}
 use Rattle.register_store.proofs.RowsFailed.{reason_of}
-
-approvals_select : IsSelect (check_text Approval)
-unfolding everything first
-approvals_select = (_, _, refl, refl, refl)
-
-pub approvals_query : IsQuery (check_text Approval)
-approvals_query = select_plain (check_text Approval) approvals_select
 
 pub own_approvals : (t : Tables) (db : Db) (rows : List Row) (holds : Holds t db) → AnswersTo holds.schema.layout Approval db rows → ShowsOwn Approval t rows
 own_approvals t db rows holds sure =

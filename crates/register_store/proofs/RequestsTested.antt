@@ -6,13 +6,10 @@ use Rattle.sqlite.specs.Order.{Row}
 use Rattle.sqlite.specs.State.{State, HasCleanDisk, IsUnchanged, Survives}
 use Rattle.sqlite.specs.declared.types.Value.TheVariants.{Null}
 use Rattle.sqlite.specs.Term.{eval_all}
-use Rattle.sqlite_resolve.specs.Compile.{first}
-use Rattle.sqlite_tied.specs.Compute.{everything}
 use Rattle.row_tests.specs.declared.error.RowsError.{RowsError}
 use Rattle.row_tests.specs.declared.error.RowsError.TheVariants.{NoMeaning, Refused, Memory}
-use Rattle.row_tests.specs.Showing.{HasNoMeaning, IsQuery, ShowsAll, ShowsFirst}
+use Rattle.row_tests.specs.Showing.{HasNoMeaning, ShowsAll, ShowsFirst}
 use Rattle.row_tests.proofs.Each.{show_same}
-use Rattle.row_tests.proofs.Selects.{IsSelect, select_plain}
 use Rattle.register_core.specs.declared.kept_reply.KeptReply.{KeptReply}
 use Rattle.register_core.specs.KeptReply.{IsKeptReply}
 use Rattle.register_store.specs.declared.found.Found.{Found}
@@ -30,13 +27,6 @@ use Rattle.register_store.proofs.EachTested.{odd_on}
 use Rattle.register_store.proofs.EntriesShown.{all_permuted, own_entries}
 use Rattle.register_store.proofs.MetaTested.{newer_not}
 use Rattle.register_store.proofs.RowsFailed.{reason_of}
-
-requests_select : IsSelect (check_text Request)
-unfolding everything first
-requests_select = (_, _, refl, refl, refl)
-
-pub requests_query : IsQuery (check_text Request)
-requests_query = select_plain (check_text Request) requests_select
 
 shown_past : (r : Row) → eval_all (shown_of_table Request) ([] ∷ r ∷ []) ≡ eval_all (shown_of_table Request) ([] ∷ (Null ∷ Rattle.std.specs.Prelude.drop 1 r) ∷ [])
 shown_past [] = refl
