@@ -162,14 +162,14 @@ to_custodian = record {
 pub record Form : Type 1 where
   -- its place among the tables
   pub place : ℕ
-  -- what it holds, where the tables have that, and the tables with another content of it
+  -- what it holds: of which type, that of these tables, and these tables with another content of it
   pub Content : Type 0
   pub content : Tables → Content
   pub with_content : Content → Tables → Tables
-  -- the table with its rows in this tree, and the text that makes it
+  -- its columns and what they refer to, where its rows stand in this tree; and the text that makes it
   pub table : ℕ → Table
   pub create_text : List ℕ
-  -- these rows are those of a content, and which contents are in range
+  -- which rows are those of a content, and which contents are in range
   pub Shows : Content → List Cells → Type 0
   pub IsInRange : Content → Type 0
 
@@ -289,12 +289,12 @@ pub record Layout : Type 0 where
 abbrev pub AreApart : Layout → Type 0
 AreApart l = (a b : TableName) → l.tree a ≡ l.tree b → place_of a ≡ place_of b
 
--- the trees of these tables, each with its index behind it
+-- how many trees these tables take: one for the rows of each, and one for the index of its primary key
 abbrev pub trees_of : List TableName → ℕ
 trees_of [] = 0
 trees_of (name ∷ names) = cond (has_key_index name) 2 1 + trees_of names
 
--- the trees of a file whose tables were made one after the other in an empty database
+-- the tree of a table in a file whose tables were made one after the other in an empty database
 abbrev pub fresh_tree : TableName → ℕ
 fresh_tree name = trees_of (take (place_of name) all_tables)
 
