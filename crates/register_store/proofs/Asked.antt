@@ -1,5 +1,6 @@
 -- What the query of a table shows where the database is a register's, and so that no test of its tables fails.
-use Rattle.std.proofs.Common.{◌≡◌, inl, inr, ℕ, List, [], ◌∷◌, ◌++◌, codes, Result, Ok, Err, IfOk, IfErr, sym, ap, subst, ◌∙◌, refl}
+use Rattle.std.proofs.Common.{◌≡◌, inl, inr, ℕ, List, [], ◌∷◌, ◌++◌, Result, Ok, Err, IfOk, IfErr, sym, ap, subst}
+use Rattle.std.proofs.Common.{◌∙◌, refl}
 use Rattle.std.specs.List.Sorted.{IsPermutation}
 use Rattle.sqlite.specs.Command.TheVariants.{Select}
 use Rattle.sqlite.specs.Effect.{Database}
@@ -12,7 +13,8 @@ use Rattle.sqlite.specs.Term.{Term, col}
 use Rattle.sqlite.proofs.Callers.{IsPlain, begins_as, reads_as}
 use Rattle.sqlite_tied.specs.Compute.{everything}
 use Rattle.sql_steps.proofs.Statements.{plain_query}
-use Rattle.row_tests.specs.Showing.{HasNoMeaning, ShowsAll, ShowsFirst}
+use Rattle.row_tests.specs.Showing.{HasNoMeaning, IsQuery, ShowsAll, ShowsFirst}
+use Rattle.row_tests.proofs.Selects.{IsSelect, select_plain}
 use Rattle.register_store.specs.declared.error.CheckError.{CheckError}
 use Rattle.register_store.specs.declared.error.CheckError.TheVariants.{NotARegister, NewerVersion, Memory, Database as Refused}
 use Rattle.register_store.specs.declared.table.TableName.{TableName}
@@ -34,28 +36,63 @@ shown_of_table Custodian = col 1 1 ∷ col 1 2 ∷ []
 shown_of_table Approval = col 1 1 ∷ col 1 2 ∷ []
 shown_of_table Request = col 1 3 ∷ col 1 4 ∷ col 1 5 ∷ col 1 6 ∷ col 1 1 ∷ col 1 2 ∷ []
 
-abbrev pub names_of_table : TableName → List (List ℕ)
-names_of_table Meta = codes "id" ∷ codes "version" ∷ codes "latest" ∷ codes "key_count" ∷ []
-names_of_table Keys = codes "kind" ∷ codes "owner" ∷ codes "purpose" ∷ codes "state" ∷ codes "initial" ∷ codes "activation" ∷ codes "protect_stop" ∷ codes "deactivation" ∷ codes "destroyed" ∷ codes "compromised" ∷ codes "occurrence" ∷ codes "number" ∷ []
-names_of_table Custodian = codes "key_no" ∷ codes "name" ∷ []
-names_of_table Approval = codes "key_no" ∷ codes "name" ∷ []
-names_of_table Request = codes "command" ∷ codes "key_no" ∷ codes "state" ∷ codes "moment" ∷ codes "caller" ∷ codes "number" ∷ []
-
 abbrev pub asked : Layout → TableName → Query
 asked l Meta = ordered_query (l.tree Meta) (shown_of_table Meta)
 asked l Keys = ordered_query (l.tree Keys) (shown_of_table Keys)
 asked l name = plain_query (l.tree name) [] (shown_of_table name)
 
+-- the text of a table's query means that, under some names
 abbrev pub IsAsked : TableName → Layout → Type 0
-IsAsked name l = Asks (schema_with l) (table_of l name) (check_text name) (asked l name) (names_of_table name)
+IsAsked name l =
+    (names : List (List ℕ)) × Asks (schema_with l) (table_of l name) (check_text name) (asked l name) names
 
-asks_for : (name : TableName) (l : Layout) → IsAsked name l
+pub asks_for : (name : TableName) (l : Layout) → IsAsked name l
 unfolding everything first
-asks_for Meta l = record { p = _; select = _; d = _; by = _; parsed = refl; untimed = refl; is = refl; drafted = refl; same = refl; from = refl; accepted = refl }
-asks_for name l = record { p = _; select = _; d = _; by = _; parsed = refl; untimed = refl; is = refl; drafted = refl; same = refl; from = refl; accepted = refl }
+asks_for Meta l = (
+  _,
+  record {
+    p = _;
+    select = _;
+    d = _;
+    by = _;
+    parsed = refl;
+    untimed = refl;
+    is = refl;
+    drafted = refl;
+    same = refl;
+    from = refl;
+    accepted = refl;
+  },
+)
+asks_for name l = (
+  _,
+  record {
+    p = _;
+    select = _;
+    d = _;
+    by = _;
+    parsed = refl;
+    untimed = refl;
+    is = refl;
+    drafted = refl;
+    same = refl;
+    from = refl;
+    accepted = refl;
+  },
+)
 
-pub asked_is : (name : TableName) (l : Layout) → IsPlaced l → Meant (schema_with l) (check_text name) (Select (record { lets = []; body = asked l name }) (names_of_table name))
-asked_is name l at = asks (schema_with l) (table_of l name) (classes l at name) _ _ _ (asks_for name l)
+pub asked_is : (name : TableName) (l : Layout) → IsPlaced l
+    → Meant (schema_with l) (check_text name) (Select (record { lets = []; body = asked l name }) (asks_for name l).0)
+asked_is name l at = asks (schema_with l) (table_of l name) (classes l at name) _ _ _ (asks_for name l).1
+
+select_of : (name : TableName) → IsSelect (check_text name)
+unfolding everything first
+select_of Meta = (_, _, refl, refl, refl)
+select_of name = (_, _, refl, refl, refl)
+
+-- it is a query under any schema
+pub query_of : (name : TableName) → IsQuery (check_text name)
+query_of name = select_plain (check_text name) (select_of name)
 
 -- ---- what is shown of a register's table
 

@@ -17,7 +17,7 @@ use Rattle.register_store.specs.declared.table.TableName.TheVariants.{Meta}
 use Rattle.register_store.specs.Tables.{Layout, fresh, meta, place_of, Counts, counts_row}
 use Rattle.register_store.specs.Schema.{schema_with, rows_of}
 use Rattle.register_store.specs.Making.{Makes, Always, with_counts}
-use Rattle.register_store.proofs.Actions.{meta_idle, shows_all}
+use Rattle.register_store.proofs.Actions.{idle, shows_all}
 use Rattle.sqlite_resolve.specs.Compile.{first}
 use Rattle.register_store.proofs.Meanings.{Sets, classes, placed, sets}
 use Rattle.register_store.proofs.Frame.{holds_with}
@@ -54,6 +54,6 @@ module _ (latest key_count : ℕ) where
       let m = sets (schema_with l) (meta l) (classes l (placed t old.now holds) Meta) _ _ _ (sets_counts l) in
       let ordered : IsTable (rows_of l Meta old.now) = subst IsTable (sym (holds.shown Meta)) (tt, tt) in
       let wrote = changing.changes counts_row (λ _. pos 1) (λ _. refl) (meta l) params passes shown (λ _. after) counts_text (schema_with l) (place_of Meta) refl
-      m.is m.plain (meta_idle l holds.schema.apart) (λ db. shows_all db (l.tree Meta)) (λ counts. simp (cast_int, cast_null)) (λ counts. refl)
+      m.is m.plain (idle l holds.schema.apart Meta refl 0) (λ db. shows_all db (l.tree Meta)) (λ counts. simp (cast_int, cast_null)) (λ counts. refl)
       old new count h holds.schema.is (t.counts ∷ []) (holds.shown Meta) ordered in
       holds_with Meta after t old.now new.now _ holds wrote in_range (ap (λ counts. counts_row counts ∷ []) (changed_is t.counts))

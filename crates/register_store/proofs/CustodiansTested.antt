@@ -14,14 +14,11 @@ use Rattle.sqlite.specs.State.{State, HasCleanDisk, IsUnchanged, Survives}
 use Rattle.sqlite.specs.Term.{eval_all}
 use Rattle.sqlite_rules.proofs.ListLemmas.{all_has}
 use Rattle.sqlite_rules.specs.Lists.{Has}
-use Rattle.sqlite_resolve.specs.Compile.{first}
-use Rattle.sqlite_tied.specs.Compute.{everything}
 use Rattle.row_tests.specs.declared.error.RowsError.{RowsError}
 use Rattle.row_tests.specs.declared.error.RowsError.TheVariants.{NoMeaning, Refused, Memory}
 use Rattle.row_tests.specs.Each.{ShowEach}
-use Rattle.row_tests.specs.Showing.{HasNoMeaning, IsQuery, ShowsAll, ShowsFirst}
+use Rattle.row_tests.specs.Showing.{HasNoMeaning, ShowsAll, ShowsFirst}
 use Rattle.row_tests.proofs.Each.{all_front, all_last, all_more, show_front, show_less, show_more, show_same}
-use Rattle.row_tests.proofs.Selects.{IsSelect, select_plain}
 use Rattle.sql_steps.proofs.Members.{filter_permutation}
 use Rattle.register_core.specs.Version.{max_custodians}
 use Rattle.register_core.specs.KeyName.{KeyName, is_at, names_at}
@@ -41,13 +38,6 @@ use Rattle.register_store.proofs.EntriesShown.{all_permuted, own_entries}
 use Rattle.register_store.proofs.MetaTested.{newer_not}
 use Rattle.register_store.proofs.NameLists.{get_below, get_some}
 use Rattle.register_store.proofs.RowsFailed.{reason_of}
-
-custodians_select : IsSelect (check_text Custodian)
-unfolding everything first
-custodians_select = (_, _, refl, refl, refl)
-
-pub custodians_query : IsQuery (check_text Custodian)
-custodians_query = select_plain (check_text Custodian) custodians_select
 
 -- ---- rows of names at keys
 

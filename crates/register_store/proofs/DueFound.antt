@@ -1,5 +1,5 @@
 -- What the searches for the next key that is due find.
-use Rattle.std.proofs.Common.{◌≡◌, ◌⊎◌, ◌<◌, ◌≤◌, inl, inr, ℕ, pos, List, [], ◌∷◌, codes, map, slice_get, Bool, true, false, Option, Some, None, Result, Ok, Err, IfOk, IfErr, refl, sym, ap, subst, ◌∙◌, arith}
+use Rattle.std.proofs.Common.{◌≡◌, ◌⊎◌, ◌<◌, ◌≤◌, inl, inr, ℕ, pos, List, [], ◌∷◌, ◌++◌, codes, map, slice_get, Bool, true, false, Option, Some, None, Result, Ok, Err, IfOk, IfErr, refl, sym, ap, subst, ◌∙◌, arith}
 use Rattle.std.proofs.lemmas.Bool.{cases_lt}
 use Rattle.std.proofs.lemmas.Int.{ints}
 use Rattle.std.specs.Cmp.{int_ranks}
@@ -39,12 +39,13 @@ use Rattle.register_store.specs.Reading.{IsRowOf, ReadsBy, ShowsAt, ShowsNone}
 use Rattle.register_store.specs.Schema.{Holds, schema_with}
 use Rattle.register_store.specs.Stops.{HasFirst, IsFirst, IsNumbered, cell_place, stop_cell}
 use Rattle.register_store.specs.Tables.{Layout, Tables, keys, key_row, numbered}
-use Rattle.register_store.proofs.Asked.{names_of_table, shown_of_table}
+use Rattle.register_store.proofs.Asked.{shown_of_table}
 use Rattle.register_store.proofs.Decoding.{same_number, one_key}
 use Rattle.register_store.proofs.Actions.{shows_all}
 use Rattle.register_store.proofs.Meanings.{Asks, IsPlaced, Meant, asks, classes, placed}
 use Rattle.register_store.proofs.KeyFound.{at_number, in_range_at}
 use Rattle.register_store.proofs.RowFound.{answer_read}
+use Rattle.register_store.proofs.Texts.{find_names}
 
 -- ---- the texts
 
@@ -73,15 +74,18 @@ passes_past =
 abbrev pub shown : List Term
 shown = shown_of_table Keys
 
+abbrev pub names : List (List ℕ)
+names = find_names ++ codes "number" ∷ []
+
 -- by Protect Stop, and then by number
 abbrev pub order : List (Term × sorted_by.Key)
 order = (col 1 8, ascending Binary) ∷ (col 1 0, ascending Binary) ∷ []
 
 abbrev pub IsDueSearch : List ℕ → List Term → Type 0
-IsDueSearch sql passes = (l : Layout) → Asks (schema_with l) (keys l) sql (ordered_by (l.tree Keys) passes shown order) (names_of_table Keys)
+IsDueSearch sql passes = (l : Layout) → Asks (schema_with l) (keys l) sql (ordered_by (l.tree Keys) passes shown order) names
 
 -- what such a text means
-due_meant : (sql : List ℕ) (passes : List Term) → IsDueSearch sql passes → (l : Layout) → IsPlaced l → Meant (schema_with l) sql (Select (record { lets = []; body = ordered_by (l.tree Keys) passes shown order }) (names_of_table Keys))
+due_meant : (sql : List ℕ) (passes : List Term) → IsDueSearch sql passes → (l : Layout) → IsPlaced l → Meant (schema_with l) sql (Select (record { lets = []; body = ordered_by (l.tree Keys) passes shown order }) names)
 due_meant sql passes search l at = asks (schema_with l) (keys l) (classes l at Keys) _ _ _ (search l)
 
 same_select : IsSelect same_text
@@ -181,7 +185,7 @@ module _ (sql : List ℕ) (query : IsQuery sql) (passes : List Term) (search : I
     row_is old new t holds row h =
         let l = holds.schema.layout in
         let m = due_meant sql passes search l (placed t old.now holds) in
-        let given = gives_first (l.tree Keys) passes shown order params sql old new _ holds.schema.is (names_of_table Keys) m.is m.plain m.unlisted (shows_all old.now.trees (l.tree Keys)) row h in
+        let given = gives_first (l.tree Keys) passes shown order params sql old new _ holds.schema.is names m.is m.plain m.unlisted (shows_all old.now.trees (l.tree Keys)) row h in
         let it = subst (λ rs. ShowsLeast (l.tree Keys) passes shown order params rs row) (holds.shown Keys) given in
         let came = came_from (numbered t.keys) it.least it.passes_too in
         let x = came.0 in (
@@ -200,7 +204,7 @@ module _ (sql : List ℕ) (query : IsQuery sql) (passes : List Term) (search : I
     none_is old new t holds h x there is =
         let l = holds.schema.layout in
         let m = due_meant sql passes search l (placed t old.now holds) in
-        let given = gives_no_row (l.tree Keys) passes shown order params sql old new _ holds.schema.is (names_of_table Keys) m.is m.plain m.unlisted (shows_all old.now.trees (l.tree Keys)) h in
+        let given = gives_no_row (l.tree Keys) passes shown order params sql old new _ holds.schema.is names m.is m.plain m.unlisted (shows_all old.now.trees (l.tree Keys)) h in
         let none = subst (λ rs. passing (l.tree Keys) passes shown order params rs ≡ []) (holds.shown Keys) given in
         subst (λ rs. Has rs (key_row x)) none (goes_to (numbered t.keys) x there (test_is x ∙ is))
 

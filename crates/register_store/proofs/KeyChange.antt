@@ -28,7 +28,7 @@ use Rattle.register_store.specs.declared.table.TableName.TheVariants.{Keys}
 use Rattle.register_store.specs.Tables.{Layout, fresh, keys, place_of, AreDates, IsKey, date_cell, key_row, numbered}
 use Rattle.register_store.specs.Schema.{schema_with, Holds, rows_of}
 use Rattle.register_store.specs.Making.{Makes, Always, held_by, where_number, with_key_at}
-use Rattle.register_store.proofs.Actions.{keys_idle, shows_all}
+use Rattle.register_store.proofs.Actions.{idle, shows_all}
 use Rattle.sqlite_resolve.specs.Compile.{first}
 use Rattle.register_store.proofs.Meanings.{Sets, classes, placed, sets}
 use Rattle.register_store.proofs.Frame.{holds_with}
@@ -85,7 +85,7 @@ module _ (sql : List ℕ) (passes shown : List Term) (parts : IsUpdate sql passe
         let m = sets (schema_with l) (keys l) (classes l (placed t old.now holds) Keys) _ _ _ (parts l) in
         let ordered : IsTable (rows_of l Keys old.now) = subst IsTable (sym (holds.shown Keys)) (is_table t.keys) in
         let wrote = changing.changes key_row (λ p. pos p.0) (λ _. refl) (keys l) params passes shown set sql (schema_with l) (place_of Keys) refl
-        m.is m.plain (keys_idle l holds.schema.apart) (λ db. shows_all db (l.tree Keys)) image (λ p. refl) old new count h holds.schema.is (numbered t.keys) (holds.shown Keys) ordered in
+        m.is m.plain (idle l holds.schema.apart Keys refl 0) (λ db. shows_all db (l.tree Keys)) image (λ p. refl) old new count h holds.schema.is (numbered t.keys) (holds.shown Keys) ordered in
         holds_with Keys (map (changed_where is_for f) (numbered t.keys)) t old.now new.now _ holds wrote (in_range 1 t.keys (holds.in_range Keys)) (each 1 t.keys)
 
 -- ---- what an accepted request can change

@@ -9,14 +9,11 @@ use Rattle.sqlite.specs.Order.{Row}
 use Rattle.sqlite.specs.Program.{overlay}
 use Rattle.sqlite.specs.State.{State, HasCleanDisk, IsUnchanged, Survives}
 use Rattle.sqlite.specs.Tree.{IsTable}
-use Rattle.sqlite_resolve.specs.Compile.{first}
-use Rattle.sqlite_tied.specs.Compute.{everything}
 use Rattle.row_tests.specs.declared.error.RowsError.{RowsError}
 use Rattle.row_tests.specs.declared.error.RowsError.TheVariants.{NoMeaning, Refused, Memory}
 use Rattle.row_tests.specs.Each.{ShowEach}
-use Rattle.row_tests.specs.Showing.{HasNoMeaning, IsQuery, ShowsAll, ShowsFirst}
+use Rattle.row_tests.specs.Showing.{HasNoMeaning, ShowsAll, ShowsFirst}
 use Rattle.row_tests.proofs.Each.{all_front, all_last, all_more, show_front, show_length, show_more, show_same, show_split}
-use Rattle.row_tests.proofs.Selects.{IsSelect, select_plain}
 use Rattle.register_core.specs.declared.key.Key.{Key}
 use Rattle.register_store.specs.declared.found.Found.{Found}
 use Rattle.register_store.specs.declared.error.CheckError.{CheckError}
@@ -34,13 +31,6 @@ use Rattle.register_store.proofs.MetaTested.{newer_not}
 use Rattle.register_store.proofs.Numbers.{enumerate_append, is_table}
 use Rattle.register_store.proofs.Ordered.{in_order, shown_of}
 use Rattle.register_store.proofs.RowsFailed.{reason_of}
-
-keys_select : IsSelect (check_text Keys)
-unfolding everything first
-keys_select = (_, _, refl, refl, refl)
-
-pub keys_query : IsQuery (check_text Keys)
-keys_query = select_plain (check_text Keys) keys_select
 
 -- ---- numbered keys
 

@@ -36,8 +36,7 @@ use Rattle.sqlite_typing.specs.declared.class.Class.{Class}
 use Rattle.sqlite_typing.specs.Types.{accepts_over, accepts_after, filled, is_count, table_classes, row_classes}
 use Rattle.sqlite_value.specs.declared.keys.Collation.{Collation}
 use Rattle.register_store.specs.declared.table.TableName.{TableName}
-use Rattle.register_store.specs.declared.table.TableName.TheVariants.{Meta, Keys, Custodian, Approval, Request}
-use Rattle.register_store.specs.Tables.{Layout, AreApart, Tables, all_tables, place_of, table_of}
+use Rattle.register_store.specs.Tables.{Layout, AreApart, Tables, all_tables, table_of}
 use Rattle.register_store.specs.Schema.{Holds, schema_with}
 use Rattle.register_store.proofs.EachTable.{each, in_all, same_place}
 

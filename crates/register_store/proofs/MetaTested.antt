@@ -5,13 +5,10 @@ use Rattle.sqlite.specs.Order.{Row, column}
 use Rattle.sqlite.specs.Program.{overlay}
 use Rattle.sqlite.specs.State.{State, HasCleanDisk, IsUnchanged, Survives}
 use Rattle.sqlite.specs.Tree.{IsTable}
-use Rattle.sqlite_resolve.specs.Compile.{first}
-use Rattle.sqlite_tied.specs.Compute.{everything}
 use Rattle.row_tests.specs.Each.{ShowEach}
 use Rattle.row_tests.specs.declared.error.RowsError.{RowsError}
 use Rattle.row_tests.specs.declared.error.RowsError.TheVariants.{NoMeaning, Refused, Memory, Database}
-use Rattle.row_tests.specs.Showing.{HasNoMeaning, IsQuery, ShowsAll, ShowsFirst}
-use Rattle.row_tests.proofs.Selects.{IsSelect, select_plain}
+use Rattle.row_tests.specs.Showing.{HasNoMeaning, ShowsAll, ShowsFirst}
 use Rattle.register_store.specs.declared.found.Found.{Found}
 use Rattle.register_store.specs.declared.error.CheckError.{CheckError}
 use Rattle.register_store.specs.declared.error.CheckError.TheVariants.{NewerVersion, NotARegister}
@@ -28,13 +25,6 @@ use Rattle.register_store.proofs.Actions.{shows_all}
 use Rattle.register_store.proofs.Asked.{AnswersTo, ShowsOwn, shown_of_table, shown_own, tests_by}
 use Rattle.register_store.proofs.Decoding.{same_number}
 use Rattle.register_store.proofs.Ordered.{in_order, shown_of}
-
-meta_select : IsSelect (check_text Meta)
-unfolding everything first
-meta_select = (_, _, refl, refl, refl)
-
-pub meta_query : IsQuery (check_text Meta)
-meta_query = select_plain (check_text Meta) meta_select
 
 -- ---- a register's own row
 

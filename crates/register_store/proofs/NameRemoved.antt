@@ -33,7 +33,7 @@ use Rattle.register_store.specs.Roles.{change_text, with_role_changed}
 use Rattle.register_store.specs.Tables.{custodian, approval, to_custodian, place_of, table_of, Layout, Tables, ShowsEntries, Shows, IsNamed, IsInRange, content, name_cells}
 use Rattle.register_store.specs.Schema.{schema_with, Holds, rows_of}
 use Rattle.register_store.specs.Making.{Makes, Always, without_custodian, without_approval, without_approvals, without_name}
-use Rattle.register_store.proofs.Actions.{approval_idle, custodian_drops, shows_all}
+use Rattle.register_store.proofs.Actions.{idle, custodian_drops, shows_all}
 use Rattle.register_store.proofs.EachTable.{each, content_with}
 use Rattle.sqlite_resolve.specs.Compile.{first}
 use Rattle.register_store.proofs.Meanings.{Takes, classes, placed, takes}
@@ -60,7 +60,7 @@ module _ (sql : List ℕ) (params : Cells) (at : List Term) (parts : IsDelete sq
       let l = holds.schema.layout in
       let m = takes (schema_with l) (approval l) (classes l (placed t old.now holds) Approval) _ _ _ (parts l) in
       let shown = holds.shown Approval in
-      let wrote = removes (approval l) params at sql (schema_with l) (place_of Approval) refl m.is m.plain (approval_idle l holds.schema.apart 0) (λ db. shows_all db (l.tree Approval)) old new count h holds.schema.is shown.ordered shown.counted in
+      let wrote = removes (approval l) params at sql (schema_with l) (place_of Approval) refl m.is m.plain (λ olds. idle l holds.schema.apart Approval refl 0 olds []) (λ db. shows_all db (l.tree Approval)) old new count h holds.schema.is shown.ordered shown.counted in
       let rows = shows_filtered name_cells (λ r. not (is_picked params 0 at ids_shown r)) (λ entry. not (q entry)) (λ r. ap not (past r)) (λ entry. ap not (each entry)) t.approvals (rows_of l Approval old.now) shown in
       holds_with Approval (left t).approvals t old.now new.now _ holds wrote (all-filter IsNamed (λ entry. not (q entry)) t.approvals (holds.in_range Approval)) rows
 
@@ -158,7 +158,7 @@ module _ (key : ℕ) (name : List ℕ) where
       let custodians = holds.shown Custodian in
       let approvals = holds.shown Approval in
       let did = removes_both (schema_with l) (custodian l) (approval l) to_custodian places plain params at_name (change_text (Taken role.Custodian)) (place_of Custodian) refl m.is m.plain
-      (custodian_drops l holds.schema.apart) (approval_idle l holds.schema.apart 1) (λ db. shows_all db (l.tree Custodian)) ((each Custodian).listed l) ((each Approval).listed l) (λ same. two_places (holds.schema.apart Approval Custodian same)) old new count h holds.schema.is
+      (custodian_drops l holds.schema.apart) (λ olds. idle l holds.schema.apart Approval refl 1 olds []) (λ db. shows_all db (l.tree Custodian)) ((each Custodian).listed l) ((each Approval).listed l) (λ same. two_places (holds.schema.apart Approval Custodian same)) old new count h holds.schema.is
       custodians.ordered custodians.counted approvals.ordered approvals.counted passing (from_custodian old.now t holds) (of_custodian old.now t holds) in
       let other = rows_kept l (λ (tree : ℕ). (tree ≡ l.tree Custodian) ⊎ (tree ≡ l.tree Approval)) old.now new.now did.kept in
       let left = without_name key name t.custodians in

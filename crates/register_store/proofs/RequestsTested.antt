@@ -1,42 +1,24 @@
 -- The test of the table of requests.
-use Rattle.std.proofs.Common.{◌≡◌, Result, Ok, Err, List, [], ◌∷◌, ◌++◌, sym, subst, refl}
+use Rattle.std.proofs.Common.{◌≡◌, List, [], ◌∷◌, sym, subst, refl}
 use Rattle.std.specs.List.{AllByRecursion}
 use Rattle.sqlite.specs.Effect.{Database as Db}
 use Rattle.sqlite.specs.Order.{Row}
-use Rattle.sqlite.specs.State.{State, HasCleanDisk, IsUnchanged, Survives}
 use Rattle.sqlite.specs.declared.types.Value.TheVariants.{Null}
 use Rattle.sqlite.specs.Term.{eval_all}
-use Rattle.sqlite_resolve.specs.Compile.{first}
-use Rattle.sqlite_tied.specs.Compute.{everything}
-use Rattle.row_tests.specs.declared.error.RowsError.{RowsError}
-use Rattle.row_tests.specs.declared.error.RowsError.TheVariants.{NoMeaning, Refused, Memory}
-use Rattle.row_tests.specs.Showing.{HasNoMeaning, IsQuery, ShowsAll, ShowsFirst}
 use Rattle.row_tests.proofs.Each.{show_same}
-use Rattle.row_tests.proofs.Selects.{IsSelect, select_plain}
 use Rattle.register_core.specs.declared.kept_reply.KeptReply.{KeptReply}
 use Rattle.register_core.specs.KeptReply.{IsKeptReply}
 use Rattle.register_store.specs.declared.found.Found.{Found}
-use Rattle.register_store.specs.declared.error.CheckError.{CheckError}
 use Rattle.register_store.specs.declared.table.TableName.TheVariants.{Request}
-use Rattle.register_store.specs.Checking.{IsOdd, IsReasonAt, ShowsKept, ShowsRows, TestsBy, check_error, check_text, counts_of}
+use Rattle.register_store.specs.Checking.{ShowsKept, counts_of}
 use Rattle.register_store.specs.Schema.{Holds}
 use Rattle.register_store.specs.Tables.{Tables, request_cells}
-use Rattle.register_store.specs.Taking.{HasShown, IsAny, RefusesEach}
 use Rattle.register_store.specs.Tests.{IsReplyOf}
 use Rattle.register_store.proofs.Actions.{shows_all}
-use Rattle.register_store.proofs.Asked.{AnswersTo, ShowsOwn, shown_of_table, tests_by}
+use Rattle.register_store.proofs.Asked.{AnswersTo, ShowsOwn, shown_of_table}
 use Rattle.register_store.proofs.Decoding.{same_number, same_request, same_words}
-use Rattle.register_store.proofs.EachTested.{odd_on}
 use Rattle.register_store.proofs.EntriesShown.{all_permuted, own_entries}
-use Rattle.register_store.proofs.MetaTested.{newer_not}
-use Rattle.register_store.proofs.RowsFailed.{reason_of}
-
-requests_select : IsSelect (check_text Request)
-unfolding everything first
-requests_select = (_, _, refl, refl, refl)
-
-pub requests_query : IsQuery (check_text Request)
-requests_query = select_plain (check_text Request) requests_select
+use Rattle.register_store.proofs.EntriesTested.{AreTested}
 
 shown_past : (r : Row) → eval_all (shown_of_table Request) ([] ∷ r ∷ []) ≡ eval_all (shown_of_table Request) ([] ∷ (Null ∷ Rattle.std.specs.Prelude.drop 1 r) ∷ [])
 shown_past [] = refl
@@ -53,7 +35,8 @@ own_row k is = record {
   in_range = is;
 }
 
-pub own_requests : (t : Tables) (db : Db) (rows : List Row) (holds : Holds t db) → AnswersTo holds.schema.layout Request db rows → ShowsOwn Request t rows
+own_requests : (t : Tables) (db : Db) (rows : List Row) (holds : Holds t db)
+    → AnswersTo holds.schema.layout Request db rows → ShowsOwn Request t rows
 own_requests t db rows holds sure =
     let it = own_entries request_cells ShowsKept IsKeptReply (holds.schema.layout.tree Request) (shown_of_table Request) shown_past own_row db t.requests rows (holds.in_range Request) (holds.shown Request) (shows_all db.trees (holds.schema.layout.tree Request)) sure in
     record { c = it.0; shows = it.2; like = it.1; meets = all_permuted (IsReplyOf t.counts) t.requests it.0 it.1 }
@@ -66,31 +49,17 @@ one_kept row a b x y =
     let own = x.cells.cells in
     same_request b.caller b.number row a b (record { caller = caller; number = number; command = own.command; key = own.key; state = own.state; moment = own.moment }) y.cells.cells
 
-one_requests : (rows : List Row) (c d : List KeptReply) → ShowsRows Request rows c → ShowsRows Request rows d → c ≡ d
-one_requests = show_same ShowsKept one_kept
-
-module _ (t : Tables) (found : Found) (counts : counts_of found ≡ t.counts) (old new : State) (survives : Survives old new (λ _. ⊥)) where
-  abbrev Tested : Result (Unit {0}) CheckError → Type 0
-  Tested q = TestsBy Request t IsAny old new q
-
-  abbrev Passed : List Row → Type 0
-  Passed rows = HasShown ShowsKept (IsReplyOf (counts_of found)) rows
-
-  pub requests_read : (HasCleanDisk new → ShowsAll (check_text Request) Passed old new) → Tested (Ok tt)
-  requests_read all = tests_by Request t (own_requests t) (newer_not t) IsAny (λ c d x like says. tt) one_requests old new (Ok tt)
-      (λ clean.
-      let it = all clean in
-      (it.holds.values, record { rows = it.rows; shown = it.shown; holds = it.holds.shown; same = it.same }, subst (λ c. AllByRecursion (IsReplyOf c) it.holds.values) counts it.holds.each, tt))
-      (λ clean. tt) survives
-
-  odd : (rows : List Row) → RefusesEach ShowsKept (IsReplyOf (counts_of found)) rows → (tail : List Row) → IsOdd Request t (rows ++ tail)
-  odd rows refuses tail = record {
-    fails = λ c shows meets.
-        odd_on ShowsKept (IsReplyOf (counts_of found)) rows refuses tail c shows (subst (λ n. AllByRecursion (IsReplyOf n) c) (sym counts) meets);
-    no_newer = λ none. none;
-  }
-
-  pub requests_fail : (error : RowsError) (e : CheckError) → e ≡ check_error error → (HasCleanDisk new → error ≡ NoMeaning → HasNoMeaning (check_text Request) old new)
-      → (HasCleanDisk new → error ≡ Refused → ShowsFirst (check_text Request) (RefusesEach ShowsKept (IsReplyOf (counts_of found))) old new) → (HasCleanDisk new → error ≡ Memory → IsUnchanged old new) → Tested (Err e)
-  requests_fail error e is meaning refused memory = tests_by Request t (own_requests t) (newer_not t) IsAny (λ c d x like says. tt) one_requests old new (Err e) (λ clean. tt)
-      (λ clean. subst (IsReasonAt Request t old new) (sym is) (reason_of Request t old new (RefusesEach ShowsKept (IsReplyOf (counts_of found))) error (meaning clean) (refused clean) (memory clean) (λ _. odd))) survives
+-- the test asks of each that the register with these counts may have given its reply
+pub are_tested : (t : Tables) (found : Found) → counts_of found ≡ t.counts
+    → AreTested Request ShowsKept (IsReplyOf (counts_of found)) t
+are_tested t found counts = record {
+  own = own_requests t;
+  one = show_same ShowsKept one_kept;
+  taken = λ rows it. (it.values, it.shown, subst (λ n. AllByRecursion (IsReplyOf n) it.values) counts it.each);
+  given = λ rows met. record {
+    values = met.0;
+    shown = met.1;
+    each = subst (λ n. AllByRecursion (IsReplyOf n) met.0) (sym counts) met.2;
+  };
+  no_newer = λ rows none. none;
+}

@@ -1,5 +1,5 @@
 -- The schema of a register, and when a database holds its tables.
-use Rattle.std.specs.Prelude.{◌≡◌, ℕ, false, List, [], ◌∷◌, ◌++◌, map, take, fold, codes}
+use Rattle.std.specs.Prelude.{◌≡◌, ℕ, ◌+◌, false, List, [], ◌∷◌, ◌++◌, map, take, fold, codes}
 use Rattle.sqlite.specs.Order.{Row as Cells}
 use Rattle.sqlite.specs.Schema.{Schema}
 use Rattle.sqlite.specs.Change.{created}
@@ -11,7 +11,7 @@ use Rattle.register_store.specs.declared.key_index.KeyIndex.TheVariants.{Activat
 use Rattle.register_store.specs.declared.table.TableName.{TableName}
 use Rattle.register_store.specs.declared.table.TableName.TheVariants.{Keys}
 use Rattle.register_store.specs.Tables.{Layout, AreApart, fresh, Tables, content, IsInRange, Shows, all_tables}
-use Rattle.register_store.specs.Tables.{table_of, key_indexes}
+use Rattle.register_store.specs.Tables.{table_of, key_indexes, trees_of}
 
 -- ---- schemas
 
@@ -41,11 +41,11 @@ pub record IsRegister (schema : Schema) : Type 0 where
 -- ---- the indexes of keys that a new register has
 
 -- An index of keys by their states, and then by further columns. Columns are counted from the rowid, which is the
--- number and has 0: the state is 5.
+-- number and has 0: the state is 5. Its tree comes behind those of the tables.
 abbrev pub state_index : List ℕ → ℕ → List ℕ → Index
-state_index name tree columns = record {
+state_index name place columns = record {
   name = name;
-  tree = tree;
+  tree = trees_of all_tables + place;
   table = (fresh []).tree Keys;
   columns = 5 ∷ columns;
   order = plain;
@@ -53,11 +53,11 @@ state_index name tree columns = record {
 }
 
 -- by the date of activation, by that of deactivation, and by that of the stop of protection with the number
--- behind it; their trees come behind those of the tables
+-- behind it
 abbrev pub index_of : KeyIndex → Index
-index_of Activation = state_index (codes "keys_by_activation") 8 (7 ∷ [])
-index_of Deactivation = state_index (codes "keys_by_deactivation") 9 (9 ∷ [])
-index_of ProtectStop = state_index (codes "keys_by_protect_stop") 10 (8 ∷ 0 ∷ [])
+index_of Activation = state_index (codes "keys_by_activation") 0 (7 ∷ [])
+index_of Deactivation = state_index (codes "keys_by_deactivation") 1 (9 ∷ [])
+index_of ProtectStop = state_index (codes "keys_by_protect_stop") 2 (8 ∷ 0 ∷ [])
 
 -- the indexes in the order in which they are made
 abbrev pub made_indexes : List Index

@@ -1,6 +1,6 @@
 -- The tables of a register, one by one: what each holds, how it is made, and how its content stands in its rows.
-use Rattle.std.specs.Prelude.{◌≡◌, ℕ, ◌+◌, pos, false, List, [], ◌∷◌, map, drop, Option, None, Some, IsTrue}
-use Rattle.std.specs.Prelude.{IsPermutation, codes}
+use Rattle.std.specs.Prelude.{◌≡◌, ℕ, ◌+◌, pos, Bool, cond, false, not, List, [], ◌∷◌, ◌++◌, map, drop, filter, take}
+use Rattle.std.specs.Prelude.{Option, None, Some, is_some, IsTrue, IsPermutation, codes}
 use Rattle.std.specs.List.{AllByRecursion, enumerate_from}
 use Rattle.sqlite.specs.declared.types.Value.TheVariants.{Null, Int, Text as Words}
 use Rattle.sqlite.specs.Order.{Row as Cells}
@@ -53,154 +53,6 @@ no_rows = record {
   approvals = [];
   requests = [];
 }
-
--- ---- one table by its name
-
-abbrev pub Content : TableName → Type 0
-Content Meta = Counts
-Content Keys = List Key
-Content Custodian = List KeyName
-Content Approval = List KeyName
-Content Request = List KeptReply
-
-abbrev pub content : (name : TableName) → Tables → Content name
-content Meta t = t.counts
-content Keys t = t.keys
-content Custodian t = t.custodians
-content Approval t = t.approvals
-content Request t = t.requests
-
--- the tables with another content of this one
-abbrev pub with_content : (name : TableName) → Content name → Tables → Tables
-with_content Meta counts t = record t { counts = counts }
-with_content Keys keys t = record t { keys = keys }
-with_content Custodian custodians t = record t { custodians = custodians }
-with_content Approval approvals t = record t { approvals = approvals }
-with_content Request requests t = record t { requests = requests }
-
--- ---- where the tables stand
-
--- the tables in the order in which they are made
-abbrev pub all_tables : List TableName
-all_tables = Meta ∷ Keys ∷ Custodian ∷ Approval ∷ Request ∷ []
-
--- the place of a table among them
-abbrev pub place_of : TableName → ℕ
-place_of Meta = 0
-place_of Keys = 1
-place_of Custodian = 2
-place_of Approval = 3
-place_of Request = 4
-
--- Where the tables of a file stand, and what it has beside them. A file numbers its trees as its tables and indexes are
--- made, so no number is a table's own: a table has the tree that the file's schema gives to its name.
-pub record Layout : Type 0 where
-  -- the tree with a table's rows
-  pub tree : TableName → ℕ
-  -- that with the index of its primary key, where it has one
-  pub key_tree : TableName → ℕ
-  -- the indexes beside those of the primary keys
-  pub more : List Index
-
--- two tables have two trees
-abbrev pub AreApart : Layout → Type 0
-AreApart l = (a b : TableName) → l.tree a ≡ l.tree b → place_of a ≡ place_of b
-
--- the trees of a file whose tables were made one after the other in an empty database
-abbrev pub fresh_tree : TableName → ℕ
-fresh_tree Meta = 0
-fresh_tree Keys = 1
-fresh_tree Custodian = 2
-fresh_tree Approval = 4
-fresh_tree Request = 6
-
-abbrev pub fresh : List Index → Layout
-fresh more = record { tree = fresh_tree; key_tree = λ name. fresh_tree name + 1; more = more }
-
--- ---- how they are made
-
-abbrev pub to_keys : Reference
-to_keys = record {
-  columns = 1 ∷ [];
-  parent = codes "keys";
-  parent_columns = codes "number" ∷ [];
-  on_delete =
-      NoAction;
-  on_update = NoAction;
-  is_deferred = false;
-}
-
--- where a custodian goes, the approval goes too
-abbrev pub to_custodian : Reference
-to_custodian = record {
-  columns = 1 ∷ 2 ∷ [];
-  parent = codes "custodian";
-  parent_columns = codes "key_no" ∷ codes
-      "name" ∷ [];
-  on_delete = Cascade;
-  on_update = NoAction;
-  is_deferred = false;
-}
-
-module _ (l : Layout) where
-  abbrev pub meta : Table
-  meta = keyed (codes "meta") (l.tree Meta)
-      (key_column (codes "id") ∷ number_column (codes "version") ∷ number_column (codes "latest") ∷ number_column
-      (codes "key_count") ∷ [])
-
-  abbrev pub keys : Table
-  keys = keyed (codes "keys") (l.tree Keys)
-      (key_column (codes "number") ∷ number_column (codes "kind") ∷ text_column (codes "owner") ∷ text_column
-      (codes "purpose") ∷ number_column (codes "state")
-      ∷ number_column (codes "initial") ∷ number_column (codes "activation") ∷ number_column (codes "protect_stop") ∷
-      number_column (codes "deactivation")
-      ∷ number_column (codes "destroyed") ∷ number_column (codes "compromised") ∷ number_column (codes "occurrence") ∷
-      [])
-
-  abbrev pub custodian : Table
-  custodian = paired (codes "custodian") (l.tree Custodian) to_keys
-
-  abbrev pub approval : Table
-  approval = paired (codes "approval") (l.tree Approval) to_custodian
-
-  -- a caller's number stands once, and refers to nothing
-  abbrev pub request : Table
-  request = indexed (codes "request") (l.tree Request)
-      (text_column (codes "caller") ∷ number_column (codes "number") ∷ text_column (codes "command")
-      ∷ number_column (codes "key_no") ∷ number_column (codes "state") ∷ number_column (codes "moment") ∷ []) []
-
-  abbrev pub table_of : TableName → Table
-  table_of Meta = meta
-  table_of Keys = keys
-  table_of Custodian = custodian
-  table_of Approval = approval
-  table_of Request = request
-
-  -- The index of a primary key that is no INTEGER PRIMARY KEY is made with its table, and has a tree of its own.
-  abbrev pub key_index : TableName → Index
-  key_index name = automatic (table_of name) 0 (table_of name).primary (l.key_tree name)
-
-  abbrev pub key_indexes : List Index
-  key_indexes = key_index Custodian ∷ key_index Approval ∷ key_index Request ∷ []
-
-abbrev pub create_text : TableName → List ℕ
-create_text Meta = codes
-    "CREATE TABLE meta (id INTEGER PRIMARY KEY, version INTEGER NOT NULL, latest INTEGER NOT NULL, key_count INTEGER NOT NULL) STRICT"
-create_text Keys = codes
-    "CREATE TABLE keys (number INTEGER PRIMARY KEY, kind INTEGER NOT NULL, owner TEXT NOT NULL, purpose TEXT NOT NULL, state INTEGER NOT NULL, initial INTEGER NOT NULL, activation INTEGER NOT NULL, protect_stop INTEGER NOT NULL, deactivation INTEGER NOT NULL, destroyed INTEGER NOT NULL, compromised INTEGER NOT NULL, occurrence INTEGER NOT NULL) STRICT"
-create_text Custodian =
-    codes "CREATE TABLE custodian (key_no INTEGER NOT NULL REFERENCES keys(number), name TEXT NOT NULL, PRIMARY KEY (key_no, name)) STRICT"
-create_text Approval =
-    codes "CREATE TABLE approval (key_no INTEGER NOT NULL, name TEXT NOT NULL, PRIMARY KEY (key_no, name), FOREIGN KEY (key_no, name) REFERENCES custodian(key_no, name) ON DELETE CASCADE) STRICT"
-create_text Request =
-    codes "CREATE TABLE request (caller TEXT NOT NULL, number INTEGER NOT NULL, command TEXT NOT NULL, key_no INTEGER NOT NULL, state INTEGER NOT NULL, moment INTEGER NOT NULL, PRIMARY KEY (caller, number)) STRICT"
-
-abbrev pub count_text : TableName → List ℕ
-count_text Meta = codes "SELECT count(*) FROM meta"
-count_text Keys = codes "SELECT count(*) FROM keys"
-count_text Custodian = codes "SELECT count(*) FROM custodian"
-count_text Approval = codes "SELECT count(*) FROM approval"
-count_text Request = codes "SELECT count(*) FROM request"
 
 -- ---- cells. A row begins with its rowid; the cell of an INTEGER PRIMARY KEY shows that, and is kept as NULL.
 
@@ -257,15 +109,6 @@ pub record ShowsEntries {A : Type 0} (cells_of : A → Cells) (entries : List A)
   pub ordered : IsTable rows
   pub counted : AllByRecursion (λ row. IsTrue (is_int (rowid row))) rows
 
--- The rows of a table are those of its content. A table with an INTEGER PRIMARY KEY keeps its rows in order of that,
--- whatever the order in which they came.
-abbrev pub Shows : (name : TableName) → Content name → List Cells → Type 0
-Shows Meta counts rows = rows ≡ counts_row counts ∷ []
-Shows Keys keys rows = rows ≡ map key_row (numbered keys)
-Shows Custodian names rows = ShowsEntries name_cells names rows
-Shows Approval names rows = ShowsEntries name_cells names rows
-Shows Request requests rows = ShowsEntries request_cells requests rows
-
 -- ---- ranges
 
 pub record AreDates (d : Dates) : Type 0 where
@@ -288,9 +131,197 @@ IsNamed at_key = IsName at_key.name
 abbrev pub AreNames : List KeyName → Type 0
 AreNames names = AllByRecursion IsNamed names
 
+-- ---- what they refer to
+
+abbrev pub to_keys : Reference
+to_keys = record {
+  columns = 1 ∷ [];
+  parent = codes "keys";
+  parent_columns = codes "number" ∷ [];
+  on_delete =
+      NoAction;
+  on_update = NoAction;
+  is_deferred = false;
+}
+
+-- where a custodian goes, the approval goes too
+abbrev pub to_custodian : Reference
+to_custodian = record {
+  columns = 1 ∷ 2 ∷ [];
+  parent = codes "custodian";
+  parent_columns = codes "key_no" ∷ codes
+      "name" ∷ [];
+  on_delete = Cascade;
+  on_update = NoAction;
+  is_deferred = false;
+}
+
+-- ---- what each table is
+
+-- What is told of one table.
+pub record Form : Type 1 where
+  -- its place among the tables
+  pub place : ℕ
+  -- what it holds: of which type, that of these tables, and these tables with another content of it
+  pub Content : Type 0
+  pub content : Tables → Content
+  pub with_content : Content → Tables → Tables
+  -- its columns and what they refer to, where its rows stand in this tree; and the text that makes it
+  pub table : ℕ → Table
+  pub create_text : List ℕ
+  -- which rows are those of a content, and which contents are in range
+  pub Shows : Content → List Cells → Type 0
+  pub IsInRange : Content → Type 0
+
+-- A table with an INTEGER PRIMARY KEY keeps its rows in order of that, whatever the order in which they came.
+abbrev pub form : TableName → Form
+form Meta = record {
+  place = 0;
+  Content = Counts;
+  content = λ t. t.counts;
+  with_content = λ counts t. record t { counts = counts };
+  table = keyed (codes "meta") (key_column (codes "id") ∷ number_column (codes "version")
+      ∷ number_column (codes "latest") ∷ number_column (codes "key_count") ∷ []);
+  create_text = codes
+      "CREATE TABLE meta (id INTEGER PRIMARY KEY, version INTEGER NOT NULL, latest INTEGER NOT NULL, key_count INTEGER NOT NULL) STRICT";
+  Shows = λ counts rows. rows ≡ counts_row counts ∷ [];
+  IsInRange = λ counts. IsMoment counts.latest;
+}
+form Keys = record {
+  place = 1;
+  Content = List Key;
+  content = λ t. t.keys;
+  with_content = λ keys t. record t { keys = keys };
+  table = keyed (codes "keys") (key_column (codes "number") ∷ number_column (codes "kind")
+      ∷ text_column (codes "owner") ∷ text_column (codes "purpose") ∷ number_column (codes "state")
+      ∷ number_column (codes "initial") ∷ number_column (codes "activation") ∷ number_column (codes "protect_stop")
+      ∷ number_column (codes "deactivation") ∷ number_column (codes "destroyed")
+      ∷ number_column (codes "compromised") ∷ number_column (codes "occurrence") ∷ []);
+  create_text = codes
+      "CREATE TABLE keys (number INTEGER PRIMARY KEY, kind INTEGER NOT NULL, owner TEXT NOT NULL, purpose TEXT NOT NULL, state INTEGER NOT NULL, initial INTEGER NOT NULL, activation INTEGER NOT NULL, protect_stop INTEGER NOT NULL, deactivation INTEGER NOT NULL, destroyed INTEGER NOT NULL, compromised INTEGER NOT NULL, occurrence INTEGER NOT NULL) STRICT";
+  Shows = λ keys rows. rows ≡ map key_row (numbered keys);
+  IsInRange = AllByRecursion IsKey;
+}
+form Custodian = record {
+  place = 2;
+  Content = List KeyName;
+  content = λ t. t.custodians;
+  with_content = λ custodians t. record t { custodians = custodians };
+  table = paired (codes "custodian") to_keys;
+  create_text = codes
+      "CREATE TABLE custodian (key_no INTEGER NOT NULL REFERENCES keys(number), name TEXT NOT NULL, PRIMARY KEY (key_no, name)) STRICT";
+  Shows = ShowsEntries name_cells;
+  IsInRange = AreNames;
+}
+form Approval = record {
+  place = 3;
+  Content = List KeyName;
+  content = λ t. t.approvals;
+  with_content = λ approvals t. record t { approvals = approvals };
+  table = paired (codes "approval") to_custodian;
+  create_text = codes
+      "CREATE TABLE approval (key_no INTEGER NOT NULL, name TEXT NOT NULL, PRIMARY KEY (key_no, name), FOREIGN KEY (key_no, name) REFERENCES custodian(key_no, name) ON DELETE CASCADE) STRICT";
+  Shows = ShowsEntries name_cells;
+  IsInRange = AreNames;
+}
+-- a caller's number stands once, and refers to nothing
+form Request = record {
+  place = 4;
+  Content = List KeptReply;
+  content = λ t. t.requests;
+  with_content = λ requests t. record t { requests = requests };
+  table = indexed (codes "request") (text_column (codes "caller") ∷ number_column (codes "number")
+      ∷ text_column (codes "command") ∷ number_column (codes "key_no") ∷ number_column (codes "state")
+      ∷ number_column (codes "moment") ∷ []) [];
+  create_text = codes
+      "CREATE TABLE request (caller TEXT NOT NULL, number INTEGER NOT NULL, command TEXT NOT NULL, key_no INTEGER NOT NULL, state INTEGER NOT NULL, moment INTEGER NOT NULL, PRIMARY KEY (caller, number)) STRICT";
+  Shows = ShowsEntries request_cells;
+  IsInRange = AllByRecursion IsKeptReply;
+}
+
+-- the tables in the order in which they are made
+abbrev pub all_tables : List TableName
+all_tables = Meta ∷ Keys ∷ Custodian ∷ Approval ∷ Request ∷ []
+
+-- ---- one table by its name
+
+abbrev pub place_of : TableName → ℕ
+place_of name = (form name).place
+
+abbrev pub Content : TableName → Type 0
+Content name = (form name).Content
+
+abbrev pub content : (name : TableName) → Tables → Content name
+content name = (form name).content
+
+abbrev pub with_content : (name : TableName) → Content name → Tables → Tables
+with_content name = (form name).with_content
+
+abbrev pub create_text : TableName → List ℕ
+create_text name = (form name).create_text
+
+abbrev pub Shows : (name : TableName) → Content name → List Cells → Type 0
+Shows name = (form name).Shows
+
 abbrev pub IsInRange : (name : TableName) → Content name → Type 0
-IsInRange Meta counts = IsMoment counts.latest
-IsInRange Keys keys = AllByRecursion IsKey keys
-IsInRange Custodian names = AreNames names
-IsInRange Approval names = AreNames names
-IsInRange Request requests = AllByRecursion IsKeptReply requests
+IsInRange name = (form name).IsInRange
+
+abbrev pub count_text : TableName → List ℕ
+count_text name = codes "SELECT count(*) FROM " ++ ((form name).table 0).name
+
+-- The index of a primary key that is no INTEGER PRIMARY KEY is made with its table, and has a tree of its own.
+abbrev pub has_key_index : TableName → Bool
+has_key_index name = not (is_some ((form name).table 0).key)
+
+-- ---- where the tables stand
+
+-- Where the tables of a file stand, and what it has beside them. A file numbers its trees as its tables and indexes are
+-- made, so no number is a table's own: a table has the tree that the file's schema gives to its name.
+pub record Layout : Type 0 where
+  -- the tree with a table's rows
+  pub tree : TableName → ℕ
+  -- that with the index of its primary key, where it has one
+  pub key_tree : TableName → ℕ
+  -- the indexes beside those of the primary keys
+  pub more : List Index
+
+-- two tables have two trees
+abbrev pub AreApart : Layout → Type 0
+AreApart l = (a b : TableName) → l.tree a ≡ l.tree b → place_of a ≡ place_of b
+
+-- how many trees these tables take: one for the rows of each, and one for the index of its primary key
+abbrev pub trees_of : List TableName → ℕ
+trees_of [] = 0
+trees_of (name ∷ names) = cond (has_key_index name) 2 1 + trees_of names
+
+-- the tree of a table in a file whose tables were made one after the other in an empty database
+abbrev pub fresh_tree : TableName → ℕ
+fresh_tree name = trees_of (take (place_of name) all_tables)
+
+abbrev pub fresh : List Index → Layout
+fresh more = record { tree = fresh_tree; key_tree = λ name. fresh_tree name + 1; more = more }
+
+module _ (l : Layout) where
+  abbrev pub table_of : TableName → Table
+  table_of name = (form name).table (l.tree name)
+
+  abbrev pub meta : Table
+  meta = table_of Meta
+
+  abbrev pub keys : Table
+  keys = table_of Keys
+
+  abbrev pub custodian : Table
+  custodian = table_of Custodian
+
+  abbrev pub approval : Table
+  approval = table_of Approval
+
+  abbrev pub request : Table
+  request = table_of Request
+
+  abbrev pub key_index : TableName → Index
+  key_index name = automatic (table_of name) 0 (table_of name).primary (l.key_tree name)
+
+  abbrev pub key_indexes : List Index
+  key_indexes = map key_index (filter has_key_index all_tables)
