@@ -71,7 +71,8 @@ one_reason a b e =
 -- ---- fields and commands
 
 -- The last two rows have every other two fields: of two shapes, or such that the members show them as they are.
-same_members : (kind : Data) (p q : Fields) → shape_of p ≡ shape_of q → fields_members kind p ≡ fields_members kind q → p ≡ q
+same_members : (kind : Data) (p q : Fields) → shape_of p ≡ shape_of q → fields_members kind p ≡ fields_members kind q
+    → p ≡ q
 same_members kind (Registration type owner a p d purpose) (Registration other name a2 p2 d2 aim) same e =
     let types = one_type type other cc in
     let activations = one_date a a2 cc in

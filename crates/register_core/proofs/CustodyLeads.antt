@@ -115,8 +115,10 @@ pub nobody_changes : (h : List Request) (q : Request) (key : ℕ) → named q.co
 nobody_changes h q key none =
     let c = q.command in
     let leaving = leaves h q.caller c none in
-    lead h q c key Kept refl (left (λ entry. is_about entry c) (added_by c) (all_custodians h) leaving.about leaving.added)
-    (left (λ entry. ends_by h entry q.caller c) (approved_by q.caller c) (all_approvals h) leaving.ends leaving.approved)
+    lead h q c key Kept refl (left (λ entry. is_about entry c) (added_by c) (all_custodians h) leaving.about
+    leaving.added)
+    (left (λ entry. ends_by h entry q.caller c) (approved_by q.caller c) (all_approvals h) leaving.ends
+    leaving.approved)
 
 and_both : (a b c : Bool) → b && c ≡ true → a && b && c ≡ a
 and_both true b c both = both

@@ -169,7 +169,8 @@ unfolding register_at
 register_takes = made_of register_reader registered registered_ranges registered_text
 
 register_again : (k : KeyType) (o : List ℕ) (a p d : Option ℕ) (u : List ℕ) → AreFields (Registration k o a p d u)
-    → register_at (before (key_type_text k) (before o (before (date_text a) (before (date_text p) (before (date_text d) u))))) ≡ Some (Registration k o a p d u)
+    → register_at (before (key_type_text k) (before o
+    (before (date_text a) (before (date_text p) (before (date_text d) u))))) ≡ Some (Registration k o a p d u)
 unfolding register_at
 register_again k o a p d u in_range =
     ap (λ (read : Option Registered). read >>= λ x. Some (registered x))
@@ -181,7 +182,8 @@ Edits = ℕ × (Edit × (Edit × Edit))
 edits_reader : IsReader (field_then key_number_at (λ _. field_then edit_at (λ _. field_then edit_at (λ _. edit_at))))
     (λ (x : Edits). before (decimal x.0) (before (edit_text x.1.0) (before (edit_text x.1.1.0) (edit_text x.1.1.1))))
     (λ (x : Edits). IsKeyNumber x.0 × (IsEdit x.1.0 × (IsEdit x.1.1.0 × IsEdit x.1.1.1)))
-edits_reader = then_reader key_number_reader key_number_solid (λ _. then_reader edit_reader edit_solid (λ _. then_reader edit_reader edit_solid (λ _. edit_reader)))
+edits_reader = then_reader key_number_reader key_number_solid
+    (λ _. then_reader edit_reader edit_solid (λ _. then_reader edit_reader edit_solid (λ _. edit_reader)))
 
 edits_take : (bytes : List ℕ) (f : Fields) → edits_at bytes ≡ Some f → AreRead (Some bytes) f
 unfolding edits_at
@@ -190,10 +192,12 @@ edits_take =
     (λ x. joined_edits (decimal x.0) (edit_text x.1.0) (edit_text x.1.1.0) (edit_text x.1.1.1))
 
 edits_again : (key : ℕ) (a p d : Edit) → AreFields (DateEdits key a p d)
-    → edits_at (before (decimal key) (before (edit_text a) (before (edit_text p) (edit_text d)))) ≡ Some (DateEdits key a p d)
+    → edits_at (before (decimal key) (before (edit_text a) (before (edit_text p) (edit_text d)))) ≡ Some
+    (DateEdits key a p d)
 unfolding edits_at
 edits_again key a p d in_range =
-    ap (λ (read : Option Edits). read >>= λ x. Some (edits x)) (edits_reader.again (key, (a, (p, d))) (in_range.0, (in_range.1, (in_range.2, in_range.3))))
+    ap (λ (read : Option Edits). read >>= λ x. Some (edits x))
+    (edits_reader.again (key, (a, (p, d))) (in_range.0, (in_range.1, (in_range.2, in_range.3))))
 
 abbrev Revoked : Type 0
 Revoked = ℕ × (Reason × Option ℕ)

@@ -76,7 +76,12 @@ revoked false t d key reason occurrence past early = record {
 past_with : (t : ℕ) (d : Dates) (a s e : Option ℕ) → IsPast t d
     → IsPast t (record d { activation = a; protect_stop = s; deactivation = e })
 past_with t d a s e past =
-    record { initial = past.initial; destroy = past.destroy; compromise = past.compromise; occurrence = past.occurrence }
+    record {
+      initial = past.initial;
+      destroy = past.destroy;
+      compromise = past.compromise;
+      occurrence = past.occurrence;
+    }
 
 -- what the command that names the key at t makes of its dates
 past_after : (p : Period) (d : Dates) (t k : ℕ) (c : Command) → named c ≡ Some k → occurs_later t c ≡ None

@@ -23,7 +23,6 @@ pub fn create_in_memory(alloc: Global) -> Result<Desk<MemStore>, OpenRefusal>
     };
     match Desk::create(alloc, connection) {
         Ok(desk) => Ok(desk),
-        // A new database has no table of a register, so nothing else is to blame.
-        Err(_) => Err(OpenRefusal::Store),
+        Err(unopened) => Err(unopened.refusal),
     }
 }

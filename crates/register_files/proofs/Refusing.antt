@@ -33,8 +33,11 @@ not_none o x is none = let both = sym is ∙ none in absurd (cc)
 left_as_registered : (found : Image) (may_leave : Image → Type 0) (h : List Request) → HoldsRegister h found
     → LeavesFound found may_leave → LeavesInFiles h h may_leave
 left_as_registered found may_leave h holds leaves left may = ∥∥₁_map (leaves left may) (λ one.
-    inl (record { db = holds.db; tables_are = holds.tables_are;
-        found = subst (HoldsDatabase left) (one.1.holds holds.db.trees holds.found) one.2 }))
+    inl (record {
+      db = holds.db;
+      tables_are = holds.tables_are;
+      found = subst (HoldsDatabase left) (one.1.holds holds.db.trees holds.found) one.2;
+    }))
 
 module _ {S : Type 0} (g : Ghosts S) (may_leave : S → Image → Type 0) (found : Image) where
   -- no register was made
@@ -66,7 +69,7 @@ module _ {S : Type 0} (g : Ghosts S) (may_leave : S → Image → Type 0) (found
   module _ (opens_again : (it : S) → IsTrue (g.view it).is_numbered → AreDatabases (g.recovers it) → (left : Image)
       → may_leave it left → ∥ ((db : Trees) × (g.recovers it db) × HoldsDatabase left db) ∥₁)
       (old new : Held S) (shows : HasCleanDisk (state g old) → ShowsFiles found (state g old))
-          (earlier : HasCleanDisk (state g new) → HasCleanDisk (state g old)) where
+      (earlier : HasCleanDisk (state g new) → HasCleanDisk (state g old)) where
     module _ (it : S) (closes : ClosesAs g new it) (clean : IsCleanStore (g.view it)) where
       shown : ShowsFiles found (state g old)
       shown = shows (earlier (closes.clean clean))
@@ -77,13 +80,19 @@ module _ {S : Type 0} (g : Ghosts S) (may_leave : S → Image → Type 0) (found
       left_as_found : LeavesCommitted (state g old) (state g new) → LeavesFound found (may_leave it)
       left_as_found committed left may = ∥∥₁_map (reopens left may) (λ one.
           let same : one.0 ≡ (state g old).committed.trees =
-              committed shown.opens.is_open (closes.clean clean) one.0 (closes.outcomes one.0 one.1) in
-          (one.0, record { reads = subst (AreFoundIn found) (sym same) shown.finds.reads; holds = λ other holds. same
-              ∙ shown.finds.holds other holds }, one.2))
+          committed shown.opens.is_open (closes.clean clean) one.0 (closes.outcomes one.0 one.1) in (
+            one.0,
+            record {
+              reads = subst (AreFoundIn found) (sym same) shown.finds.reads;
+              holds = λ other holds. same
+                  ∙ shown.finds.holds other holds;
+            },
+            one.2,
+          ))
 
       left_as_made : LeavesMade (state g old) (state g new)
           → (left : Image) → may_leave it left → ∥ ((db : Trees) × HoldsDatabase left db
-              × ((db ≡ (state g old).committed.trees) ⊎ IsMadeIn (state g old) db)) ∥₁
+          × ((db ≡ (state g old).committed.trees) ⊎ IsMadeIn (state g old) db)) ∥₁
       left_as_made made left may = ∥∥₁_map (reopens left may)
           (λ one. (one.0, one.2, made shown.opens.is_open (closes.clean clean) one.0 (closes.outcomes one.0 one.1)))
 
@@ -91,7 +100,7 @@ module _ {S : Type 0} (g : Ghosts S) (may_leave : S → Image → Type 0) (found
     module _ (refusal : OpenRefusal) (reason : HasCleanDisk (state g new)
         → IsReasonOf (state g old) (state g new) refusal)
         (spared : (h : List Request) → IsLawful h → HasCommitted (tables h) (state g old) → HasCleanDisk (state g new)
-            → RefusesNoTable refusal)
+        → RefusesNoTable refusal)
         (committed : LeavesCommitted (state g old) (state g new)) where
       refuses_files : (it : S) → ClosesAs g new it → (given : OpenRefusal) → given ≡ refusal
           → IsCleanStore (g.view it) → RefusesFiles g found given (may_leave it)
@@ -132,7 +141,7 @@ module _ {S : Type 0} (g : Ghosts S) (may_leave : S → Image → Type 0) (found
     module _ (refusal : OpenRefusal) (no_version : (refusal ≡ Store) ⊎ (refusal ≡ NotARegister))
         (there : refusal ≡ NotARegister → HasCleanDisk (state g new) → ShowsTable (state g old))
         (committed : refusal ≡ NotARegister → LeavesCommitted (state g old) (state g new))
-            (made : LeavesMade (state g old) (state g new)) where
+        (made : LeavesMade (state g old) (state g new)) where
       refuses_to_make : (it : S) → ClosesAs g new it → (given : OpenRefusal) → given ≡ refusal
           → IsCleanStore (g.view it) → RefusesToMake g found given (may_leave it)
       refuses_to_make it closes given same clean = record {

@@ -128,24 +128,24 @@ module _ {S : Type 0} (g : Ghosts S) where
         → ChangesNothing g old new ⊎ MayChange asked (Err end) → result ≡ Err end → Acts g moment asked old new result
     acts_end end result uses asks clean ends stands leaves changes is =
         subst (Acts g moment asked old new) (sym is) (record {
-      changes = changes;
-      clean = clean;
-      ends = stops_by old new end ends;
-      uses = λ other. uses;
-      broken = λ used broken. ap Err (broken_ends old new end ends broken);
-      rejects = λ rejection same. absurd (asks rejection same);
-      text = λ h s was_clean. tt;
-      stands = λ h s was_clean. tt;
-      memory = λ h s was_clean same. inl (stands h s);
-      leaves = leaves;
-    })
+          changes = changes;
+          clean = clean;
+          ends = stops_by old new end ends;
+          uses = λ other. uses;
+          broken = λ used broken. ap Err (broken_ends old new end ends broken);
+          rejects = λ rejection same. absurd (asks rejection same);
+          text = λ h s was_clean. tt;
+          stands = λ h s was_clean. tt;
+          memory = λ h s was_clean same. inl (stands h s);
+          leaves = leaves;
+        })
 
     pub question_ends : (end : End) (result : Result (String Global) End) → IsQuestion → EndsBy old new end → ChangesNothing g old new
         → result ≡ Err end → Acts g moment asked old new result
     question_ends end result question ends reads is =
         acts_end end result question.uses question.asks reads.clean ends (λ h s. stands_still h old new reads s)
         (λ h s whole clean. subst (λ k. LeavesEither g h k new) (sym (question.same h))
-            (leaves_still g h old new reads s whole clean)) (inl reads) is
+        (leaves_still g h old new reads s whole clean)) (inl reads) is
 
     -- the request was applied, and answered
     pub went_applied : (h' : List Request → List Request) → ((h : List Request) → history_after h moment asked ≡ h' h) → (IsClean g new → IsClean g old) → IsWhole old × IsWhole new
@@ -182,31 +182,41 @@ module _ {S : Type 0} (g : Ghosts S) where
         → (h' : List Request → List Request) → ((h : List Request) → history_after h moment asked ≡ h' h)
         → ((h : List Request) → StandsFor g old h → IsClean g new → end ≡ Store → LeavesEither g h (h' h) new)
         → (end ≢ Store → ChangesNothing g old new) → MayChange asked (Err Store) → result ≡ Err end
-            → Acts g moment asked old new result
+        → Acts g moment asked old new result
     applied_ends end result uses asks clean ends stands h' after store same may is =
         acts_end end result uses asks clean ends stands
         (λ h s whole was_clean. subst (λ k. LeavesEither g h k new) (sym (after h))
-            (leaves_applied end h (h' h) ends s whole was_clean (store h s was_clean) same))
+        (leaves_applied end h (h' h) ends s whole was_clean (store h s was_clean) same))
         (changes_applied end ends same may) is
 
   -- the desk is as it was
   pub changes_none : (desk : Desk S g) → ChangesNothing g desk desk
-  changes_none desk = record { clean = λ clean. clean; counts = record { latest = refl; keys = refl };
-      rows = λ t sees. sees; stop = λ t sees whole clean. (sees whole clean).leaves }
+  changes_none desk = record {
+    clean = λ clean. clean;
+    counts = record { latest = refl; keys = refl };
+    rows = λ t sees. sees;
+    stop = λ t sees whole clean. (sees whole clean).leaves;
+  }
 
   -- an answer that is no acceptance changed nothing, and what an acceptance is told is its reply
   pub changes_answered : (old new : Desk S g) (answer : Answer) (made : Result (String Global) AllocError)
       (result : Result (String Global) End) → UnlessAccepted answer (ChangesNothing g old new)
       → IfOk made (IsTextOf (outcome_reply (outcome answer))) → IfOk made (λ s. result ≡ Ok s)
-          → OnErr made (result ≡ Err Memory)
+      → OnErr made (result ≡ Err Memory)
       → ChangesNothing g old new ⊎ ((result ≡ Err Store)
-          ⊎ ((reply : core.Reply) × IfOk result (IsTextOf (outcome_reply (Ok reply)))))
+      ⊎ ((reply : core.Reply) × IfOk result (IsTextOf (outcome_reply (Ok reply)))))
   changes_answered old new (Accepted reply) (Ok s) result same text ok err =
-      inr (inr (reply, subst (λ (r : Result (String Global) End). IfOk r (IsTextOf (outcome_reply (Ok reply))))
-      (sym ok) text))
+      inr (inr (
+        reply,
+        subst (λ (r : Result (String Global) End). IfOk r (IsTextOf (outcome_reply (Ok reply))))
+            (sym ok) text,
+      ))
   changes_answered old new (Accepted reply) (Err e) result same text ok err =
-      inr (inr (reply, subst (λ (r : Result (String Global) End). IfOk r (IsTextOf (outcome_reply (Ok reply))))
-      (sym err) tt))
+      inr (inr (
+        reply,
+        subst (λ (r : Result (String Global) End). IfOk r (IsTextOf (outcome_reply (Ok reply))))
+            (sym err) tt,
+      ))
   changes_answered old new (Repeated first) made result same text ok err = inl same
   changes_answered old new (Refused refusal) made result same text ok err = inl same
 

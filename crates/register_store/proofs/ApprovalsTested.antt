@@ -20,7 +20,9 @@ use Rattle.register_store.proofs.EntriesTested.{AreTested}
 own_approvals : (t : Tables) (db : Db) (rows : List Row) (holds : Holds t db)
     → AnswersTo holds.schema.layout Approval db rows → ShowsOwn Approval t rows
 own_approvals t db rows holds sure =
-    let it = own_entries name_cells ShowsName IsNamed (holds.schema.layout.tree Approval) (shown_of_table Approval) names_past own_row db t.approvals rows (holds.in_range Approval) (holds.shown Approval) (shows_all db.trees (holds.schema.layout.tree Approval)) sure in
+    let it = own_entries name_cells ShowsName IsNamed (holds.schema.layout.tree Approval) (shown_of_table Approval)
+    names_past own_row db t.approvals rows (holds.in_range Approval) (holds.shown Approval)
+    (shows_all db.trees (holds.schema.layout.tree Approval)) sure in
     record { c = it.0; shows = it.2; like = it.1; meets = all_permuted (IsCustodian t.custodians) t.approvals it.0 it.1 }
 
 all_as : {A : Type 0} (P Q : A → Type 0) → ((x : A) → P x → Q x) → (xs : List A) → AllByRecursion P xs → AllByRecursion Q xs

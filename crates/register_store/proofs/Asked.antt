@@ -115,7 +115,9 @@ pub record ShowsOwn (name : TableName) (t : Tables) (rows : List Row) : Type 0 w
 
 module _ (name : TableName) (t : Tables) where
   meaning_of : (old new : State) → Holds t old.now → HasNoMeaning (check_text name) old new → ⊥
-  meaning_of old new holds none = absurd (meant (understood (schema_with l) (check_text name)) (asked_is name l (placed t old.now holds)).plain (sym (ap (λ s. understood s (check_text name)) holds.schema.is) ∙ none.meaning))
+  meaning_of old new holds none = absurd (meant (understood (schema_with l) (check_text name))
+      (asked_is name l (placed t old.now holds)).plain (sym (ap (λ s. understood s (check_text name)) holds.schema.is)
+      ∙ none.meaning))
     where
       l : Layout
       l = holds.schema.layout
@@ -124,18 +126,23 @@ module _ (name : TableName) (t : Tables) where
       meant (Ok c) plain e = cc
       meant (Err f) plain e = plain
 
-  shown_answers : (old new : State) (rows : List Row) (holds : Holds t old.now) → Shown (check_text name) [] old new rows → AnswersTo holds.schema.layout name old.now rows
+  shown_answers : (old new : State) (rows : List Row) (holds : Holds t old.now)
+      → Shown (check_text name) [] old new rows → AnswersTo holds.schema.layout name old.now rows
   shown_answers old new rows holds shown =
       let it = asked_is name holds.schema.layout (placed t old.now holds) in
-      (reads_as (check_text name) [] old new (schema_with holds.schema.layout) holds.schema.is _ it.is it.plain it.unlisted rows shown).answer
+      (reads_as (check_text name) [] old new (schema_with holds.schema.layout) holds.schema.is _ it.is it.plain
+      it.unlisted rows shown).answer
 
-  begun_answers : (s : State) (rows : List Row) (holds : Holds t s.now) → Begins (check_text name) [] s rows → (tail : List Row) × AnswersTo holds.schema.layout name s.now (rows ++ tail)
+  begun_answers : (s : State) (rows : List Row) (holds : Holds t s.now) → Begins (check_text name) [] s rows
+      → (tail : List Row) × AnswersTo holds.schema.layout name s.now (rows ++ tail)
   begun_answers s rows holds begins =
       let it = asked_is name holds.schema.layout (placed t s.now holds) in
-      let first = begins_as (check_text name) [] s s (schema_with holds.schema.layout) holds.schema.is _ it.is it.plain it.unlisted rows begins in
+      let first = begins_as (check_text name) [] s s (schema_with holds.schema.layout) holds.schema.is _ it.is
+      it.plain it.unlisted rows begins in
       (first.1.0, first.1.1)
 
-  module _ (own : (db : Database) (rows : List Row) (holds : Holds t db) → AnswersTo holds.schema.layout name db rows → ShowsOwn name t rows) where
+  module _ (own : (db : Database) (rows : List Row) (holds : Holds t db) → AnswersTo holds.schema.layout name db rows
+      → ShowsOwn name t rows) where
     -- all rows that are shown
     pub shown_own : {P : List Row → Type 0} (old new : State) → Holds t old.now → (all : ShowsAll (check_text name) P old new) → ShowsOwn name t all.rows
     shown_own old new holds all = own old.now all.rows holds (shown_answers old new all.rows holds all.shown)

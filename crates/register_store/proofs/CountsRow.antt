@@ -31,7 +31,8 @@ passes = op2 (Compare Eq Binary) (col 1 0) (lit (Int (pos 1))) ∷ []
 abbrev shown : List Term
 shown = col 1 0 ∷ lit Null ∷ col 1 2 ∷ col 0 0 ∷ col 0 1 ∷ []
 
-sets_counts : (l : Layout) → Sets (schema_with l) (meta l) (place_of Meta) counts_text (plain_query (l.tree Meta) passes (col 1 0 ∷ shown))
+sets_counts : (l : Layout) → Sets (schema_with l) (meta l) (place_of Meta) counts_text
+    (plain_query (l.tree Meta) passes (col 1 0 ∷ shown))
 unfolding everything first
 sets_counts l = record { p = _; name = _; sets = _; test = _; d = _; parsed = refl; untimed = refl; is = refl; named = refl; there = refl; drafted = refl; same = refl; from = refl; accepted = refl }
 
@@ -53,7 +54,9 @@ module _ (latest key_count : ℕ) where
       let l = holds.schema.layout in
       let m = sets (schema_with l) (meta l) (classes l (placed t old.now holds) Meta) _ _ _ (sets_counts l) in
       let ordered : IsTable (rows_of l Meta old.now) = subst IsTable (sym (holds.shown Meta)) (tt, tt) in
-      let wrote = changing.changes counts_row (λ _. pos 1) (λ _. refl) (meta l) params passes shown (λ _. after) counts_text (schema_with l) (place_of Meta) refl
-      m.is m.plain (idle l holds.schema.apart Meta refl 0) (λ db. shows_all db (l.tree Meta)) (λ counts. simp (cast_int, cast_null)) (λ counts. refl)
+      let wrote = changing.changes counts_row (λ _. pos 1) (λ _. refl) (meta l) params passes shown (λ _. after)
+      counts_text (schema_with l) (place_of Meta) refl
+      m.is m.plain (idle l holds.schema.apart Meta refl 0) (λ db. shows_all db (l.tree Meta))
+      (λ counts. simp (cast_int, cast_null)) (λ counts. refl)
       old new count h holds.schema.is (t.counts ∷ []) (holds.shown Meta) ordered in
       holds_with Meta after t old.now new.now _ holds wrote in_range (ap (λ counts. counts_row counts ∷ []) (changed_is t.counts))

@@ -201,9 +201,12 @@ are_permuted owners c d same are = record {
   few = λ key. let few = are.few key in omega (arith, few, length_permutation _ _ (names_permuted key c d same));
 }
 
-pub own_custodians : (t : Tables) (db : Db) (rows : List Row) (holds : Holds t db) → AnswersTo holds.schema.layout Custodian db rows → ShowsOwn Custodian t rows
+pub own_custodians : (t : Tables) (db : Db) (rows : List Row) (holds : Holds t db)
+    → AnswersTo holds.schema.layout Custodian db rows → ShowsOwn Custodian t rows
 own_custodians t db rows holds sure =
-    let it = own_entries name_cells ShowsName IsNamed (holds.schema.layout.tree Custodian) (shown_of_table Custodian) names_past own_row db t.custodians rows (holds.in_range Custodian) (holds.shown Custodian) (shows_all db.trees (holds.schema.layout.tree Custodian)) sure in
+    let it = own_entries name_cells ShowsName IsNamed (holds.schema.layout.tree Custodian) (shown_of_table Custodian)
+    names_past own_row db t.custodians rows (holds.in_range Custodian) (holds.shown Custodian)
+    (shows_all db.trees (holds.schema.layout.tree Custodian)) sure in
     record { c = it.0; shows = it.2; like = it.1; meets = are_permuted (owners_of t.keys) t.custodians it.0 it.1 }
 
 knows_like : (c d : List KeyName) (lists : Vec (Vec (List ℕ))) → IsPermutation d c → KnowsCustodians c lists → KnowsCustodians d lists
@@ -254,12 +257,18 @@ module _ (t : Tables) (owners : List (List ℕ)) (are : owners ≡ owners_of t.k
   odd rows refuses tail = record {
     fails = λ c shows meets.
         let it = show_front ShowsName rows tail c shows in
-        let whole = subst (λ o. AreCustodians o (it.0 ++ it.1)) (sym are) (subst (AreCustodians (owners_of t.keys)) it.2 meets) in
+        let whole = subst (λ o. AreCustodians o (it.0 ++ it.1)) (sym are)
+        (subst (AreCustodians (owners_of t.keys)) it.2 meets) in
         refuses it.0 it.3 (record {
           each = all_front (MayBeCustodian owners) it.0 it.1 whole.each;
           few = λ key.
               let few = whole.few key in
-              omega (arith, few, ap length (names_more key it.0 it.1), length-append (names_at key it.0) (names_at key it.1));
+              omega (
+                arith,
+                few,
+                ap length (names_more key it.0 it.1),
+                length-append (names_at key it.0) (names_at key it.1),
+              );
         });
     no_newer = λ none. none;
   }

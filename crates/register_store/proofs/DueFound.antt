@@ -82,10 +82,13 @@ abbrev pub order : List (Term × sorted_by.Key)
 order = (col 1 8, ascending Binary) ∷ (col 1 0, ascending Binary) ∷ []
 
 abbrev pub IsDueSearch : List ℕ → List Term → Type 0
-IsDueSearch sql passes = (l : Layout) → Asks (schema_with l) (keys l) sql (ordered_by (l.tree Keys) passes shown order) names
+IsDueSearch sql passes = (l : Layout) → Asks (schema_with l) (keys l) sql
+    (ordered_by (l.tree Keys) passes shown order) names
 
 -- what such a text means
-due_meant : (sql : List ℕ) (passes : List Term) → IsDueSearch sql passes → (l : Layout) → IsPlaced l → Meant (schema_with l) sql (Select (record { lets = []; body = ordered_by (l.tree Keys) passes shown order }) names)
+due_meant : (sql : List ℕ) (passes : List Term) → IsDueSearch sql passes → (l : Layout) → IsPlaced l
+    → Meant (schema_with l) sql (Select (record { lets = []; body = ordered_by (l.tree Keys) passes shown order })
+    names)
 due_meant sql passes search l at = asks (schema_with l) (keys l) (classes l at Keys) _ _ _ (search l)
 
 same_select : IsSelect same_text
@@ -161,12 +164,15 @@ module _ (sql : List ℕ) (query : IsQuery sql) (passes : List Term) (search : I
 
   -- what passes came from a key that does
   came_from : (ns : List (ℕ × Key)) (r : Cells) → Has (Passing ns) r → (x : ℕ × Key) × Has ns x × (pick x ≡ true) × (r ≡ key_row x)
-  came_from ns r there = from_picked key_row pick ns r (subst (λ rs. Has rs r) (filter-map (is_picked params 0 passes shown) key_row ns) there)
+  came_from ns r there = from_picked key_row pick ns r
+      (subst (λ rs. Has rs r) (filter-map (is_picked params 0 passes shown) key_row ns) there)
 
   goes_to : (ns : List (ℕ × Key)) (x : ℕ × Key) → Has ns x → pick x ≡ true → Has (Passing ns) (key_row x)
-  goes_to ns x there is = subst (λ rs. Has rs (key_row x)) (sym (filter-map (is_picked params 0 passes shown) key_row ns)) (to_picked key_row pick ns x there is)
+  goes_to ns x there is = subst (λ rs. Has rs (key_row x))
+      (sym (filter-map (is_picked params 0 passes shown) key_row ns)) (to_picked key_row pick ns x there is)
 
-  compared : (x y : ℕ × Key) → is_lt (output_cmp (ordered_by 0 passes shown order) (out_of 0 passes shown order params (key_row y)) (out_of 0 passes shown order params (key_row x))) ≡ false
+  compared : (x y : ℕ × Key) → is_lt (output_cmp (ordered_by 0 passes shown order)
+      (out_of 0 passes shown order params (key_row y)) (out_of 0 passes shown order params (key_row x))) ≡ false
       → (stop_cell x < stop_cell y) ⊎ ((stop_cell x ≡ stop_cell y) × (x.0 ≤ y.0))
   compared x y h =
       not_before (stop_cell y) (stop_cell x) y.0 x.0
@@ -185,7 +191,8 @@ module _ (sql : List ℕ) (query : IsQuery sql) (passes : List Term) (search : I
     row_is old new t holds row h =
         let l = holds.schema.layout in
         let m = due_meant sql passes search l (placed t old.now holds) in
-        let given = gives_first (l.tree Keys) passes shown order params sql old new _ holds.schema.is names m.is m.plain m.unlisted (shows_all old.now.trees (l.tree Keys)) row h in
+        let given = gives_first (l.tree Keys) passes shown order params sql old new _ holds.schema.is names m.is
+        m.plain m.unlisted (shows_all old.now.trees (l.tree Keys)) row h in
         let it = subst (λ rs. ShowsLeast (l.tree Keys) passes shown order params rs row) (holds.shown Keys) given in
         let came = came_from (numbered t.keys) it.least it.passes_too in
         let x = came.0 in (
@@ -195,7 +202,10 @@ module _ (sql : List ℕ) (query : IsQuery sql) (passes : List Term) (search : I
             passes = sym (test_is x) ∙ came.2;
             first = λ y there is.
                 let after = it.first (key_row y) (goes_to (numbered t.keys) y there (test_is y ∙ is)) in
-                first_so t x y came.1 there (compared x y (subst (λ (r : Cells). is_lt (output_cmp (ordered_by 0 passes shown order) (out_of 0 passes shown order params (key_row y)) (out_of 0 passes shown order params r)) ≡ false) came.3 after));
+                first_so t x y came.1 there (compared x y
+                (subst (λ (r : Cells). is_lt (output_cmp (ordered_by 0 passes shown order)
+                (out_of 0 passes shown order params (key_row y)) (out_of 0 passes shown order params r)) ≡ false)
+                came.3 after));
           },
           it.is ∙ ap (λ (r : Cells). eval_all shown (params ∷ r ∷ [])) came.3,
         )
@@ -204,7 +214,8 @@ module _ (sql : List ℕ) (query : IsQuery sql) (passes : List Term) (search : I
     none_is old new t holds h x there is =
         let l = holds.schema.layout in
         let m = due_meant sql passes search l (placed t old.now holds) in
-        let given = gives_no_row (l.tree Keys) passes shown order params sql old new _ holds.schema.is names m.is m.plain m.unlisted (shows_all old.now.trees (l.tree Keys)) h in
+        let given = gives_no_row (l.tree Keys) passes shown order params sql old new _ holds.schema.is names m.is
+        m.plain m.unlisted (shows_all old.now.trees (l.tree Keys)) h in
         let none = subst (λ rs. passing (l.tree Keys) passes shown order params rs ≡ []) (holds.shown Keys) given in
         subst (λ rs. Has rs (key_row x)) none (goes_to (numbered t.keys) x there (test_is x ∙ is))
 

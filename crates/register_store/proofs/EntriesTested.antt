@@ -23,9 +23,11 @@ abbrev pub Meets : TableName → Tables → List Row → Type 0
 Meets name t rows = (c : Content name) × ShowsRows name rows c × MeetsTest name (with_content name c t)
 
 -- What is proved of such a table: `Shows` says which entry a row shows, and P which entries pass.
-pub record AreTested (name : TableName) {A : Type 0} (Shows : Row → A → Type 0) (P : A → Type 0) (t : Tables) : Type 0 where
+pub record AreTested (name : TableName) {A : Type 0} (Shows : Row → A → Type 0) (P : A → Type 0) (t : Tables) : Type
+    0 where
   -- what its query shows where the database is a register's
-  pub own : (db : Db) (rows : List Row) (holds : Holds t db) → AnswersTo holds.schema.layout name db rows → ShowsOwn name t rows
+  pub own : (db : Db) (rows : List Row) (holds : Holds t db) → AnswersTo holds.schema.layout name db rows
+      → ShowsOwn name t rows
   -- rows show one content
   pub one : (rows : List Row) (c d : Content name) → ShowsRows name rows c → ShowsRows name rows d → c ≡ d
   -- it meets its test exactly where each entry passes
@@ -33,7 +35,8 @@ pub record AreTested (name : TableName) {A : Type 0} (Shows : Row → A → Type
   pub given : (rows : List Row) → Meets name t rows → HasShown Shows P rows
   pub no_newer : (rows : List Row) → AreNewer name rows → ⊥
 
-module _ (name : TableName) {A : Type 0} (Shows : Row → A → Type 0) (P : A → Type 0) (t : Tables) (are : AreTested name Shows P t)
+module _ (name : TableName) {A : Type 0} (Shows : Row → A → Type 0) (P : A
+    → Type 0) (t : Tables) (are : AreTested name Shows P t)
     (old new : State) (survives : Survives old new (λ _. ⊥)) where
   abbrev Tested : Result (Unit {0}) CheckError → Type 0
   Tested q = TestsBy name t IsAny old new q
@@ -49,7 +52,8 @@ module _ (name : TableName) {A : Type 0} (Shows : Row → A → Type 0) (P : A �
   odd : (rows : List Row) → RefusesEach Shows P rows → (tail : List Row) → IsOdd name t (rows ++ tail)
   odd rows refuses tail = record {
     fails = λ c shows meets.
-        let it = are.given (rows ++ tail) (c, shows, meets) in odd_on Shows P rows refuses tail it.values it.shown it.each;
+        let it = are.given (rows ++ tail) (c, shows, meets) in
+        odd_on Shows P rows refuses tail it.values it.shown it.each;
     no_newer = are.no_newer (rows ++ tail);
   }
 

@@ -16,10 +16,12 @@ module _ (l : Layout) (written : ℕ → Type 0) (old new : Database) (kept : Ke
   pub rows_kept : (name : TableName) → (written (l.tree name) → ⊥) → rows_of l name new ≡ rows_of l name old
   rows_kept name free =
       subst (λ (tree : ℕ). (written tree → ⊥) → new.trees tree ≡ old.trees tree) ((each name).tree_is l)
-      (all_has (λ (t : Table). (written t.tree → ⊥) → new.trees t.tree ≡ old.trees t.tree) (schema_with l).tables (table_of l name) kept.others ((each name).listed l)) free
+      (all_has (λ (t : Table). (written t.tree → ⊥) → new.trees t.tree ≡ old.trees t.tree) (schema_with l).tables
+      (table_of l name) kept.others ((each name).listed l)) free
 
 -- the tables with another content of this one
-pub holds_with : (name : TableName) (c : Content name) (t : Tables) (old new : Database) (rows : List Cells) (holds : Holds t old) → Wrote (schema_with holds.schema.layout) (holds.schema.layout.tree name) rows old new
+pub holds_with : (name : TableName) (c : Content name) (t : Tables) (old new : Database) (rows : List Cells)
+    (holds : Holds t old) → Wrote (schema_with holds.schema.layout) (holds.schema.layout.tree name) rows old new
     → IsInRange name c → Shows name c rows → Holds (with_content name c t) new
 holds_with name c t old new rows holds wrote in_range shows =
     let l = holds.schema.layout in
@@ -28,6 +30,8 @@ holds_with name c t old new rows holds wrote in_range shows =
       schema = record { layout = l; apart = holds.schema.apart; is = wrote.kept.schema_is };
       sound = wrote.kept.sound;
       in_range = λ other. content_with IsInRange name other c t in_range (λ apart. holds.in_range other);
-      shown = λ other. content_with (λ n held. Shows n held (rows_of l n new)) name other c t (subst (Shows name c) (sym wrote.rows_are) shows)
-          (λ other_place. subst (Shows other (content other t)) (sym (kept other (λ same. other_place (holds.schema.apart other name same)))) (holds.shown other));
+      shown = λ other. content_with (λ n held. Shows n held (rows_of l n new)) name other c t
+          (subst (Shows name c) (sym wrote.rows_are) shows)
+          (λ other_place. subst (Shows other (content other t))
+          (sym (kept other (λ same. other_place (holds.schema.apart other name same)))) (holds.shown other));
     }

@@ -37,7 +37,8 @@ use Rattle.register_store.proofs.Numbers.{is_table}
 
 -- the text gives the rows that pass other cells
 abbrev pub IsUpdate : List ℕ → List Term → List Term → Type 0
-IsUpdate sql passes shown = (l : Layout) → Sets (schema_with l) (keys l) (place_of Keys) sql (plain_query (l.tree Keys) passes (col 1 0 ∷ shown))
+IsUpdate sql passes shown = (l : Layout) → Sets (schema_with l) (keys l) (place_of Keys) sql
+    (plain_query (l.tree Keys) passes (col 1 0 ∷ shown))
 
 -- what f makes of a key, where it is for it
 abbrev pub changed_where : (ℕ × Key → Bool) → (Key → Key) → ℕ × Key → Key
@@ -84,8 +85,10 @@ module _ (sql : List ℕ) (passes shown : List Term) (parts : IsUpdate sql passe
         let l = holds.schema.layout in
         let m = sets (schema_with l) (keys l) (classes l (placed t old.now holds) Keys) _ _ _ (parts l) in
         let ordered : IsTable (rows_of l Keys old.now) = subst IsTable (sym (holds.shown Keys)) (is_table t.keys) in
-        let wrote = changing.changes key_row (λ p. pos p.0) (λ _. refl) (keys l) params passes shown set sql (schema_with l) (place_of Keys) refl
-        m.is m.plain (idle l holds.schema.apart Keys refl 0) (λ db. shows_all db (l.tree Keys)) image (λ p. refl) old new count h holds.schema.is (numbered t.keys) (holds.shown Keys) ordered in
+        let wrote = changing.changes key_row (λ p. pos p.0) (λ _. refl) (keys l) params passes shown set sql
+        (schema_with l) (place_of Keys) refl
+        m.is m.plain (idle l holds.schema.apart Keys refl 0) (λ db. shows_all db (l.tree Keys)) image (λ p. refl) old
+        new count h holds.schema.is (numbered t.keys) (holds.shown Keys) ordered in
         holds_with Keys (map (changed_where is_for f) (numbered t.keys)) t old.now new.now _ holds wrote (in_range 1 t.keys (holds.in_range Keys)) (each 1 t.keys)
 
 -- ---- what an accepted request can change

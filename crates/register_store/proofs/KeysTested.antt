@@ -101,11 +101,14 @@ module _ (found : Found) (count : ℕ) (owners : List (List ℕ)) (rows : List R
 
 -- ---- a register's own rows
 
-own_shown : (n : ℕ) (keys : List Key) → AllByRecursion IsKey keys → ShowEach ShowsNumbered (map (shown_of 0 (shown_of_table Keys)) (map key_row (enumerate_from n keys))) (enumerate_from n keys)
+own_shown : (n : ℕ) (keys : List Key) → AllByRecursion IsKey keys
+    → ShowEach ShowsNumbered (map (shown_of 0 (shown_of_table Keys)) (map key_row (enumerate_from n keys)))
+    (enumerate_from n keys)
 own_shown n [] all = tt
 own_shown n (k ∷ keys) all = (record { cells = own k all.0; number = refl; in_range = all.0 }, own_shown (n + 1) keys all.1)
   where
-    own : (k : Key) → IsKey k → Rattle.register_store.specs.Reading.ShowsKey (shown_of 0 (shown_of_table Keys) (key_row (n, k))) k
+    own : (k : Key) → IsKey k → Rattle.register_store.specs.Reading.ShowsKey
+        (shown_of 0 (shown_of_table Keys) (key_row (n, k))) k
     own k is = record {
       kind = refl;
       owner = refl;
@@ -122,10 +125,15 @@ own_shown n (k ∷ keys) all = (record { cells = own k all.0; number = refl; in_
       };
     }
 
-pub own_keys : (t : Tables) (db : Db) (rows : List Row) (holds : Holds t db) → AnswersTo holds.schema.layout Keys db rows → ShowsOwn Keys t rows
+pub own_keys : (t : Tables) (db : Db) (rows : List Row) (holds : Holds t db)
+    → AnswersTo holds.schema.layout Keys db rows → ShowsOwn Keys t rows
 own_keys t db rows holds sure =
-    let table : IsTable (rows_of holds.schema.layout Keys db) = subst IsTable (sym (holds.shown Keys)) (is_table t.keys) in
-    let is = in_order (holds.schema.layout.tree Keys) (shown_of_table Keys) (overlay db.trees []) rows (subst IsTable (sym (shows_all db.trees (holds.schema.layout.tree Keys))) table) sure ∙ ap (map (shown_of 0 (shown_of_table Keys))) (shows_all db.trees (holds.schema.layout.tree Keys) ∙ holds.shown Keys) in
+    let table : IsTable (rows_of holds.schema.layout Keys db) =
+    subst IsTable (sym (holds.shown Keys)) (is_table t.keys) in
+    let is = in_order (holds.schema.layout.tree Keys) (shown_of_table Keys) (overlay db.trees []) rows
+    (subst IsTable (sym (shows_all db.trees (holds.schema.layout.tree Keys))) table) sure
+    ∙ ap (map (shown_of 0 (shown_of_table Keys))) (shows_all db.trees (holds.schema.layout.tree Keys)
+    ∙ holds.shown Keys) in
     record {
       c = t.keys;
       shows = subst (λ rs. ShowEach ShowsNumbered rs (numbered t.keys)) (sym is) (own_shown 1 t.keys (holds.in_range Keys));
@@ -162,7 +170,8 @@ module _ (t : Tables) (found : Found) (counts : counts_of found ≡ t.counts) (o
         let sound = subst (λ l. AllByRecursion (IsSoundAt l) keys) (sym latest_is) meets.sound in
         refuses it.0 (record {
           shown = subst (ShowEach ShowsNumbered rows) it.3 front.3;
-          sound = all_front (IsSoundAt found.latest) it.0 it.1 (subst (AllByRecursion (IsSoundAt found.latest)) it.2 sound);
+          sound = all_front (IsSoundAt found.latest) it.0 it.1
+              (subst (AllByRecursion (IsSoundAt found.latest)) it.2 sound);
           within = omega (arith, ap length it.2, length-append it.0 it.1, counted, key_count_is);
         });
     no_newer = λ none. none;

@@ -31,10 +31,14 @@ use Rattle.register_store.proofs.Ordered.{in_order, shown_of}
 abbrev the_row : Counts → Row
 the_row counts = shown_of 0 (shown_of_table Meta) (counts_row counts)
 
-pub own_meta : (t : Tables) (db : Db) (rows : List Row) (holds : Holds t db) → AnswersTo holds.schema.layout Meta db rows → ShowsOwn Meta t rows
+pub own_meta : (t : Tables) (db : Db) (rows : List Row) (holds : Holds t db)
+    → AnswersTo holds.schema.layout Meta db rows → ShowsOwn Meta t rows
 own_meta t db rows holds sure =
     let table : IsTable (rows_of holds.schema.layout Meta db) = subst IsTable (sym (holds.shown Meta)) (tt, tt) in
-    let is : rows ≡ the_row t.counts ∷ [] = in_order (holds.schema.layout.tree Meta) (shown_of_table Meta) (overlay db.trees []) rows (subst IsTable (sym (shows_all db.trees (holds.schema.layout.tree Meta))) table) sure ∙ ap (Rattle.std.specs.Prelude.map (shown_of 0 (shown_of_table Meta))) (shows_all db.trees (holds.schema.layout.tree Meta) ∙ holds.shown Meta) in
+    let is : rows ≡ the_row t.counts ∷ [] = in_order (holds.schema.layout.tree Meta) (shown_of_table Meta)
+    (overlay db.trees []) rows (subst IsTable (sym (shows_all db.trees (holds.schema.layout.tree Meta))) table)
+    sure ∙ ap (Rattle.std.specs.Prelude.map (shown_of 0 (shown_of_table Meta)))
+    (shows_all db.trees (holds.schema.layout.tree Meta) ∙ holds.shown Meta) in
     record {
       c = t.counts;
       shows = subst (λ rs. ShowEach ShowsCounts rs (t.counts ∷ [])) (sym is) (record { id = refl; version_is = refl; latest = refl; key_count = refl; moment = holds.in_range Meta }, tt);
@@ -60,7 +64,8 @@ one_meta (row ∷ rows) c d x y = one_counts row c d x.0 y.0
 -- ---- what was read
 
 -- a second row
-pub two_refused : (told : Option MetaRow) (rows : List Row) (row : Row) → Rattle.std.specs.Prelude.IsSome told → HasMeta told rows → RefusesMeta (rows ++ row ∷ [])
+pub two_refused : (told : Option MetaRow) (rows : List Row) (row : Row) → Rattle.std.specs.Prelude.IsSome told
+    → HasMeta told rows → RefusesMeta (rows ++ row ∷ [])
 two_refused None rows row some taken = absurd (cc)
 two_refused (Some one) rows row some taken =
     subst (λ rs. RefusesMeta (rs ++ row ∷ [])) (sym taken.1) (record {
@@ -73,23 +78,34 @@ pub one_refused : (row : Row) → ((counts : Counts) → counts.key_count ≤ ma
     → ((found : ℕ) → ¬ ShowsNewer row found) → RefusesMeta (row ∷ [])
 one_refused row none older = record {
   uncounted = λ tail counts shows few. none counts few shows.0;
-  no_newer = λ tail newer. let same : row ≡ newer.0 = cc in older newer.1 (subst (λ r. ShowsNewer r newer.1) (sym same) newer.3);
+  no_newer = λ tail newer. let same : row ≡ newer.0 = cc in
+      older newer.1 (subst (λ r. ShowsNewer r newer.1) (sym same) newer.3);
 }
 
 module _ (t : Tables) (old new : State) (survives : Survives old new (λ _. ⊥)) where
   abbrev Tested : Result Found CheckError → Type 0
   Tested q = TestsBy Meta t IsCounts old new q
 
-  tested : (q : Result Found CheckError) → (HasCleanDisk new → IfOk q (λ found. (c : Counts) × ShowsAll (check_text Meta) (λ rows. ShowsRows Meta rows c) old new × MeetsTest Meta (with_content Meta c t) × IsCounts c found))
+  tested : (q : Result Found CheckError) → (HasCleanDisk new
+      → IfOk q (λ found. (c : Counts) × ShowsAll (check_text Meta) (λ rows. ShowsRows Meta rows c) old new
+      × MeetsTest Meta (with_content Meta c t) × IsCounts c found))
       → (HasCleanDisk new → IfErr q (IsReasonAt Meta t old new)) → Tested q
-  tested q passed refused = tests_by Meta t (own_meta t) (newer_not t) IsCounts (λ c d x like says. says ∙ like) one_meta old new q passed refused survives
+  tested q passed refused = tests_by Meta t (own_meta t) (newer_not t) IsCounts (λ c d x like says. says ∙ like)
+      one_meta old new q passed refused survives
 
   -- all rows were read
-  counts_told : (told : MetaRow) → (HasCleanDisk new → ShowsAll (check_text Meta) (HasMeta (Some told)) old new) → Tested (counts_in told)
+  counts_told : (told : MetaRow) → (HasCleanDisk new → ShowsAll (check_text Meta) (HasMeta (Some told)) old new)
+      → Tested (counts_in told)
   counts_told (CountsKeys found) all = tested (Ok found)
       (λ clean. let it = all clean in (
         counts_of found,
-        record { rows = it.rows; shown = it.shown; holds = subst (λ rows. ShowEach ShowsCounts rows (counts_of found ∷ [])) (sym it.holds.1) (it.holds.2.0, tt); same = it.same },
+        record {
+          rows = it.rows;
+          shown = it.shown;
+          holds = subst (λ rows. ShowEach ShowsCounts rows (counts_of found ∷ [])) (sym it.holds.1)
+              (it.holds.2.0, tt);
+          same = it.same;
+        },
         it.holds.2.1,
         refl,
       )) (λ clean. tt)
@@ -100,7 +116,8 @@ module _ (t : Tables) (old new : State) (survives : Survives old new (λ _. ⊥)
         newer = it.holds.2;
       })
 
-  pub meta_told : (told : MetaRow) (q : Result Found CheckError) → q ≡ counts_in told → (HasCleanDisk new → ShowsAll (check_text Meta) (HasMeta (Some told)) old new) → Tested q
+  pub meta_told : (told : MetaRow) (q : Result Found CheckError) → q ≡ counts_in told
+      → (HasCleanDisk new → ShowsAll (check_text Meta) (HasMeta (Some told)) old new) → Tested q
   meta_told told q is all = subst Tested (sym is) (counts_told told all)
 
   -- no rows are those of no register
@@ -124,7 +141,8 @@ module _ (t : Tables) (old new : State) (survives : Survives old new (λ _. ⊥)
       ))
 
   -- the rows do not pass, or were not read
-  reason : (error : RowsError) → (error ≡ NoMeaning → HasNoMeaning (check_text Meta) old new) → (error ≡ Refused → ShowsFirst (check_text Meta) RefusesMeta old new) → (error ≡ Memory → IsUnchanged old new)
+  reason : (error : RowsError) → (error ≡ NoMeaning → HasNoMeaning (check_text Meta) old new)
+      → (error ≡ Refused → ShowsFirst (check_text Meta) RefusesMeta old new) → (error ≡ Memory → IsUnchanged old new)
       → IsReasonAt Meta t old new (check_error error)
   reason NoMeaning meaning refused memory = let it = meaning refl in (inl it, it.same)
   reason Refused meaning refused memory =
@@ -133,8 +151,11 @@ module _ (t : Tables) (old new : State) (survives : Survives old new (λ _. ⊥)
   reason Memory meaning refused memory = memory refl
   reason (Database error) meaning refused memory = tt
 
-  pub meta_fails : (error : RowsError) (q : Result Found CheckError) → IsErrAnd q (λ e. e ≡ check_error error) → (HasCleanDisk new → error ≡ NoMeaning → HasNoMeaning (check_text Meta) old new)
-      → (HasCleanDisk new → error ≡ Refused → ShowsFirst (check_text Meta) RefusesMeta old new) → (HasCleanDisk new → error ≡ Memory → IsUnchanged old new) → Tested q
+  pub meta_fails : (error : RowsError) (q : Result Found CheckError) → IsErrAnd q (λ e. e ≡ check_error error)
+      → (HasCleanDisk new → error ≡ NoMeaning → HasNoMeaning (check_text Meta) old new)
+      → (HasCleanDisk new → error ≡ Refused → ShowsFirst (check_text Meta) RefusesMeta old new)
+      → (HasCleanDisk new → error ≡ Memory → IsUnchanged old new) → Tested q
   meta_fails error (Ok found) is meaning refused memory = absurd is
   meta_fails error (Err e) is meaning refused memory =
-      subst (λ e. Tested (Err e)) (sym is) (tested (Err (check_error error)) (λ clean. tt) (λ clean. reason error (meaning clean) (refused clean) (memory clean)))
+      subst (λ e. Tested (Err e)) (sym is) (tested (Err (check_error error)) (λ clean. tt)
+      (λ clean. reason error (meaning clean) (refused clean) (memory clean)))

@@ -44,7 +44,8 @@ use Rattle.register_store.proofs.NameTests.{at_key, at_name, places, key_past, k
 
 -- the text takes rows that pass out of the table at this place
 abbrev IsDelete : List ℕ → TableName → List Term → Type 0
-IsDelete sql name passes = (l : Layout) → Takes (schema_with l) (table_of l name) (place_of name) sql (plain_query (l.tree name) passes ids_shown)
+IsDelete sql name passes = (l : Layout) → Takes (schema_with l) (table_of l name) (place_of name) sql
+    (plain_query (l.tree name) passes ids_shown)
 
 -- ---- approvals alone
 
@@ -60,8 +61,11 @@ module _ (sql : List ℕ) (params : Cells) (at : List Term) (parts : IsDelete sq
       let l = holds.schema.layout in
       let m = takes (schema_with l) (approval l) (classes l (placed t old.now holds) Approval) _ _ _ (parts l) in
       let shown = holds.shown Approval in
-      let wrote = removes (approval l) params at sql (schema_with l) (place_of Approval) refl m.is m.plain (λ olds. idle l holds.schema.apart Approval refl 0 olds []) (λ db. shows_all db (l.tree Approval)) old new count h holds.schema.is shown.ordered shown.counted in
-      let rows = shows_filtered name_cells (λ r. not (is_picked params 0 at ids_shown r)) (λ entry. not (q entry)) (λ r. ap not (past r)) (λ entry. ap not (each entry)) t.approvals (rows_of l Approval old.now) shown in
+      let wrote = removes (approval l) params at sql (schema_with l) (place_of Approval) refl m.is m.plain
+      (λ olds. idle l holds.schema.apart Approval refl 0 olds []) (λ db. shows_all db (l.tree Approval)) old new
+      count h holds.schema.is shown.ordered shown.counted in
+      let rows = shows_filtered name_cells (λ r. not (is_picked params 0 at ids_shown r)) (λ entry. not (q entry))
+      (λ r. ap not (past r)) (λ entry. ap not (each entry)) t.approvals (rows_of l Approval old.now) shown in
       holds_with Approval (left t).approvals t old.now new.now _ holds wrote (all-filter IsNamed (λ entry. not (q entry)) t.approvals (holds.in_range Approval)) rows
 
 approval_parts : IsDelete (change_text (Taken role.Approver)) Approval at_name
@@ -80,7 +84,8 @@ unfolding everything first
 approvals_parts l = record { p = _; name = _; test = _; d = _; parsed = refl; untimed = refl; is = refl; named = refl; there = refl; drafted = refl; same = refl; from = refl; accepted = refl }
 
 pub removes_approvals : (key : ℕ) (old new : State) (count : ℕ) → Executes approvals_text (Int (pos key) ∷ []) old new (Ok count) → Makes Always (without_approvals key) old.now new.now
-removes_approvals key = drops_approvals approvals_text (Int (pos key) ∷ []) at_key approvals_parts (is_at key) (key_past 0 ids_shown key) (key_is 0 ids_shown key)
+removes_approvals key = drops_approvals approvals_text (Int (pos key) ∷ []) at_key approvals_parts (is_at key)
+    (key_past 0 ids_shown key) (key_is 0 ids_shown key)
 
 -- ---- custodians, and with each the approval
 
@@ -105,15 +110,21 @@ stands false true none e = refl
 stands false false none e = absurd (cc)
 
 -- whoever approves is a custodian
-approver : (db : Database) (t : Tables) (holds : Holds t db) (r : Cells) → Has (rows_of holds.schema.layout Approval db) r → (x : Cells) × Has (rows_of holds.schema.layout Custodian db) x × (drop 1 r ≡ drop 1 x)
+approver : (db : Database) (t : Tables) (holds : Holds t db) (r : Cells)
+    → Has (rows_of holds.schema.layout Approval db) r → (x : Cells) × Has (rows_of holds.schema.layout Custodian db) x
+    × (drop 1 r ≡ drop 1 x)
 approver db t holds r h =
     let l = holds.schema.layout in
     let a = entry_of name_cells t.approvals (rows_of l Approval db) (holds.shown Approval) r h in
     let rules = subst (λ (s : Schema). Keeps ForeignKey s db.trees) holds.schema.is (holds.sound.obeys.rules ForeignKey) in
-    let followed = all_has (λ (table : Table). AllByRecursion (λ row. passes ForeignKey (schema_with l) db.trees table row ≡ true) (db.trees table.tree)) (schema_with l).tables (approval l) rules ((each Approval).listed l) in
-    let passing = all_has (λ row. passes ForeignKey (schema_with l) db.trees (approval l) row ≡ true) (rows_of l Approval db) r followed h in
+    let followed = all_has (λ (table : Table). AllByRecursion
+    (λ row. passes ForeignKey (schema_with l) db.trees table row ≡ true) (db.trees table.tree))
+    (schema_with l).tables (approval l) rules ((each Approval).listed l) in
+    let passing = all_has (λ row. passes ForeignKey (schema_with l) db.trees (approval l) row ≡ true)
+    (rows_of l Approval db) r followed h in
     let full : has_null places r ≡ false = null_past r ∙ ap (λ cells. has_null places (Null ∷ cells)) a.1 in
-    let held = stands _ _ full (subst (λ key. ((has_null places r || is_held db.trees places r key) && true) ≡ true) (parent_is l) passing) in
+    let held = stands _ _ full (subst (λ key. ((has_null places r || is_held db.trees places r key) && true) ≡ true)
+    (parent_is l) passing) in
     let x = some_has (λ parent. agree plain places parent places r) (rows_of l Custodian db) held in
     let b = entry_of name_cells t.custodians (rows_of l Custodian db) (holds.shown Custodian) x.0 x.1 in
     (x.0, x.1, sym (same_cells x.0 r b.0 a.0 b.1 a.1 x.2))
@@ -133,7 +144,8 @@ module _ (key : ℕ) (name : List ℕ) where
 
   module _ (db : Database) (t : Tables) (holds : Holds t db) where
     from_custodian : (r : Cells) → Has (rows_of holds.schema.layout Approval db) r → passing r ≡ true
-        → (x : Cells) × Has (rows_of holds.schema.layout Custodian db) x × (passing x ≡ true) × (loses plain places (x, []) ≡ true) × (agree plain places r places x ≡ true)
+        → (x : Cells) × Has (rows_of holds.schema.layout Custodian db) x × (passing x ≡ true)
+        × (loses plain places (x, []) ≡ true) × (agree plain places r places x ≡ true)
     from_custodian r h is =
         let l = holds.schema.layout in
         let x = approver db t holds r h in
@@ -141,7 +153,9 @@ module _ (key : ℕ) (name : List ℕ) where
         let of_x = sym x.2 ∙ a.1 in
         (x.0, x.1, sym (same_test r x.0 x.2) ∙ is, loses_name x.0 a.0 of_x, agree_same r x.0 a.0 a.1 of_x)
 
-    of_custodian : (r x : Cells) → Has (rows_of holds.schema.layout Approval db) r → Has (rows_of holds.schema.layout Custodian db) x → passing x ≡ true → agree plain places r places x ≡ true → passing r ≡ true
+    of_custodian : (r x : Cells) → Has (rows_of holds.schema.layout Approval db) r
+        → Has (rows_of holds.schema.layout Custodian db) x → passing x ≡ true → agree plain places r places x ≡ true
+        → passing r ≡ true
     of_custodian r x h k is agrees =
         let l = holds.schema.layout in
         let a = entry_of name_cells t.approvals (rows_of l Approval db) (holds.shown Approval) r h in
@@ -149,18 +163,25 @@ module _ (key : ℕ) (name : List ℕ) where
         same_test r x (same_cells r x a.0 b.0 a.1 b.1 agrees) ∙ is
 
   without : (entries : List KeyName) (rows : List Cells) → ShowsEntries name_cells entries rows → ShowsEntries name_cells (without_name key name entries) (filter (λ r. not (passing r)) rows)
-  without entries rows shows = shows_filtered name_cells (λ r. not (passing r)) (λ entry. not (is_key_name key name entry)) (λ r. ap not (past r)) (λ entry. ap not (name_is 0 ids_shown key name entry)) entries rows shows
+  without entries rows shows = shows_filtered name_cells (λ r. not (passing r))
+      (λ entry. not (is_key_name key name entry)) (λ r. ap not (past r))
+      (λ entry. ap not (name_is 0 ids_shown key name entry)) entries rows shows
 
   removes_custodian : (old new : State) (count : ℕ) → Executes (change_text (Taken role.Custodian)) params old new (Ok count) → Makes Always (without_custodian key name) old.now new.now
   removes_custodian old new count h t holds always =
       let l = holds.schema.layout in
-      let m = takes (schema_with l) (custodian l) (classes l (placed t old.now holds) Custodian) _ _ _ (custodian_parts l) in
+      let m = takes (schema_with l) (custodian l) (classes l (placed t old.now holds) Custodian) _ _ _
+      (custodian_parts l) in
       let custodians = holds.shown Custodian in
       let approvals = holds.shown Approval in
-      let did = removes_both (schema_with l) (custodian l) (approval l) to_custodian places plain params at_name (change_text (Taken role.Custodian)) (place_of Custodian) refl m.is m.plain
-      (custodian_drops l holds.schema.apart) (λ olds. idle l holds.schema.apart Approval refl 1 olds []) (λ db. shows_all db (l.tree Custodian)) ((each Custodian).listed l) ((each Approval).listed l) (λ same. two_places (holds.schema.apart Approval Custodian same)) old new count h holds.schema.is
+      let did = removes_both (schema_with l) (custodian l) (approval l) to_custodian places plain params at_name
+      (change_text (Taken role.Custodian)) (place_of Custodian) refl m.is m.plain
+      (custodian_drops l holds.schema.apart) (λ olds. idle l holds.schema.apart Approval refl 1 olds [])
+      (λ db. shows_all db (l.tree Custodian)) ((each Custodian).listed l) ((each Approval).listed l)
+      (λ same. two_places (holds.schema.apart Approval Custodian same)) old new count h holds.schema.is
       custodians.ordered custodians.counted approvals.ordered approvals.counted passing (from_custodian old.now t holds) (of_custodian old.now t holds) in
-      let other = rows_kept l (λ (tree : ℕ). (tree ≡ l.tree Custodian) ⊎ (tree ≡ l.tree Approval)) old.now new.now did.kept in
+      let other = rows_kept l (λ (tree : ℕ). (tree ≡ l.tree Custodian) ⊎ (tree ≡ l.tree Approval)) old.now new.now
+      did.kept in
       let left = without_name key name t.custodians in
       let approving = without_name key name t.approvals in
       let fewer = record t { custodians = left } in
@@ -170,10 +191,17 @@ module _ (key : ℕ) (name : List ℕ) where
         in_range = λ n. content_with IsInRange Approval n approving fewer (all-filter IsNamed (λ entry. not (is_key_name key name entry)) t.approvals (holds.in_range Approval))
             (λ _. content_with IsInRange Custodian n left t (all-filter IsNamed (λ entry. not (is_key_name key name entry)) t.custodians (holds.in_range Custodian)) (λ _. holds.in_range n));
         shown = λ n. content_with (λ m held. Shows m held (rows_of l m new.now)) Approval n approving fewer
-            (subst (ShowsEntries name_cells approving) (sym did.children_are) (without t.approvals (rows_of l Approval old.now) approvals))
+            (subst (ShowsEntries name_cells approving) (sym did.children_are)
+            (without t.approvals (rows_of l Approval old.now) approvals))
             (λ no_approval. content_with (λ m held. Shows m held (rows_of l m new.now)) Custodian n left t
-            (subst (ShowsEntries name_cells left) (sym did.parents_are) (without t.custodians (rows_of l Custodian old.now) custodians))
-            (λ no_custodian. subst (Shows n (content n t)) (sym (other n (λ written. elim written [ inl e ↦ no_custodian (holds.schema.apart n Custodian e) | inr e ↦ no_approval (holds.schema.apart n Approval e) ]))) (holds.shown n)));
+            (subst (ShowsEntries name_cells left) (sym did.parents_are)
+            (without t.custodians (rows_of l Custodian old.now) custodians))
+            (λ no_custodian. subst (Shows n (content n t))
+            (sym (other n (λ written. elim written [
+              | inl e ↦ no_custodian (holds.schema.apart n Custodian e)
+              | inr e ↦ no_approval
+                  (holds.schema.apart n Approval e)
+            ]))) (holds.shown n)));
       }
 
 -- ---- either

@@ -79,16 +79,20 @@ module _ (sql : List ℕ) (table : TableName) (search_is : IsNameSearch sql tabl
   params = Int (pos key) ∷ []
 
   -- the names at the key
-  found_names : (entries : List KeyName) (rows : List Cells) → ShowsEntries name_cells entries rows → IsPermutation (map (λ row. column row 0) (picked params 0 at_key name_shown rows)) (map Words (names_at key entries))
+  found_names : (entries : List KeyName) (rows : List Cells) → ShowsEntries name_cells entries rows
+      → IsPermutation (map (λ row. column row 0) (picked params 0 at_key name_shown rows))
+      (map Words (names_at key entries))
   found_names entries rows shows =
       let among = filter (is_at key) entries in
       let right : map (λ (row : Cells). column row 0) (map (λ (entry : KeyName). Words entry.name ∷ []) among) ≡ map Words (names_at key entries) =
       map-map _ _ among ∙ sym (map-map Words (λ (entry : KeyName). entry.name) among) in
       subst (IsPermutation (map (λ row. column row 0) (picked params 0 at_key name_shown rows))) right
       (IsPermutation-map (λ (row : Cells). column row 0) _ _
-      (picks_entries name_cells params 0 at_key name_shown (is_at key) (key_past 0 name_shown key) (key_is 0 name_shown key) (shown_past params) entries rows shows))
+      (picks_entries name_cells params 0 at_key name_shown (is_at key) (key_past 0 name_shown key)
+      (key_is 0 name_shown key) (shown_past params) entries rows shows))
 
-  module _ (entries_of : Tables → List KeyName) (shown : (t : Tables) (old : State) (holds : Holds t old.now) → ShowsEntries name_cells (entries_of t) (rows_of holds.schema.layout table old.now))
+  module _ (entries_of : Tables → List KeyName) (shown : (t : Tables) (old : State) (holds : Holds t old.now)
+      → ShowsEntries name_cells (entries_of t) (rows_of holds.schema.layout table old.now))
       (in_range : (t : Tables) (old : State) → Holds t old.now → AreNames (entries_of t)) (old new : State)
       (survives : Survives old new (CommitsShowing sql params old)) where
     abbrev Found : Tables → List (List ℕ) → Type 0
@@ -99,16 +103,20 @@ module _ (sql : List ℕ) (table : TableName) (search_is : IsNameSearch sql tabl
     unchanged_so t holds rows asked =
         let l = holds.schema.layout in
         let at = placed t old.now holds in
-        only_reads sql params old new (schema_with l) holds.schema.is (l.tree table) at_key name_shown name_column (search_is.meant l at).is (search_is.meant l at).plain (search_is.meant l at).unlisted (shows_all old.now.trees (l.tree table)) rows asked
+        only_reads sql params old new (schema_with l) holds.schema.is (l.tree table) at_key name_shown name_column
+        (search_is.meant l at).is (search_is.meant l at).plain (search_is.meant l at).unlisted
+        (shows_all old.now.trees (l.tree table)) rows asked
 
     -- the rows show the names at the key
     shown_names : (t : Tables) → Holds t old.now → (rows : List Cells) → Shown sql params old new rows → IsPermutation (map (λ row. column row 0) rows) (map Words (names_at key (entries_of t)))
     shown_names t holds rows asked =
         let l = holds.schema.layout in
         let at = placed t old.now holds in
-        let all = gives_all sql params old new (schema_with l) holds.schema.is (l.tree table) at_key name_shown name_column (search_is.meant l at).is (search_is.meant l at).plain (search_is.meant l at).unlisted
+        let all = gives_all sql params old new (schema_with l) holds.schema.is (l.tree table) at_key name_shown
+        name_column (search_is.meant l at).is (search_is.meant l at).plain (search_is.meant l at).unlisted
         (shows_all old.now.trees (l.tree table)) rows asked in
-        IsPermutation-trans _ _ _ (IsPermutation-sym _ _ (IsPermutation-map (λ (row : Cells). column row 0) _ _ all)) (found_names (entries_of t) (old.now.trees (l.tree table)) (shown t old holds))
+        IsPermutation-trans _ _ _ (IsPermutation-sym _ _ (IsPermutation-map (λ (row : Cells). column row 0) _ _ all))
+        (found_names (entries_of t) (old.now.trees (l.tree table)) (shown t old holds))
 
     -- the rows are as many as the names
     pub rows_counted : (t : Tables) → HoldsWhereOpen t old → (rows : List Cells) → Shown sql params old new rows → length rows ≡ length (names_at key (entries_of t))
@@ -167,18 +175,24 @@ unfolding everything first
 names_select role.Custodian = (_, _, refl, refl, refl)
 names_select role.Approver = (_, _, refl, refl, refl)
 
-asks_names : (role : Role) (l : Layout) → Asks (schema_with l) (table_of l (table_at role)) (select_text role) (plain_query (l.tree (table_at role)) at_key name_shown) name_column
+asks_names : (role : Role) (l : Layout) → Asks (schema_with l) (table_of l (table_at role)) (select_text role)
+    (plain_query (l.tree (table_at role)) at_key name_shown) name_column
 unfolding everything first
 asks_names role.Custodian l = record { p = _; select = _; d = _; by = _; parsed = refl; untimed = refl; is = refl; drafted = refl; same = refl; from = refl; accepted = refl }
 asks_names role.Approver l = record { p = _; select = _; d = _; by = _; parsed = refl; untimed = refl; is = refl; drafted = refl; same = refl; from = refl; accepted = refl }
 
 pub select_is : (role : Role) → IsNameSearch (select_text role) (table_at role)
-select_is role = record { meant = λ l at. asks (schema_with l) _ (classes l at (table_at role)) _ _ _ (asks_names role l); query = select_plain (select_text role) (names_select role) }
+select_is role = record {
+  meant = λ l at. asks (schema_with l) _ (classes l at (table_at role)) _ _ _
+      (asks_names role l);
+  query = select_plain (select_text role) (names_select role);
+}
 
 pub names_ranged : (role : Role) (t : Tables) (old : State) → Holds t old.now → AreNames (names_of role t)
 names_ranged role.Custodian t old holds = holds.in_range Custodian
 names_ranged role.Approver t old holds = holds.in_range Approval
 
-pub names_shown : (role : Role) (t : Tables) (old : State) (holds : Holds t old.now) → ShowsEntries name_cells (names_of role t) (rows_of holds.schema.layout (table_at role) old.now)
+pub names_shown : (role : Role) (t : Tables) (old : State) (holds : Holds t old.now)
+    → ShowsEntries name_cells (names_of role t) (rows_of holds.schema.layout (table_at role) old.now)
 names_shown role.Custodian t old holds = holds.shown Custodian
 names_shown role.Approver t old holds = holds.shown Approval

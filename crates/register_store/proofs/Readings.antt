@@ -22,7 +22,8 @@ use Rattle.register_store.specs.Schema.{schema_with, Holds}
 
 -- the text asks one table for the rows that pass
 pub record IsSearch (sql : List ℕ) (name : TableName) (passes shown : List Term) (names : List (List ℕ)) : Type 0 where
-  pub meant : (l : Layout) → IsPlaced l → Meant (schema_with l) sql (Select (record { lets = []; body = plain_query (l.tree name) passes shown }) names)
+  pub meant : (l : Layout) → IsPlaced l → Meant (schema_with l) sql
+      (Select (record { lets = []; body = plain_query (l.tree name) passes shown }) names)
   pub query : IsQuery sql
 
 -- a failure where nothing is changed

@@ -53,12 +53,28 @@ search_select : IsSelect search_text
 unfolding everything first
 search_select = (_, _, refl, refl, refl)
 
-asks_request : (l : Layout) → Asks (schema_with l) (request l) search_text (plain_query (l.tree Request) under answer_shown) answer_names
+asks_request : (l : Layout) → Asks (schema_with l) (request l) search_text
+    (plain_query (l.tree Request) under answer_shown) answer_names
 unfolding everything first
-asks_request l = record { p = _; select = _; d = _; by = _; parsed = refl; untimed = refl; is = refl; drafted = refl; same = refl; from = refl; accepted = refl }
+asks_request l = record {
+  p = _;
+  select = _;
+  d = _;
+  by = _;
+  parsed = refl;
+  untimed = refl;
+  is = refl;
+  drafted = refl;
+  same = refl;
+  from = refl;
+  accepted = refl;
+}
 
 search_is : IsSearch search_text Request under answer_shown answer_names
-search_is = record { meant = λ l at. asks (schema_with l) (request l) (classes l at Request) _ _ _ (asks_request l); query = select_plain search_text search_select }
+search_is = record {
+  meant = λ l at. asks (schema_with l) (request l) (classes l at Request) _ _ _ (asks_request l);
+  query = select_plain search_text search_select;
+}
 
 -- ---- the request under a caller's number
 
@@ -87,8 +103,11 @@ module _ (caller : List ℕ) (number : ℕ) where
   abbrev matching : Tables → List KeptReply
   matching t = kept_under caller number t.requests
 
-  picks : (t : Tables) (old : State) (holds : Holds t old.now) → IsPermutation (picked params 0 under answer_shown (rows_of holds.schema.layout Request old.now)) (map answer_cells (matching t))
-  picks t old holds = picks_entries request_cells params 0 under answer_shown (is_under caller number) past under_is shown_past t.requests (rows_of holds.schema.layout Request old.now) (holds.shown Request)
+  picks : (t : Tables) (old : State) (holds : Holds t old.now)
+      → IsPermutation (picked params 0 under answer_shown (rows_of holds.schema.layout Request old.now))
+      (map answer_cells (matching t))
+  picks t old holds = picks_entries request_cells params 0 under answer_shown (is_under caller number) past under_is
+      shown_past t.requests (rows_of holds.schema.layout Request old.now) (holds.shown Request)
 
   abbrev ShowsOne : Cells → KeptReply → Type 0
   ShowsOne = ShowsRequest caller number
@@ -115,5 +134,6 @@ module _ (caller : List ℕ) (number : ℕ) where
   pub request_read : (old new : State) (r : Result Cells Error) (q : Result (Option KeptReply) StoreError) → IfOk q (IsRowOf ShowsOne r) → IfErr q (λ error. error ≢ Memory)
       → IfErr q (λ error. error ≡ NoRegister → ShowsNone IsKeptReply ShowsOne r) → (HasCleanDisk new → QueriesRow search_text params old new r) → Survives old new (CommitsShowing search_text params old)
       → ReadsBy (HasRequest caller number) old new q
-  request_read = row_read IsKeptReply ShowsOne answer_cells search_text Request under answer_shown answer_names search_is params matching picks each
+  request_read = row_read IsKeptReply ShowsOne answer_cells search_text Request under answer_shown answer_names
+      search_is params matching picks each
       (λ k other is own shows. same_request caller number (answer_cells k) other k shows.cells own.cells) (HasRequest caller number) (λ t found among. among)

@@ -38,7 +38,9 @@ own_row k is = record {
 own_requests : (t : Tables) (db : Db) (rows : List Row) (holds : Holds t db)
     → AnswersTo holds.schema.layout Request db rows → ShowsOwn Request t rows
 own_requests t db rows holds sure =
-    let it = own_entries request_cells ShowsKept IsKeptReply (holds.schema.layout.tree Request) (shown_of_table Request) shown_past own_row db t.requests rows (holds.in_range Request) (holds.shown Request) (shows_all db.trees (holds.schema.layout.tree Request)) sure in
+    let it = own_entries request_cells ShowsKept IsKeptReply (holds.schema.layout.tree Request)
+    (shown_of_table Request) shown_past own_row db t.requests rows (holds.in_range Request) (holds.shown Request)
+    (shows_all db.trees (holds.schema.layout.tree Request)) sure in
     record { c = it.0; shows = it.2; like = it.1; meets = all_permuted (IsReplyOf t.counts) t.requests it.0 it.1 }
 
 -- a row shows one request

@@ -23,17 +23,21 @@ NoneHas kind ms = (c : Command) → IsCommand c → kind_of c ≡ kind → HasMe
 
 module _ (kind : CommandKind) (ms : Members) (shape : Shape) (is_shape : shape ≡ command_shape kind) where
   -- the fields that were found are some of the kind's shape
-  found_fields : (o : Option Fields) (f : Fields) → o ≡ Some f → IfSome o (IsShaped shape ms) → IsShaped (command_shape kind) ms f
+  found_fields : (o : Option Fields) (f : Fields) → o ≡ Some f → IfSome o (IsShaped shape ms)
+      → IsShaped (command_shape kind) ms f
   found_fields o f is found =
-      subst (λ (s : Shape). IsShaped s ms f) is_shape (subst (λ (x : Option Fields). IfSome x (IsShaped shape ms)) is found)
+      subst (λ (s : Shape). IsShaped s ms f) is_shape
+      (subst (λ (x : Option Fields). IfSome x (IsShaped shape ms)) is found)
 
-  some_command : (f : Fields) (o : Option Command) → o ≡ command_with kind f → IsShaped (command_shape kind) ms f → IfSome o (Has kind ms)
+  some_command : (f : Fields) (o : Option Command) → o ≡ command_with kind f → IsShaped (command_shape kind) ms f
+      → IfSome o (Has kind ms)
   some_command f None is has = tt
   some_command f (Some c) is has =
       let of = made f kind c (sym is) in
       (subst AreFields (sym of.fields_are) has.0, of.kind_is, subst (HasMembers ms) (sym of.fields_are) has.2)
 
-  always_some : (f : Fields) (o : Option Command) → o ≡ command_with kind f → IsShaped (command_shape kind) ms f → IfNone o (NoneHas kind ms)
+  always_some : (f : Fields) (o : Option Command) → o ≡ command_with kind f → IsShaped (command_shape kind) ms f
+      → IfNone o (NoneHas kind ms)
   always_some f None is has = absurd (some_made f kind has.1 (sym is))
   always_some f (Some c) is has = tt
 
@@ -45,15 +49,20 @@ module _ (kind : CommandKind) (ms : Members) (shape : Shape) (is_shape : shape �
 pub returns-in-Some-clause-found : goal.returns-in-Some-clause-found
 returns-in-Some-clause-found c =
     let ms = members_view c.args.members.now.entries in
-    let has = found_fields c.args.kind ms c.shape.result c.shape.ensures c.fields_with.result c.in-Some.fields c.in-Some.is c.fields_with.ensures.found in
-    some_command c.args.kind ms c.shape.result c.shape.ensures c.in-Some.fields c.with_fields.result c.with_fields.ensures has
+    let has = found_fields c.args.kind ms c.shape.result c.shape.ensures c.fields_with.result c.in-Some.fields
+    c.in-Some.is c.fields_with.ensures.found in
+    some_command c.args.kind ms c.shape.result c.shape.ensures c.in-Some.fields c.with_fields.result
+    c.with_fields.ensures has
 
 pub returns-in-Some-clause-none : goal.returns-in-Some-clause-none
 returns-in-Some-clause-none c =
     let ms = members_view c.args.members.now.entries in
-    let has = found_fields c.args.kind ms c.shape.result c.shape.ensures c.fields_with.result c.in-Some.fields c.in-Some.is c.fields_with.ensures.found in
-    always_some c.args.kind ms c.shape.result c.shape.ensures c.in-Some.fields c.with_fields.result c.with_fields.ensures has
+    let has = found_fields c.args.kind ms c.shape.result c.shape.ensures c.fields_with.result c.in-Some.fields
+    c.in-Some.is c.fields_with.ensures.found in
+    always_some c.args.kind ms c.shape.result c.shape.ensures c.in-Some.fields c.with_fields.result
+    c.with_fields.ensures has
 
 pub returns-in-None-clause-none : goal.returns-in-None-clause-none
 returns-in-None-clause-none c =
-    no_command c.args.kind (members_view c.args.members.now.entries) c.shape.result c.shape.ensures c.fields_with.result c.in-None.is c.fields_with.ensures.none
+    no_command c.args.kind (members_view c.args.members.now.entries) c.shape.result c.shape.ensures
+    c.fields_with.result c.in-None.is c.fields_with.ensures.none

@@ -14,7 +14,8 @@ returns-in_err-key-clause-none c = if_none _ (IsOther c.args.field.now (members_
     c.in_err-key.ensures.none _ _ all)
 
 pub returns-in_err-_kind-clause-none : goal.returns-in_err-_kind-clause-none
-returns-in_err-_kind-clause-none c = if_none _ (IsOther c.args.field.now (members_view c.args.members.now.entries)) (λ key kind name is.
+returns-in_err-_kind-clause-none c = if_none _ (IsOther c.args.field.now (members_view c.args.members.now.entries))
+    (λ key kind name is.
     let all = ap members_view c.iter-rest.ensures.rest ∙ is in
     let from_kind = behind c.in_ok-key.ensures.found all in
     c.in_err-_kind.ensures.none _ _ from_kind)

@@ -20,7 +20,8 @@ returns-in_err-deactivation-clause-none c = if_none _ (IsOther (members_view c.a
     c.in_err-deactivation.ensures.none _ _ from_deactivation)
 
 pub returns-in_err-_kind-clause-none : goal.returns-in_err-_kind-clause-none
-returns-in_err-_kind-clause-none c = if_none _ (IsOther (members_view c.args.members.now.entries)) (λ activation deactivation kind owner protect_stop purpose key_type is.
+returns-in_err-_kind-clause-none c = if_none _ (IsOther (members_view c.args.members.now.entries))
+    (λ activation deactivation kind owner protect_stop purpose key_type is.
     let all = ap members_view c.iter-rest.ensures.rest ∙ is in
     let from_deactivation = behind c.in_ok-activation.ensures.found all in
     let from_kind = behind c.in_ok-deactivation.ensures.found from_deactivation in

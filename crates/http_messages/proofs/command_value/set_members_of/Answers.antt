@@ -27,7 +27,8 @@ returns-in_err-key-clause-none c = if_none _ (IsOther (members_view c.args.membe
     c.in_err-key.ensures.none _ _ from_key)
 
 pub returns-in_err-_kind-clause-none : goal.returns-in_err-_kind-clause-none
-returns-in_err-_kind-clause-none c = if_none _ (IsOther (members_view c.args.members.now.entries)) (λ activation deactivation key kind protect_stop is.
+returns-in_err-_kind-clause-none c = if_none _ (IsOther (members_view c.args.members.now.entries))
+    (λ activation deactivation key kind protect_stop is.
     let all = ap members_view c.iter-rest.ensures.rest ∙ is in
     let from_deactivation = behind c.in_ok-activation.ensures.found all in
     let from_key = behind c.in_ok-deactivation.ensures.found from_deactivation in

@@ -11,7 +11,12 @@ reads-init g c =
     let all : c.extend_from_slice.new.self.items ≡ take c.args.length behind ++ [] =
     c.in-Ok.ensures.items ∙ ap (λ l. l ++ take c.min-held.result behind) c.new-body.ensures.items ∙ held ∙ sym (append-nil (take c.args.length behind)) in
     let long : length c.extend_from_slice.new.self.items ≡ length (take c.args.length behind) = ap length (all ∙ append-nil (take c.args.length behind)) in
-    record { got = ([], Consumes-nil _, all, refl); few = omega (arith, long, length-take c.args.length behind); counted = omega arith; bounded = λ e. e }
+    record {
+      got = ([], Consumes-nil _, all, refl);
+      few = omega (arith, long, length-take c.args.length behind);
+      counted = omega arith;
+      bounded = λ e. e;
+    }
 
 pub returns-in-Err-kept-clause-read : goal.returns-in-Err-kept-clause-read
 returns-in-Err-kept-clause-read g c =
