@@ -208,14 +208,17 @@ const USES: [(&str, Given, bool); 8] = [
 ];
 
 /// Whether the dates are so by that period.
-fn is_use(given: &Given, long: bool) -> Option<bool> {
-    Some(is_long(Period::new(12, 36)?, &dates_of(given)?) == long)
+fn is_use(given: &Given, long: bool) -> bool {
+    match (Period::new(12, 36), dates_of(given)) {
+        (Some(period), Some(dates)) => is_long(period, &dates) == long,
+        _ => false,
+    }
 }
 
 #[test]
 fn long_uses(rt: HostRuntime) {
     for (name, given, long) in &USES {
-        assert_eq!(rt; is_use(given, *long), Some(true), "{name}");
+        assert!(rt; is_use(given, *long), "{name}");
     }
 }
 
