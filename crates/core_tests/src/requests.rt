@@ -8,7 +8,7 @@ mod table;
 use keys::answer_by;
 use lifecycle_core::{Row, State, state_of};
 use moment_core::Moment;
-use period_core::KeyType;
+use period_core::{KeyType, period_of};
 use register_core::{
     Command, CommandKind, Giver, Held, MIN_APPROVALS, Name, Names, Purpose, Refusal, Reply,
     Request, Version, View, command_text, given_dates, read_command, read_request, reply_line,
@@ -282,6 +282,7 @@ fn is_answer(alloc: Global, line: &str, expected: &Result<State, Refusal>) -> bo
     let view = View {
         latest: at,
         keys: 1,
+        period: period_of(KeyType::DataEncryption),
         key: Some(key),
     };
     let expected = match *expected {

@@ -7,7 +7,8 @@ ghost use Rattle.register_core.specs.Decision.{IsViewOf};
 use crate::custody::{approvals, custodians};
 use crate::history::{count, dates, kind_of_key, latest, owner};
 use lifecycle_core::{Row, state_of};
-use register_core::{Command, Held, MIN_APPROVALS, Refusal, Request, View, judge};
+use period_core::{KeyType, period_of};
+use register_core::{Command, Held, MIN_APPROVALS, Refusal, Request, View, judge, type_needed};
 use std::alloc::{AllocError, Global};
 
 /// The key as it stands at the latest moment, or `None` where there is no such key.
@@ -42,9 +43,12 @@ fn view(alloc: Global, history: &[Request], command: &Command) -> Result<View, A
         Some(key) => held(alloc, history, key)?,
         None => None,
     };
+    // Any type's serves where no period is looked at.
+    let kind = type_needed(&key, command).unwrap_or(KeyType::DataEncryption);
     Ok(View {
         latest: latest(history),
         keys: count(history),
+        period: period_of(kind),
         key,
     })
 }

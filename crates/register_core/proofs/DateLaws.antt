@@ -32,7 +32,7 @@ made_sound h q k made =
     let given : Dates = given_dates q.moment r.activation r.protect_stop r.deactivation in
     let period : Period = periods r.kind in
     let fit =
-    filled_fits period given (sym (ap (unfit None q.moment) (is_registration q.command r made.makes)) ∙ made.fit) in
+    filled_fits period given (sym (ap (unfit periods None q.moment) (is_registration q.command r made.makes)) ∙ made.fit) in
     let kind = ap (type (h ++ q ∷ [])) made.next ∙ kind_made h q r made.makes in
     let its = ap (dates (h ++ q ∷ [])) made.next ∙ dates_made h q r made.makes in
     sound_as period _ (filled period given) _ (ap periods kind) its

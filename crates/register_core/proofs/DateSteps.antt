@@ -283,7 +283,7 @@ revoked period d t false occurrence sound fits_state =
     }
 
 pub step : (key : Held) (t k : ℕ) (c : Command) → named c ≡ Some k → IsSound (periods key.kind) key.row.dates
-    → is_for c (state_at key.row.dates t) ≡ true → frozen (Some key) t c ≡ None → unfit (Some key) t c ≡ None
+    → is_for c (state_at key.row.dates t) ≡ true → frozen (Some key) t c ≡ None → unfit periods (Some key) t c ≡ None
     → Steps (periods key.kind) key.row.dates t (dates_after (periods key.kind) key.row.dates t c)
 step key t k (Registers kind owner activation protect_stop deactivation purpose) names sound fits_state free fit = absurd cc
 step key t k (Activate n) names sound fits_state free fit =

@@ -7,25 +7,24 @@ use Rattle.std.proofs.lemmas.Bool.{le-leb}
 use Rattle.lifecycle_core.specs.declared.dates.Dates.{Dates}
 use Rattle.lifecycle_core.specs.State.{state_at}
 use Rattle.period_core.specs.declared.key_type.KeyType.{KeyType}
-use Rattle.period_core.specs.Period.{periods}
+use Rattle.period_core.specs.Period.{Period}
 use Rattle.period_core.specs.Fitting.{filled}
 use Rattle.register_core.specs.declared.request.Request.{Request}
 use Rattle.register_core.specs.declared.request.Command.{Command}
 use Rattle.register_core.specs.declared.reply.Reply.{Reply}
 use Rattle.register_core.specs.declared.reply.Refusal.TheVariants.{UnknownKey, AlreadyCustodian, AlreadyApproved}
 use Rattle.register_core.specs.declared.view.Held.{Held}
-use Rattle.register_core.specs.declared.view.View.{View}
 use Rattle.register_core.specs.declared.change.Change.{Change}
 use Rattle.register_core.specs.declared.change.Change.TheVariants as change
-use Rattle.register_core.specs.History.{latest, count, type, dates, owner}
+use Rattle.register_core.specs.History.{latest, count, period, type, dates, owner}
 use Rattle.register_core.specs.Subject.{Registration, Subject, Makes, Names, NoKey, subject, named_by, key_by, count_by, key_of, made_by, named}
 use Rattle.register_core.proofs.Subjects.{is_named}
 use Rattle.register_core.specs.Effect.{given_dates, dates_after, owner_after, row_at}
 use Rattle.register_core.specs.Custody.{custodians, approvals, min_approvals, need, held}
 use Rattle.register_core.specs.KeptReply.{reply}
-use Rattle.register_core.specs.Verdict.{unknown, judge, named_key}
+use Rattle.register_core.specs.Verdict.{unknown, named_key, judgement}
 use Rattle.register_core.specs.CustodyRefusal.{already_custodian, already_approved}
-use Rattle.register_core.specs.Decision.{held_change, registered_key, change_of, change_by, reply_to, IsViewOf, Stands, LeadsTo}
+use Rattle.register_core.specs.Decision.{held_change, registered_key, change_of, change_by, reply_to, Stands, LeadsTo}
 use Rattle.register_core.proofs.Histories.{latest_grows, count_grows, key_named, kind_named, owner_named, dates_named, kind_made, owner_made, dates_made}
 use Rattle.register_core.proofs.Refusals.{IsPassed, passes}
 use Rattle.register_core.proofs.CustodyLeads.{not_refused, IsNew, nobody_changes, custody_lead}
@@ -84,22 +83,22 @@ count_named h q k names = count_grows h q ∙ ap (λ (n : ℕ). count h + n) (no
 
 pub held_named : (h : List Request) (q : Request) (k : ℕ) → named q.command ≡ Some k → is_there h k ≡ true →
     Stands (h ++ q ∷ []) k (type h k) (owner_after (owner h k) q.command)
-    (row_at (dates_after (periods (type h k)) (dates h k) q.moment q.command) q.moment)
+    (row_at (dates_after (period h (type h k)) (dates h k) q.moment q.command) q.moment)
 held_named h q k names is =
     let all = h ++ q ∷ [] in
     assembled_same (custodians all k) (approvals all k) (is_there all k) (type all k) (type h k) (owner all k) (owner_after (owner h k) q.command)
-    (dates all k) (dates_after (periods (type h k)) (dates h k) q.moment q.command) (latest all) q.moment
+    (dates all k) (dates_after (period h (type h k)) (dates h k) q.moment q.command) (latest all) q.moment
     (ap (λ (n : ℕ). nat_le 1 k && nat_le k n) (count_named h q k names) ∙ is)
     (kind_named h q k names) (owner_named h q k names) (dates_named h q k names) (latest_grows h q)
 
 pub held_made : (h : List Request) (q : Request) (r : Registration) → subject q.command ≡ Makes r →
-    let key = registered_key q.moment r in Stands (h ++ q ∷ []) (count h + 1) key.kind key.owner key.row
+    let key = registered_key (period h) q.moment r in Stands (h ++ q ∷ []) (count h + 1) key.kind key.owner key.row
 held_made h q r makes =
     let all = h ++ q ∷ [] in
     let k = count h + 1 in
     let counted : count all ≡ k = count_grows h q ∙ ap (λ (s : Subject). count h + count_by s) makes in
     assembled_same (custodians all k) (approvals all k) (is_there all k) (type all k) r.kind (owner all k) r.owner
-    (dates all k) (filled (periods r.kind) (given_dates q.moment r.activation r.protect_stop r.deactivation))
+    (dates all k) (filled (period h r.kind) (given_dates q.moment r.activation r.protect_stop r.deactivation))
     (latest all) q.moment
     (there all k (omega arith) (omega (arith, counted)))
     (kind_made h q r makes)
@@ -124,24 +123,26 @@ reply_of_key h q k d is same =
 abbrev Agrees : List Request → Request → Change → Type 0
 Agrees h q change = (reply_to (count h) q.moment change ≡ reply h q) × LeadsTo h q change
 
-agrees_made : (h : List Request) (q : Request) (r : Registration) → subject q.command ≡ Makes r → Agrees h q (change.Made (registered_key q.moment r))
+agrees_made : (h : List Request) (q : Request) (r : Registration) → subject q.command ≡ Makes r → Agrees h q (change.Made (registered_key (period h) q.moment r))
 agrees_made h q r makes =
     let given : Dates = given_dates q.moment r.activation r.protect_stop r.deactivation in
     let replies =
-    reply_of_key h q (count h + 1) (filled (periods r.kind) given) (ap (key_by (count h)) makes)
+    reply_of_key h q (count h + 1) (filled (period h r.kind) given) (ap (key_by (count h)) makes)
     (dates_made h q r makes) in
     (replies, (held_made h q r makes, nobody_changes h q (count h + 1) (ap named_by makes)))
 
 agrees_named : (h : List Request) (q : Request) (k : ℕ) → named q.command ≡ Some k → is_there h k ≡ true → IsNew h q k →
-    Agrees h q (held_change k (standing h k) q)
+    Agrees h q (held_change (period h) k (standing h k) q)
 agrees_named h q k names is new =
     let replies =
-    reply_of_key h q k (dates_after (periods (type h k)) (dates h k) q.moment q.command)
+    reply_of_key h q k (dates_after (period h (type h k)) (dates h k) q.moment q.command)
     (key_named q.command (count h) k names) (dates_named h q k names) in
     (replies, (held_named h q k names is, custody_lead h q k names new))
 
-pub change_named : (c : Command) (k : ℕ) (key : Held) (q : Request) → named c ≡ Some k → change_of (subject c) (Some key) q ≡ held_change k key q
-change_named c k key q names = ap (λ (s : Subject). change_of s (Some key) q) (is_named (subject c) k names)
+pub change_named : (periods : KeyType → Period) (c : Command) (k : ℕ) (key : Held) (q : Request) → named c ≡ Some k
+    → change_of periods (subject c) (Some key) q ≡ held_change periods k key q
+change_named periods c k key q names =
+    ap (λ (s : Subject). change_of periods s (Some key) q) (is_named (subject c) k names)
 
 pub unknown_named : (c : Command) (k : ℕ) → named c ≡ Some k → unknown None c ≡ Some UnknownKey
 unknown_named c k names = ap (λ (key : Option ℕ). cond (is_some key) (Some UnknownKey) None) names
@@ -152,17 +153,21 @@ new_names h q k custodian approval = record {
   approval = λ is_approval. not_refused _ AlreadyApproved (ap (already_approved (Some (standing h k)) q.caller) (sym is_approval) ∙ approval);
 }
 
-agrees_key : (h : List Request) (q : Request) (k : ℕ) (key : Option Held) → named q.command ≡ Some k → key ≡ held h k → IsPassed (latest h) (count h) key q → Agrees h q (change_of (Names k) key q)
+agrees_key : (h : List Request) (q : Request) (k : ℕ) (key : Option Held) → named q.command ≡ Some k → key ≡ held h k
+    → IsPassed (latest h) (count h) (period h) key q → Agrees h q (change_of (period h) (Names k) key q)
 agrees_key h q k None names is passed = let refused = unknown_named q.command k names in let known = passed.known in absurd cc
 agrees_key h q k (Some key) names is passed =
     let stands = held_stands h k key is in
-    let same : held_change k key q ≡ held_change k (standing h k) q = ap (λ (x : Held). held_change k x q) stands.1 in
+    let same : held_change (period h) k key q ≡ held_change (period h) k (standing h k) q =
+    ap (λ (x : Held). held_change (period h) k x q) stands.1 in
     let custodian : already_custodian (Some (standing h k)) q.command ≡ None = ap (λ (x : Held). already_custodian (Some x) q.command) (sym stands.1) ∙ passed.new_custodian in
     let approval : already_approved (Some (standing h k)) q.caller q.command ≡ None = ap (λ (x : Held). already_approved (Some x) q.caller q.command) (sym stands.1) ∙ passed.new_approval in
     let new = new_names h q k custodian approval in
     subst (Agrees h q) (sym same) (agrees_named h q k names stands.0 new)
 
-agrees_by : (h : List Request) (q : Request) (s : Subject) (key : Option Held) → subject q.command ≡ s → key ≡ named_key h q.command → IsPassed (latest h) (count h) key q → Agrees h q (change_of s key q)
+agrees_by : (h : List Request) (q : Request) (s : Subject) (key : Option Held) → subject q.command ≡ s
+    → key ≡ named_key h q.command → IsPassed (latest h) (count h) (period h) key q
+    → Agrees h q (change_of (period h) s key q)
 agrees_by h q (Makes r) key is view passed = agrees_made h q r is
 agrees_by h q (Names k) key is view passed =
     agrees_key h q k key (ap named_by is) (view ∙ ap (λ (s : Subject). option_and_then (held h) (named_by s)) is) passed
@@ -170,9 +175,19 @@ agrees_by h q NoKey key is view passed = (sym (ap (λ (s : Subject). replied h q
 
 -- ---- accepted requests
 
-pub accepted_agrees : (h : List Request) (view : View) (q : Request) → IsViewOf view h q.command → judge view.latest view.keys view.key q ≡ None →
-    (reply_to view.keys q.moment (change_by view.key q) ≡ reply h q) × LeadsTo h q (change_by view.key q)
-accepted_agrees h view q is accepted =
-    let same : judge (latest h) (count h) view.key q ≡ None = ap (λ (t : ℕ). judge t (count h) view.key q) (sym is.latest_is) ∙ ap (λ (n : ℕ). judge view.latest n view.key q) (sym is.keys_are) ∙ accepted in
-    let agrees = agrees_by h q (subject q.command) view.key refl is.key_is (passes (latest h) (count h) view.key q same) in
-    (ap (λ (n : ℕ). reply_to n q.moment (change_by view.key q)) is.keys_are ∙ agrees.0, agrees.1)
+pub accepted_agrees : (h : List Request) (q : Request) → judgement h q ≡ None
+    → Agrees h q (change_by (period h) (named_key h q.command) q)
+accepted_agrees h q accepted =
+    agrees_by h q (subject q.command) (named_key h q.command) refl refl
+    (passes (latest h) (count h) (period h) (named_key h q.command) q accepted)
+
+-- so do as many keys and a change that are these
+pub agrees_as : (h : List Request) (q : Request) (keys : ℕ) (change : Change) → keys ≡ count h
+    → change ≡ change_by (period h) (named_key h q.command) q → judgement h q ≡ None
+    → (reply_to keys q.moment change ≡ reply h q) × LeadsTo h q change
+agrees_as h q keys change counted same accepted =
+    let agrees = accepted_agrees h q accepted in (
+      ap (λ (n : ℕ). reply_to n q.moment change) counted
+          ∙ ap (λ (x : Change). reply_to (count h) q.moment x) same ∙ agrees.0,
+      subst (LeadsTo h q) (sym same) agrees.1,
+    )

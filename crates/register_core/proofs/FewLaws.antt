@@ -11,7 +11,7 @@ use Rattle.register_core.specs.declared.request.Command.{Command}
 use Rattle.register_core.specs.declared.request.Command.TheVariants.{Register as Registers, Revoke, AddCustodian, RemoveCustodian}
 use Rattle.register_core.specs.KeyName.{KeyName, key_name, is_key_name, is_at, names_at}
 use Rattle.register_core.specs.Names.{with_name, sorted_names}
-use Rattle.register_core.specs.History.{latest, count, dates}
+use Rattle.register_core.specs.History.{latest, count, period, dates}
 use Rattle.register_core.specs.Subject.{made_by}
 use Rattle.register_core.specs.Effect.{custody_change}
 use Rattle.register_core.specs.Custody.{all_custodians, custodians}
@@ -38,7 +38,7 @@ room keys c free few = omega (arith, few)
 
 keys_next : (h : List Request) (q : Request) → IsLawful h → judgement h q ≡ None → count h ≤ max_keys → count (h ++ q ∷ []) ≤ max_keys
 keys_next h q lawful accepted few =
-    let free = (passes (latest h) (count h) (named_key h q.command) q accepted).numbered in
+    let free = (passes (latest h) (count h) (period h) (named_key h q.command) q accepted).numbered in
     omega (arith, room (count h) q.command free few, count_grows h q)
 
 pub few_keys : (h : List Request) → IsLawful h → count h ≤ max_keys

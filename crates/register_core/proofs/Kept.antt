@@ -16,6 +16,8 @@ use Rattle.register_core.specs.declared.change.Change.{Change}
 use Rattle.register_core.specs.declared.change.Change.TheVariants.{Made, Nothing}
 use Rattle.register_core.specs.declared.change.Change.TheVariants as change
 use Rattle.register_core.specs.declared.kept_reply.KeptReply.{KeptReply}
+use Rattle.period_core.specs.declared.key_type.KeyType.{KeyType}
+use Rattle.period_core.specs.Period.{Period}
 use Rattle.register_core.specs.declared.request.Request.{Request}
 use Rattle.register_core.specs.declared.request.Command.{Command}
 use Rattle.register_core.specs.declared.reply.Reply.{Reply}
@@ -29,7 +31,7 @@ use Rattle.register_core.specs.KeptReply.{reply, kept_with, kept_of, kept_from, 
 use Rattle.register_core.specs.Laws.{IsAccepted, IsKeptIn, sent_under}
 use Rattle.register_core.specs.Request.{IsRequest, IsKeyNumber, max_key_number, command_text}
 use Rattle.register_core.specs.Subject.{Subject, Makes, Names, NoKey, subject, named, named_by, key_by, count_by}
-use Rattle.register_core.specs.Verdict.{Accepts, Repeats, Refuses, max_keys, judge, judge_view, verdict, is_accepted, is_same_command, repeated}
+use Rattle.register_core.specs.Verdict.{Accepts, Repeats, Refuses, max_keys, always, judge, judge_view, verdict, is_accepted, is_same_command, repeated}
 use Rattle.register_core.proofs.CustodyLeads.{not_refused}
 use Rattle.register_core.proofs.Decisions.{unknown_named}
 use Rattle.register_core.proofs.FewLaws.{few_keys}
@@ -225,18 +227,18 @@ all_kept h lawful = holds_of_each AllKept all_next (λ lawful. tt) h lawful lawf
 
 -- ---- the reply of a decision
 
-whole_decided : (keys t : ℕ) (key : Option Held) (q : Request) (s : Subject) → ((k : ℕ) → named_by s ≡ Some k → 1 ≤ k) → (key ≡ None → named_by s ≡ None)
-    → is_whole_by s (reply_to keys t (change_of s key q)) ≡ true
-whole_decided keys t key q (Makes r) low known = ap (λ (b : Bool). b && true) (lt-ltb 0 (keys + 1) (omega arith))
-whole_decided keys t (Some held) q (Names k) low known = ap (λ (b : Bool). b && true) (lt-ltb 0 k (low k refl))
-whole_decided keys t None q (Names k) low known = absurd (let none = known refl in cc)
-whole_decided keys t key q NoKey low known = refl
+whole_decided : (keys t : ℕ) (ps : KeyType → Period) (key : Option Held) (q : Request) (s : Subject) → ((k : ℕ) → named_by s ≡ Some k → 1 ≤ k) → (key ≡ None → named_by s ≡ None)
+    → is_whole_by s (reply_to keys t (change_of ps s key q)) ≡ true
+whole_decided keys t ps key q (Makes r) low known = ap (λ (b : Bool). b && true) (lt-ltb 0 (keys + 1) (omega arith))
+whole_decided keys t ps (Some held) q (Names k) low known = ap (λ (b : Bool). b && true) (lt-ltb 0 k (low k refl))
+whole_decided keys t ps None q (Names k) low known = absurd (let none = known refl in cc)
+whole_decided keys t ps key q NoKey low known = refl
 
-key_decided : (keys t : ℕ) (key : Option Held) (q : Request) (s : Subject) → keys ≤ max_keys → ((k : ℕ) → named_by s ≡ Some k → k ≤ max_key_number) → (reply_to keys t (change_of s key q)).key ≤ max_key_number
-key_decided keys t key q (Makes r) few high = omega (arith, few)
-key_decided keys t (Some held) q (Names k) few high = high k refl
-key_decided keys t None q (Names k) few high = omega arith
-key_decided keys t key q NoKey few high = omega arith
+key_decided : (keys t : ℕ) (ps : KeyType → Period) (key : Option Held) (q : Request) (s : Subject) → keys ≤ max_keys → ((k : ℕ) → named_by s ≡ Some k → k ≤ max_key_number) → (reply_to keys t (change_of ps s key q)).key ≤ max_key_number
+key_decided keys t ps key q (Makes r) few high = omega (arith, few)
+key_decided keys t ps (Some held) q (Names k) few high = high k refl
+key_decided keys t ps None q (Names k) few high = omega arith
+key_decided keys t ps key q NoKey few high = omega arith
 
 moment_decided : (keys t : ℕ) (change : Change) → (reply_to keys t change).moment ≡ t
 moment_decided keys t (Made key) = refl
@@ -250,7 +252,7 @@ key_known view q accepted none = by (named q.command) refl
     by : (n : Option ℕ) → named q.command ≡ n → n ≡ None
     by None is = refl
     by (Some k) is =
-        let known = (passes view.latest view.keys None q (ap (λ (key : Option Held). judge view.latest view.keys key q) (sym none) ∙ accepted)).known in
+        let known = (passes view.latest view.keys (always view.period) None q (ap (λ (key : Option Held). judge view.latest view.keys (always view.period) key q) (sym none) ∙ accepted)).known in
         let missing = unknown_named q.command k is in
         absurd cc
 
@@ -262,16 +264,16 @@ decided_in_range view q request few accepted =
       caller = request.caller;
       number = request.number;
       command = request.command;
-      key = key_decided view.keys q.moment view.key q (subject q.command) few (λ k names. (number k names).1);
-      moment = subst IsMoment (sym (moment_decided view.keys q.moment (change_by view.key q))) request.moment;
-      whole = whole_decided view.keys q.moment view.key q (subject q.command) (λ k names. (number k names).0) (key_known view q accepted);
+      key = key_decided view.keys q.moment (always view.period) view.key q (subject q.command) few (λ k names. (number k names).1);
+      moment = subst IsMoment (sym (moment_decided view.keys q.moment (change_by (always view.period) view.key q))) request.moment;
+      whole = whole_decided view.keys q.moment (always view.period) view.key q (subject q.command) (λ k names. (number k names).0) (key_known view q accepted);
     }
 
 -- its reply is of the request's moment, which is no earlier than the latest one
 pub decided_at : (view : View) (q : Request) → (reply_of_view view q).moment ≡ q.moment
-decided_at view q = moment_decided view.keys q.moment (change_by view.key q)
+decided_at view q = moment_decided view.keys q.moment (change_by (always view.period) view.key q)
 
 pub decided_in_time : (view : View) (q : Request) → judge_view view q ≡ None → view.latest ≤ (reply_of_view view q).moment
 decided_in_time view q accepted =
-    let early = ltb-false _ _ (not_refused _ _ (passes view.latest view.keys view.key q accepted).in_time) in
+    let early = ltb-false _ _ (not_refused _ _ (passes view.latest view.keys (always view.period) view.key q accepted).in_time) in
     omega (arith, early, decided_at view q)

@@ -7,7 +7,7 @@ use Rattle.lifecycle_core.specs.State.{state_at}
 use Rattle.register_core.specs.declared.request.Request.{Request}
 use Rattle.register_core.specs.declared.reply.Refusal.{Refusal}
 use Rattle.register_core.specs.declared.view.Held.{Held}
-use Rattle.register_core.specs.History.{latest, count, dates}
+use Rattle.register_core.specs.History.{latest, count, period, dates}
 use Rattle.register_core.specs.Subject.{Registration, Subject, Makes, Names, NoKey, subject, named_by, key_by, count_by, key_of, is_key, named}
 use Rattle.register_core.specs.Custody.{held}
 use Rattle.register_core.specs.CommandRule.{is_for}
@@ -26,7 +26,7 @@ pub record IsOn (h : List Request) (q : Request) (k : ℕ) : Type 0 where
   pub high : k ≤ count h
   pub fits_state : is_for q.command (state_at (dates h k) q.moment) ≡ true
   pub not_frozen : frozen (Some (standing h k)) q.moment q.command ≡ None
-  pub fit : unfit (Some (standing h k)) q.moment q.command ≡ None
+  pub fit : unfit (period h) (Some (standing h k)) q.moment q.command ≡ None
   pub room : too_many_custodians (Some (standing h k)) q.command ≡ None
   pub apart : owner_custodian (Some (standing h k)) q.command ≡ None
   pub enough : approvals_missing (Some (standing h k)) q.command ≡ None
@@ -39,16 +39,16 @@ right_state true refusal e = refl
 right_state false refusal e = absurd cc
 
 abbrev judged : List Request → Request → Option Held → Option Refusal
-judged h q key = judge (latest h) (count h) key q
+judged h q key = judge (latest h) (count h) (period h) key q
 
 pub not_behind : (h : List Request) (q : Request) → judgement h q ≡ None → latest h ≤ q.moment
 not_behind h q accepted =
-    ltb-false _ _ (not_refused _ _ (passes (latest h) (count h) (named_key h q.command) q accepted).in_time)
+    ltb-false _ _ (not_refused _ _ (passes (latest h) (count h) (period h) (named_key h q.command) q accepted).in_time)
 
 on_there : (h : List Request) (q : Request) (k : ℕ) → named q.command ≡ Some k → is_there h k ≡ true → judged h q (Some (standing h k)) ≡ None → IsOn h q k
 on_there h q k names there accepted =
     let key : Option Held = Some (standing h k) in
-    let passed = passes (latest h) (count h) key q accepted in
+    let passed = passes (latest h) (count h) (period h) key q accepted in
     let both = and_parts _ _ there in
     record {
       names = names;
@@ -75,7 +75,7 @@ on_key h q k accepted names = by (is_there h k) refl (sym (ap (judged h q) shown
     by true there none = on_there h q k names there none
     by false there none =
         let missing = unknown_named q.command k names in
-        let known = (passes (latest h) (count h) None q none).known in
+        let known = (passes (latest h) (count h) (period h) None q none).known in
         absurd cc
 
 -- ---- each key
@@ -85,7 +85,7 @@ pub record IsMade (h : List Request) (q : Request) (k : ℕ) : Type 0 where
   pub next : k ≡ count h + 1
   pub registration : Registration
   pub makes : subject q.command ≡ Makes registration
-  pub fit : unfit None q.moment q.command ≡ None
+  pub fit : unfit (period h) None q.moment q.command ≡ None
 
 -- it neither makes nor names it
 pub record IsOther (h : List Request) (q : Request) (k : ℕ) : Type 0 where
@@ -109,7 +109,7 @@ which h q k accepted high = by (subject q.command) refl
     by (Makes r) is = elim (eqb_tells (count h + 1) k) [
       | inl both ↦
           let shown : named_key h q.command ≡ None = ap (λ (s : Subject). option_and_then (held h) (named_by s)) is in
-          let passed = passes (latest h) (count h) None q (sym (ap (judged h q) shown) ∙ accepted) in
+          let passed = passes (latest h) (count h) (period h) None q (sym (ap (judged h q) shown) ∙ accepted) in
           inl (record { next = sym both.1; registration = r; makes = is; fit = passed.fit })
       | inr apart ↦ let more = counted (Makes r) is in inr (inr (apart_from h q (Makes r) k is apart.0 (omega (arith, high, more, apart.1))))
     ]

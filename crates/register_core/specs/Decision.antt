@@ -1,9 +1,9 @@
 -- What a decision to accept a request makes of the register, where the key that the request names is known.
-use Rattle.std.specs.Prelude.{◌≡◌, ℕ, ◌+◌, not, List, [], ◌∷◌, ◌++◌, filter, Option, None, Some}
+use Rattle.std.specs.Prelude.{◌≡◌, ℕ, ◌+◌, not, List, [], ◌∷◌, ◌++◌, filter, Option, None, Some, IfSome}
 use Rattle.lifecycle_core.specs.declared.row.Row.{Row}
 use Rattle.lifecycle_core.specs.Row.{IsRightAt}
 use Rattle.period_core.specs.declared.key_type.KeyType.{KeyType}
-use Rattle.period_core.specs.Period.{periods}
+use Rattle.period_core.specs.Period.{Period}
 use Rattle.period_core.specs.Fitting.{filled}
 use Rattle.register_core.specs.declared.request.Request.{Request}
 use Rattle.register_core.specs.declared.request.Command.{Command}
@@ -14,24 +14,25 @@ use Rattle.register_core.specs.declared.change.CustodyChange.{CustodyChange}
 use Rattle.register_core.specs.declared.change.CustodyChange.TheVariants.{Kept, CustodianAdded, CustodianRemoved, Approved, Withdrawn, ApprovalsEnded}
 use Rattle.register_core.specs.declared.change.Change.{Change}
 use Rattle.register_core.specs.declared.change.Change.TheVariants as change
-use Rattle.register_core.specs.History.{latest, count, type}
+use Rattle.register_core.specs.History.{latest, count, period, type}
 use Rattle.register_core.specs.Custody.{all_custodians, custodians, all_approvals, approvals, need, held}
 use Rattle.register_core.specs.declared.key.Key.{Key}
-use Rattle.register_core.specs.Verdict.{named_key}
+use Rattle.register_core.specs.Verdict.{named_key, always}
+use Rattle.register_core.specs.Need.{type_needed}
 use Rattle.register_core.specs.Subject.{Registration, Subject, Makes, Names, NoKey, subject}
 use Rattle.register_core.specs.Effect.{given_dates, dates_after, owner_after, row_at, custody_change}
 use Rattle.register_core.specs.KeyName.{is_key_name, is_at, KeyName, key_name}
 
--- what an accepted request makes of the key that it names by this number
-abbrev pub held_change : ℕ → Held → Request → Change
-held_change key held q =
+-- what an accepted request makes of the key that it names by this number, by these periods of the types
+abbrev pub held_change : (KeyType → Period) → ℕ → Held → Request → Change
+held_change periods key held q =
     change.Held key (owner_after held.owner q.command)
     (row_at (dates_after (periods held.kind) held.row.dates q.moment q.command) q.moment)
     (custody_change held.row.dates q.caller q.command)
 
 -- the key that a registration makes at the moment t
-abbrev pub registered_key : ℕ → Registration → Key
-registered_key t new = record {
+abbrev pub registered_key : (KeyType → Period) → ℕ → Registration → Key
+registered_key periods t new = record {
   kind = new.kind;
   owner = new.owner;
   purpose = new.purpose;
@@ -43,14 +44,14 @@ abbrev pub change_without_key : Command → Change
 change_without_key c = change.Nothing
 
 -- what an accepted request about this subject changes, where the key that it names stands so
-abbrev pub change_of : Subject → Option Held → Request → Change
-change_of (Makes registration) key q = change.Made (registered_key q.moment registration)
-change_of (Names key) None q = change.Nothing
-change_of (Names key) (Some held) q = held_change key held q
-change_of NoKey key q = change_without_key q.command
+abbrev pub change_of : (KeyType → Period) → Subject → Option Held → Request → Change
+change_of periods (Makes registration) key q = change.Made (registered_key periods q.moment registration)
+change_of periods (Names key) None q = change.Nothing
+change_of periods (Names key) (Some held) q = held_change periods key held q
+change_of periods NoKey key q = change_without_key q.command
 
-abbrev pub change_by : Option Held → Request → Change
-change_by key q = change_of (subject q.command) key q
+abbrev pub change_by : (KeyType → Period) → Option Held → Request → Change
+change_by periods key q = change_of periods (subject q.command) key q
 
 -- the reply to a request with this change, where this many keys were made before it
 abbrev pub reply_to : ℕ → ℕ → Change → Reply
@@ -60,7 +61,7 @@ reply_to keys t change.Nothing = record { key = 0; state = None; moment = t }
 
 -- the reply to the request, where the decision rests on this view and accepts it
 abbrev pub reply_of_view : View → Request → Reply
-reply_of_view view q = reply_to view.keys q.moment (change_by view.key q)
+reply_of_view view q = reply_to view.keys q.moment (change_by (always view.period) view.key q)
 
 -- the key's row is right at t
 abbrev pub IsRightKey : Option Held → ℕ → Type 0
@@ -71,6 +72,7 @@ IsRightKey (Some held) t = IsRightAt held.row t
 pub record IsViewOf (view : View) (h : List Request) (c : Command) : Type 0 where
   pub latest_is : view.latest ≡ latest h
   pub keys_are : view.keys ≡ count h
+  pub period_is : IfSome (type_needed view.key c) (λ kind. view.period ≡ period h kind)
   pub key_is : view.key ≡ named_key h c
 
 -- ---- what a change leads to

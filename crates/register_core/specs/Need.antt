@@ -1,11 +1,13 @@
--- What a request needs of the register: of the key that it names, no more than its decision looks at.
-use Rattle.std.specs.Prelude.{◌≡◌, nat_lt, List, [], Option, None, if◌then◌else◌}
+-- What a request needs of the register: of the key that it names and of the periods, no more than its decision looks at.
+use Rattle.std.specs.Prelude.{◌≡◌, nat_lt, List, [], Option, None, Some, IfSome, if◌then◌else◌}
 use Rattle.std.specs.Option.{option_map}
+use Rattle.period_core.specs.declared.key_type.KeyType.{KeyType}
 use Rattle.register_core.specs.declared.request.Request.{Request}
 use Rattle.register_core.specs.declared.request.Command.{Command}
+use Rattle.register_core.specs.declared.request.Command.TheVariants.{Register, Activate, SetDates}
 use Rattle.register_core.specs.declared.view.Held.{Held}
 use Rattle.register_core.specs.declared.view.View.{View}
-use Rattle.register_core.specs.History.{latest, count}
+use Rattle.register_core.specs.History.{latest, count, period}
 use Rattle.register_core.specs.CommandRule.{looks_at_custody}
 use Rattle.register_core.specs.Verdict.{named_key}
 
@@ -21,8 +23,17 @@ needed_of c held = record held {
 abbrev pub needed_key : List Request → Request → Option Held
 needed_key h q = if nat_lt q.moment (latest h) then None else option_map (needed_of q.command) (named_key h q.command)
 
+-- The type whose period the dates that the command gives are held to: the registered type, or that of the key that it
+-- names. Where it gives no dates, or the key is not there, it is none.
+abbrev pub type_needed : Option Held → Command → Option KeyType
+type_needed key (Register kind owner activation protect_stop deactivation purpose) = Some kind
+type_needed (Some held) (Activate key) = Some held.kind
+type_needed (Some held) (SetDates key activation protect_stop deactivation) = Some held.kind
+type_needed _ _ = None
+
 -- the view has what the request needs behind this history
 pub record Suffices (view : View) (h : List Request) (q : Request) : Type 0 where
   pub latest_is : view.latest ≡ latest h
   pub keys_are : view.keys ≡ count h
+  pub period_is : IfSome (type_needed view.key q.command) (λ kind. view.period ≡ period h kind)
   pub key_is : view.key ≡ needed_key h q

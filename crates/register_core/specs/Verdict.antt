@@ -21,9 +21,10 @@ use Rattle.lifecycle_core.specs.declared.dates.Dates.{Dates}
 use Rattle.period_core.specs.declared.filling.DateRefusal.{DateRefusal}
 use Rattle.period_core.specs.declared.filling.DateRefusal.TheVariants as dates
 use Rattle.period_core.specs.Fitting.{first_that_holds, fill_of, trim_of}
-use Rattle.period_core.specs.Period.{periods}
+use Rattle.period_core.specs.declared.key_type.KeyType.{KeyType}
+use Rattle.period_core.specs.Period.{Period}
 use Rattle.register_core.specs.Name.{is_among}
-use Rattle.register_core.specs.History.{latest, count}
+use Rattle.register_core.specs.History.{latest, count, period}
 use Rattle.register_core.specs.KeptReply.{reply, kept, kept_under}
 use Rattle.register_core.specs.Request.{command_text}
 use Rattle.register_core.specs.Effect.{given_dates, edited_dates}
@@ -48,14 +49,14 @@ refused_dates (Ok d) = None
 refused_dates (Err refusal) = Some (refusal_of_dates refusal)
 
 -- Fill, or at an activation Trim, by the period of the key's type, refuses the dates that the command gives it at t
-abbrev pub unfit : Option Held → ℕ → Command → Option Refusal
-unfit key t (Register kind owner activation protect_stop deactivation purpose) =
+abbrev pub unfit : (KeyType → Period) → Option Held → ℕ → Command → Option Refusal
+unfit periods key t (Register kind owner activation protect_stop deactivation purpose) =
     refused_dates (fill_of (periods kind) (given_dates t activation protect_stop deactivation))
-unfit (Some held) t (Activate key) =
+unfit periods (Some held) t (Activate key) =
     refused_dates (trim_of (periods held.kind) (record held.row.dates { activation = Some t }))
-unfit (Some held) t (SetDates key activation protect_stop deactivation) =
+unfit periods (Some held) t (SetDates key activation protect_stop deactivation) =
     refused_dates (fill_of (periods held.kind) (edited_dates activation protect_stop deactivation held.row.dates))
-unfit _ t _ = None
+unfit periods _ t _ = None
 
 -- the command names a key that is not there
 abbrev pub unknown : Option Held → Command → Option Refusal
@@ -118,19 +119,21 @@ entry_refusals last key q =
 abbrev pub refused_entry : ℕ → Option Held → Request → Option Refusal
 refused_entry last key q = first_that_holds (entry_refusals last key q)
 
-abbrev pub refusals : ℕ → ℕ → Option Held → Request → List (Option Refusal)
-refusals last keys key q =
+-- then those of what it asks, by these periods of the types.
+abbrev pub refusals : ℕ → ℕ → (KeyType → Period) → Option Held → Request → List (Option Refusal)
+refusals last keys periods key q =
     refused_entry last key q
     ∷ frozen key q.moment q.command
-    ∷ unfit key q.moment q.command
+    ∷ unfit periods key q.moment q.command
     ∷ refused_custody key q.caller q.command
     ∷ occurs_later q.moment q.command
     ∷ too_many keys q.command
     ∷ []
 
--- the refusal of a request where the latest moment, the number of keys and the key that it names are these, or none: accepted
-abbrev pub judge : ℕ → ℕ → Option Held → Request → Option Refusal
-judge last keys key q = first_that_holds (refusals last keys key q)
+-- The refusal of a request where the latest moment, the number of keys, the periods of the types and the key that it
+-- names are these, or none: it is accepted.
+abbrev pub judge : ℕ → ℕ → (KeyType → Period) → Option Held → Request → Option Refusal
+judge last keys periods key q = first_that_holds (refusals last keys periods key q)
 
 -- the key that the command names, as it stands
 abbrev pub named_key : List Request → Command → Option Held
@@ -138,11 +141,15 @@ named_key h c = option_and_then (held h) (named c)
 
 -- the judgement of a request behind a history: the first refusal that holds, or none
 abbrev pub judgement : List Request → Request → Option Refusal
-judgement h q = judge (latest h) (count h) (named_key h q.command) q
+judgement h q = judge (latest h) (count h) (period h) (named_key h q.command) q
+
+-- this period, whatever the type
+abbrev pub always : Period → KeyType → Period
+always p kind = p
 
 -- the refusal of a request where this is what the decision rests on
 abbrev pub judge_view : View → Request → Option Refusal
-judge_view view q = judge view.latest view.keys view.key q
+judge_view view q = judge view.latest view.keys (always view.period) view.key q
 
 -- ---- verdicts
 

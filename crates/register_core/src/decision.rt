@@ -1,7 +1,7 @@
 //! What a request makes of the register, where the key that it names is known.
 ghost use Rattle.std.specs.Prelude.{◌≡◌, ◌≤◌, List, Some, IfOk, IfErr, None};
 ghost use Rattle.register_core.specs.KeptReply.{reply};
-ghost use Rattle.register_core.specs.Verdict.{max_keys, judge_view, judgement};
+ghost use Rattle.register_core.specs.Verdict.{always, max_keys, judge_view, judgement};
 ghost use Rattle.register_core.specs.Decision.{IsRightKey, IsViewOf, LeadsTo, held_change};
 ghost use Rattle.register_core.specs.Decision.{change_without_key};
 ghost use Rattle.register_core.specs.Decision.{change_by, reply_to, reply_of_view};
@@ -15,11 +15,11 @@ use crate::request::{Command, Request};
 use crate::verdict::judge;
 use crate::view::{Held, View};
 use moment_core::Moment;
-use period_core::period_of;
+use period_core::Period;
 
-/// What the accepted request makes of the key that it names by this number.
-fn held_change(key: u32, held: &Held, request: &Request) -> Change
-    ensures { result ≡ held_change key held.now request.now }
+/// What the accepted request makes of the key that it names by this number, by this period.
+fn held_change(period: Period, key: u32, held: &Held, request: &Request) -> Change
+    ensures { result ≡ held_change (always period) key held.now request.now }
 {
     let at = request.moment;
     let command = &request.command;
@@ -27,7 +27,7 @@ fn held_change(key: u32, held: &Held, request: &Request) -> Change
     Change::Held {
         key,
         owner: owner_after(held.owner, command),
-        row: row_at(dates_after(period_of(held.kind), dates, at, command), at),
+        row: row_at(dates_after(period, dates, at, command), at),
         custody: custody_change(dates, request.caller, command),
     }
 }
@@ -39,9 +39,9 @@ fn change_without_key(_command: &Command) -> Change
     Change::Nothing
 }
 
-/// What the accepted request changes, where it names this key.
-fn change_by(named: &Option<Held>, request: &Request) -> Change
-    ensures { result ≡ change_by named.now request.now }
+/// What the accepted request changes, where it names this key, by this period.
+fn change_by(period: Period, named: &Option<Held>, request: &Request) -> Change
+    ensures { result ≡ change_by (always period) named.now request.now }
 {
     let at = request.moment;
     let command = &request.command;
@@ -52,7 +52,7 @@ fn change_by(named: &Option<Held>, request: &Request) -> Change
         ..
     } = *command
     {
-        let row = row_at(dates_after(period_of(kind), &no_dates(), at, command), at);
+        let row = row_at(dates_after(period, &no_dates(), at, command), at);
         return Change::Made(Key {
             kind,
             owner,
@@ -61,7 +61,7 @@ fn change_by(named: &Option<Held>, request: &Request) -> Change
         });
     }
     match (command.key(), named) {
-        (Some(key), Some(held)) => held_change(key, held, request),
+        (Some(key), Some(held)) => held_change(period, key, held, request),
         (Some(_), None) => Change::Nothing,
         (None, _) => change_without_key(command),
     }
@@ -92,13 +92,14 @@ fn reply_to(keys: u32, at: Moment, change: &Change) -> Reply
 }
 
 /// Decides on a request: it is accepted, with what it changes and its reply, or the first refusal
-/// that holds. Of the key, the view needs no more than the decision looks at.
+/// that holds. Of the key and of the periods, the view needs no more than the decision looks at.
 pub fn decide(view: &View, request: &Request) -> Result<Accept, Refusal>
     requires within { view.now.keys ≤ max_keys }
     requires right { IsRightKey view.now.key view.now.latest }
     ensures refused { IfErr result (λ refusal. judge_view view.now request.now ≡ Some refusal) }
     ensures accepted { IfOk result (λ accept. judge_view view.now request.now ≡ None) }
-    ensures change { IfOk result (λ accept. accept.change ≡ change_by view.now.key request.now) }
+    ensures change { IfOk result (λ accept. accept.change
+        ≡ change_by (always view.now.period) view.now.key request.now) }
     ensures reply { IfOk result (λ accept. accept.reply ≡ reply_of_view view.now request.now) }
     ensures judgement { (h : List Request) → Suffices view.now h request.now →
         IfErr result (λ refusal. judgement h request.now ≡ Some refusal)
@@ -115,7 +116,7 @@ pub fn decide(view: &View, request: &Request) -> Result<Accept, Refusal>
     match judge(view, request) {
         Some(refusal) => Err(refusal),
         None => {
-            let change = change_by(&view.key, request);
+            let change = change_by(view.period, &view.key, request);
             let reply = reply_to(view.keys, request.moment, &change);
             Ok(Accept { change, reply })
         }

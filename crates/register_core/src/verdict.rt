@@ -3,7 +3,7 @@ ghost use Rattle.std.specs.Prelude.{◌≡◌, IsSome};
 ghost use Rattle.register_core.specs.Verdict.{refused_dates, behind, unknown, not_owner};
 ghost use Rattle.register_core.specs.Verdict.{not_custodian, wrong_state};
 ghost use Rattle.register_core.specs.Verdict.{is_kept, frozen, unfit, refused_entry, occurs_later};
-ghost use Rattle.register_core.specs.Verdict.{too_many, judge_view};
+ghost use Rattle.register_core.specs.Verdict.{too_many, always, judge_view};
 ghost use Rattle.period_core.specs.Fitting.{fill_of, trim_of};
 
 use crate::custody_refusal::refused_custody;
@@ -15,7 +15,7 @@ use crate::request::{Command, Edit, Request};
 use crate::view::{Held, View};
 use lifecycle_core::{Dates, State, state_of};
 use moment_core::Moment;
-use period_core::{Period, fill, period_of, trim};
+use period_core::{Period, fill, trim};
 
 /// The moment is below the latest.
 fn behind(latest: Moment, at: Moment) -> Option<Refusal>
@@ -138,26 +138,25 @@ fn refused_trimmed(period: Period, mut dates: Dates) -> Option<Refusal>
     }
 }
 
-/// The refusal of the dates that the command gives at the moment, if they have one.
-fn unfit(key: &Option<Held>, at: Moment, command: &Command) -> Option<Refusal>
-    ensures { result ≡ unfit key.now at command.now }
+/// The refusal of the dates that the command gives at the moment, if they have one by this period.
+fn unfit(period: Period, key: &Option<Held>, at: Moment, command: &Command) -> Option<Refusal>
+    ensures { result ≡ unfit (always period) key.now at command.now }
 {
     match (key, *command) {
         (
             _,
             Command::Register {
-                kind,
                 activation,
                 protect_stop,
                 deactivation,
                 ..
             },
         ) => refused(
-            period_of(kind),
+            period,
             given_dates(at, activation, protect_stop, deactivation),
         ),
         (Some(held), Command::Activate { .. }) => refused_trimmed(
-            period_of(held.kind),
+            period,
             Dates {
                 activation: Some(at),
                 ..held.row.dates
@@ -172,7 +171,7 @@ fn unfit(key: &Option<Held>, at: Moment, command: &Command) -> Option<Refusal>
                 ..
             },
         ) => refused(
-            period_of(held.kind),
+            period,
             edited_dates(activation, protect_stop, deactivation, &held.row.dates),
         ),
         _ => None,
@@ -235,7 +234,7 @@ pub fn judge(view: &View, request: &Request) -> Option<Refusal>
     if let Some(refusal) = frozen(&view.key, at, command) {
         return Some(refusal);
     }
-    if let Some(refusal) = unfit(&view.key, at, command) {
+    if let Some(refusal) = unfit(view.period, &view.key, at, command) {
         return Some(refusal);
     }
     if let Some(refusal) = refused_custody(&view.key, &request.caller, command) {

@@ -21,11 +21,15 @@ use Rattle.register_core.specs.declared.kept_reply.KeptReply.{KeptReply}
 use Rattle.register_core.specs.declared.reply.Reply.{Reply}
 use Rattle.register_core.specs.declared.reply.Refusal.TheVariants.{RequestReused}
 use Rattle.register_core.specs.declared.request.Request.{Request}
+use Rattle.period_core.specs.declared.key_type.KeyType.{KeyType}
+use Rattle.period_core.specs.Period.{Period}
 use Rattle.register_core.specs.declared.view.Held.{Held}
-use Rattle.register_core.specs.Decision.{change_by, change_of, reply_to}
+use Rattle.register_core.specs.declared.view.View.{View}
+use Rattle.register_core.specs.Decision.{change_by, change_of, reply_of_view, reply_to}
 use Rattle.register_core.specs.KeptReply.{kept_with, IsKeptReply}
 use Rattle.register_core.specs.Subject.{Subject, Makes, Names, NoKey, subject}
-use Rattle.register_core.specs.Verdict.{answer_by, judge, Repeats, Refuses}
+use Rattle.register_core.specs.Verdict.{always, answer_by, judge, judge_view, Repeats, Refuses}
+use Rattle.register_core.proofs.Needed.{judge_by, changed_by}
 use Rattle.register_core.proofs.Lawful.{all_more}
 use Rattle.register_store.specs.Change.{made_count, with_change}
 use Rattle.register_store.specs.Making as tabled
@@ -33,7 +37,7 @@ use Rattle.register_store.specs.Making.{AreRightAt, advanced, held_by, where_num
 use Rattle.register_store.specs.Reading.{seen}
 use Rattle.register_store.specs.Schema.{Holds}
 use Rattle.register_store.specs.Tables.{Tables}
-use Rattle.register_desk.specs.Custody.{key_needed}
+use Rattle.register_desk.specs.Custody.{IsViewOver, key_needed, period_over}
 use Rattle.register_desk.specs.declared.desk.Desk.{Desk}
 use Rattle.register_desk.specs.Leaving.{AcceptsOver, IsOverAfter, IsOverWithRequest}
 use Rattle.register_desk.specs.Register.{IsOver}
@@ -60,11 +64,12 @@ IsRightChange at (Made key) = IsRightAt key.row at
 IsRightChange at (change.Held number owner row custody) = IsRightAt row at
 IsRightChange at Nothing = Unit {0}
 
-right_change : (s : Subject) (key : Option Held) (q : Request) → IsRightChange q.moment (change_of s key q)
-right_change (Makes made) key q = refl
-right_change (Names k) None q = tt
-right_change (Names k) (Some held) q = refl
-right_change NoKey key q = tt
+right_change : (periods : KeyType → Period) (s : Subject) (key : Option Held) (q : Request)
+    → IsRightChange q.moment (change_of periods s key q)
+right_change periods (Makes made) key q = refl
+right_change periods (Names k) None q = tt
+right_change periods (Names k) (Some held) q = refl
+right_change periods NoKey key q = tt
 
 advanced_right : (at : ℕ) (keys : List Key) → AllRight at (map (advanced at) keys)
 advanced_right at [] = tt
@@ -92,13 +97,13 @@ right_with Nothing t at right = advanced_right at t.keys
 
 -- ---- after an acceptance
 
-module _ {S : Type 0} (g : store.Ghosts S) (old new : Desk S g) (t : Tables) (q : Request) (key : Option Held)
+module _ {S : Type 0} (g : store.Ghosts S) (old new : Desk S g) (t : Tables) (q : Request) (view : View)
     (made : Change) (given : Reply)
     (whole : old.is_broken ≡ false) (over : IsOver g old t) (in_range : IsKeptReply (kept_with q given))
     (at : given.moment ≡ q.moment)
-    (is : made ≡ change_by key q)
-    (told : given ≡ reply_to old.keys q.moment made)
-    (accepted : judge old.latest old.keys key q ≡ None) (seen_so : key ≡ key_needed t q) where
+    (is : made ≡ change_by (always view.period) view.key q)
+    (told : given ≡ reply_of_view view q)
+    (accepted : judge_view view q ≡ None) (seen_so : IsViewOver t q view) where
   abbrev after : Tables
   after = with_request (length t.keys) made (kept_with q given) t
 
@@ -111,18 +116,25 @@ module _ {S : Type 0} (g : store.Ghosts S) (old new : Desk S g) (t : Tables) (q 
 
   right_after : AreRightAt given.moment after
   right_after =
-      let right = subst (λ (c : Change). IsRightChange q.moment c) (sym is) (right_change (subject q.command) key q) in
+      let right = subst (λ (c : Change). IsRightChange q.moment c) (sym is)
+      (right_change (always view.period) (subject q.command) view.key q) in
       right_with made t given.moment (subst (λ (m : ℕ). IsRightChange m made) (sym at) right)
 
   -- the decision rests on these tables
   pub decided_over : AcceptsOver t q made given
   decided_over = record {
     accepted =
-        subst (λ (n : ℕ). judge n (length t.keys) (key_needed t q) q ≡ None) over.latest_is
-        (subst (λ (n : ℕ). judge old.latest n (key_needed t q) q ≡ None) (sym over.counted)
-        (subst (λ (k : Option Held). judge old.latest old.keys k q ≡ None) seen_so accepted));
-    change_is = is ∙ ap (λ (k : Option Held). change_by k q) seen_so;
-    reply_is = told ∙ ap (λ (n : ℕ). reply_to n q.moment made) (sym over.counted);
+        sym (judge_by view.latest view.keys (always view.period) (period_over t) view.key q seen_so.period_is
+        ∙ ap (λ (n : ℕ). judge n view.keys (period_over t) view.key q) seen_so.latest_is
+        ∙ ap (λ (n : ℕ). judge t.counts.latest n (period_over t) view.key q) seen_so.keys_are
+        ∙ ap (λ (k : Option Held). judge t.counts.latest (length t.keys) (period_over t) k q) seen_so.key_is)
+        ∙ accepted;
+    change_is =
+        is ∙ changed_by (always view.period) (period_over t) view.key q seen_so.period_is
+        ∙ ap (λ (k : Option Held). change_by (period_over t) k q) seen_so.key_is;
+    reply_is =
+        told ∙ ap (λ (n : ℕ). reply_to n q.moment (change_by (always view.period) view.key q)) seen_so.keys_are
+        ∙ ap (reply_to (length t.keys) q.moment) (sym is);
   }
 
   pub over_request : {A E : Type 0} (r : Result A E)

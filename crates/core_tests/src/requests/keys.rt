@@ -5,7 +5,7 @@ ghost use Rattle.register_core.specs.Decision.{IsRightKey};
 
 use lifecycle_core::{Dates, Row, State, state_of};
 use moment_core::Moment;
-use period_core::KeyType;
+use period_core::{KeyType, period_of};
 use register_core::{
     Accept, Change, Held, MIN_APPROVALS, Name, Names, Refusal, Reply, Request, View, decide,
 };
@@ -66,6 +66,7 @@ pub fn view_with(
     Ok(View {
         latest,
         keys: 1,
+        period: period_of(KeyType::Master),
         key: Some(key),
     })
 }

@@ -3,6 +3,7 @@
 use super::keys::{answer_by, change_by, outcome_by, view_in};
 use lifecycle_core::State;
 use moment_core::Moment;
+use period_core::{KeyType, period_of};
 use register_core::{Change, MAX_KEYS, Refusal, View, read_request};
 use std::alloc::Global;
 use std::test::Fail;
@@ -144,6 +145,7 @@ fn is_replied(keys: u32, line: &str, expected: &Replied) -> bool {
     let view = View {
         latest,
         keys,
+        period: period_of(KeyType::Master),
         key: None,
     };
     let replied = match answer_by(&view, &request) {
@@ -165,6 +167,7 @@ fn advance_changes_nothing(rt: HostRuntime) -> Result<(), Fail> {
     let view = View {
         latest: Moment::new(600).ok_or("a moment")?,
         keys: 1,
+        period: period_of(KeyType::Master),
         key: None,
     };
     let request = read_request(b"1000 zed 1 advance").ok_or("a request")?;
