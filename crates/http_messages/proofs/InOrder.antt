@@ -3,15 +3,17 @@ use Rattle.std.proofs.Common.{◌≡◌, List, ℕ, Option, None, Some, IfNone}
 use Rattle.serde_json.specs.Data.{Data, null, boolean, number, string, array, object, Members, member}
 use Rattle.serde_json.specs.Find.{as_object}
 
--- what stands behind the first
-pub behind : {k : List ℕ} {a b : Data} {all rest more : Members} → all ≡ member k a rest
-    → all ≡ member k b more → rest ≡ more
-behind first whole = cc (first, whole)
+infixl 10 ◌past◌
+-- what is left past the first
+pub ◌past◌ : {k : List ℕ} {a b : Data} {all rest more : Members} → all ≡ member k b more
+    → all ≡ member k a rest → rest ≡ more
+whole past first = cc (first, whole)
 
--- the first, and then what is known to stand behind it
-pub onto : {k : List ℕ} {a : Data} {all rest more : Members} → all ≡ member k a rest → rest ≡ more
+infixr 10 ◌before◌
+-- the first, before what is known to stand behind it
+pub ◌before◌ : {k : List ℕ} {a : Data} {all rest more : Members} → all ≡ member k a rest → rest ≡ more
     → all ≡ member k a more
-onto first whole = cc (first, whole)
+first before others = cc (first, others)
 
 pub object_of : (d : Data) (ms : Members) → Some ms ≡ as_object d → object ms ≡ d
 object_of null ms e = absurd (cc)

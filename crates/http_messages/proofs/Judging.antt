@@ -57,39 +57,30 @@ module _ (front : List ℕ) (headers : List HeaderSpan) (spans : RequestSpans) (
       → target ≡ span_bytes front spans.path → IsRouteOf target None → AsksBehind h rest (Reject NoRoute)
   asks_no_path target rest p e q = no_path (host_is p) (route_is target None e q)
 
-  pub asks_no_method : (target method text : List ℕ) (r : Route) (rest : List ℕ) → HasHost spans.version lines
-      → target ≡ span_bytes front spans.path → IsRouteOf target (Some r)
-      → method ≡ span_bytes front spans.method → text ≡ method_of r → true ≡ not (bytes_eq method text)
-      → AsksBehind h rest (Reject (MethodNotAllowed r))
-  asks_no_method target method text r rest p e q f m other =
-      no_method r (host_is p) (route_is target (Some r) e q)
-      (λ same. differ method text other (f ∙ at.method ∙ same ∙ sym m))
+  -- where the target spells a route
+  module _ (target method text : List ℕ) (r : Route) (p : HasHost spans.version lines)
+      (e : target ≡ span_bytes front spans.path) (q : IsRouteOf target (Some r))
+      (f : method ≡ span_bytes front spans.method) (m : text ≡ method_of r) where
+    pub asks_no_method : (rest : List ℕ) → true ≡ not (bytes_eq method text)
+        → AsksBehind h rest (Reject (MethodNotAllowed r))
+    asks_no_method rest other =
+        no_method r (host_is p) (route_is target (Some r) e q)
+        (λ same. differ method text other (f ∙ at.method ∙ same ∙ sym m))
 
-  pub method_is : (method text : List ℕ) (r : Route) → method ≡ span_bytes front spans.method
-      → text ≡ method_of r → false ≡ not (bytes_eq method text) → h.method ≡ method_of r
-  method_is method text r f m same = sym (f ∙ at.method) ∙ agree method text same ∙ m
+    -- and the method is the route's
+    module _ (same : false ≡ not (bytes_eq method text)) where
+      method_is : h.method ≡ method_of r
+      method_is = sym (f ∙ at.method) ∙ agree method text same ∙ m
 
-  pub asks_show : (target method text : List ℕ) (r : Route) (key : ℕ) (rest : List ℕ) → r ≡ Show key
-      → HasHost spans.version lines → target ≡ span_bytes front spans.path → IsRouteOf target (Some r)
-      → method ≡ span_bytes front spans.method → text ≡ method_of r → false ≡ not (bytes_eq method text)
-      → AsksBehind h rest (ShowKey key)
-  asks_show target method text r key rest is p e q f m same =
-      show key (host_is p) (route_leads target r (Show key) is e q)
-      (method_is method text r f m same ∙ ap method_of is)
+      pub asks_show : (key : ℕ) (rest : List ℕ) → r ≡ Show key → AsksBehind h rest (ShowKey key)
+      asks_show key rest is =
+          show key (host_is p) (route_leads target r (Show key) is e q) (method_is ∙ ap method_of is)
 
-  pub asks_usage : (target method text : List ℕ) (r : Route) (key : ℕ) (rest : List ℕ) → r ≡ Usage key
-      → HasHost spans.version lines → target ≡ span_bytes front spans.path → IsRouteOf target (Some r)
-      → method ≡ span_bytes front spans.method → text ≡ method_of r → false ≡ not (bytes_eq method text)
-      → AsksBehind h rest (ShowUsage key)
-  asks_usage target method text r key rest is p e q f m same =
-      usage key (host_is p) (route_leads target r (Usage key) is e q)
-      (method_is method text r f m same ∙ ap method_of is)
+      pub asks_usage : (key : ℕ) (rest : List ℕ) → r ≡ Usage key → AsksBehind h rest (ShowUsage key)
+      asks_usage key rest is =
+          usage key (host_is p) (route_leads target r (Usage key) is e q) (method_is ∙ ap method_of is)
 
-  pub asks_post : (target method text : List ℕ) (r : Route) (rest : List ℕ) (a : Asked) → r ≡ Requests
-      → HasHost spans.version lines → target ≡ span_bytes front spans.path → IsRouteOf target (Some r)
-      → method ≡ span_bytes front spans.method → text ≡ method_of r → false ≡ not (bytes_eq method text)
-      → AsksPost lines rest a → AsksBehind h rest a
-  asks_post target method text r rest a is p e q f m same asked =
-      post a (host_is p) (route_leads target r Requests is e q)
-      (method_is method text r f m same ∙ ap method_of is)
-      (subst (λ ls. AsksPost ls rest a) at.fields asked)
+      pub asks_post : (rest : List ℕ) (a : Asked) → r ≡ Requests → AsksPost lines rest a → AsksBehind h rest a
+      asks_post rest a is asked =
+          post a (host_is p) (route_leads target r Requests is e q) (method_is ∙ ap method_of is)
+          (subst (λ ls. AsksPost ls rest a) at.fields asked)

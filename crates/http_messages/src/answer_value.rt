@@ -1,10 +1,12 @@
 //! The JSON values of what is answered.
-ghost use Rattle.std.specs.Prelude.{◌≡◌, ℕ, List, IfOk};
+ghost use Rattle.std.specs.Prelude.{◌≡◌, codes, IfOk, OnOk};
+ghost use Rattle.serde_json.specs.Data.{string, object, member, no_members};
 ghost use Rattle.serde_json.specs.View.{view, members_view};
+ghost use Rattle.serde_json.specs.Data.{put as with_member};
 ghost use Rattle.http_messages.specs.CommandValue.{date_data};
 ghost use Rattle.http_messages.specs.AnswerValue.{state_data, reply_data, refusal_data};
 ghost use Rattle.http_messages.specs.AnswerValue.{usage_data, names_data, date_members};
-ghost use Rattle.http_messages.specs.AnswerValue.{key_data};
+ghost use Rattle.http_messages.specs.AnswerValue.{key_data, name_data, refused_members};
 
 use key_rows::KeyRow;
 use lifecycle_core::{Dates, State, Usage};
@@ -42,30 +44,60 @@ pub(crate) fn reply_value(alloc: Global, reply: &Reply) -> Result<Value, AllocEr
     json!(in alloc; {"key": reply.key, "moment": moment, "state": state})
 }
 
+/// Puts a text among members.
+fn put_text(
+    members: &mut Map<String, Value>,
+    alloc: Global,
+    name: &str,
+    text: &str,
+) -> Result<(), AllocError>
+    ensures { OnOk result (members_view members.new.entries
+        ≡ with_member name.now (string text.now) (members_view members.old.entries)) }
+{
+    let text = Value::try_from_str(alloc, text)?;
+    put(members, alloc, name, text)
+}
+
+/// Puts what a refusal tells beside its name and its number among these.
+fn put_details(
+    members: &mut Map<String, Value>,
+    alloc: Global,
+    refusal: &Refusal,
+) -> Result<(), AllocError>
+    requires { members_view members.old.entries ≡ member (codes "name") (name_data refusal.now)
+        (refused_members refusal.now no_members) }
+    ensures { OnOk result (object (members_view members.new.entries) ≡ refusal_data refusal.now) }
+{
+    match *refusal {
+        Refusal::MomentBehind { latest } => {
+            put(members, alloc, "latest", Value::from(latest.seconds()))
+        }
+        Refusal::WrongState { state } => put_text(members, alloc, "state", state.text()),
+        Refusal::PeriodTooLong { limit } => {
+            put(members, alloc, "limit", Value::from(limit.seconds()))
+        }
+        Refusal::ApprovalsMissing { have, need } => {
+            put(members, alloc, "have", Value::from(have))?;
+            put(members, alloc, "need", Value::from(need))
+        }
+        _ => Ok(()),
+    }
+}
+
 /// Why a request is refused.
 pub(crate) fn refusal_value(alloc: Global, refusal: &Refusal) -> Result<Value, AllocError>
     ensures { IfOk result (λ v. view v ≡ refusal_data refusal.now) }
 {
-    let name = refusal.name();
-    let refused = refusal.number();
-    match *refusal {
-        Refusal::MomentBehind { latest } => {
-            let latest = latest.seconds();
-            json!(in alloc; {"latest": latest, "name": name, "refused": refused})
-        }
-        Refusal::WrongState { state } => {
-            let state = state.text();
-            json!(in alloc; {"name": name, "refused": refused, "state": state})
-        }
-        Refusal::PeriodTooLong { limit } => {
-            let limit = limit.seconds();
-            json!(in alloc; {"limit": limit, "name": name, "refused": refused})
-        }
-        Refusal::ApprovalsMissing { have, need } => {
-            json!(in alloc; {"have": have, "name": name, "need": need, "refused": refused})
-        }
-        _ => json!(in alloc; {"name": name, "refused": refused}),
-    }
+    let mut members = Map::new(alloc);
+    put_text(&mut members, alloc, "name", refusal.name())?;
+    put(
+        &mut members,
+        alloc,
+        "refused",
+        Value::from(refusal.number()),
+    )?;
+    put_details(&mut members, alloc, refusal)?;
+    Ok(Value::Object(members))
 }
 
 /// What a key may be used for.
@@ -87,25 +119,50 @@ fn names_value(alloc: Global, names: &[Name]) -> Result<Value, AllocError>
     Ok(Value::Array(values))
 }
 
+/// Puts a list of names among members.
+fn put_names(
+    members: &mut Map<String, Value>,
+    alloc: Global,
+    name: &str,
+    names: &[Name],
+) -> Result<(), AllocError>
+    ensures { OnOk result (members_view members.new.entries
+        ≡ with_member name.now (names_data names.now) (members_view members.old.entries)) }
+{
+    let names = names_value(alloc, names)?;
+    put(members, alloc, name, names)
+}
+
+/// Puts a date among members, or null where there is none.
+fn put_date(
+    members: &mut Map<String, Value>,
+    alloc: Global,
+    name: &str,
+    date: Option<Moment>,
+) -> Result<(), AllocError>
+    ensures { OnOk result (members_view members.new.entries
+        ≡ with_member name.now (date_data date) (members_view members.old.entries)) }
+{
+    put(members, alloc, name, date_value(date))
+}
+
 /// The dates of a key.
 fn date_members(alloc: Global, dates: &Dates) -> Result<Map<String, Value>, AllocError>
     ensures { IfOk result (λ m. members_view m.entries ≡ date_members dates.now) }
 {
-    let activation = date_value(dates.activation);
-    let compromised = date_value(dates.compromise);
-    let deactivation = date_value(dates.deactivation);
-    let destroyed = date_value(dates.destroy);
-    let initial = Value::from(dates.initial.seconds());
-    let occurrence = date_value(dates.compromise_occurrence);
-    let protect_stop = date_value(dates.protect_stop);
     let mut members = Map::new(alloc);
-    put(&mut members, alloc, "activation", activation)?;
-    put(&mut members, alloc, "compromised", compromised)?;
-    put(&mut members, alloc, "deactivation", deactivation)?;
-    put(&mut members, alloc, "destroyed", destroyed)?;
-    put(&mut members, alloc, "initial", initial)?;
-    put(&mut members, alloc, "occurrence", occurrence)?;
-    put(&mut members, alloc, "protect_stop", protect_stop)?;
+    put_date(&mut members, alloc, "activation", dates.activation)?;
+    put_date(&mut members, alloc, "compromised", dates.compromise)?;
+    put_date(&mut members, alloc, "deactivation", dates.deactivation)?;
+    put_date(&mut members, alloc, "destroyed", dates.destroy)?;
+    put_date(&mut members, alloc, "initial", Some(dates.initial))?;
+    put_date(
+        &mut members,
+        alloc,
+        "occurrence",
+        dates.compromise_occurrence,
+    )?;
+    put_date(&mut members, alloc, "protect_stop", dates.protect_stop)?;
     Ok(members)
 }
 
@@ -118,19 +175,13 @@ pub(crate) fn key_value(
 ) -> Result<Value, AllocError>
     ensures { IfOk result (λ v. view v ≡ key_data key.now custodians.now approvals.now) }
 {
-    let approvals = names_value(alloc, approvals.as_slice())?;
-    let custodians = names_value(alloc, custodians.as_slice())?;
-    let owner = Value::try_from_str(alloc, key.owner.text())?;
-    let purpose = Value::try_from_str(alloc, key.purpose.text())?;
-    let state = Value::try_from_str(alloc, key.row.state.text())?;
-    let key_type = Value::try_from_str(alloc, key.kind.text())?;
     let mut members = date_members(alloc, &key.row.dates)?;
-    put(&mut members, alloc, "approvals", approvals)?;
-    put(&mut members, alloc, "custodians", custodians)?;
+    put_names(&mut members, alloc, "approvals", approvals.as_slice())?;
+    put_names(&mut members, alloc, "custodians", custodians.as_slice())?;
     put(&mut members, alloc, "number", Value::from(key.number))?;
-    put(&mut members, alloc, "owner", owner)?;
-    put(&mut members, alloc, "purpose", purpose)?;
-    put(&mut members, alloc, "state", state)?;
-    put(&mut members, alloc, "type", key_type)?;
+    put_text(&mut members, alloc, "owner", key.owner.text())?;
+    put_text(&mut members, alloc, "purpose", key.purpose.text())?;
+    put_text(&mut members, alloc, "state", key.row.state.text())?;
+    put_text(&mut members, alloc, "type", key.kind.text())?;
     Ok(Value::Object(members))
 }

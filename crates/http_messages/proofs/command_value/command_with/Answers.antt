@@ -41,6 +41,12 @@ module _ (kind : CommandKind) (ms : Members) (shape : Shape) (is_shape : shape �
   always_some f None is has = absurd (some_made f kind has.1 (sym is))
   always_some f (Some c) is has = tt
 
+  -- so what is made of them is a command with these members
+  made_of : {o : Option Fields} {f : Fields} {x : Option Command} → o ≡ Some f → IfSome o (IsShaped shape ms)
+      → x ≡ command_with kind f → IfSome x (Has kind ms) × IfNone x (NoneHas kind ms)
+  made_of {o} {f} {x} is found made_is =
+      let has = found_fields o f is found in (some_command f x made_is has, always_some f x made_is has)
+
   no_command : (o : Option Fields) → o ≡ None → IfNone o ((f : Fields) → IsShaped shape ms f → ⊥) → NoneHas kind ms
   no_command None is none c in_range same has =
       none (fields_of c) (in_range, has_shape c ∙ ap command_shape same ∙ sym is_shape, has)
@@ -48,19 +54,13 @@ module _ (kind : CommandKind) (ms : Members) (shape : Shape) (is_shape : shape �
 
 pub returns-in-Some-clause-found : goal.returns-in-Some-clause-found
 returns-in-Some-clause-found c =
-    let ms = members_view c.args.members.now.entries in
-    let has = found_fields c.args.kind ms c.shape.result c.shape.ensures c.fields_with.result c.in-Some.fields
-    c.in-Some.is c.fields_with.ensures.found in
-    some_command c.args.kind ms c.shape.result c.shape.ensures c.in-Some.fields c.with_fields.result
-    c.with_fields.ensures has
+    (made_of c.args.kind (members_view c.args.members.now.entries) _ c.shape.ensures c.in-Some.is
+    c.fields_with.ensures.found c.with_fields.ensures).0
 
 pub returns-in-Some-clause-none : goal.returns-in-Some-clause-none
 returns-in-Some-clause-none c =
-    let ms = members_view c.args.members.now.entries in
-    let has = found_fields c.args.kind ms c.shape.result c.shape.ensures c.fields_with.result c.in-Some.fields
-    c.in-Some.is c.fields_with.ensures.found in
-    always_some c.args.kind ms c.shape.result c.shape.ensures c.in-Some.fields c.with_fields.result
-    c.with_fields.ensures has
+    (made_of c.args.kind (members_view c.args.members.now.entries) _ c.shape.ensures c.in-Some.is
+    c.fields_with.ensures.found c.with_fields.ensures).1
 
 pub returns-in-None-clause-none : goal.returns-in-None-clause-none
 returns-in-None-clause-none c =

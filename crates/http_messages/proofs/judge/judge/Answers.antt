@@ -10,16 +10,20 @@ returns-in_default c = λ h at rest. asks_no_path _ _ _ h at c.of.result.now res
 
 pub returns-then-ne : goal.returns-then-ne
 returns-then-ne c = λ h at rest.
-    asks_no_method _ _ _ h at c.of.result.now c.of-2.result.now c.as_bytes.result.now c.in-Some.route rest (c.if-not-has_host.ensures.0 refl) c.of.ensures c.in-Some.ensures c.of-2.ensures (c.as_bytes.ensures.value ∙ c.method_text.ensures) c.if-ne.ensures
+    asks_no_method _ _ _ h at _ _ _ _ (c.if-not-has_host.ensures.0 refl) c.of.ensures c.in-Some.ensures c.of-2.ensures
+    (c.as_bytes.ensures.value ∙ c.method_text.ensures) rest c.if-ne.ensures
 
 pub returns-in-Show : goal.returns-in-Show
 returns-in-Show c = λ h at rest.
-    asks_show _ _ _ h at c.of.result.now c.of-2.result.now c.as_bytes.result.now c.in-Some.route c.in-Show.key rest c.in-Show.is (c.if-not-has_host.ensures.0 refl) c.of.ensures c.in-Some.ensures c.of-2.ensures (c.as_bytes.ensures.value ∙ c.method_text.ensures) c.if-ne.ensures
+    asks_show _ _ _ h at _ _ _ _ (c.if-not-has_host.ensures.0 refl) c.of.ensures c.in-Some.ensures c.of-2.ensures
+    (c.as_bytes.ensures.value ∙ c.method_text.ensures) c.if-ne.ensures _ rest c.in-Show.is
 
 pub returns-in-Usage : goal.returns-in-Usage
 returns-in-Usage c = λ h at rest.
-    asks_usage _ _ _ h at c.of.result.now c.of-2.result.now c.as_bytes.result.now c.in-Some.route c.in-Usage.key rest c.in-Usage.is (c.if-not-has_host.ensures.0 refl) c.of.ensures c.in-Some.ensures c.of-2.ensures (c.as_bytes.ensures.value ∙ c.method_text.ensures) c.if-ne.ensures
+    asks_usage _ _ _ h at _ _ _ _ (c.if-not-has_host.ensures.0 refl) c.of.ensures c.in-Some.ensures c.of-2.ensures
+    (c.as_bytes.ensures.value ∙ c.method_text.ensures) c.if-ne.ensures _ rest c.in-Usage.is
 
 pub returns-in-Err : goal.returns-in-Err
 returns-in-Err c = λ h at rest.
-    asks_post _ _ _ h at c.of.result.now c.of-2.result.now c.as_bytes.result.now c.in-Some.route rest _ c.in-Requests.is (c.if-not-has_host.ensures.0 refl) c.of.ensures c.in-Some.ensures c.of-2.ensures (c.as_bytes.ensures.value ∙ c.method_text.ensures) c.if-ne.ensures (c.in-Err.ensures.err rest)
+    asks_post _ _ _ h at _ _ _ _ (c.if-not-has_host.ensures.0 refl) c.of.ensures c.in-Some.ensures c.of-2.ensures
+    (c.as_bytes.ensures.value ∙ c.method_text.ensures) c.if-ne.ensures rest _ c.in-Requests.is (c.in-Err.ensures.err rest)
