@@ -1,9 +1,9 @@
 -- What answers a body answers the input that it stands in.
-use Rattle.std.proofs.Common.{◌≡◌, ◌≢◌, ℕ, ◌+◌, ◌≤◌, List, ◌++◌, length, take, Option, Some, None}
-use Rattle.std.proofs.Common.{sym, ap, subst, ◌∙◌, arith, append_assoc, length-append}
+use Rattle.std.proofs.Common.{◌≡◌, ◌≢◌, ℕ, ◌+◌, ◌≤◌, List, [], ◌++◌, length, take, min, Option, Some, None}
+use Rattle.std.proofs.Common.{sym, ap, subst, ◌∙◌, arith, append_assoc, length-append, length-take}
 use Rattle.std.specs.Prelude.{IsUtf8}
 use Rattle.std.specs.Io.KnownBytes.{Consumes, IsAtEnd}
-use Rattle.std.proofs.lemmas.List.{take-append-le, append-nil}
+use Rattle.std.proofs.lemmas.List.{take-append-le, append-nil, take_min}
 use Rattle.serde_json.specs.Data.{Data}
 use Rattle.serde_json.specs.Read.{read}
 use Rattle.register_core.specs.declared.request.Command.{Command}
@@ -47,6 +47,14 @@ module _ (n : ℕ) (caller : List ℕ) (serial : ℕ) (behind : List ℕ) where
       })
 
 -- ---- a body of which a part was read with the head
+
+-- what is held at first is the front of what stands behind the head
+pub held_first : (behind none items : List ℕ) (n m : ℕ) → items ≡ none ++ take m behind → none ≡ []
+    → m ≡ min n (length behind) → (items ≡ take n behind ++ []) × (length items ≤ n)
+held_first behind none items n m is empty least =
+    let same : items ≡ take n behind =
+    is ∙ ap (λ l. l ++ take m behind) empty ∙ ap (λ k. take k behind) least ∙ take_min n behind in
+    (same ∙ sym (append-nil (take n behind)), omega (arith, ap length same, length-take n behind))
 
 pub left_is : (old new : Option (List ℕ)) (more left : List ℕ) → old ≡ Some left → Consumes old new more
     → (rest : List ℕ) × (left ≡ more ++ rest)

@@ -35,15 +35,6 @@ fn state_value(alloc: Global, state: Option<State>) -> Result<Value, AllocError>
     }
 }
 
-/// What an accepted request is answered.
-pub(crate) fn reply_value(alloc: Global, reply: &Reply) -> Result<Value, AllocError>
-    ensures { IfOk result (λ v. view v ≡ reply_data reply.now) }
-{
-    let moment = reply.moment.seconds();
-    let state = state_value(alloc, reply.state)?;
-    json!(in alloc; {"key": reply.key, "moment": moment, "state": state})
-}
-
 /// Puts a text among members.
 fn put_text(
     members: &mut Map<String, Value>,
@@ -56,6 +47,35 @@ fn put_text(
 {
     let text = Value::try_from_str(alloc, text)?;
     put(members, alloc, name, text)
+}
+
+/// Puts a date among members, or null where there is none.
+fn put_date(
+    members: &mut Map<String, Value>,
+    alloc: Global,
+    name: &str,
+    date: Option<Moment>,
+) -> Result<(), AllocError>
+    ensures { OnOk result (members_view members.new.entries
+        ≡ with_member name.now (date_data date) (members_view members.old.entries)) }
+{
+    put(members, alloc, name, date_value(date))
+}
+
+/// What an accepted request is answered.
+pub(crate) fn reply_value(alloc: Global, reply: &Reply) -> Result<Value, AllocError>
+    ensures { IfOk result (λ v. view v ≡ reply_data reply.now) }
+{
+    let mut members = Map::new(alloc);
+    put(&mut members, alloc, "key", Value::from(reply.key))?;
+    put_date(&mut members, alloc, "moment", Some(reply.moment))?;
+    put(
+        &mut members,
+        alloc,
+        "state",
+        state_value(alloc, reply.state)?,
+    )?;
+    Ok(Value::Object(members))
 }
 
 /// Puts what a refusal tells beside its name and its number among these.
@@ -131,19 +151,6 @@ fn put_names(
 {
     let names = names_value(alloc, names)?;
     put(members, alloc, name, names)
-}
-
-/// Puts a date among members, or null where there is none.
-fn put_date(
-    members: &mut Map<String, Value>,
-    alloc: Global,
-    name: &str,
-    date: Option<Moment>,
-) -> Result<(), AllocError>
-    ensures { OnOk result (members_view members.new.entries
-        ≡ with_member name.now (date_data date) (members_view members.old.entries)) }
-{
-    put(members, alloc, name, date_value(date))
 }
 
 /// The dates of a key.

@@ -7,7 +7,7 @@ ghost use Rattle.http_messages.specs.Fields.{AreFound, values_of, is_named};
 use httparse::spans::HeaderSpan;
 
 /// The values of the header lines of one name.
-#[derive(Clone, Copy, Debug)]
+#[derive(Clone, Copy)]
 pub(crate) enum Values<'b> {
     None,
     One(&'b [u8]),

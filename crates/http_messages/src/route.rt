@@ -19,7 +19,7 @@ pub enum Route {
 }
 
 /// A route without the number of its key.
-#[derive(Clone, Copy, Debug, PartialEq, Eq)]
+#[derive(Clone, Copy)]
 pub(crate) enum Place {
     Requests,
     Key,
