@@ -26,4 +26,5 @@ returns-in-Usage c = λ h at rest.
 pub returns-in-Err : goal.returns-in-Err
 returns-in-Err c = λ h at rest.
     asks_post _ _ _ h at _ _ _ _ (c.if-not-has_host.ensures.0 refl) c.of.ensures c.in-Some.ensures c.of-2.ensures
-    (c.as_bytes.ensures.value ∙ c.method_text.ensures) c.if-ne.ensures rest _ c.in-Requests.is (c.in-Err.ensures.err rest)
+    (c.as_bytes.ensures.value ∙ c.method_text.ensures) c.if-ne.ensures rest _ c.in-Requests.is
+    (c.in-Err.ensures.err rest)
