@@ -205,7 +205,7 @@ fn texts_and_rules_of_commands(rt: HostRuntime) {
 
 #[test]
 fn this_version(rt: HostRuntime) {
-    assert_eq!(rt; Version::CURRENT.number(), 1);
+    assert_eq!(rt; Version::CURRENT.number(), 2);
     assert_eq!(rt; Version::CURRENT.max_custodians(), 8);
 }
 

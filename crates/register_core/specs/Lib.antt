@@ -3,6 +3,7 @@ pub mod Text
 pub mod Name
 pub mod Names
 pub mod KeyName
+pub mod Settings
 pub mod Number
 pub mod Purpose
 pub mod Reply

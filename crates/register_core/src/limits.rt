@@ -5,3 +5,6 @@ pub const MAX_KEYS: u32 = 1_000_000;
 /// How many approvals, of different custodians, the destruction of a key needs (this register's
 /// own).
 pub const MIN_APPROVALS: u8 = 2;
+
+/// How many approvals the owner of a key asks for at most (this register's own).
+pub const MAX_NEED: u8 = 5;

@@ -5,13 +5,15 @@ ghost use Rattle.std.specs.Prelude.{◌≡◌};
 #[derive(Clone, Copy, Debug, PartialEq, Eq)]
 pub enum Version {
     First,
+    /// It has tables of what is set, for a type of key or for a key.
+    Second,
 }
 
 impl Version {
     ghost use Rattle.register_core.specs.Version.{version_number, custodians_of};
 
     /// The version of this program.
-    pub const CURRENT: Version = Version::First;
+    pub const CURRENT: Version = Version::Second;
 
     /// The number that a file has, in the one row of its table `meta`.
     pub fn number(self) -> u32
@@ -19,6 +21,7 @@ impl Version {
     {
         match self {
             Version::First => 1,
+            Version::Second => 2,
         }
     }
 
@@ -27,7 +30,7 @@ impl Version {
         ensures { result ≡ custodians_of self }
     {
         match self {
-            Version::First => 8,
+            Version::First | Version::Second => 8,
         }
     }
 }
