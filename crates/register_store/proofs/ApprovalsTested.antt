@@ -45,5 +45,5 @@ are_tested t lists knows = record {
     shown = met.1;
     each = all_as (IsCustodian t.custodians) (IsListed lists.items) (λ entry. (knows entry).1) met.0 met.2;
   };
-  no_newer = λ rows none. none;
+  no_other = λ rows none. none;
 }

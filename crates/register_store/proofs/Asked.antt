@@ -16,10 +16,11 @@ use Rattle.sql_steps.proofs.Statements.{plain_query}
 use Rattle.row_tests.specs.Showing.{HasNoMeaning, IsQuery, ShowsAll, ShowsFirst}
 use Rattle.row_tests.proofs.Selects.{IsSelect, select_plain}
 use Rattle.register_store.specs.declared.error.CheckError.{CheckError}
-use Rattle.register_store.specs.declared.error.CheckError.TheVariants.{NotARegister, NewerVersion, Memory, Database as Refused}
+use Rattle.register_store.specs.declared.error.CheckError.TheVariants.{NotARegister, NewerVersion, OlderVersion, Memory}
+use Rattle.register_store.specs.declared.error.CheckError.TheVariants.{Database as Refused}
 use Rattle.register_store.specs.declared.table.TableName.{TableName}
-use Rattle.register_store.specs.declared.table.TableName.TheVariants.{Meta, Keys, Custodian, Approval, Request}
-use Rattle.register_store.specs.Checking.{BlamesNone, FailsTest, HasNewer, IsReasonAt, ShowsRows, TestsBy, check_text}
+use Rattle.register_store.specs.declared.table.TableName.TheVariants.{Meta, Keys, Custodian, Approval, Request, Period, Quorum}
+use Rattle.register_store.specs.Checking.{BlamesNone, FailsTest, HasOther, IsReasonAt, ShowsRows, TestsBy, check_text}
 use Rattle.register_store.specs.Schema.{Holds, schema_with}
 use Rattle.register_store.proofs.Meanings.{Asks, IsPlaced, Meant, asks, classes, placed}
 use Rattle.sqlite_resolve.specs.Compile.{first}
@@ -35,6 +36,8 @@ shown_of_table Keys = col 1 2 ∷ col 1 3 ∷ col 1 4 ∷ col 1 5 ∷ col 1 6 �
 shown_of_table Custodian = col 1 1 ∷ col 1 2 ∷ []
 shown_of_table Approval = col 1 1 ∷ col 1 2 ∷ []
 shown_of_table Request = col 1 3 ∷ col 1 4 ∷ col 1 5 ∷ col 1 6 ∷ col 1 1 ∷ col 1 2 ∷ []
+shown_of_table Period = col 1 0 ∷ col 1 2 ∷ col 1 3 ∷ []
+shown_of_table Quorum = col 1 0 ∷ col 1 2 ∷ []
 
 abbrev pub asked : Layout → TableName → Query
 asked l Meta = ordered_query (l.tree Meta) (shown_of_table Meta)
@@ -164,11 +167,12 @@ module _ (name : TableName) (t : Tables) where
         let it = shown_own old new holds all in
         all.holds.fails it.c it.shows (it.meets meets)
 
-    module _ (newer_not : (found : ℕ) (old new : State) → Holds t old.now → HasNewer found old new → ⊥) where
+    module _ (other_not : (found : ℕ) (old new : State) → Holds t old.now → HasOther found old new → ⊥) where
       pub blames_none : {T : Type 0} (old new : State) (q : Result T CheckError) → Holds t old.now → MeetsTests t → IfErr q (IsReasonAt name t old new) → IfErr q BlamesNone
       blames_none old new (Ok x) holds meets why = tt
       blames_none old new (Err NotARegister) holds meets why = fails_not old new holds (meets name) why.0
-      blames_none old new (Err (NewerVersion found)) holds meets why = newer_not found old new holds why
+      blames_none old new (Err (NewerVersion found)) holds meets why = other_not found old new holds why.other
+      blames_none old new (Err (OlderVersion found)) holds meets why = other_not found old new holds why.other
       blames_none old new (Err Memory) holds meets why = tt
       blames_none old new (Err (Refused error)) holds meets why = tt
 

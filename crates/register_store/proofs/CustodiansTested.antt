@@ -35,7 +35,7 @@ use Rattle.register_store.proofs.Actions.{shows_all}
 use Rattle.register_store.proofs.Asked.{AnswersTo, ShowsOwn, shown_of_table, tests_by}
 use Rattle.register_store.proofs.Decoding.{same_number, same_words}
 use Rattle.register_store.proofs.EntriesShown.{all_permuted, own_entries}
-use Rattle.register_store.proofs.MetaTested.{newer_not}
+use Rattle.register_store.proofs.MetaTested.{other_not}
 use Rattle.register_store.proofs.NameLists.{get_below, get_some}
 use Rattle.register_store.proofs.RowsFailed.{reason_of}
 
@@ -247,7 +247,7 @@ module _ (t : Tables) (owners : List (List ℕ)) (are : owners ≡ owners_of t.k
   Tested q = TestsBy Custodian t KnowsCustodians old new q
 
   pub custodians_read : (lists : Vec (Vec (List ℕ))) → (HasCleanDisk new → ShowsAll (check_text Custodian) (HasCustodians owners lists.items) old new) → Tested (Ok lists)
-  custodians_read lists all = tests_by Custodian t (own_custodians t) (newer_not t) KnowsCustodians (λ c d x like says. knows_like c d x like says) one_list old new (Ok lists)
+  custodians_read lists all = tests_by Custodian t (own_custodians t) (other_not t) KnowsCustodians (λ c d x like says. knows_like c d x like says) one_list old new (Ok lists)
       (λ clean.
       let it = all clean in
       (it.holds.entries, record { rows = it.rows; shown = it.shown; holds = it.holds.shown; same = it.same }, subst (λ o. AreCustodians o it.holds.entries) are it.holds.are, knows_so owners lists it.rows it.holds))
@@ -270,12 +270,12 @@ module _ (t : Tables) (owners : List (List ℕ)) (are : owners ≡ owners_of t.k
                 length-append (names_at key it.0) (names_at key it.1),
               );
         });
-    no_newer = λ none. none;
+    no_other = λ none. none;
   }
 
   pub custodians_fail : (error : RowsError) (e : CheckError) → e ≡ check_error error → (HasCleanDisk new → error ≡ NoMeaning → HasNoMeaning (check_text Custodian) old new)
       → (HasCleanDisk new → error ≡ Refused → ShowsFirst (check_text Custodian) (RefusesCustodians owners) old new) → (HasCleanDisk new → error ≡ Memory → IsUnchanged old new) → Tested (Err e)
-  custodians_fail error e is meaning refused memory = tests_by Custodian t (own_custodians t) (newer_not t) KnowsCustodians (λ c d x like says. knows_like c d x like says) one_list old new (Err e) (λ clean. tt)
+  custodians_fail error e is meaning refused memory = tests_by Custodian t (own_custodians t) (other_not t) KnowsCustodians (λ c d x like says. knows_like c d x like says) one_list old new (Err e) (λ clean. tt)
       (λ clean. subst (IsReasonAt Custodian t old new) (sym is) (reason_of Custodian t old new (RefusesCustodians owners) error (meaning clean) (refused clean) (memory clean) (λ _. odd))) survives
 
 -- ---- approvals
@@ -299,7 +299,7 @@ not_listed lists entry off listed = by entry.key refl
 -- nothing was read: want of memory
 pub custodians_none : (t : Tables) (old : State) → (HasCleanDisk old → IsTrue old.is_open) → (e : CheckError) → e ≡ Ran_out → TestsBy {T = Vec (Vec (List ℕ))} Custodian t KnowsCustodians old old (Err e)
 custodians_none t old is_open e is = subst (λ e. TestsBy {T = Vec (Vec (List ℕ))} Custodian t KnowsCustodians old old (Err e)) (sym is)
-    (tests_by Custodian t (own_custodians t) (newer_not t) KnowsCustodians (λ c d x like says. knows_like c d x like says) one_list old old (Err Ran_out) (λ clean. tt)
+    (tests_by Custodian t (own_custodians t) (other_not t) KnowsCustodians (λ c d x like says. knows_like c d x like says) one_list old old (Err Ran_out) (λ clean. tt)
     (λ clean. (record { was_open = is_open clean; is_open = is_open clean; now_is = refl; committed_is = refl; mode = refl }, record { changes = refl; last_rowid = refl }, refl)) (survives_none old))
   where
     survives_none : (s : State) → Survives s s (λ _. ⊥)

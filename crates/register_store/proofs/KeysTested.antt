@@ -27,7 +27,7 @@ use Rattle.register_store.specs.Tests.{IsSoundAt, owners_of}
 use Rattle.register_store.proofs.Actions.{shows_all}
 use Rattle.register_store.proofs.Asked.{AnswersTo, ShowsOwn, shown_of_table, tests_by}
 use Rattle.register_store.proofs.Decoding.{one_key, same_number}
-use Rattle.register_store.proofs.MetaTested.{newer_not}
+use Rattle.register_store.proofs.MetaTested.{other_not}
 use Rattle.register_store.proofs.Numbers.{enumerate_append, is_table}
 use Rattle.register_store.proofs.Ordered.{in_order, shown_of}
 use Rattle.register_store.proofs.RowsFailed.{reason_of}
@@ -174,7 +174,7 @@ module _ (t : Tables) (found : Found) (counts : counts_of found ≡ t.counts) (o
               (subst (AllByRecursion (IsSoundAt found.latest)) it.2 sound);
           within = omega (arith, ap length it.2, length-append it.0 it.1, counted, key_count_is);
         });
-    no_newer = λ none. none;
+    no_other = λ none. none;
   }
 
   abbrev Tested : Result (Vec (List ℕ)) CheckError → Type 0
@@ -182,7 +182,7 @@ module _ (t : Tables) (found : Found) (counts : counts_of found ≡ t.counts) (o
 
   -- all of them
   pub keys_read : (count : ℕ) (owners : Vec (List ℕ)) → (HasCleanDisk new → ShowsAll (check_text Keys) (HasKeys found count owners.items) old new) → (HasCleanDisk new → count ≡ found.keys) → Tested (Ok owners)
-  keys_read count owners all is = tests_by Keys t (own_keys t) (newer_not t) AreOwners (λ c d x like says. says ∙ ap owners_of like) one_keys old new (Ok owners)
+  keys_read count owners all is = tests_by Keys t (own_keys t) (other_not t) AreOwners (λ c d x like says. says ∙ ap owners_of like) one_keys old new (Ok owners)
       (λ clean.
       let it = all clean in
       let keys = it.holds.keys in
@@ -196,7 +196,7 @@ module _ (t : Tables) (found : Found) (counts : counts_of found ≡ t.counts) (o
 
   -- fewer than are counted
   pub keys_fewer : (count : ℕ) (owners : List (List ℕ)) → (HasCleanDisk new → ShowsAll (check_text Keys) (HasKeys found count owners) old new) → (HasCleanDisk new → count ≢ found.keys) → Tested (Err NotARegister)
-  keys_fewer count owners all off = tests_by Keys t (own_keys t) (newer_not t) AreOwners (λ c d x like says. says ∙ ap owners_of like) one_keys old new (Err NotARegister) (λ clean. tt)
+  keys_fewer count owners all off = tests_by Keys t (own_keys t) (other_not t) AreOwners (λ c d x like says. says ∙ ap owners_of like) one_keys old new (Err NotARegister) (λ clean. tt)
       (λ clean.
       let it = all clean in (
         inr (inr (record {
@@ -206,7 +206,7 @@ module _ (t : Tables) (found : Found) (counts : counts_of found ≡ t.counts) (o
             fails = λ keys shows meets.
                 let same = one_keys it.rows it.holds.keys keys it.holds.are.shown shows in
                 off clean (it.holds.counted ∙ ap length same ∙ meets.counted ∙ sym key_count_is);
-            no_newer = λ none. none;
+            no_other = λ none. none;
           };
           same = it.same;
         })),
@@ -218,7 +218,7 @@ module _ (t : Tables) (found : Found) (counts : counts_of found ≡ t.counts) (o
   pub keys_fail : (error : RowsError) (q : Result (Vec (List ℕ)) CheckError) → Rattle.std.specs.Prelude.IsErrAnd q (λ e. e ≡ check_error error) → (HasCleanDisk new → error ≡ NoMeaning → HasNoMeaning (check_text Keys) old new)
       → (HasCleanDisk new → error ≡ Refused → ShowsFirst (check_text Keys) (RefusesKeys found) old new) → (HasCleanDisk new → error ≡ Memory → IsUnchanged old new) → Tested q
   keys_fail error (Ok x) is meaning refused memory = absurd is
-  keys_fail error (Err e) is meaning refused memory = tests_by Keys t (own_keys t) (newer_not t) AreOwners (λ c d x like says. says ∙ ap owners_of like) one_keys old new (Err e) (λ clean. tt)
+  keys_fail error (Err e) is meaning refused memory = tests_by Keys t (own_keys t) (other_not t) AreOwners (λ c d x like says. says ∙ ap owners_of like) one_keys old new (Err e) (λ clean. tt)
       (λ clean. subst (IsReasonAt Keys t old new) (sym is) (reason_of Keys t old new (RefusesKeys found) error (meaning clean) (refused clean) (memory clean) (λ _. odd_on))) survives
 
   -- what is given of them

@@ -1,5 +1,7 @@
 -- The test of the table meta.
 use Rattle.std.proofs.Common.{◌≡◌, ◌≤◌, inl, inr, ℕ, Option, None, Some, Result, Ok, Err, List, [], ◌∷◌, ◌++◌, IfOk, IfErr, IsErrAnd, sym, ap, subst, ◌∙◌, refl, arith}
+use Rattle.std.specs.Prelude.{nat_lt}
+use Rattle.std.proofs.lemmas.Bool.{cases_Bool, ltb-false, ltb-true}
 use Rattle.sqlite.specs.Effect.{Database as Db}
 use Rattle.sqlite.specs.Order.{Row, column}
 use Rattle.sqlite.specs.Program.{overlay}
@@ -11,12 +13,13 @@ use Rattle.row_tests.specs.declared.error.RowsError.TheVariants.{NoMeaning, Refu
 use Rattle.row_tests.specs.Showing.{HasNoMeaning, ShowsAll, ShowsFirst}
 use Rattle.register_store.specs.declared.found.Found.{Found}
 use Rattle.register_store.specs.declared.error.CheckError.{CheckError}
-use Rattle.register_store.specs.declared.error.CheckError.TheVariants.{NewerVersion, NotARegister}
+use Rattle.register_store.specs.declared.error.CheckError.TheVariants.{NewerVersion, NotARegister, OlderVersion}
 use Rattle.register_store.specs.declared.meta_test.MetaRow.{MetaRow}
-use Rattle.register_store.specs.declared.meta_test.MetaRow.TheVariants.{Newer, Counts as CountsKeys}
+use Rattle.register_store.specs.declared.meta_test.MetaRow.TheVariants.{Other, Counts as CountsKeys}
 use Rattle.register_store.specs.declared.table.TableName.TheVariants.{Meta}
 use Rattle.register_core.specs.Verdict.{max_keys}
-use Rattle.register_store.specs.Checking.{HasNewer, IsOdd, IsReasonAt, ShowsCounts, ShowsNewer, ShowsRows, TestsBy, check_error, check_text, counts_of}
+use Rattle.register_store.specs.Checking.{HasOther, IsOdd, IsReasonAt, ShowsCounts, ShowsOther, ShowsRows, TestsBy, check_error}
+use Rattle.register_store.specs.Checking.{check_text, counts_of, version_error}
 use Rattle.register_store.specs.Schema.{Holds, rows_of}
 use Rattle.register_store.specs.Tables.{Counts, Tables, counts_row, version, with_content}
 use Rattle.register_store.specs.Tests.{MeetsTest}
@@ -47,12 +50,11 @@ own_meta t db rows holds sure =
     }
 
 -- its version is this program's
-pub newer_not : (t : Tables) (found : ℕ) (old new : State) → Holds t old.now → HasNewer found old new → ⊥
-newer_not t found old new holds newer =
-    let it = shown_own Meta t (own_meta t) old new holds newer.shown in
-    let shows = subst (λ rows. ShowEach ShowsCounts rows (it.c ∷ [])) newer.shown.holds it.shows in
-    let same = same_number (column newer.row 1) found version newer.newer.version_is shows.0.version_is in
-    absurd (let above = newer.newer.above in omega (arith, above, same))
+pub other_not : (t : Tables) (found : ℕ) (old new : State) → Holds t old.now → HasOther found old new → ⊥
+other_not t found old new holds other =
+    let it = shown_own Meta t (own_meta t) old new holds other.shown in
+    let shows = subst (λ rows. ShowEach ShowsCounts rows (it.c ∷ [])) other.shown.holds it.shows in
+    other.other.other (same_number (column other.row 1) found version other.other.version_is shows.0.version_is)
 
 one_counts : (row : Row) (a b : Counts) → ShowsCounts row a → ShowsCounts row b → a ≡ b
 one_counts row a b x y i = record { latest = same_number _ _ _ x.latest y.latest i; key_count = same_number _ _ _ x.key_count y.key_count i }
@@ -70,16 +72,16 @@ two_refused None rows row some taken = absurd (cc)
 two_refused (Some one) rows row some taken =
     subst (λ rs. RefusesMeta (rs ++ row ∷ [])) (sym taken.1) (record {
       uncounted = λ tail counts shows few. shows.1;
-      no_newer = λ tail newer. let one_row = newer.2 in absurd cc;
+      no_other = λ tail other. let one_row = other.2 in absurd cc;
     })
 
--- one row, which counts no keys and is of no later version
+-- one row, which counts no keys and is of no other version
 pub one_refused : (row : Row) → ((counts : Counts) → counts.key_count ≤ max_keys → ¬ ShowsCounts row counts)
-    → ((found : ℕ) → ¬ ShowsNewer row found) → RefusesMeta (row ∷ [])
-one_refused row none older = record {
+    → ((found : ℕ) → ¬ ShowsOther row found) → RefusesMeta (row ∷ [])
+one_refused row none own = record {
   uncounted = λ tail counts shows few. none counts few shows.0;
-  no_newer = λ tail newer. let same : row ≡ newer.0 = cc in
-      older newer.1 (subst (λ r. ShowsNewer r newer.1) (sym same) newer.3);
+  no_other = λ tail other. let same : row ≡ other.0 = cc in
+      own other.1 (subst (λ r. ShowsOther r other.1) (sym same) other.3);
 }
 
 module _ (t : Tables) (old new : State) (survives : Survives old new (λ _. ⊥)) where
@@ -90,8 +92,18 @@ module _ (t : Tables) (old new : State) (survives : Survives old new (λ _. ⊥)
       → IfOk q (λ found. (c : Counts) × ShowsAll (check_text Meta) (λ rows. ShowsRows Meta rows c) old new
       × MeetsTest Meta (with_content Meta c t) × IsCounts c found))
       → (HasCleanDisk new → IfErr q (IsReasonAt Meta t old new)) → Tested q
-  tested q passed refused = tests_by Meta t (own_meta t) (newer_not t) IsCounts (λ c d x like says. says ∙ like)
+  tested q passed refused = tests_by Meta t (own_meta t) (other_not t) IsCounts (λ c d x like says. says ∙ like)
       one_meta old new q passed refused survives
+
+  -- the error tells whether a version that is not this program's is above it
+  told_by : (found : ℕ) → HasOther found old new → IsReasonAt Meta t old new (version_error found)
+  told_by found other = elim (cases_Bool (nat_lt version found)) [
+    | inl above ↦ rw above (record { other = other; above = ltb-true _ _ above })
+    | inr below ↦
+        let within = ltb-false version found below in
+        let differs = other.other.other in
+        rw below (record { other = other; below = omega (arith, within, differs) })
+  ]
 
   -- all rows were read
   counts_told : (told : MetaRow) → (HasCleanDisk new → ShowsAll (check_text Meta) (HasMeta (Some told)) old new)
@@ -109,12 +121,12 @@ module _ (t : Tables) (old new : State) (survives : Survives old new (λ _. ⊥)
         it.holds.2.1,
         refl,
       )) (λ clean. tt)
-  counts_told (Newer found) all = tested (Err (NewerVersion found)) (λ clean. tt)
-      (λ clean. let it = all clean in record {
+  counts_told (Other found) all = tested (Err (version_error found)) (λ clean. tt)
+      (λ clean. let it = all clean in told_by found (record {
         row = it.holds.0;
         shown = record { rows = it.rows; shown = it.shown; holds = it.holds.1; same = it.same };
-        newer = it.holds.2;
-      })
+        other = it.holds.2;
+      }))
 
   pub meta_told : (told : MetaRow) (q : Result Found CheckError) → q ≡ counts_in told
       → (HasCleanDisk new → ShowsAll (check_text Meta) (HasMeta (Some told)) old new) → Tested q
@@ -124,13 +136,13 @@ module _ (t : Tables) (old new : State) (survives : Survives old new (λ _. ⊥)
   no_rows : (rows : List Row) → rows ≡ [] → IsOdd Meta t rows
   no_rows rows none = record {
     fails = λ c shows meets. subst (λ rs. ShowsRows Meta rs c) none shows;
-    no_newer = λ newer. let one_row : rows ≡ newer.0 ∷ [] = newer.2 in absurd cc;
+    no_other = λ other. let one_row : rows ≡ other.0 ∷ [] = other.2 in absurd cc;
   }
 
   odd : (rows : List Row) → RefusesMeta rows → (tail : List Row) → IsOdd Meta t (rows ++ tail)
   odd rows refuses tail = record {
     fails = λ c shows meets. refuses.uncounted tail c shows meets;
-    no_newer = refuses.no_newer tail;
+    no_other = refuses.no_other tail;
   }
 
   pub meta_none : (HasCleanDisk new → ShowsAll (check_text Meta) (HasMeta None) old new) → Tested (Err NotARegister)

@@ -63,5 +63,5 @@ are_tested t found counts = record {
     shown = met.1;
     each = subst (λ n. AllByRecursion (IsReplyOf n) met.0) (sym counts) met.2;
   };
-  no_newer = λ rows none. none;
+  no_other = λ rows none. none;
 }

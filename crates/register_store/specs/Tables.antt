@@ -1,5 +1,5 @@
 -- The tables of a register, one by one: what each holds, how it is made, and how its content stands in its rows.
-use Rattle.std.specs.Prelude.{◌≡◌, ℕ, ◌+◌, pos, Bool, cond, false, not, List, [], ◌∷◌, ◌++◌, map, drop, filter, take}
+use Rattle.std.specs.Prelude.{◌≡◌, ◌≤◌, ℕ, ◌+◌, pos, Bool, cond, false, not, List, [], ◌∷◌, ◌++◌, map, drop, filter, take}
 use Rattle.std.specs.Prelude.{Option, None, Some, is_some, IsTrue, IsPermutation, codes}
 use Rattle.std.specs.List.{AllByRecursion, enumerate_from}
 use Rattle.sqlite.specs.declared.types.Value.TheVariants.{Null, Int, Text as Words}
@@ -16,16 +16,19 @@ use Rattle.lifecycle_core.specs.declared.dates.Dates.{Dates}
 use Rattle.lifecycle_core.specs.declared.state.State.{State}
 use Rattle.lifecycle_core.specs.State.{state_code}
 use Rattle.period_core.specs.KeyType.{key_type_code}
+use Rattle.period_core.specs.Period.{IsPeriod}
 use Rattle.register_core.specs.declared.kept_reply.KeptReply.{KeptReply}
 use Rattle.register_core.specs.declared.key.Key.{Key}
+use Rattle.register_core.specs.Custody.{min_approvals}
 use Rattle.register_core.specs.KeptReply.{IsKeptReply}
 use Rattle.register_core.specs.KeyName.{KeyName}
 use Rattle.register_core.specs.Name.{IsName}
 use Rattle.register_core.specs.Purpose.{IsPurpose}
 use Rattle.register_core.specs.Request.{IsDate, command_text}
+use Rattle.register_core.specs.Settings.{KeyNeed, TypePeriod, max_need}
 use Rattle.register_core.specs.Version.{current, version_number}
 use Rattle.register_store.specs.declared.table.TableName.{TableName}
-use Rattle.register_store.specs.declared.table.TableName.TheVariants.{Meta, Keys, Custodian, Approval, Request}
+use Rattle.register_store.specs.declared.table.TableName.TheVariants.{Meta, Keys, Custodian, Approval, Request, Period, Quorum}
 use Rattle.register_store.specs.TableForms.{number_column, text_column, key_column, keyed, indexed, paired}
 
 -- ---- what they hold
@@ -35,14 +38,16 @@ pub record Counts : Type 0 where
   pub latest : ℕ
   pub key_count : ℕ
 
--- What the tables hold: the keys by number, from 1, the names at keys in no order of meaning, and what is kept of each
--- accepted request, in none either.
+-- What the tables hold: the keys by number, from 1, the names at keys in no order of meaning, what is kept of each
+-- accepted request, in none either, and the periods and needs that are set.
 pub record Tables : Type 0 where
   pub counts : Counts
   pub keys : List Key
   pub custodians : List KeyName
   pub approvals : List KeyName
   pub requests : List KeptReply
+  pub periods : List TypePeriod
+  pub needs : List KeyNeed
 
 -- the tables of an empty register
 abbrev pub no_rows : Tables
@@ -52,6 +57,8 @@ no_rows = record {
   custodians = [];
   approvals = [];
   requests = [];
+  periods = [];
+  needs = [];
 }
 
 -- ---- cells. A row begins with its rowid; the cell of an INTEGER PRIMARY KEY shows that, and is kept as NULL.
@@ -102,12 +109,26 @@ request_cells k =
     Words k.caller ∷ Int (pos k.number) ∷ Words (command_text k.command)
     ∷ Int (pos k.reply.key) ∷ Int (pos (state_cell k.reply.state)) ∷ Int (pos k.reply.moment) ∷ []
 
+-- a type with its period
+abbrev pub period_row : TypePeriod → Cells
+period_row set =
+    Int (pos (key_type_code set.kind)) ∷ Null ∷ Int (pos set.period.originator) ∷ Int (pos set.period.recipient) ∷ []
+
+-- a key with its need
+abbrev pub need_row : KeyNeed → Cells
+need_row set = Int (pos set.key) ∷ Null ∷ Int (pos set.need) ∷ []
+
 -- Past their rowids the rows are those of the entries, in any order. The rowids are whole numbers that rise, as in each
 -- table.
 pub record ShowsEntries {A : Type 0} (cells_of : A → Cells) (entries : List A) (rows : List Cells) : Type 0 where
   pub cells : IsPermutation (map (drop 1) rows) (map cells_of entries)
   pub ordered : IsTable rows
   pub counted : AllByRecursion (λ row. IsTrue (is_int (rowid row))) rows
+
+-- The rows are those of the entries, each of which has a rowid of its own.
+pub record ShowsKeyed {A : Type 0} (row_of : A → Cells) (entries : List A) (rows : List Cells) : Type 0 where
+  pub rows_are : IsPermutation rows (map row_of entries)
+  pub ordered : IsTable rows
 
 -- ---- ranges
 
@@ -131,6 +152,13 @@ IsNamed at_key = IsName at_key.name
 abbrev pub AreNames : List KeyName → Type 0
 AreNames names = AllByRecursion IsNamed names
 
+abbrev pub IsSetPeriod : TypePeriod → Type 0
+IsSetPeriod set = IsPeriod set.period
+
+pub record IsSetNeed (set : KeyNeed) : Type 0 where
+  pub least : min_approvals ≤ set.need
+  pub most : set.need ≤ max_need
+
 -- ---- what they refer to
 
 abbrev pub to_keys : Reference
@@ -143,6 +171,10 @@ to_keys = record {
   on_update = NoAction;
   is_deferred = false;
 }
+
+-- by the rowid, which the place of an INTEGER PRIMARY KEY is
+abbrev pub rowid_to_keys : Reference
+rowid_to_keys = record to_keys { columns = 0 ∷ [] }
 
 -- where a custodian goes, the approval goes too
 abbrev pub to_custodian : Reference
@@ -181,7 +213,7 @@ form Meta = record {
   content = λ t. t.counts;
   with_content = λ counts t. record t { counts = counts };
   table = keyed (codes "meta") (key_column (codes "id") ∷ number_column (codes "version")
-      ∷ number_column (codes "latest") ∷ number_column (codes "key_count") ∷ []);
+      ∷ number_column (codes "latest") ∷ number_column (codes "key_count") ∷ []) [];
   create_text = codes
       "CREATE TABLE meta (id INTEGER PRIMARY KEY, version INTEGER NOT NULL, latest INTEGER NOT NULL, key_count INTEGER NOT NULL) STRICT";
   Shows = λ counts rows. rows ≡ counts_row counts ∷ [];
@@ -196,7 +228,7 @@ form Keys = record {
       ∷ text_column (codes "owner") ∷ text_column (codes "purpose") ∷ number_column (codes "state")
       ∷ number_column (codes "initial") ∷ number_column (codes "activation") ∷ number_column (codes "protect_stop")
       ∷ number_column (codes "deactivation") ∷ number_column (codes "destroyed")
-      ∷ number_column (codes "compromised") ∷ number_column (codes "occurrence") ∷ []);
+      ∷ number_column (codes "compromised") ∷ number_column (codes "occurrence") ∷ []) [];
   create_text = codes
       "CREATE TABLE keys (number INTEGER PRIMARY KEY, kind INTEGER NOT NULL, owner TEXT NOT NULL, purpose TEXT NOT NULL, state INTEGER NOT NULL, initial INTEGER NOT NULL, activation INTEGER NOT NULL, protect_stop INTEGER NOT NULL, deactivation INTEGER NOT NULL, destroyed INTEGER NOT NULL, compromised INTEGER NOT NULL, occurrence INTEGER NOT NULL) STRICT";
   Shows = λ keys rows. rows ≡ map key_row (numbered keys);
@@ -238,10 +270,36 @@ form Request = record {
   Shows = ShowsEntries request_cells;
   IsInRange = AllByRecursion IsKeptReply;
 }
+-- a type has one period at most
+form Period = record {
+  place = 5;
+  Content = List TypePeriod;
+  content = λ t. t.periods;
+  with_content = λ periods t. record t { periods = periods };
+  table = keyed (codes "period") (key_column (codes "kind") ∷ number_column (codes "originator")
+      ∷ number_column (codes "recipient") ∷ []) [];
+  create_text = codes
+      "CREATE TABLE period (kind INTEGER PRIMARY KEY, originator INTEGER NOT NULL, recipient INTEGER NOT NULL) STRICT";
+  Shows = ShowsKeyed period_row;
+  IsInRange = AllByRecursion IsSetPeriod;
+}
+-- and a key one need
+form Quorum = record {
+  place = 6;
+  Content = List KeyNeed;
+  content = λ t. t.needs;
+  with_content = λ needs t. record t { needs = needs };
+  table = keyed (codes "quorum") (key_column (codes "key_no") ∷ number_column (codes "need") ∷ [])
+      (rowid_to_keys ∷ []);
+  create_text = codes
+      "CREATE TABLE quorum (key_no INTEGER PRIMARY KEY REFERENCES keys(number), need INTEGER NOT NULL) STRICT";
+  Shows = ShowsKeyed need_row;
+  IsInRange = AllByRecursion IsSetNeed;
+}
 
 -- the tables in the order in which they are made
 abbrev pub all_tables : List TableName
-all_tables = Meta ∷ Keys ∷ Custodian ∷ Approval ∷ Request ∷ []
+all_tables = Meta ∷ Keys ∷ Custodian ∷ Approval ∷ Request ∷ Period ∷ Quorum ∷ []
 
 -- ---- one table by its name
 

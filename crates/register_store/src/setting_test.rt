@@ -1,0 +1,161 @@
+//! The tests of the tables of what is set: periods and needs.
+ghost use Rattle.std.specs.Prelude.{◌≡◌, ◌↔◌, false, MatchOption, IsTrue};
+ghost use Rattle.sqlite.specs.Held.{state};
+ghost use Rattle.sqlite.specs.State.{Survives};
+ghost use Rattle.register_core.specs.Settings.{KeyNeed, TypePeriod};
+ghost use Rattle.register_store.specs.declared.table.TableName.TheVariants as table;
+ghost use Rattle.register_store.specs.Tables.{Tables};
+ghost use Rattle.register_store.specs.Tests.{IsNeedOf};
+ghost use Rattle.register_store.specs.Checking.{ShowsKeyNeed, ShowsTypePeriod, TestsBy, counts_of};
+ghost use Rattle.register_store.specs.Taking.{IsAny, key_need, type_period};
+
+use crate::cell::{kind_in, months_in, number_in};
+use crate::error::CheckError;
+use crate::found::Found;
+use period_core::{KeyType, Period};
+use register_core::{MAX_NEED, MIN_APPROVALS};
+use row_tests::{RowTest, test_rows};
+use sqlite::{Alter, Connection, Row};
+use std::alloc::AllocError;
+
+/// A type with the period that is set for it, as a row shows them.
+#[derive(Clone, Copy)]
+struct PeriodRow {
+    kind: KeyType,
+    period: Period,
+}
+
+/// A key with the need that is set for it, as a row shows them.
+#[derive(Clone, Copy)]
+struct NeedRow {
+    key: u64,
+    need: u64,
+}
+
+/// The period of a type that the row shows.
+fn period_in(row: &Row) -> Option<PeriodRow>
+    ensures { MatchOption result ((set : TypePeriod) → ¬ ShowsTypePeriod row.now set)
+        (λ shown. ShowsTypePeriod row.now (type_period shown.kind shown.period)) }
+{
+    let kind = kind_in(row, 0)?;
+    let originator = months_in(row, 1)?;
+    let recipient = months_in(row, 2)?;
+    match Period::new(originator, recipient) {
+        Some(period) => Some(PeriodRow { kind, period }),
+        None => None,
+    }
+}
+
+/// The need of a key that the row shows.
+fn need_in(row: &Row) -> Option<NeedRow>
+    ensures { MatchOption result ((set : KeyNeed) → ¬ ShowsKeyNeed row.now set)
+        (λ shown. ShowsKeyNeed row.now (key_need shown.key shown.need)) }
+{
+    let key = number_in(row, 0)?;
+    let need = number_in(row, 1)?;
+    if need >= u64::from(MIN_APPROVALS) && need <= u64::from(MAX_NEED) {
+        Some(NeedRow { key, need })
+    } else {
+        None
+    }
+}
+
+/// Each period by itself. Nothing is kept of them.
+#[derive(Drop)]
+struct PeriodTest {}
+
+impl RowTest for PeriodTest {
+    ghost use Rattle.register_store.specs.Checking.{ShowsTypePeriod};
+    ghost use Rattle.register_store.specs.Taking.{HasShown, IsAnyPeriod, RefusesEach};
+
+    ghost has_taken = { λ first test rows. HasShown ShowsTypePeriod IsAnyPeriod rows };
+
+    ghost refuses = { λ first test rows. RefusesEach ShowsTypePeriod IsAnyPeriod rows };
+
+    fn take(&mut self, row: &Row) -> Result<bool, AllocError> {
+        match period_in(row) {
+            Some(_) => Ok(true),
+            None => Ok(false),
+        }
+    }
+}
+
+/// Puts the table of periods to its test. It changes nothing.
+///
+/// # Errors
+/// As the check of all tables.
+pub(crate) fn check_periods<S: Alter>(connection: &mut Connection<S>) -> Result<(), CheckError>
+    requires { connection.old.in_transaction ≡ false }
+    ensures idle { connection.new.in_transaction ≡ false }
+    ensures tests { (t : Tables) → TestsBy table.Period t IsAny
+        (state S.Store connection.old) (state S.Store connection.new) result }
+    ensures survives { Survives (state S.Store connection.old)
+        (state S.Store connection.new) (λ _. ⊥) }
+{
+    let mut test = PeriodTest {};
+    let read = test_rows(
+        connection,
+        "SELECT kind, originator, recipient FROM period",
+        &mut test,
+    );
+    match read {
+        Ok(()) => Ok(()),
+        Err(error) => Err(CheckError::from(error)),
+    }
+}
+
+/// Whether a register with these counts may have the need.
+fn is_need_of(shown: NeedRow, found: Found) -> bool
+    ensures { IsTrue result ↔ IsNeedOf (counts_of found) (key_need shown.key shown.need) }
+{
+    shown.key > 0 && shown.key <= u64::from(found.keys)
+}
+
+/// Each need by itself, with what meta counts.
+#[derive(Drop)]
+struct NeedTest {
+    found: Found,
+}
+
+impl RowTest for NeedTest {
+    ghost use Rattle.std.specs.Prelude.{◌≡◌};
+    ghost use Rattle.register_store.specs.Checking.{ShowsKeyNeed, counts_of};
+    ghost use Rattle.register_store.specs.Taking.{HasShown, RefusesEach};
+    ghost use Rattle.register_store.specs.Tests.{IsNeedOf};
+
+    ghost has_taken = { λ first test rows. (test.found ≡ first.found)
+        × HasShown ShowsKeyNeed (IsNeedOf (counts_of first.found)) rows };
+
+    ghost refuses = { λ first test rows.
+        RefusesEach ShowsKeyNeed (IsNeedOf (counts_of first.found)) rows };
+
+    fn take(&mut self, row: &Row) -> Result<bool, AllocError> {
+        let Some(shown) = need_in(row) else {
+            return Ok(false);
+        };
+        Ok(is_need_of(shown, self.found))
+    }
+}
+
+/// Puts the table of needs to its test, with what meta counts. It changes nothing.
+///
+/// # Errors
+/// As the check of all tables.
+pub(crate) fn check_needs<S: Alter>(
+    connection: &mut Connection<S>,
+    found: Found,
+) -> Result<(), CheckError>
+    requires { connection.old.in_transaction ≡ false }
+    ensures idle { connection.new.in_transaction ≡ false }
+    ensures tests { (t : Tables) → counts_of found ≡ t.counts → TestsBy table.Quorum t IsAny
+        (state S.Store connection.old) (state S.Store connection.new) result }
+    ensures survives { Survives (state S.Store connection.old)
+        (state S.Store connection.new) (λ _. ⊥) }
+{
+    let mut test = NeedTest { found };
+    let read = test_rows(connection, "SELECT key_no, need FROM quorum", &mut test);
+    match read {
+        Ok(()) => Ok(()),
+        Err(error) => Err(CheckError::from(error)),
+    }
+}
