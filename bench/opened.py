@@ -1,21 +1,18 @@
-"""A register opened by Python: the five tables of docs/SPECIFICATION.md are read and put to the tests of an opening, row by
+"""A register opened by Python: the seven tables of docs/SPECIFICATION.md are read and put to the tests of an opening, row by
 row, as `keyreg` puts them. Where one fails the program ends.
 
 That a cell holds a whole number or a text is left to the tables, which are STRICT. The pages of the file are not audited, as the
 kit's `sqlite` audits them at each opening."""
-import calendar
 import os
 import re
 import sqlite3
 import sys
-import time
 
 sys.path.insert(0, os.path.join(os.path.dirname(os.path.abspath(__file__)), "..", "checks"))
-from registers import STATES, TYPES, UNSET, expect  # noqa: E402
+from registers import STATES, TYPES, UNSET, VERSION, expect  # noqa: E402
 
-# The months of each type's originator use, and of its recipient use behind that.
-MONTHS = {1: (24, 36), 2: (24, 36), 3: (24, 36), 4: (36, 0), 5: (24, 0), 6: (24, 0), 7: (12, 0)}
-MAX_KEYS, MAX_CUSTODIANS, MAX_REQUEST = 1_000_000, 8, 2**53 - 1
+MAX_KEYS, MAX_CUSTODIANS, MAX_REQUEST, MAX_MONTHS = 1_000_000, 8, 2**53 - 1, 1200
+NEEDS = range(2, 6)
 COMPROMISES = ("2", "3")
 
 NAME = re.compile(r"[A-Za-z0-9._@-]{1,64}")
@@ -78,26 +75,11 @@ def is_command(text):
 # ---- a key
 
 
-def after_months(second, months):
-    """The second so many months later, or the last of all where that is past the range."""
-    at = time.gmtime(second)
-    years, month = divmod(at.tm_mon - 1 + months, 12)
-    year, month = at.tm_year + years, month + 1
-    if year > 9999:
-        return UNSET - 1
-    day = min(at.tm_mday, calendar.monthrange(year, month)[1])
-    return calendar.timegm((year, month, day, at.tm_hour, at.tm_min, at.tm_sec))
-
-
-def fit(kind, activation, stop, deactivation):
-    """Whether the dates fit the type, and the last two are set where the first is."""
+def are_in_order(activation, stop, deactivation):
+    """Whether the dates are in their order, and the last two are set where the first is."""
     if activation == UNSET:
-        return deactivation == UNSET or stop == UNSET or stop <= deactivation <= after_months(stop, MONTHS[kind][1])
-    if UNSET in (stop, deactivation):
-        return False
-    originator, recipient = MONTHS[kind]
-    in_order = activation <= stop <= deactivation
-    return in_order and stop <= after_months(activation, originator) and deactivation <= after_months(stop, recipient)
+        return UNSET in (stop, deactivation) or stop <= deactivation
+    return activation <= stop <= deactivation < UNSET
 
 
 def are_past(latest, initial, destroyed, compromised, occurrence):
@@ -120,7 +102,7 @@ def is_sound(latest, row):
     kind, owner, purpose, state, initial, activation, stop, deactivation, destroyed, compromised, occurrence = row
     dates = (initial, activation, stop, deactivation, destroyed, compromised, occurrence)
     return (kind in TYPES and is_name(owner) and is_purpose(purpose) and min(dates) >= 0 and max(dates) <= UNSET
-            and fit(kind, activation, stop, deactivation) and are_past(latest, initial, destroyed, compromised, occurrence)
+            and are_in_order(activation, stop, deactivation) and are_past(latest, initial, destroyed, compromised, occurrence)
             and state == state_at(latest, activation, deactivation, destroyed, compromised))
 
 
@@ -130,7 +112,7 @@ def is_sound(latest, row):
 def counts_of(connection):
     """The latest moment and the number of keys."""
     rows = connection.execute("SELECT id, version, latest, key_count FROM meta ORDER BY id").fetchall()
-    expect(len(rows) == 1 and rows[0][:2] == (1, 1), "meta")
+    expect(len(rows) == 1 and rows[0][:2] == (1, VERSION), "meta")
     _, _, latest, keys = rows[0]
     expect(0 <= latest < UNSET and 0 <= keys <= MAX_KEYS, "meta")
     return latest, keys
@@ -175,6 +157,16 @@ def test_requests(connection, latest, keys):
         expect(is_kept(latest, keys, row), f"request {row[5]} of {row[4]}")
 
 
+def test_periods(connection):
+    for kind, originator, recipient in connection.execute("SELECT kind, originator, recipient FROM period"):
+        expect(kind in TYPES and 0 < originator <= MAX_MONTHS and 0 <= recipient <= MAX_MONTHS, f"period of {kind}")
+
+
+def test_needs(connection, keys):
+    for key, need in connection.execute("SELECT key_no, need FROM quorum"):
+        expect(0 < key <= keys and need in NEEDS, f"need of {key}")
+
+
 def opened(file):
     """The register in the file, put to its tests."""
     connection = sqlite3.connect(file)
@@ -182,4 +174,6 @@ def opened(file):
     custodians = custodians_of(connection, owners_of(connection, latest, keys))
     test_approvals(connection, custodians)
     test_requests(connection, latest, keys)
+    test_periods(connection)
+    test_needs(connection, keys)
     return connection

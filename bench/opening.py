@@ -16,7 +16,7 @@ import time
 HERE = os.path.dirname(os.path.abspath(__file__))
 sys.path.insert(0, os.path.join(HERE, "..", "checks"))
 from measuring import built  # noqa: E402
-from registers import INDEXES, PROGRAM, TABLES, UNSET, expect  # noqa: E402
+from registers import INDEXES, PROGRAM, TABLES, UNSET, VERSION, expect  # noqa: E402
 
 ROUNDS = 3
 BARE_SOURCE = """\
@@ -49,7 +49,7 @@ YEAR = 365 * 86400
 def write(file, keys):
     connection = sqlite3.connect(file)
     connection.executescript("PRAGMA synchronous = OFF; PRAGMA journal_mode = OFF;" + TABLES)
-    connection.execute("INSERT INTO meta VALUES (1, 1, 100, ?)", (keys,))
+    connection.execute("INSERT INTO meta VALUES (1, ?, 100, ?)", (VERSION, keys))
     connection.executemany(
         "INSERT INTO keys VALUES (?, 7, 'office', ?, 2, 100, 0, ?, ?, ?, ?, ?)",
         ((k, f"backup volume {k}", YEAR, YEAR, UNSET, UNSET, UNSET) for k in range(1, keys + 1)),

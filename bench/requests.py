@@ -57,7 +57,7 @@ from typing import NamedTuple
 HERE = os.path.dirname(os.path.abspath(__file__))
 sys.path.insert(0, os.path.join(HERE, "..", "checks"))
 from measuring import built, clock_of, table  # noqa: E402
-from registers import INDEXES, PROGRAM, STATES, TABLES, UNSET, all_rows, expect  # noqa: E402
+from registers import INDEXES, PROGRAM, STATES, TABLES, UNSET, VERSION, all_rows, expect  # noqa: E402
 
 # The statements of an accepted request, between BEGIN and COMMIT but for the four searches.
 STATEMENTS = {
@@ -224,7 +224,7 @@ def write(file, keys):
     """Writes the register that the requests find."""
     connection = sqlite3.connect(file)
     connection.executescript("PRAGMA synchronous = OFF; PRAGMA journal_mode = OFF;" + TABLES + INDEXES)
-    connection.execute("INSERT INTO meta VALUES (1, 1, ?, ?)", (START, keys))
+    connection.execute("INSERT INTO meta VALUES (1, ?, ?, ?)", (VERSION, START, keys))
     made = requests(Span("prepare", False, START, keys, keys, 0, keys))
     connection.executemany(
         f"INSERT INTO keys VALUES ({', '.join('?' * 12)})",
@@ -376,7 +376,7 @@ def serve_lines(place):
 
 
 # The statements that make an empty register.
-EMPTY = TABLES + INDEXES + "INSERT INTO meta VALUES (1, 1, 0, 0);"
+EMPTY = TABLES + INDEXES + f"INSERT INTO meta VALUES (1, {VERSION}, 0, 0);"
 
 
 # ---- the statements in the kit

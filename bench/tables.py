@@ -51,7 +51,7 @@ sys.path.insert(0, os.path.join(HERE, "..", "checks"))
 import registers  # noqa: E402
 from measuring import built, measured, measured_behind, table  # noqa: E402
 from opened import opened  # noqa: E402
-from registers import INDEXES, STATES, TABLES, TYPES, UNSET, all_rows, expect, keyreg  # noqa: E402
+from registers import INDEXES, STATES, TABLES, TYPES, UNSET, VERSION, all_rows, expect, keyreg  # noqa: E402
 
 # What is read of the keys, by the bare program and by Python.
 SELECTS = {
@@ -140,7 +140,7 @@ def request_rows(keys):
 def write_register(file, keys):
     connection = sqlite3.connect(file)
     connection.executescript("PRAGMA synchronous = OFF; PRAGMA journal_mode = OFF;" + TABLES)
-    connection.execute("INSERT INTO meta VALUES (1, 1, ?, ?)", (LATEST, keys))
+    connection.execute("INSERT INTO meta VALUES (1, ?, ?, ?)", (VERSION, LATEST, keys))
     connection.executemany(f"INSERT INTO keys VALUES ({', '.join('?' * 12)})", key_rows(keys))
     connection.executemany("INSERT INTO request VALUES (?, ?, ?, ?, ?, ?)", request_rows(keys))
     connection.executescript(INDEXES)

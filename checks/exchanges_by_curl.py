@@ -28,7 +28,7 @@ import sys
 import threading
 import time
 
-from registers import INDEXES, STATES, TABLES, UNSET, expect, keyreg
+from registers import INDEXES, STATES, TABLES, UNSET, VERSION, expect, keyreg
 from rules import (
     BAD, GREATEST_NUMBER, LAST, LENGTH_REQUIRED, MEMBERS, NO_ROUTE, STORE, TOO_LARGE, UNKNOWN, Register, compact, get_reply, line,
     not_allowed, plus_months, post_reply, refusal_reply, reply, reply_line, request_object,
@@ -212,7 +212,7 @@ class Office:
         if sorted(found) != sorted(wanted):
             self.fail(f"{self.name}: the kept requests\n    are       {sorted(found)}\n    should be {sorted(wanted)}")
         found = connection.execute("SELECT * FROM meta").fetchall()
-        if found != [(1, 1, register.latest, len(register.keys))]:
+        if found != [(1, VERSION, register.latest, len(register.keys))]:
             self.fail(f"{self.name}: meta is {found}, latest {register.latest}, keys {len(register.keys)}")
         found = connection.execute("SELECT number, state, owner FROM keys ORDER BY number").fetchall()
         wanted = [(n, codes[key.state(register.latest)], key.owner) for n, key in enumerate(register.keys, 1)]
@@ -879,7 +879,7 @@ def full():
         file = served.file + ".full"
         connection = sqlite3.connect(file)
         connection.executescript("PRAGMA synchronous = OFF; PRAGMA journal_mode = OFF;" + TABLES)
-        connection.execute("INSERT INTO meta VALUES (1, 1, 100, ?)", (most,))
+        connection.execute("INSERT INTO meta VALUES (1, ?, 100, ?)", (VERSION, most))
         connection.executemany(
             "INSERT INTO keys VALUES (?, 7, 'office', ?, 2, 100, 0, ?, ?, ?, ?, ?)",
             ((k, f"backup volume {k}", year, year, UNSET, UNSET, UNSET) for k in range(1, most + 1)),

@@ -12,7 +12,7 @@ import os
 import sqlite3
 import tempfile
 
-from registers import INDEXES, TABLES, UNSET, expect, keyreg
+from registers import INDEXES, TABLES, UNSET, VERSION, expect, keyreg
 
 MAX_KEYS = 1_000_000
 
@@ -30,7 +30,7 @@ HEADER = "number,type,owner,activation,protect_stop,deactivation,state,initial,d
 def write(file, keys):
     connection = sqlite3.connect(file)
     connection.executescript(TABLES + INDEXES)
-    connection.execute("INSERT INTO meta VALUES (1, 1, ?, ?)", (REGISTERED, keys))
+    connection.execute("INSERT INTO meta VALUES (1, ?, ?, ?)", (VERSION, REGISTERED, keys))
     connection.executemany(
         "INSERT INTO keys VALUES (?, 1, 'bob', 'disks', 2, ?, ?, ?, ?, ?, ?, ?)",
         ((number, REGISTERED, ACTIVATION, PROTECT_STOP, DEACTIVATION, UNSET, UNSET, UNSET) for number in range(1, keys + 1)))

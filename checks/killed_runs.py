@@ -16,7 +16,7 @@ import subprocess
 import sys
 import tempfile
 
-from registers import PROGRAM, expect, keyreg
+from registers import PROGRAM, VERSION, expect, keyreg
 
 # So many requests are given to a run, more than it serves before it is killed.
 AHEAD = 3000
@@ -87,7 +87,7 @@ def main():
             wanted = [(place, request(place)[1], 100 + place) for place in range(1, len(texts) + 1)]
             expect(texts == wanted, "the requests that are kept are no prefix")
             latest = 100 + len(texts) if texts else 0
-            expect(meta == [(1, 1, latest, (len(texts) + 9) // 10)], f"meta {meta}")
+            expect(meta == [(1, VERSION, latest, (len(texts) + 9) // 10)], f"meta {meta}")
             # The program's own opening finds it a register.
             keyreg(["run", "--file", file])
             ahead += len(texts) - answered

@@ -8,7 +8,7 @@ import os
 import sqlite3
 import tempfile
 
-from registers import APPROVED_ANEW, INDEXES, TABLES, all_rows, expect, keyreg
+from registers import APPROVED_ANEW, INDEXES, TABLES, all_rows, expect, keyreg, put_rows
 
 # Behind the rows of *approved anew*.
 MORE = [
@@ -40,16 +40,20 @@ def from_dump(file, other):
     connection.close()
 
 
+# A column of each table for an index of an office's own.
+INDEXED = {"meta": "latest", "keys": "number", "custodian": "name", "approval": "name", "request": "number",
+           "period": "originator", "quorum": "need"}
+
+
 def with_index_between(file, other):
     connection, made = sqlite3.connect(file), sqlite3.connect(other)
     for table in TABLES.strip().split(";\n"):
         made.execute(table.rstrip(";"))
         name = table.split()[2]
-        made.execute(f"CREATE INDEX office_{name} ON {name} ({'latest' if name == 'meta' else 'number' if name in ('keys', 'request') else 'name'})")
+        made.execute(f"CREATE INDEX office_{name} ON {name} ({INDEXED[name]})")
     made.executescript(INDEXES)
     for name, rows in all_rows(connection).items():
-        marks = ", ".join("?" for _ in rows[0])
-        made.executemany(f"INSERT INTO {name} VALUES ({marks})", rows)
+        put_rows(made, name, rows)
     made.commit()
     made.close()
     connection.close()

@@ -15,6 +15,9 @@ STATES = {0: "-", 1: "Pre-Active", 2: "Active", 3: "Deactivated", 4: "Compromise
 # A date that is not set.
 UNSET = 253402300800
 
+# The version of the tables.
+VERSION = 2
+
 TABLES = """
 CREATE TABLE meta (id INTEGER PRIMARY KEY, version INTEGER NOT NULL, latest INTEGER NOT NULL,
     key_count INTEGER NOT NULL) STRICT;
@@ -29,6 +32,8 @@ CREATE TABLE approval (key_no INTEGER NOT NULL, name TEXT NOT NULL, PRIMARY KEY 
 CREATE TABLE request (caller TEXT NOT NULL, number INTEGER NOT NULL, command TEXT NOT NULL,
     key_no INTEGER NOT NULL, state INTEGER NOT NULL, moment INTEGER NOT NULL,
     PRIMARY KEY (caller, number)) STRICT;
+CREATE TABLE period (kind INTEGER PRIMARY KEY, originator INTEGER NOT NULL, recipient INTEGER NOT NULL) STRICT;
+CREATE TABLE quorum (key_no INTEGER PRIMARY KEY REFERENCES keys(number), need INTEGER NOT NULL) STRICT;
 """
 
 # The indexes of keys beside their primary key, which a new register has and an older one has not.
@@ -56,7 +61,7 @@ APPROVED_ANEW = [
 # Its rows, by the formats: type 7 is master, state 1 Pre-Active, 5 Destroyed, 6 Destroyed-Compromised; a compromise
 # without an occurrence gets the Initial Date.
 APPROVED_ANEW_ROWS = {
-    "meta": [(1, 1, 109, 1)],
+    "meta": [(1, VERSION, 109, 1)],
     "keys": [(1, 7, "bob", "spare", 6, 100, UNSET, UNSET, UNSET, 108, 109, 100)],
     "custodian": [(1, "cat"), (1, "dan")],
     "approval": [(1, "cat"), (1, "dan")],
@@ -72,6 +77,8 @@ APPROVED_ANEW_ROWS = {
         ("dan", 2, "approve 1", 1, 1, 107),
         ("zed", 1, "revoke 1 2 -", 1, 6, 109),
     ],
+    "period": [],
+    "quorum": [],
 }
 
 
@@ -91,3 +98,9 @@ def keyreg(words, lines=()):
 def all_rows(connection):
     """The rows of each table, in order."""
     return {name: sorted(connection.execute(f"SELECT * FROM {name}")) for name in APPROVED_ANEW_ROWS}
+
+
+def put_rows(connection, name, rows):
+    """Puts the rows into the table, which may be none."""
+    for row in rows:
+        connection.execute(f"INSERT INTO {name} VALUES ({', '.join('?' * len(row))})", row)

@@ -7,15 +7,14 @@ import os
 import sqlite3
 import tempfile
 
-from registers import APPROVED_ANEW, APPROVED_ANEW_ROWS, TABLES, all_rows, expect, keyreg
+from registers import APPROVED_ANEW, APPROVED_ANEW_ROWS, TABLES, VERSION, all_rows, expect, keyreg, put_rows
 
 
 def write(file):
     connection = sqlite3.connect(file)
     connection.executescript(TABLES)
     for name, rows in APPROVED_ANEW_ROWS.items():
-        marks = ", ".join("?" for _ in rows[0])
-        connection.executemany(f"INSERT INTO {name} VALUES ({marks})", reversed(rows))
+        put_rows(connection, name, reversed(rows))
     connection.commit()
     connection.close()
 
@@ -34,7 +33,7 @@ def main():
         sound = connection.execute("PRAGMA integrity_check").fetchall()
         expect(sound == [("ok",)], f"integrity_check {sound}")
         rows = all_rows(connection)
-        expect(rows["meta"] == [(1, 1, 111, 2)], f"meta {rows['meta']}")
+        expect(rows["meta"] == [(1, VERSION, 111, 2)], f"meta {rows['meta']}")
         expect(len(rows["request"]) == len(accepted) + 2, f"{len(rows['request'])} requests")
         connection.close()
     print(f"a register that SQLite {sqlite3.sqlite_version} wrote in another order opens and goes on")
