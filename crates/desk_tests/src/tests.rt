@@ -62,8 +62,14 @@ fn wrong_edits_are_refused(rt: HostRuntime) -> Result<(), Fail> {
 }
 
 #[test]
-fn a_newer_version_is_told(rt: HostRuntime) -> Result<(), Fail> {
-    assert!(rt; desk_trials::is_newer_version_told(rt.alloc())?);
+fn another_version_is_told(rt: HostRuntime) -> Result<(), Fail> {
+    assert!(rt; desk_trials::is_other_version_told(rt.alloc())?);
+    Ok(())
+}
+
+#[test]
+fn a_need_of_no_key_is_refused(rt: HostRuntime) -> Result<(), Fail> {
+    assert!(rt; desk_trials::is_need_of_no_key_refused(rt.alloc())?);
     Ok(())
 }
 

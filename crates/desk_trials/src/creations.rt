@@ -17,7 +17,7 @@ pub fn is_made_once(alloc: Global) -> Result<bool, Fail> {
 /// For each table of a register: one of its name that is none of ours, its row, what reads that
 /// row, and what counts another table.
 #[rattlefmt::skip]
-static TABLES: [(&str, &str, &str, &str); 5] = [
+static TABLES: [(&str, &str, &str, &str); 7] = [
     (
         "CREATE TABLE meta (note TEXT) STRICT",
         "INSERT INTO meta (note) VALUES ('a')",
@@ -46,6 +46,18 @@ static TABLES: [(&str, &str, &str, &str); 5] = [
         "CREATE TABLE request (note TEXT) STRICT",
         "INSERT INTO request (note) VALUES ('a')",
         "SELECT note FROM request",
+        "SELECT count(*) FROM keys",
+    ),
+    (
+        "CREATE TABLE period (note TEXT) STRICT",
+        "INSERT INTO period (note) VALUES ('a')",
+        "SELECT note FROM period",
+        "SELECT count(*) FROM keys",
+    ),
+    (
+        "CREATE TABLE quorum (note TEXT) STRICT",
+        "INSERT INTO quorum (note) VALUES ('a')",
+        "SELECT note FROM quorum",
         "SELECT count(*) FROM keys",
     ),
 ];

@@ -6,7 +6,7 @@ use std::alloc::Global;
 use std::test::Fail;
 
 /// An empty register with an index of an office's own behind each table, so that each table but the first has another tree.
-static WITH_INDEXES_BETWEEN: [&str; 11] = [
+static WITH_INDEXES_BETWEEN: [&str; 15] = [
     "CREATE TABLE meta (id INTEGER PRIMARY KEY, version INTEGER NOT NULL, latest INTEGER NOT NULL,
         key_count INTEGER NOT NULL) STRICT",
     "CREATE INDEX office_meta ON meta (latest)",
@@ -25,7 +25,13 @@ static WITH_INDEXES_BETWEEN: [&str; 11] = [
         key_no INTEGER NOT NULL, state INTEGER NOT NULL, moment INTEGER NOT NULL,
         PRIMARY KEY (caller, number)) STRICT",
     "CREATE INDEX office_request ON request (moment)",
-    "INSERT INTO meta (id, version, latest, key_count) VALUES (1, 1, 0, 0)",
+    "CREATE TABLE period (kind INTEGER PRIMARY KEY, originator INTEGER NOT NULL,
+        recipient INTEGER NOT NULL) STRICT",
+    "CREATE INDEX office_period ON period (originator)",
+    "CREATE TABLE quorum (key_no INTEGER PRIMARY KEY REFERENCES keys(number),
+        need INTEGER NOT NULL) STRICT",
+    "CREATE INDEX office_quorum ON quorum (need)",
+    "INSERT INTO meta (id, version, latest, key_count) VALUES (1, 2, 0, 0)",
 ];
 
 /// The desk over that register, or none where it is refused.

@@ -8,7 +8,7 @@ use std::test::Fail;
 use worked_rows::defaults;
 
 /// Wrong edits of the register of *defaults*: each breaks one of the tests of opening.
-static WRONG_EDITS: [&str; 14] = [
+static WRONG_EDITS: [&str; 21] = [
     "UPDATE meta SET key_count = 2",
     "UPDATE meta SET latest = 253402300800",
     "UPDATE meta SET version = 0",
@@ -23,6 +23,13 @@ static WRONG_EDITS: [&str; 14] = [
     "UPDATE request SET state = 7",
     "UPDATE request SET key_no = 2",
     "UPDATE request SET moment = 101",
+    "INSERT INTO period (kind, originator, recipient) VALUES (0, 24, 36)",
+    "INSERT INTO period (kind, originator, recipient) VALUES (1, 0, 36)",
+    "INSERT INTO period (kind, originator, recipient) VALUES (7, 1201, 0)",
+    "INSERT INTO period (kind, originator, recipient) VALUES (1, 24, 1201)",
+    "INSERT INTO quorum (key_no, need) VALUES (1, 1)",
+    "INSERT INTO quorum (key_no, need) VALUES (1, 6)",
+    "DROP TABLE period",
 ];
 
 /// Statements that make the register of *defaults* one of no history.
@@ -57,10 +64,31 @@ pub fn edit_not_refused(alloc: Global) -> Result<Option<&'static str>, Fail> {
     Ok(first_wrong(&WRONG_EDITS, is_refused)?.copied())
 }
 
-/// Whether a newer version is told, whatever else stands in its row.
-pub fn is_newer_version_told(alloc: Global) -> Result<bool, Fail> {
-    let edit = "UPDATE meta SET version = 7, latest = 253402300800";
-    Ok(refusal_after(alloc, edit)? == Some(OpenRefusal::NewerVersion { found: 7 }))
+/// Whether a newer version is told, and an older one, whatever else stands in its row.
+pub fn is_other_version_told(alloc: Global) -> Result<bool, Fail> {
+    let newer = "UPDATE meta SET version = 7, latest = 253402300800";
+    let older = "UPDATE meta SET version = 1, latest = 253402300800";
+    Ok(
+        refusal_after(alloc, newer)? == Some(OpenRefusal::NewerVersion { found: 7 })
+            && refusal_after(alloc, older)? == Some(OpenRefusal::OlderVersion { found: 1 }),
+    )
+}
+
+/// Whether a need of a key that is not there is refused, where the file's own schema lets it stand.
+pub fn is_need_of_no_key_refused(alloc: Global) -> Result<bool, Fail> {
+    let mut connection = connection_after(alloc, "DROP TABLE quorum")?;
+    connection.execute(
+        "CREATE TABLE quorum (key_no INTEGER, need INTEGER) STRICT",
+        &[],
+    )?;
+    connection.execute("INSERT INTO quorum (key_no, need) VALUES (2, 3)", &[])?;
+    if !connection.is_autocommit() {
+        return Ok(false);
+    }
+    match Desk::open(alloc, connection) {
+        Ok(_) => Ok(false),
+        Err(unopened) => Ok(unopened.refusal == OpenRefusal::NotARegister),
+    }
 }
 
 /// Whether an empty database is no register.

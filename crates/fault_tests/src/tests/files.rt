@@ -277,12 +277,14 @@ impl Lab {
     }
 }
 
-const SELECTED: [&str; 5] = [
+const SELECTED: [&str; 7] = [
     "SELECT * FROM meta",
     "SELECT * FROM keys ORDER BY number",
     "SELECT * FROM custodian ORDER BY key_no, name",
     "SELECT * FROM approval ORDER BY key_no, name",
     "SELECT * FROM request ORDER BY caller, number",
+    "SELECT * FROM period ORDER BY kind",
+    "SELECT * FROM quorum ORDER BY key_no",
 ];
 
 /// The rows of a query as text; none where it is refused.

@@ -121,12 +121,14 @@ fn wrong_files_are_left_as_they_are(rt: HostRuntime) -> Result<(), Fail> {
     assert!(rt; is_defaults(&rt, file)?);
     let register = fs::read(&rt, file)?;
     assert_eq!(rt; edit_not_left(&rt, file, &register)?, None);
-    let (drop, newer) = ("DROP TABLE approval", "UPDATE meta SET version = 7");
+    let (drop, newer) = ("DROP TABLE approval", "UPDATE meta SET version = 3");
+    let older = "UPDATE meta SET version = 1";
     assert!(rt; is_left_behind(&rt, file, &register, drop, "keyreg: NotARegister\n")?);
     assert!(rt; is_left_behind(&rt, file, &register, newer, "keyreg: NewerVersion\n")?);
+    assert!(rt; is_left_behind(&rt, file, &register, older, "keyreg: OlderVersion\n")?);
     // Two rows are looked at before the version of the first.
     put_edited(&rt, file, &register, newer)?;
-    edit(&rt, file, "INSERT INTO meta VALUES (2, 1, 0, 0)")?;
+    edit(&rt, file, "INSERT INTO meta VALUES (2, 2, 0, 0)")?;
     assert!(rt; is_left(&rt, file, "keyreg: NotARegister\n")?);
     remove(&rt, file)
 }
