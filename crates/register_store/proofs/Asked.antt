@@ -19,7 +19,8 @@ use Rattle.register_store.specs.declared.error.CheckError.{CheckError}
 use Rattle.register_store.specs.declared.error.CheckError.TheVariants.{NotARegister, NewerVersion, OlderVersion, Memory}
 use Rattle.register_store.specs.declared.error.CheckError.TheVariants.{Database as Refused}
 use Rattle.register_store.specs.declared.table.TableName.{TableName}
-use Rattle.register_store.specs.declared.table.TableName.TheVariants.{Meta, Keys, Custodian, Approval, Request, Period, Quorum}
+use Rattle.register_store.specs.declared.table.TableName.TheVariants.{Meta, Keys, Custodian, Approval, Request, Period}
+use Rattle.register_store.specs.declared.table.TableName.TheVariants.{Quorum}
 use Rattle.register_store.specs.Checking.{BlamesNone, FailsTest, HasOther, IsReasonAt, ShowsRows, TestsBy, check_text}
 use Rattle.register_store.specs.Schema.{Holds, schema_with}
 use Rattle.register_store.proofs.Meanings.{Asks, IsPlaced, Meant, asks, classes, placed}

@@ -18,8 +18,8 @@ use Rattle.register_store.specs.declared.meta_test.MetaRow.{MetaRow}
 use Rattle.register_store.specs.declared.meta_test.MetaRow.TheVariants.{Other, Counts as CountsKeys}
 use Rattle.register_store.specs.declared.table.TableName.TheVariants.{Meta}
 use Rattle.register_core.specs.Verdict.{max_keys}
-use Rattle.register_store.specs.Checking.{HasOther, IsOdd, IsReasonAt, ShowsCounts, ShowsOther, ShowsRows, TestsBy, check_error}
-use Rattle.register_store.specs.Checking.{check_text, counts_of, version_error}
+use Rattle.register_store.specs.Checking.{HasOther, IsOdd, IsReasonAt, ShowsCounts, ShowsOther, ShowsRows, TestsBy}
+use Rattle.register_store.specs.Checking.{check_error, check_text, counts_of, version_error}
 use Rattle.register_store.specs.Schema.{Holds, rows_of}
 use Rattle.register_store.specs.Tables.{Counts, Tables, counts_row, version, with_content}
 use Rattle.register_store.specs.Tests.{MeetsTest}

@@ -1,6 +1,6 @@
 -- The tables of a register, one by one: what each holds, how it is made, and how its content stands in its rows.
-use Rattle.std.specs.Prelude.{◌≡◌, ◌≤◌, ℕ, ◌+◌, pos, Bool, cond, false, not, List, [], ◌∷◌, ◌++◌, map, drop, filter, take}
-use Rattle.std.specs.Prelude.{Option, None, Some, is_some, IsTrue, IsPermutation, codes}
+use Rattle.std.specs.Prelude.{◌≡◌, ◌≤◌, ℕ, ◌+◌, pos, Bool, cond, false, not, List, [], ◌∷◌, ◌++◌, map, drop, filter}
+use Rattle.std.specs.Prelude.{take, Option, None, Some, is_some, IsTrue, IsPermutation, codes}
 use Rattle.std.specs.List.{AllByRecursion, enumerate_from}
 use Rattle.sqlite.specs.declared.types.Value.TheVariants.{Null, Int, Text as Words}
 use Rattle.sqlite.specs.Order.{Row as Cells}
@@ -28,7 +28,8 @@ use Rattle.register_core.specs.Request.{IsDate, command_text}
 use Rattle.register_core.specs.Settings.{KeyNeed, TypePeriod, max_need}
 use Rattle.register_core.specs.Version.{current, version_number}
 use Rattle.register_store.specs.declared.table.TableName.{TableName}
-use Rattle.register_store.specs.declared.table.TableName.TheVariants.{Meta, Keys, Custodian, Approval, Request, Period, Quorum}
+use Rattle.register_store.specs.declared.table.TableName.TheVariants.{Meta, Keys, Custodian, Approval, Request, Period}
+use Rattle.register_store.specs.declared.table.TableName.TheVariants.{Quorum}
 use Rattle.register_store.specs.TableForms.{number_column, text_column, key_column, keyed, indexed, paired}
 
 -- ---- what they hold
