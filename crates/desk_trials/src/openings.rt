@@ -8,7 +8,7 @@ use std::test::Fail;
 use worked_rows::defaults;
 
 /// Wrong edits of the register of *defaults*: each breaks one of the tests of opening.
-static WRONG_EDITS: [&str; 21] = [
+static WRONG_EDITS: [&str; 16] = [
     "UPDATE meta SET key_count = 2",
     "UPDATE meta SET latest = 253402300800",
     "UPDATE meta SET version = 0",
@@ -23,12 +23,16 @@ static WRONG_EDITS: [&str; 21] = [
     "UPDATE request SET state = 7",
     "UPDATE request SET key_no = 2",
     "UPDATE request SET moment = 101",
-    "INSERT INTO period (kind, originator, recipient) VALUES (0, 24, 36)",
     "INSERT INTO period (kind, originator, recipient) VALUES (1, 0, 36)",
+    "INSERT INTO quorum (key_no, need) VALUES (1, 6)",
+];
+
+/// Further ones, of the tables of what is set.
+static WRONG_SETTINGS: [&str; 5] = [
+    "INSERT INTO period (kind, originator, recipient) VALUES (0, 24, 36)",
     "INSERT INTO period (kind, originator, recipient) VALUES (7, 1201, 0)",
     "INSERT INTO period (kind, originator, recipient) VALUES (1, 24, 1201)",
     "INSERT INTO quorum (key_no, need) VALUES (1, 1)",
-    "INSERT INTO quorum (key_no, need) VALUES (1, 6)",
     "DROP TABLE period",
 ];
 
@@ -56,12 +60,23 @@ fn refusal_after(alloc: Global, edit: &str) -> Result<Option<OpenRefusal>, Fail>
     }
 }
 
-/// A wrong edit behind which a register is not refused, if there is one.
-pub fn edit_not_refused(alloc: Global) -> Result<Option<&'static str>, Fail> {
+/// The first of these edits behind which the register is not refused, if there is one.
+fn first_not_refused(
+    alloc: Global,
+    edits: &'static [&'static str],
+) -> Result<Option<&'static str>, Fail> {
     let is_refused = |edit: &&str| {
         Ok(refusal_after(alloc, edit)? == Some(OpenRefusal::NotARegister))
     };
-    Ok(first_wrong(&WRONG_EDITS, is_refused)?.copied())
+    Ok(first_wrong(edits, is_refused)?.copied())
+}
+
+/// A wrong edit behind which a register is not refused, if there is one.
+pub fn edit_not_refused(alloc: Global) -> Result<Option<&'static str>, Fail> {
+    match first_not_refused(alloc, &WRONG_EDITS)? {
+        Some(edit) => Ok(Some(edit)),
+        None => first_not_refused(alloc, &WRONG_SETTINGS),
+    }
 }
 
 /// Whether a newer version is told, and an older one, whatever else stands in its row.

@@ -121,9 +121,18 @@ fn wrong_files_are_left_as_they_are(rt: HostRuntime) -> Result<(), Fail> {
     assert!(rt; is_defaults(&rt, file)?);
     let register = fs::read(&rt, file)?;
     assert_eq!(rt; edit_not_left(&rt, file, &register)?, None);
-    let (drop, newer) = ("DROP TABLE approval", "UPDATE meta SET version = 3");
-    let older = "UPDATE meta SET version = 1";
+    let drop = "DROP TABLE approval";
     assert!(rt; is_left_behind(&rt, file, &register, drop, "keyreg: NotARegister\n")?);
+    remove(&rt, file)
+}
+
+#[test]
+fn files_of_other_versions_are_left_as_they_are(rt: HostRuntime) -> Result<(), Fail> {
+    let file = "versions.keyreg";
+    assert!(rt; is_defaults(&rt, file)?);
+    let register = fs::read(&rt, file)?;
+    let newer = "UPDATE meta SET version = 3";
+    let older = "UPDATE meta SET version = 1";
     assert!(rt; is_left_behind(&rt, file, &register, newer, "keyreg: NewerVersion\n")?);
     assert!(rt; is_left_behind(&rt, file, &register, older, "keyreg: OlderVersion\n")?);
     // Two rows are looked at before the version of the first.
