@@ -92,10 +92,11 @@ class Bare(http.server.BaseHTTPRequestHandler):
         initial, activation, stop, end, destroyed, compromised, occurrence = (None if date == UNSET else date for date in dates)
         custodians = [name for name, in database.execute("SELECT name FROM custodian WHERE key_no = ? ORDER BY name", (number,))]
         approvals = [name for name, in database.execute("SELECT name FROM approval WHERE key_no = ? ORDER BY name", (number,))]
+        need = database.execute("SELECT need FROM quorum WHERE key_no = ?", (number,)).fetchone()
         return self.answer(200, {
             "activation": activation, "approvals": approvals, "compromised": compromised, "custodians": custodians, "deactivation": end,
-            "destroyed": destroyed, "initial": initial, "number": number, "occurrence": occurrence, "owner": owner,
-            "protect_stop": stop, "purpose": purpose, "state": STATES[state], "type": TYPES[kind],
+            "destroyed": destroyed, "initial": initial, "need": need[0] if need else 2, "number": number, "occurrence": occurrence,
+            "owner": owner, "protect_stop": stop, "purpose": purpose, "state": STATES[state], "type": TYPES[kind],
         })
 
     def do_POST(self):
@@ -174,7 +175,7 @@ def date_of(number):
 def expected_key(number, moment):
     return {
         "activation": date_of(number), "approvals": [], "compromised": None, "custodians": [], "deactivation": END, "destroyed": None,
-        "initial": moment, "number": number, "occurrence": None, "owner": "office", "protect_stop": STOP,
+        "initial": moment, "need": 2, "number": number, "occurrence": None, "owner": "office", "protect_stop": STOP,
         "purpose": f"backup volume {number}", "state": "Pre-Active", "type": "data-encryption",
     }
 

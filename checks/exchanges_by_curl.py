@@ -63,6 +63,15 @@ WORKED_ROWS = [
      ((107, "dan", 2, ("approve", 1)), "ok 1 Pre-Active 107"),
      ((108, "bob", 5, ("destroy", 1)), "ok 1 Destroyed 108"),
      ((109, "zed", 1, ("revoke", 1, 2, None)), "ok 1 Destroyed-Compromised 109")],
+    [((100, "ann", 1, ("register", "master", "bob", None, None, None, "spare")), "ok 1 Pre-Active 100"),
+     ((101, "bob", 1, ("add-custodian", 1, "cat")), "ok 1 Pre-Active 101"),
+     ((102, "bob", 2, ("add-custodian", 1, "dan")), "ok 1 Pre-Active 102"),
+     ((103, "bob", 3, ("set-quorum", 1, 3)), "ok 1 Pre-Active 103"),
+     ((104, "cat", 1, ("approve", 1)), "ok 1 Pre-Active 104"),
+     ((105, "dan", 1, ("approve", 1)), "ok 1 Pre-Active 105"),
+     ((106, "bob", 4, ("destroy", 1)), "refused 18 ApprovalsMissing have=2 need=3"),
+     ((106, "bob", 4, ("set-quorum", 1, 2)), "ok 1 Pre-Active 106"),
+     ((107, "bob", 5, ("destroy", 1)), "ok 1 Destroyed 107")],
     [((LAST, "ann", 1, ("register", "data-encryption", "bob", LAST, None, None, "x")), "refused 11 DateRange"),
      ((LAST, "ann", 1, ("register", "data-encryption", "bob", LAST, LAST, LAST, "x")), f"ok 1 Deactivated {LAST}")],
     [((100, "ann", 1, ("register", "master", "bob", 1000, 2000, 2000, "x")), "ok 1 Pre-Active 100"),
@@ -93,8 +102,8 @@ def look_at_rules():
     register.apply(100, "ann", 1, ("register", "data-encryption", "bob", 0, None, None, "payroll disks"))
     shown = (
         b'{"activation":0,"approvals":[],"compromised":null,"custodians":[],"deactivation":157766400,"destroyed":null,'
-        b'"initial":100,"number":1,"occurrence":null,"owner":"bob","protect_stop":63072000,"purpose":"payroll disks",'
-        b'"state":"Active","type":"data-encryption"}'
+        b'"initial":100,"need":2,"number":1,"occurrence":null,"owner":"bob","protect_stop":63072000,'
+        b'"purpose":"payroll disks","state":"Active","type":"data-encryption"}'
     )
     expect(compact(register.shown(1)) == shown, "the rules' record")
     expect(compact(register.usage(1)) == b'{"process":"yes","protect":true}', "the rules' usage")
@@ -281,6 +290,7 @@ def commands():
             ("zed", 1, ("add-custodian", 7, "zed"), 5),
             ("zed", 1, ("remove-custodian", 7, "zed"), 5),
             ("zed", 1, ("destroy", 7), 5),
+            ("zed", 1, ("set-quorum", 7, 3), 5),
             ("zed", 1, ("approve", 3), 6),
             ("bob", 2, ("withdraw", 3), 6),
             # The key that is trimmed as it is activated.
@@ -319,12 +329,16 @@ def commands():
             ("bob", 9, ("add-custodian", 3, "dan"), None),
             ("bob", 10, ("destroy", 3), 18),
             ("dan", 3, ("approve", 3), None),
+            ("bob", 40, ("set-quorum", 3, 3), None),
+            ("bob", 41, ("destroy", 3), 18),
+            ("bob", 41, ("set-quorum", 3, 2), None),
             ("bob", 10, ("assign", 3, "eve"), None),
             ("bob", 11, ("destroy", 3), 5),
             ("eve", 1, ("destroy", 3), None),
             ("eve", 1, ("destroy", 3), None),
             ("eve", 2, ("destroy", 3), 7),
             ("eve", 2, ("remove-custodian", 3, "dan"), 7),
+            ("eve", 3, ("set-quorum", 3, 5), None),
             ("dan", 4, ("approve", 3), 7),
             ("dan", 4, ("withdraw", 3), 7),
             ("eve", 2, ("add-custodian", 3, "ulf"), None),
@@ -627,6 +641,7 @@ def lengths_and_callers():
 SAMPLES = [
     ("register", "master", "bob", 5, 6, 7, "spare"), ("activate", 1), ("set", 1, 5, 6, 7), ("revoke", 1, 2, 5), ("assign", 1, "bob"),
     ("add-custodian", 1, "cat"), ("remove-custodian", 1, "cat"), ("approve", 1), ("withdraw", 1), ("destroy", 1), ("advance",),
+    ("set-quorum", 1, 3),
 ]
 # What no member may be; a number is written into the text as it stands here.
 NO_MOMENT = [
@@ -640,9 +655,11 @@ NO_PURPOSE = [
     '"a\\tb"', '"\\u007f"', '"\\u001f"', '"\\ud800"', '"\\udc00\\ud800"', "[]", "{}", "true",
 ]
 NO_TYPE = ["null", "1", '""', '"Master"', '"master "', '"data encryption"', '"public"', "[]", "{}", "true"]
+NO_NEED = ["0", "1", "6", "2.0", "2e0", "-2", "-0", "null", '"2"', "true", "[2]", "{}", "258", "4294967298", "18446744073709551618"]
 NO_REASON = ["0", "8", "2.0", "2e0", "-2", "null", '"2"', "true", "258", "4294967298"]
 WRONG = {
     "key": NO_KEY, "owner": NO_NAME, "name": NO_NAME, "purpose": NO_PURPOSE, "type": NO_TYPE, "reason": NO_REASON,
+    "need": NO_NEED,
     "activation": NO_MOMENT, "protect_stop": NO_MOMENT, "deactivation": NO_MOMENT, "occurrence": [*NO_MOMENT, '"keep"'],
     "kind": ["null", "1", '""', '"Advance"', '"advance "', '"setdates"', '"add_custodian"', '"list"', "[]", "{}", '["advance"]'],
 }
@@ -906,7 +923,7 @@ def full():
             for key, answer in ((most, True), (most + 1, False)):
                 shown = {
                     "activation": 0, "approvals": [], "compromised": None, "custodians": [], "deactivation": year, "destroyed": None,
-                    "initial": 100, "number": key, "occurrence": None, "owner": "office", "protect_stop": year,
+                    "initial": 100, "need": 2, "number": key, "occurrence": None, "owner": "office", "protect_stop": year,
                     "purpose": f"backup volume {key}", "state": "Active", "type": "master",
                 }
                 office.agree(f"key {key}", lambda: office.curl(f"/keys/{key}"), reply(200, shown) if answer else UNKNOWN)

@@ -10,7 +10,9 @@ from datetime import datetime, timedelta, timezone
 
 LAST = 253402300799
 GREATEST_NUMBER = 9007199254740991
-MOST_KEYS, MOST_CUSTODIANS, NEEDED = 1_000_000, 8, 2
+MOST_KEYS, MOST_CUSTODIANS = 1_000_000, 8
+# The approvals that the destruction of a key needs where its owner has set nothing.
+LEAST_NEED = 2
 PERIODS = {
     "data-encryption": (24, 36), "authentication": (24, 36), "key-wrapping": (24, 36), "private-signature": (36, 0),
     "private-authentication": (24, 0), "private-transport": (24, 0), "master": (12, 0),
@@ -36,6 +38,7 @@ WHO = {
     "approve": ("custodian", (PRE_ACTIVE, DEACTIVATED, COMPROMISED)),
     "withdraw": ("custodian", NOT_DESTROYED),
     "destroy": ("owner", (PRE_ACTIVE, DEACTIVATED, COMPROMISED)),
+    "set-quorum": ("owner", ALL),
 }
 
 
@@ -92,7 +95,7 @@ class Key:
         self.kind, self.owner, self.purpose, self.initial = kind, owner, purpose, initial
         self.activation, self.stop, self.end = dates
         self.destroyed = self.compromised = self.occurrence = None
-        self.custodians, self.approvals = set(), set()
+        self.custodians, self.approvals, self.need = set(), set(), LEAST_NEED
 
     def state(self, moment):
         if self.destroyed is not None:
@@ -191,16 +194,19 @@ class Register:
         key.approvals.discard(caller)
 
     def destroy(self, key, moment, caller):
-        refuse_where(len(key.approvals) < NEEDED, 18, have=len(key.approvals), need=NEEDED)
+        refuse_where(len(key.approvals) < key.need, 18, have=len(key.approvals), need=key.need)
         key.destroyed = moment
+
+    def set_quorum(self, key, moment, caller, need):
+        key.need = need
 
     def shown(self, number):
         key = self.keys[number - 1]
         return {
             "activation": key.activation, "approvals": sorted(key.approvals), "compromised": key.compromised,
             "custodians": sorted(key.custodians), "deactivation": key.end, "destroyed": key.destroyed, "initial": key.initial,
-            "number": number, "occurrence": key.occurrence, "owner": key.owner, "protect_stop": key.stop, "purpose": key.purpose,
-            "state": key.state(self.latest), "type": key.kind,
+            "need": key.need, "number": number, "occurrence": key.occurrence, "owner": key.owner, "protect_stop": key.stop,
+            "purpose": key.purpose, "state": key.state(self.latest), "type": key.kind,
         }
 
     def usage(self, number):
@@ -232,6 +238,7 @@ MEMBERS = {
     "set": ("key", "activation", "protect_stop", "deactivation"),
     "revoke": ("key", "reason", "occurrence"), "assign": ("key", "owner"),
     "add-custodian": ("key", "name"), "remove-custodian": ("key", "name"), "advance": (),
+    "set-quorum": ("key", "need"),
 }
 
 

@@ -69,7 +69,7 @@ compare "GET /keys/1" "$first" '404 {"name":"UnknownKey","refused":4}'
 # which nothing is said yet.
 post alice.meyer 1 '{"kind":"register","type":"data-encryption","owner":"storage-team","activation":0,"protect_stop":null,"deactivation":null,"purpose":"old tapes, site A"}' \
     '200 {"key":1,"moment":T,"state":"Deactivated"}'
-get /keys/1 '200 {"activation":0,"approvals":[],"compromised":null,"custodians":[],"deactivation":157766400,"destroyed":null,"initial":T,"number":1,"occurrence":null,"owner":"storage-team","protect_stop":63072000,"purpose":"old tapes, site A","state":"Deactivated","type":"data-encryption"}'
+get /keys/1 '200 {"activation":0,"approvals":[],"compromised":null,"custodians":[],"deactivation":157766400,"destroyed":null,"initial":T,"need":2,"number":1,"occurrence":null,"owner":"storage-team","protect_stop":63072000,"purpose":"old tapes, site A","state":"Deactivated","type":"data-encryption"}'
 get /keys/1/usage '200 {"process":"special","protect":false}'
 post alice.meyer 2 '{"kind":"register","type":"master","owner":"key-office","activation":null,"protect_stop":null,"deactivation":null,"purpose":"root of the \"blue\" keys"}' \
     '200 {"key":2,"moment":T,"state":"Pre-Active"}'
@@ -93,7 +93,7 @@ post cat 1 '{"kind":"approve","key":1}' '200 {"key":1,"moment":T,"state":"Deacti
 post storage-team 3 '{"kind":"destroy","key":1}' '409 {"have":1,"name":"ApprovalsMissing","need":2,"refused":18}'
 post dan 1 '{"kind":"approve","key":1}' '200 {"key":1,"moment":T,"state":"Deactivated"}'
 post storage-team 3 '{"kind":"destroy","key":1}' '200 {"key":1,"moment":T,"state":"Destroyed"}'
-get /keys/1 '200 {"activation":0,"approvals":["cat","dan"],"compromised":null,"custodians":["cat","dan"],"deactivation":157766400,"destroyed":T,"initial":T,"number":1,"occurrence":null,"owner":"storage-team","protect_stop":63072000,"purpose":"old tapes, site A","state":"Destroyed","type":"data-encryption"}'
+get /keys/1 '200 {"activation":0,"approvals":["cat","dan"],"compromised":null,"custodians":["cat","dan"],"deactivation":157766400,"destroyed":T,"initial":T,"need":2,"number":1,"occurrence":null,"owner":"storage-team","protect_stop":63072000,"purpose":"old tapes, site A","state":"Destroyed","type":"data-encryption"}'
 
 # Evening: a clerk's slips, and the time moves on.
 post clock.job 01 '{"kind":"advance"}' '400 {"name":"BadLine","refused":1}'

@@ -5,13 +5,14 @@ mod histories;
 mod keys;
 mod table;
 
-use keys::answer_by;
+use keys::{answer_by, view_in};
 use lifecycle_core::{Row, State, state_of};
 use moment_core::Moment;
 use period_core::{KeyType, period_of};
 use register_core::{
-    Command, CommandKind, Giver, Held, MIN_APPROVALS, Name, Names, Purpose, Refusal, Reply,
+    Command, CommandKind, Giver, Held, MIN_APPROVALS, Name, Names, Purpose, Quorum, Refusal, Reply,
     Request, Version, View, command_text, given_dates, read_command, read_request, reply_line,
+    type_needed,
 };
 use std::alloc::{AllocError, Global};
 use std::fmt;
@@ -147,11 +148,11 @@ fn lines_of_answers(rt: HostRuntime) {
 }
 
 /// A command: its kind, the word that it begins with, its text; who may give it, in how many states of its key, and
-/// whether a refusal of it looks at custody.
+/// whether a refusal of it looks at custody. A destruction alone needs approvals.
 type CommandRow = (CommandKind, &'static str, &'static str, Giver, usize, bool);
 
 #[rattlefmt::skip]
-const COMMANDS: [CommandRow; 12] = [
+const COMMANDS: [CommandRow; 13] = [
     (CommandKind::Register, "register", "register data-encryption bob 0 - - payroll disks", Giver::Anybody, 6, false),
     (CommandKind::Activate, "activate", "activate 1", Giver::Owner, 1, false),
     (CommandKind::SetDates, "set", "set 1 = - 3000", Giver::Owner, 2, false),
@@ -163,6 +164,7 @@ const COMMANDS: [CommandRow; 12] = [
     (CommandKind::Approve, "approve", "approve 1", Giver::Custodian, 3, true),
     (CommandKind::Withdraw, "withdraw", "withdraw 1", Giver::Custodian, 4, true),
     (CommandKind::Destroy, "destroy", "destroy 1", Giver::Owner, 3, true),
+    (CommandKind::SetQuorum, "set-quorum", "set-quorum 1 3", Giver::Owner, 6, false),
     (CommandKind::Advance, "advance", "advance", Giver::Anybody, 6, false),
 ];
 
@@ -182,6 +184,7 @@ fn is_command(row: &CommandRow) -> bool {
                 && rule.giver == giver
                 && rule.states.len() == states
                 && command.looks_at_custody() == looks_at_custody
+                && command.needs_approvals() == (kind == CommandKind::Destroy)
         }
         None => false,
     }
@@ -201,6 +204,58 @@ fn texts_and_rules_of_commands(rt: HostRuntime) {
     assert!(rt; read_command(b"approve 01").is_none());
     assert!(rt; read_command(b"destroy 1 ").is_none());
     assert!(rt; read_command(b"add-custodian 1").is_none());
+    assert!(rt; read_command(b"set-quorum 1").is_none());
+    assert!(rt; read_command(b"set-quorum 1 1").is_none());
+    assert!(rt; read_command(b"set-quorum 1 6").is_none());
+    assert!(rt; read_command(b"set-quorum 1 03").is_none());
+    assert!(rt; read_command(b"set-quorum 1 3 ").is_none());
+}
+
+/// Whether so many approvals are what an owner may ask for.
+fn is_quorum(approvals: u8) -> bool {
+    match Quorum::new(approvals) {
+        Some(need) => need.get() == approvals,
+        None => false,
+    }
+}
+
+#[test]
+fn needs_that_owners_may_ask_for(rt: HostRuntime) {
+    assert!(rt; !is_quorum(1));
+    assert!(rt; is_quorum(2));
+    assert!(rt; is_quorum(5));
+    assert!(rt; !is_quorum(6));
+}
+
+/// A command, the type whose period it needs where its key is a master key, and the one where there is no such key.
+type NeededRow = (&'static str, Option<KeyType>, Option<KeyType>);
+
+#[rattlefmt::skip]
+const NEEDED: [NeededRow; 6] = [
+    ("register authentication bob - - - x", Some(KeyType::Authentication), Some(KeyType::Authentication)),
+    ("activate 1", Some(KeyType::Master), None),
+    ("set 1 = = =", Some(KeyType::Master), None),
+    ("revoke 1 5 -", None, None),
+    ("set-quorum 1 3", None, None),
+    ("advance", None, None),
+];
+
+/// Whether the command needs the period of this type, where the key is this.
+fn is_needed(key: &Option<Held>, text: &str, kind: Option<KeyType>) -> bool {
+    match read_command(text.as_bytes()) {
+        Some(command) => type_needed(key, &command) == kind,
+        None => false,
+    }
+}
+
+#[test]
+fn types_whose_periods_are_needed(rt: HostRuntime) -> Result<(), Fail> {
+    let key = view_in(rt.alloc(), State::PreActive)?.key;
+    for (text, with_key, without) in &NEEDED {
+        assert!(rt; is_needed(&key, text, *with_key), "{text}");
+        assert!(rt; is_needed(&None, text, *without), "{text}");
+    }
+    Ok(())
 }
 
 #[test]

@@ -11,7 +11,7 @@ pub type Sent = (&'static str, &'static str, &'static str, &'static str);
 
 /// A day on which each command is accepted; the key is destroyed before it ends.
 #[rattlefmt::skip]
-pub static DAY: [Sent; 16] = [
+pub static DAY: [Sent; 17] = [
     ("100", "ann 1", "register master bob 1000 2000 2000 root", "ok 1 Pre-Active 100"),
     ("101", "bob 1", "add-custodian 1 cat", "ok 1 Pre-Active 101"),
     ("102", "bob 2", "add-custodian 1 dan", "ok 1 Pre-Active 102"),
@@ -21,13 +21,14 @@ pub static DAY: [Sent; 16] = [
     ("106", "dan 1", "approve 1", "ok 1 Pre-Active 106"),
     ("107", "dan 2", "withdraw 1", "ok 1 Pre-Active 107"),
     ("108", "dan 3", "approve 1", "ok 1 Pre-Active 108"),
-    ("109", "bob 5", "assign 1 fay", "ok 1 Pre-Active 109"),
-    ("110", "fay 1", "set 1 1200 = =", "ok 1 Pre-Active 110"),
-    ("111", "fay 2", "activate 1", "ok 1 Active 111"),
-    ("112", "fay 3", "revoke 1 5 -", "ok 1 Deactivated 112"),
-    ("113", "fay 4", "destroy 1", "ok 1 Destroyed 113"),
-    ("114", "zed 1", "advance", "ok 0 - 114"),
-    ("115", "zed 2", "revoke 1 2 50", "ok 1 Destroyed-Compromised 115"),
+    ("109", "bob 5", "set-quorum 1 2", "ok 1 Pre-Active 109"),
+    ("110", "bob 6", "assign 1 fay", "ok 1 Pre-Active 110"),
+    ("111", "fay 1", "set 1 1200 = =", "ok 1 Pre-Active 111"),
+    ("112", "fay 2", "activate 1", "ok 1 Active 112"),
+    ("113", "fay 3", "revoke 1 5 -", "ok 1 Deactivated 113"),
+    ("114", "fay 4", "destroy 1", "ok 1 Destroyed 114"),
+    ("115", "zed 1", "advance", "ok 0 - 115"),
+    ("116", "zed 2", "revoke 1 2 50", "ok 1 Destroyed-Compromised 116"),
 ];
 
 const REUSED: &str = "refused 2 RequestReused";
@@ -101,7 +102,7 @@ pub fn is_each_command_repeated(alloc: Global) -> Result<bool, Fail> {
     let plain = plain_replies(alloc, &lines.requests)?;
     Ok(
         ran.writer.as_slice() == lines.replies.as_slice()
-            && ran.stands == (115, 1)
+            && ran.stands == (116, 1)
             && plain.as_slice() == lines.replies.as_slice(),
     )
 }

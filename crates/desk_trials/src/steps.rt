@@ -12,8 +12,11 @@ use worked_rows::WorkedRow;
 /// The steps of each command of the day, by the statements that docs/SPECIFICATION.md has. A search for what is kept
 /// takes 1 where nothing is, a transaction 2, the two updates of due keys 2, the request's row and that of meta 2. A
 /// command that names a key takes 2 to read it and 1 to change it; one that looks at custody 1 more for each list and for
-/// each name in it; one that changes custody 1 more.
-const STEPS: [u64; 16] = [8, 13, 14, 15, 16, 15, 16, 17, 16, 16, 10, 10, 10, 16, 7, 10];
+/// each name in it; a destruction 2 more to read the need that is set; one that changes custody 1 more, and one that sets
+/// the need 2 more.
+const STEPS: [u64; 17] = [
+    8, 13, 14, 15, 16, 15, 16, 17, 16, 12, 16, 10, 10, 10, 18, 7, 10,
+];
 
 /// How many steps a run over the line takes.
 fn steps_of(alloc: Global, desk: &mut Desk<MemStore>, line: &str) -> Result<u64, Fail> {

@@ -17,9 +17,9 @@ names_have_none (name ∷ names) = names_have_none names
 either : (a b : Bool) → a ≡ false → b ≡ false → (a || b) ≡ false
 either a b e f = rw (e, f) refl
 
-pub key_has_none : (key : KeyRow) (custodians approvals : List (List ℕ))
-    → has_float (key_data key custodians approvals) ≡ false
-key_has_none key custodians approvals =
+pub key_has_none : (key : KeyRow) (need : ℕ) (custodians approvals : List (List ℕ))
+    → has_float (key_data key need custodians approvals) ≡ false
+key_has_none key need custodians approvals =
     either _ _ (dates_have_none key.row.dates.activation) (either _ _ (names_have_none approvals)
     (either _ _ (dates_have_none key.row.dates.compromise) (either _ _ (names_have_none custodians)
     (either _ _ (dates_have_none key.row.dates.deactivation) (either _ _ (dates_have_none key.row.dates.destroy)

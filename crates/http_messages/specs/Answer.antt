@@ -31,5 +31,5 @@ abbrev pub usage_reply : Usage → Reply
 usage_reply usage = json_reply 200 (usage_data usage)
 
 -- to the question for a key
-abbrev pub key_reply : KeyRow → List (List ℕ) → List (List ℕ) → Reply
-key_reply key custodians approvals = json_reply 200 (key_data key custodians approvals)
+abbrev pub key_reply : KeyRow → ℕ → List (List ℕ) → List (List ℕ) → Reply
+key_reply key need custodians approvals = json_reply 200 (key_data key need custodians approvals)

@@ -79,9 +79,9 @@ date_members dates =
     (member (codes "occurrence") (date_data dates.compromise_occurrence)
     (member (codes "protect_stop") (date_data dates.protect_stop) no_members))))))
 
--- a key, its custodians, and the names whose approvals of its destruction stand
-abbrev pub key_data : KeyRow → List (List ℕ) → List (List ℕ) → Data
-key_data key custodians approvals =
+-- a key, how many approvals its destruction needs, its custodians, and the names whose approvals stand
+abbrev pub key_data : KeyRow → ℕ → List (List ℕ) → List (List ℕ) → Data
+key_data key need custodians approvals =
     let dates = key.row.dates in
     object (member (codes "activation") (date_data dates.activation)
     (member (codes "approvals") (names_data approvals)
@@ -90,10 +90,11 @@ key_data key custodians approvals =
     (member (codes "deactivation") (date_data dates.deactivation)
     (member (codes "destroyed") (date_data dates.destroy)
     (member (codes "initial") (number_data dates.initial)
+    (member (codes "need") (number_data need)
     (member (codes "number") (number_data key.number)
     (member (codes "occurrence") (date_data dates.compromise_occurrence)
     (member (codes "owner") (string key.owner)
     (member (codes "protect_stop") (date_data dates.protect_stop)
     (member (codes "purpose") (string key.purpose)
     (member (codes "state") (string (state_text key.row.state))
-    (member (codes "type") (string (key_type_text key.kind)) no_members))))))))))))))
+    (member (codes "type") (string (key_type_text key.kind)) no_members)))))))))))))))

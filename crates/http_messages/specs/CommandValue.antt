@@ -8,7 +8,7 @@ use Rattle.register_core.specs.declared.command_kind.CommandKind.{CommandKind}
 use Rattle.register_core.specs.declared.request.Command.{Command}
 use Rattle.register_core.specs.declared.fields.Fields.{Fields}
 use Rattle.register_core.specs.declared.fields.Fields.TheVariants.{Nothing, Key, KeyAndName}
-use Rattle.register_core.specs.declared.fields.Fields.TheVariants.{KeyAndOwner, Registration}
+use Rattle.register_core.specs.declared.fields.Fields.TheVariants.{KeyAndOwner, KeyAndNeed, Registration}
 use Rattle.register_core.specs.declared.fields.Fields.TheVariants.{DateEdits, Revocation}
 use Rattle.register_core.specs.declared.fields.Shape.{Shape}
 use Rattle.register_core.specs.Fields.{fields_of, shape_of}
@@ -38,10 +38,10 @@ edit_data (Set date) = number_data date
 abbrev pub keyed_members : Data → Data → Members
 keyed_members key kind = member (codes "key") key (member (codes "kind") kind no_members)
 
--- a key, and a name in a member called `field`
+-- a key, and what the member called `field` has
 abbrev pub named_members : List ℕ → Data → Data → Data → Members
-named_members field key kind name =
-    member (codes "key") key (member (codes "kind") kind (member field name no_members))
+named_members field key kind value =
+    member (codes "key") key (member (codes "kind") kind (member field value no_members))
 
 abbrev pub revoke_members : Data → Data → Data → Data → Members
 revoke_members key kind occurrence reason =
@@ -75,6 +75,8 @@ fields_members kind (KeyAndName key name) =
     named_members (codes "name") (number_data key) kind (string name)
 fields_members kind (KeyAndOwner key owner) =
     named_members (codes "owner") (number_data key) kind (string owner)
+fields_members kind (KeyAndNeed key need) =
+    named_members (codes "need") (number_data key) kind (number_data need)
 fields_members kind (Registration type owner activation protect_stop deactivation purpose) =
     register_members (date_data activation) (date_data deactivation) kind (string owner)
     (date_data protect_stop) (string purpose) (string (key_type_text type))

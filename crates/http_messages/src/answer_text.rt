@@ -77,20 +77,21 @@ pub fn usage_text(alloc: Global, usage: &Usage) -> Result<String, AllocError>
     value_text(alloc, StatusCode::OK, &value)
 }
 
-/// The text of the reply that shows a key with its custodians and the names whose approvals of its
-/// destruction stand.
+/// The text of the reply that shows a key with how many approvals its destruction needs, its
+/// custodians, and the names whose approvals stand.
 ///
 /// # Errors
 /// Memory gave out.
 pub fn key_text(
     alloc: Global,
     key: &KeyRow,
+    need: u8,
     custodians: &Names,
     approvals: &Names,
 ) -> Result<String, AllocError>
     ensures { IfOk result (λ s.
-        string_bytes s ≡ reply_bytes (key_reply key.now custodians.now approvals.now)) }
+        string_bytes s ≡ reply_bytes (key_reply key.now need custodians.now approvals.now)) }
 {
-    let value = key_value(alloc, key, custodians, approvals)?;
+    let value = key_value(alloc, key, need, custodians, approvals)?;
     value_text(alloc, StatusCode::OK, &value)
 }

@@ -173,18 +173,20 @@ fn date_members(alloc: Global, dates: &Dates) -> Result<Map<String, Value>, Allo
     Ok(members)
 }
 
-/// A key, its custodians, and the names whose approvals of its destruction stand.
+/// A key, how many approvals its destruction needs, its custodians, and the names whose approvals stand.
 pub(crate) fn key_value(
     alloc: Global,
     key: &KeyRow,
+    need: u8,
     custodians: &Names,
     approvals: &Names,
 ) -> Result<Value, AllocError>
-    ensures { IfOk result (λ v. view v ≡ key_data key.now custodians.now approvals.now) }
+    ensures { IfOk result (λ v. view v ≡ key_data key.now need custodians.now approvals.now) }
 {
     let mut members = date_members(alloc, &key.row.dates)?;
     put_names(&mut members, alloc, "approvals", approvals.as_slice())?;
     put_names(&mut members, alloc, "custodians", custodians.as_slice())?;
+    put(&mut members, alloc, "need", Value::from(need))?;
     put(&mut members, alloc, "number", Value::from(key.number))?;
     put_text(&mut members, alloc, "owner", key.owner.text())?;
     put_text(&mut members, alloc, "purpose", key.purpose.text())?;

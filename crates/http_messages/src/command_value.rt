@@ -1,5 +1,5 @@
 //! The command that a JSON value is: first its kind, and then the members of the fields of that kind's shape.
-ghost use Rattle.std.specs.Prelude.{◌≡◌, ◌≢◌, ℕ, List, Option, IfSome, IfNone};
+ghost use Rattle.std.specs.Prelude.{◌≡◌, ◌≢◌, ℕ, List, codes, Option, IfSome, IfNone};
 ghost use Rattle.serde_json.specs.Data.{Data, string};
 ghost use Rattle.serde_json.specs.View.{view, members_view};
 ghost use Rattle.period_core.specs.declared.key_type.KeyType.{KeyType};
@@ -12,6 +12,7 @@ ghost use Rattle.register_core.specs.declared.fields.Fields.TheVariants.{DateEdi
 ghost use Rattle.register_core.specs.declared.fields.Shape.TheVariants as shapes;
 ghost use Rattle.register_core.specs.Fields.{fields_of};
 ghost use Rattle.register_core.specs.Name.{IsName};
+ghost use Rattle.register_core.specs.Quorum.{IsQuorum};
 ghost use Rattle.register_core.specs.Request.{AreFields, IsCommand, IsKeyNumber};
 ghost use Rattle.register_core.specs.CommandRule.{kind_of};
 ghost use Rattle.http_messages.specs.CommandValue.{number_data, command_data, HasMembers};
@@ -21,9 +22,9 @@ ghost use Rattle.http_messages.specs.CommandValue.{set_members, register_members
 
 use crate::members::{
     command_kind_of, date_of, edit_of, key_of, key_type_of, last_named, name_of, next_named,
-    purpose_of, reason_of,
+    purpose_of, quorum_of, reason_of,
 };
-use register_core::{Command, CommandKind, Fields, Name, Shape};
+use register_core::{Command, CommandKind, Fields, Name, Quorum, Shape};
 use serde_json::{Map, Value};
 
 /// The value of the key among members that name a key alone.
@@ -59,25 +60,25 @@ fn nothing_of(members: &Map<String, Value>) -> Option<Fields>
     Some(Fields::Nothing)
 }
 
-/// The values of the members that name a key, and a name.
+/// The values of the members that name a key, and of one member more.
 #[derive(Drop)]
 struct NamedMembers<'v> {
     key: &'v Value,
-    name: &'v Value,
+    value: &'v Value,
 }
 
-/// The members that name a key, and a name in the member of this name.
+/// The members that name a key, and one more of this name.
 fn named_members_of<'v>(members: &'v Map<String, Value>, field: &str) -> Option<NamedMembers<'v>>
     ensures found { IfSome result (λ m. (kind : Data) × (members_view members.now.entries
-        ≡ named_members field.now (view m.key.now) kind (view m.name.now))) }
-    ensures none { IfNone result ((key kind name : Data) →
-        members_view members.now.entries ≢ named_members field.now key kind name) }
+        ≡ named_members field.now (view m.key.now) kind (view m.value.now))) }
+    ensures none { IfNone result ((key kind value : Data) →
+        members_view members.now.entries ≢ named_members field.now key kind value) }
 {
     let mut rest = members.iter();
     let key = next_named(&mut rest, "key")?;
     let _kind = next_named(&mut rest, "kind")?;
-    let name = last_named(&mut rest, field)?;
-    Some(NamedMembers { key, name })
+    let value = last_named(&mut rest, field)?;
+    Some(NamedMembers { key, value })
 }
 
 /// The key and the name of members that name a key, and a name in the member of this name.
@@ -91,8 +92,23 @@ fn named_of(members: &Map<String, Value>, field: &str) -> Option<(u32, Name)>
 {
     let values = named_members_of(members, field)?;
     let key = key_of(values.key)?;
-    let name = name_of(values.name)?;
+    let name = name_of(values.value)?;
     Some((key, name))
+}
+
+/// The key and the need of members that name a key, and how many approvals its destruction needs.
+fn needed_of(members: &Map<String, Value>) -> Option<(u32, Quorum)>
+    ensures found { IfSome result (λ x. (IsKeyNumber x.0 × IsQuorum x.1) × ((kind : Data) ×
+        (members_view members.now.entries
+        ≡ named_members (codes "need") (number_data x.0) kind (number_data x.1)))) }
+    ensures none { IfNone result ((key need : ℕ) (kind : Data) →
+        IsKeyNumber key × IsQuorum need → members_view members.now.entries
+        ≢ named_members (codes "need") (number_data key) kind (number_data need)) }
+{
+    let values = named_members_of(members, "need")?;
+    let key = key_of(values.key)?;
+    let need = quorum_of(values.value)?;
+    Some((key, need))
 }
 
 /// The values of the members of a revocation.
@@ -271,6 +287,10 @@ fn fields_with(shape: Shape, members: &Map<String, Value>) -> Option<Fields>
         Shape::KeyAndOwner => {
             let (key, owner) = named_of(members, "owner")?;
             Some(Fields::KeyAndOwner { key, owner })
+        }
+        Shape::KeyAndNeed => {
+            let (key, need) = needed_of(members)?;
+            Some(Fields::KeyAndNeed { key, need })
         }
         Shape::Registration => register_of(members),
         Shape::DateEdits => edits_of(members),

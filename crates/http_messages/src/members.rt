@@ -9,6 +9,7 @@ ghost use Rattle.period_core.specs.KeyType.{key_type_text};
 ghost use Rattle.moment_core.specs.Moment.{IsMoment};
 ghost use Rattle.register_core.specs.Name.{IsName};
 ghost use Rattle.register_core.specs.Purpose.{IsPurpose};
+ghost use Rattle.register_core.specs.Quorum.{IsQuorum};
 ghost use Rattle.register_core.specs.Request.{IsDate, IsEdit, IsKeyNumber};
 ghost use Rattle.register_core.specs.declared.request.Edit.{Edit};
 ghost use Rattle.register_core.specs.declared.command_kind.CommandKind.{CommandKind};
@@ -17,7 +18,7 @@ ghost use Rattle.http_messages.specs.CommandValue.{number_data, date_data, edit_
 use lifecycle_core::Reason;
 use moment_core::Moment;
 use period_core::KeyType;
-use register_core::{CommandKind, Edit, Name, Purpose};
+use register_core::{CommandKind, Edit, Name, Purpose, Quorum};
 use serde_json::Value;
 use std::collections::btree_map::Iter;
 
@@ -62,6 +63,14 @@ pub(crate) fn key_of(value: &Value) -> Option<u32>
 {
     let key = u32::try_from(value.as_u64()?).ok()?;
     if key > 0 { Some(key) } else { None }
+}
+
+/// How many approvals the value is, for the destruction of a key.
+pub(crate) fn quorum_of(value: &Value) -> Option<Quorum>
+    ensures found { IfSome result (λ need. IsQuorum need × (view value.now ≡ number_data need)) }
+    ensures none { IfNone result ((need : ℕ) → IsQuorum need → view value.now ≢ number_data need) }
+{
+    Quorum::new(u8::try_from(value.as_u64()?).ok()?)
 }
 
 /// The moment that the value is.

@@ -207,7 +207,7 @@ fn names(alloc: Global, texts: &[&str]) -> Result<Names, AllocError> {
 }
 
 const KEY: &str =
-    r#"{"activation":2,"approvals":["cat"],"compromised":6,"custodians":["cat","dan"],"deactivation":4,"destroyed":7,"initial":1,"number":12,"occurrence":5,"owner":"bob","protect_stop":3,"purpose":"say \"hi\" \\ "#;
+    r#"{"activation":2,"approvals":["cat"],"compromised":6,"custodians":["cat","dan"],"deactivation":4,"destroyed":7,"initial":1,"need":3,"number":12,"occurrence":5,"owner":"bob","protect_stop":3,"purpose":"say \"hi\" \\ "#;
 
 #[test]
 fn a_key_has_its_body(rt: HostRuntime) -> Result<(), Fail> {
@@ -216,6 +216,7 @@ fn a_key_has_its_body(rt: HostRuntime) -> Result<(), Fail> {
     let text = key_text(
         alloc,
         &key,
+        3,
         &names(alloc, &["cat", "dan"])?,
         &names(alloc, &["cat"])?,
     )?;

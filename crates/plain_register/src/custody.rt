@@ -1,13 +1,17 @@
-//! The custody of a key: its custodians, and those whose approval of its destruction stands.
+//! The custody of a key: its custodians, those whose approval of its destruction stands, and how many approvals that
+//! needs.
 ghost use Rattle.std.specs.Prelude.{◌≡◌, ◌+◌, ◌<◌, ◌≤◌, ◌^◌, length, take, drop, slice_index_or};
-ghost use Rattle.std.specs.Prelude.{IfOk};
+ghost use Rattle.std.specs.Prelude.{ℕ, IfOk, if◌then◌else◌};
 ghost use Rattle.register_core.specs.declared.request.Request.{Request};
 ghost use Rattle.register_core.specs.KeyName.{key_name, names_at};
 ghost use Rattle.register_core.specs.Custody.{is_about, stays_custodian, custodian_of, custodians};
 ghost use Rattle.register_core.specs.Custody.{ends_by, is_ended, approval_of, approvals, listed};
+ghost use Rattle.register_core.specs.Custody.{need};
+ghost use Rattle.register_core.specs.Effect.{need_after};
+ghost use Rattle.register_core.specs.Subject.{key_of, is_key};
 
 use crate::history::dates;
-use register_core::{Command, Name, Names, Request};
+use register_core::{Command, MIN_APPROVALS, Name, Names, Quorum, Request};
 use std::alloc::{AllocError, Global};
 
 /// Whether the command adds this custodian of the key, or removes it.
@@ -138,4 +142,29 @@ pub(crate) fn approvals(alloc: Global, history: &[Request], key: u32) -> Result<
     let mut names = Names::from_vec(names);
     names.sort();
     Ok(names)
+}
+
+/// What the owner of the key asks for after the command, whatever number of keys was made before it.
+fn need_with(before: Option<Quorum>, key: u32, command: &Command) -> Option<Quorum>
+    ensures { (made : ℕ) → result ≡ (if is_key key (key_of made command.now)
+        then need_after before command.now else before) }
+{
+    match *command {
+        Command::SetQuorum { key: of, need } if of == key => Some(need),
+        _ => before,
+    }
+}
+
+/// How many approvals the key's destruction needs.
+pub(crate) fn need(history: &[Request], key: u32) -> u8
+    ensures { result ≡ need history.now key }
+{
+    let mut set = None;
+    for request in history {
+        set = need_with(set, key, &request.command);
+    }
+    match set {
+        Some(need) => need.get(),
+        None => MIN_APPROVALS,
+    }
 }

@@ -4,11 +4,11 @@ ghost use Rattle.register_core.specs.Custody.{held};
 ghost use Rattle.register_core.specs.Verdict.{judgement};
 ghost use Rattle.register_core.specs.Decision.{IsViewOf};
 
-use crate::custody::{approvals, custodians};
+use crate::custody::{approvals, custodians, need};
 use crate::history::{count, dates, kind_of_key, latest, owner};
 use lifecycle_core::{Row, state_of};
 use period_core::{KeyType, period_of};
-use register_core::{Command, Held, MIN_APPROVALS, Refusal, Request, View, judge, type_needed};
+use register_core::{Command, Held, Refusal, Request, View, judge, type_needed};
 use std::alloc::{AllocError, Global};
 
 /// The key as it stands at the latest moment, or `None` where there is no such key.
@@ -28,7 +28,7 @@ pub fn held(alloc: Global, history: &[Request], key: u32) -> Result<Option<Held>
         kind: kind_of_key(history, key),
         owner,
         row: Row { dates, state },
-        need: MIN_APPROVALS,
+        need: need(history, key),
         custodians: custodians(alloc, history, key)?,
         approvals: approvals(alloc, history, key)?,
     }))

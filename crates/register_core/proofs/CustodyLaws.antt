@@ -15,7 +15,9 @@ use Rattle.register_core.specs.Names.{sorted_names}
 use Rattle.register_core.specs.History.{count, type, period, dates}
 use Rattle.register_core.specs.Subject.{named}
 use Rattle.register_core.specs.Effect.{given_dates, edited_dates, compromised, deactivated, dates_after, custody_change}
-use Rattle.register_core.specs.Custody.{all_custodians, all_approvals, approvals, min_approvals}
+use Rattle.register_core.specs.Custody.{all_custodians, all_approvals, approvals, need}
+use Rattle.register_core.specs.Quorum.{min_approvals}
+use Rattle.register_core.proofs.Settled.{need_in_range}
 use Rattle.register_core.specs.Verdict.{judgement}
 use Rattle.register_core.specs.CustodyRefusal.{approvals_missing}
 use Rattle.register_core.specs.Fold.{IsLawful}
@@ -87,13 +89,13 @@ destroy_same p d t k (Revoke n reason occurrence) names = inr (revoked_same (is_
 destroy_same p d t k (Destroy n) names = inl (n, refl)
 destroy_same p d t k c names = inr refl
 
-destroyed_enough : (h : List Request) (q : Request) (k n : ℕ) → IsOn h q k → q.command ≡ Destroy n → min_approvals ≤ length (approvals (h ++ q ∷ []) k)
-destroyed_enough h q k n on is =
+destroyed_enough : (h : List Request) (q : Request) (k n : ℕ) → IsLawful h → IsOn h q k → q.command ≡ Destroy n → min_approvals ≤ length (approvals (h ++ q ∷ []) k)
+destroyed_enough h q k n lawful on is =
     let lead = custody_lead h q k on.names on.new in
     let same : approvals (h ++ q ∷ []) k ≡ approvals h k =
     ap (λ entries. sorted_names (names_at k entries)) (lead.approvals_are ∙ ap (λ (c : Command). approvals_by k (custody_change (dates h k) q.caller c) (all_approvals h)) is) in
-    let enough = ltb-false _ _ (not_refused (nat_lt (length (approvals h k)) min_approvals) _ (ap (approvals_missing (Some (standing h k))) (sym is) ∙ on.enough)) in
-    omega (arith, enough, ap length same)
+    let enough = ltb-false _ _ (not_refused (nat_lt (length (approvals h k)) (need h k)) _ (ap (approvals_missing (Some (standing h k))) (sym is) ∙ on.enough)) in
+    omega (arith, (need_in_range h lawful.in_range k).0, enough, ap length same)
 
 abbrev AllApproved : List Request → Type 0
 AllApproved h = (k : ℕ) → HasKey h k → IsSome (dates h k).destroy → min_approvals ≤ length (approvals h k)
@@ -110,7 +112,7 @@ approved_next h q is before k has set = elim (which h q k (judged h q is.accepte
       ap (λ (d : Dates). is_some d.destroy) its ∙ ap is_some (filled_keeps p given).destroy in
       absurd (let e = sym none ∙ set in cc)
   | inr (inl on) ↦ elim (destroy_same (period h (type h k)) (dates h k) q.moment k q.command on.names) [
-    | inl destruction ↦ destroyed_enough h q k destruction.0 on destruction.1
+    | inl destruction ↦ destroyed_enough h q k destruction.0 is.lawful on destruction.1
     | inr same ↦
         let was : IsSome (dates h k).destroy = sym (ap is_some (ap (λ (d : Dates). d.destroy) (dates_named h q k on.names) ∙ same)) ∙ set in
         let enough = before k (on.low, on.high) was in

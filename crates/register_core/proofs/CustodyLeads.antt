@@ -9,7 +9,7 @@ use Rattle.std.proofs.lemmas.List.{append-nil}
 use Rattle.lifecycle_core.specs.Reason.{is_compromise}
 use Rattle.register_core.specs.declared.request.Request.{Request}
 use Rattle.register_core.specs.declared.request.Command.{Command}
-use Rattle.register_core.specs.declared.request.Command.TheVariants.{Revoke, AddCustodian, RemoveCustodian, Approve, Withdraw, Advance}
+use Rattle.register_core.specs.declared.request.Command.TheVariants.{Revoke, AddCustodian, RemoveCustodian, Approve, Withdraw, Advance, SetQuorum}
 use Rattle.register_core.specs.declared.reply.Refusal.{Refusal}
 use Rattle.register_core.specs.declared.change.CustodyChange.{CustodyChange}
 use Rattle.register_core.specs.declared.change.CustodyChange.TheVariants.{Kept, ApprovalsEnded}
@@ -19,8 +19,10 @@ use Rattle.register_core.specs.Name.{is_among}
 use Rattle.register_core.specs.History.{dates}
 use Rattle.register_core.specs.Custody.{added_by, is_about, all_custodians, approved_by, ends_by, all_approvals, custodians, approvals}
 use Rattle.register_core.specs.Subject.{named}
-use Rattle.register_core.specs.Decision.{custodians_by, approvals_by, CustodyLead}
+use Rattle.register_core.specs.Decision.{custodians_by, approvals_by, needs_by, CustodyLead}
+use Rattle.register_core.specs.Settings.{KeyNeed, needs_after, all_needs}
 use Rattle.register_core.specs.Effect.{custody_change}
+use Rattle.register_core.proofs.Settled.{needs_next}
 use Rattle.register_core.proofs.CustodyGrow.{filter_every, all_custodians_grow, all_approvals_grow}
 
 -- ---- a name that is not among those of the key
@@ -88,10 +90,11 @@ same_entries p none entries = append-nil _ ∙ filter_every (λ entry. not (p en
 
 lead : (h : List Request) (q : Request) (c : Command) (key : ℕ) (custody : CustodyChange) → q.command ≡ c
     → custodians_then c (all_custodians h) ≡ custodians_by key custody (all_custodians h) → approvals_then h q.caller c (all_approvals h) ≡ approvals_by key custody (all_approvals h)
-    → CustodyLead h q key custody
-lead h q c key custody is cs given = record {
+    → needs_after (all_needs h) c ≡ needs_by key custody (all_needs h) → CustodyLead h q key custody
+lead h q c key custody is cs given needs = record {
   custodians_are = all_custodians_grow h q ∙ ap (λ (x : Command). custodians_then x (all_custodians h)) is ∙ cs;
   approvals_are = all_approvals_grow h q ∙ ap (λ (x : Command). approvals_then h q.caller x (all_approvals h)) is ∙ given;
+  needs_are = needs_next h q ∙ ap (needs_after (all_needs h)) is ∙ needs;
 }
 
 -- the command leaves the custodians and the approvals
@@ -100,11 +103,12 @@ record LeavesNames (h : List Request) (caller : List ℕ) (c : Command) : Type 0
   added : added_by c ≡ []
   ends : (entry : KeyName) → ends_by h entry caller c ≡ false
   approved : approved_by caller c ≡ []
+  needs : (sets : List KeyNeed) → needs_after sets c ≡ sets
 
 -- One that names no key does. The last row has every command that names one, and every other that does not.
 leaves : (h : List Request) (caller : List ℕ) (c : Command) → named c ≡ None → LeavesNames h caller c
-leaves h caller Advance none = record { about = λ entry. refl; added = refl; ends = λ entry. refl; approved = refl }
-leaves h caller c none = record { about = λ entry. cc; added = cc; ends = λ entry. cc; approved = cc }
+leaves h caller Advance none = record { about = λ entry. refl; added = refl; ends = λ entry. refl; approved = refl; needs = λ sets. refl }
+leaves h caller c none = record { about = λ entry. cc; added = cc; ends = λ entry. cc; approved = cc; needs = λ sets. cc }
 
 left : (p : KeyName → Bool) (more entries : List (KeyName)) → ((entry : KeyName) → p entry ≡ false) → more ≡ []
     → filter (λ entry. not (p entry)) entries ++ more ≡ entries
@@ -118,7 +122,7 @@ nobody_changes h q key none =
     lead h q c key Kept refl (left (λ entry. is_about entry c) (added_by c) (all_custodians h) leaving.about
     leaving.added)
     (left (λ entry. ends_by h entry q.caller c) (approved_by q.caller c) (all_approvals h) leaving.ends
-    leaving.approved)
+    leaving.approved) (leaving.needs (all_needs h))
 
 and_both : (a b c : Bool) → b && c ≡ true → a && b && c ≡ a
 and_both true b c both = both
@@ -142,6 +146,10 @@ pub kept_custodians : (k : ℕ) (ends : Bool) (entries : List (KeyName)) → cus
 kept_custodians k true entries = refl
 kept_custodians k false entries = refl
 
+kept_needs : (k : ℕ) (ends : Bool) (sets : List KeyNeed) → needs_by k (cond ends ApprovalsEnded Kept) sets ≡ sets
+kept_needs k true sets = refl
+kept_needs k false sets = refl
+
 same_key : (n k : ℕ) → ◌≡◌ {A = Option ℕ} (Some n) (Some k) → n ≡ k
 same_key n k e = cc
 
@@ -150,18 +158,20 @@ custody_lead h q k names new = by q.command refl names
   where
     unchanged : (c : Command) → q.command ≡ c → custody_change (dates h k) q.caller c ≡ Kept
         → ((entry : KeyName) → is_about entry c ≡ false) → added_by c ≡ [] → ((entry : KeyName) → ends_by h entry q.caller c ≡ false) → approved_by q.caller c ≡ []
+        → needs_after (all_needs h) c ≡ all_needs h
         → CustodyLead h q k (custody_change (dates h k) q.caller q.command)
-    unchanged c is kept no_one none_added ends_none none_given =
+    unchanged c is kept no_one none_added ends_none none_given same_needs =
         subst (CustodyLead h q k) (sym (ap (custody_change (dates h k) q.caller) is ∙ kept))
         (lead h q c k Kept is
         (ap (λ l. filter (λ entry. not (is_about entry c)) (all_custodians h) ++ l) none_added ∙ same_entries (λ entry. is_about entry c) no_one (all_custodians h))
-        (ap (λ l. filter (λ entry. not (ends_by h entry q.caller c)) (all_approvals h) ++ l) none_given ∙ same_entries (λ entry. ends_by h entry q.caller c) ends_none (all_approvals h)))
+        (ap (λ l. filter (λ entry. not (ends_by h entry q.caller c)) (all_approvals h) ++ l) none_given ∙ same_entries (λ entry. ends_by h entry q.caller c) ends_none (all_approvals h)) same_needs)
 
     changed : (c : Command) → q.command ≡ c
         → custodians_then c (all_custodians h) ≡ custodians_by k (custody_change (dates h k) q.caller c) (all_custodians h)
         → approvals_then h q.caller c (all_approvals h) ≡ approvals_by k (custody_change (dates h k) q.caller c) (all_approvals h)
+        → needs_after (all_needs h) c ≡ needs_by k (custody_change (dates h k) q.caller c) (all_needs h)
         → CustodyLead h q k (custody_change (dates h k) q.caller q.command)
-    changed c is cs given = subst (CustodyLead h q k) (sym (ap (custody_change (dates h k) q.caller) is)) (lead h q c k _ is cs given)
+    changed c is cs given needs = subst (CustodyLead h q k) (sym (ap (custody_change (dates h k) q.caller) is)) (lead h q c k _ is cs given needs)
 
     by : (c : Command) → q.command ≡ c → named c ≡ Some k → CustodyLead h q k (custody_change (dates h k) q.caller q.command)
     by (Revoke n reason occurrence) is e =
@@ -169,20 +179,26 @@ custody_lead h q k names new = by q.command refl names
         changed (Revoke k reason occurrence) here
         (same_entries (λ entry. false) (λ entry. refl) (all_custodians h) ∙ sym (kept_custodians k (is_compromise reason && is_none (dates h k).destroy) (all_custodians h)))
         (revoked h q k (is_compromise reason) (is_none (dates h k).destroy) (all_approvals h))
+        (sym (kept_needs k (is_compromise reason && is_none (dates h k).destroy) (all_needs h)))
     by (AddCustodian n name) is e =
         let here : q.command ≡ AddCustodian k name = is ∙ ap (λ (x : ℕ). AddCustodian x name) (same_key n k e) in
         changed (AddCustodian k name) here
         (ap (λ l. l ++ key_name k name ∷ []) (absent k name (all_custodians h) (new.custodian name here)))
-        (same_entries (λ entry. false) (λ entry. refl) (all_approvals h))
+        (same_entries (λ entry. false) (λ entry. refl) (all_approvals h)) refl
     by (RemoveCustodian n name) is e =
         let here : q.command ≡ RemoveCustodian k name = is ∙ ap (λ (x : ℕ). RemoveCustodian x name) (same_key n k e) in
-        changed (RemoveCustodian k name) here (append-nil _) (append-nil _)
+        changed (RemoveCustodian k name) here (append-nil _) (append-nil _) refl
     by (Approve n) is e =
         let here : q.command ≡ Approve k = is ∙ ap (λ (x : ℕ). Approve x) (same_key n k e) in
         changed (Approve k) here
         (same_entries (λ entry. false) (λ entry. refl) (all_custodians h))
-        (ap (λ l. l ++ key_name k q.caller ∷ []) (absent k q.caller (all_approvals h) (new.approval here)))
+        (ap (λ l. l ++ key_name k q.caller ∷ []) (absent k q.caller (all_approvals h) (new.approval here))) refl
     by (Withdraw n) is e =
         let here : q.command ≡ Withdraw k = is ∙ ap (λ (x : ℕ). Withdraw x) (same_key n k e) in
-        changed (Withdraw k) here (same_entries (λ entry. false) (λ entry. refl) (all_custodians h)) (append-nil _)
-    by c is e = unchanged c is refl (λ entry. refl) refl (λ entry. refl) refl
+        changed (Withdraw k) here (same_entries (λ entry. false) (λ entry. refl) (all_custodians h)) (append-nil _) refl
+    by (SetQuorum n need) is e =
+        let here : q.command ≡ SetQuorum k need = is ∙ ap (λ (x : ℕ). SetQuorum x need) (same_key n k e) in
+        changed (SetQuorum k need) here
+        (same_entries (λ entry. false) (λ entry. refl) (all_custodians h))
+        (same_entries (λ entry. false) (λ entry. refl) (all_approvals h)) refl
+    by c is e = unchanged c is refl (λ entry. refl) refl (λ entry. refl) refl refl

@@ -13,7 +13,7 @@ use Rattle.register_core.specs.declared.request.Request.{Request}
 use Rattle.register_core.specs.declared.request.Command.{Command}
 use Rattle.register_core.specs.declared.request.Command.TheVariants.{Revoke, RemoveCustodian, Approve, Withdraw}
 use Rattle.register_core.specs.declared.change.CustodyChange.{CustodyChange}
-use Rattle.register_core.specs.declared.change.CustodyChange.TheVariants.{Kept, CustodianAdded, CustodianRemoved, Approved, Withdrawn, ApprovalsEnded}
+use Rattle.register_core.specs.declared.change.CustodyChange.TheVariants.{Kept, CustodianAdded, CustodianRemoved, Approved, Withdrawn, ApprovalsEnded, NeedSet}
 use Rattle.register_core.specs.KeyName.{KeyName, key_name, is_key_name, is_at, names_at}
 use Rattle.register_core.specs.Names.{sorted_names}
 use Rattle.register_core.specs.History.{count, dates}
@@ -68,6 +68,7 @@ other_custodians key k (CustodianRemoved name) entries other = kept_names k (λ 
 other_custodians key k (Approved name) entries other = refl
 other_custodians key k (Withdrawn name) entries other = refl
 other_custodians key k ApprovalsEnded entries other = refl
+other_custodians key k (NeedSet need) entries other = refl
 
 other_approvals : (key k : ℕ) (custody : CustodyChange) (entries : List (KeyName)) → nat_eq key k ≡ false → names_at k (approvals_by key custody entries) ≡ names_at k entries
 other_approvals key k Kept entries other = refl
@@ -76,6 +77,7 @@ other_approvals key k (CustodianRemoved name) entries other = kept_names k (λ e
 other_approvals key k (Approved name) entries other = one_more key k name entries other
 other_approvals key k (Withdrawn name) entries other = kept_names k (λ entry. not (is_key_name key name entry)) (not_its key k name other) entries
 other_approvals key k ApprovalsEnded entries other = kept_names k (λ entry. not (is_at key entry)) (not_there key k other) entries
+other_approvals key k (NeedSet need) entries other = refl
 
 pub record CustodySame (h : List Request) (q : Request) (k : ℕ) : Type 0 where
   pub custodians : names_at k (all_custodians (h ++ q ∷ [])) ≡ names_at k (all_custodians h)

@@ -20,7 +20,7 @@ use Rattle.register_core.specs.History.{latest, count, period, type, dates, owne
 use Rattle.register_core.specs.Subject.{Registration, Subject, Makes, Names, NoKey, subject, named_by, key_by, count_by, key_of, made_by, named}
 use Rattle.register_core.proofs.Subjects.{is_named}
 use Rattle.register_core.specs.Effect.{given_dates, dates_after, owner_after, row_at}
-use Rattle.register_core.specs.Custody.{custodians, approvals, min_approvals, need, held}
+use Rattle.register_core.specs.Custody.{custodians, approvals, need, held}
 use Rattle.register_core.specs.KeptReply.{reply}
 use Rattle.register_core.specs.Verdict.{unknown, named_key, judgement}
 use Rattle.register_core.specs.CustodyRefusal.{already_custodian, already_approved}
@@ -48,11 +48,11 @@ is_there h k = nat_le 1 k && nat_le k (count h)
 there : (h : List Request) (k : ℕ) → 1 ≤ k → k ≤ count h → is_there h k ≡ true
 there h k low high = ap (λ (b : Bool). b && nat_le k (count h)) (le-leb 1 k low) ∙ le-leb k (count h) high
 
-module _ (cs approving : List (List ℕ)) where
+module _ (needed : ℕ) (cs approving : List (List ℕ)) where
   -- a key with this type, this owner and these dates at the moment t
   abbrev standing_so : KeyType → List ℕ → Dates → ℕ → Held
   standing_so kind by d t =
-      record { kind = kind; owner = by; row = row_at d t; need = min_approvals; custodians = cs; approvals = approving }
+      record { kind = kind; owner = by; row = row_at d t; need = needed; custodians = cs; approvals = approving }
 
   abbrev assembled : Bool → KeyType → List ℕ → Dates → ℕ → Option Held
   assembled is kind by d t = cond is (Some (standing_so kind by d t)) None
@@ -86,7 +86,7 @@ pub held_named : (h : List Request) (q : Request) (k : ℕ) → named q.command 
     (row_at (dates_after (period h (type h k)) (dates h k) q.moment q.command) q.moment)
 held_named h q k names is =
     let all = h ++ q ∷ [] in
-    assembled_same (custodians all k) (approvals all k) (is_there all k) (type all k) (type h k) (owner all k) (owner_after (owner h k) q.command)
+    assembled_same (need all k) (custodians all k) (approvals all k) (is_there all k) (type all k) (type h k) (owner all k) (owner_after (owner h k) q.command)
     (dates all k) (dates_after (period h (type h k)) (dates h k) q.moment q.command) (latest all) q.moment
     (ap (λ (n : ℕ). nat_le 1 k && nat_le k n) (count_named h q k names) ∙ is)
     (kind_named h q k names) (owner_named h q k names) (dates_named h q k names) (latest_grows h q)
@@ -97,7 +97,7 @@ held_made h q r makes =
     let all = h ++ q ∷ [] in
     let k = count h + 1 in
     let counted : count all ≡ k = count_grows h q ∙ ap (λ (s : Subject). count h + count_by s) makes in
-    assembled_same (custodians all k) (approvals all k) (is_there all k) (type all k) r.kind (owner all k) r.owner
+    assembled_same (need all k) (custodians all k) (approvals all k) (is_there all k) (type all k) r.kind (owner all k) r.owner
     (dates all k) (filled (period h r.kind) (given_dates q.moment r.activation r.protect_stop r.deactivation))
     (latest all) q.moment
     (there all k (omega arith) (omega (arith, counted)))

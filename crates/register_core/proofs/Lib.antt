@@ -2,6 +2,7 @@ pub mod Subjects
 pub mod Filling
 pub mod Histories
 pub mod CustodyGrow
+pub mod Settled
 pub mod CustodyLeads
 pub mod Walks
 pub mod Folds
@@ -18,6 +19,7 @@ pub mod Verdicts
 pub mod Lawful
 pub mod Ranges
 pub mod OnKey
+pub mod NeedLaws
 pub mod CustodyStay
 pub mod Dating
 pub mod Showing

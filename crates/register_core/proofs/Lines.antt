@@ -16,7 +16,7 @@ use Rattle.register_core.specs.declared.request.Request.{Request}
 use Rattle.register_core.specs.declared.request.Command.{Command}
 use Rattle.register_core.specs.declared.fields.Fields.{Fields}
 use Rattle.register_core.specs.declared.fields.Fields.TheVariants.{Nothing, Key, KeyAndName, KeyAndOwner}
-use Rattle.register_core.specs.declared.fields.Fields.TheVariants.{Registration, DateEdits, Revocation}
+use Rattle.register_core.specs.declared.fields.Fields.TheVariants.{KeyAndNeed, Registration, DateEdits, Revocation}
 use Rattle.register_core.specs.declared.fields.Shape.{Shape}
 use Rattle.register_core.specs.declared.fields.Shape.TheVariants as shapes
 use Rattle.register_core.specs.Fields.{fields_of, command_with, shape_of}
@@ -28,15 +28,16 @@ use Rattle.moment_core.specs.Moment.{IsMoment}
 use Rattle.register_core.specs.Name.{IsName, is_name_byte}
 use Rattle.register_core.specs.Number.{IsNumber}
 use Rattle.register_core.specs.Purpose.{IsPurpose}
+use Rattle.register_core.specs.Quorum.{IsQuorum}
 use Rattle.period_core.specs.KeyType.{key_type_text}
 use Rattle.register_core.specs.CommandKind.{command_kind_text, command_shape}
 use Rattle.register_core.specs.CommandRule.{kind_of}
 use Rattle.register_core.specs.Request.{max_line_length, AreFields, IsCommand, IsDate, IsEdit, IsKeyNumber, IsRequest, IsLineOf, StandsFor, IsItem, date_text, edit_text, fields_text, command_text, request_text}
 use Rattle.register_core.specs.CommandText.{IsCommandText, IsCommandItem}
-use Rattle.register_core.specs.Reading.{◌>>=◌, is_space, field_at, field_then, moment_at, date_at, edit_at, key_number_at, reason_at, occurrence_at, request_number_at, name_at, key_type_at, purpose_at, registered, register_at, edits, edits_at, revoked, revoke_at, key_and_name_at, keyed_at, named_at, kind_at, shaped_at, behind_at, split_by, word_at, command_at, requested, fields_at, request_at}
+use Rattle.register_core.specs.Reading.{◌>>=◌, is_space, field_at, field_then, moment_at, date_at, edit_at, key_number_at, reason_at, occurrence_at, request_number_at, name_at, key_type_at, purpose_at, registered, register_at, edits, edits_at, revoked, revoke_at, key_and_name_at, key_and_need_at, quorum_at, keyed_at, named_at, kind_at, shaped_at, behind_at, split_by, word_at, command_at, requested, fields_at, request_at}
 use Rattle.register_core.proofs.Commands.{made, made_again, has_shape}
 use Rattle.register_core.proofs.FieldReading.{bind_some, some_is, none_from, IsReader, HasNoSpace, field_takes, field_again, then_reader}
-use Rattle.register_core.proofs.Readers.{moment_reader, date_reader, edit_reader, moment_small, key_number_reader, key_number_small, request_number_reader, request_number_small, name_reader, purpose_reader, key_type_reader, kind_reader, reason_reader, reason_text, reason_small, IsOccurrence, occurrence_reader, not_space}
+use Rattle.register_core.proofs.Readers.{moment_reader, date_reader, edit_reader, moment_small, key_number_reader, key_number_small, request_number_reader, request_number_small, quorum_reader, name_reader, purpose_reader, key_type_reader, kind_reader, reason_reader, reason_text, reason_small, IsOccurrence, occurrence_reader, not_space}
 
 -- ---- what has no space
 
@@ -237,6 +238,20 @@ named_takes made in_range text =
     made_of key_and_name_reader (λ y. made y.0 y.1) (λ y. in_range y.0 y.1)
     (λ y. text y.0 y.1 ∙ joined_named (decimal y.0) y.1)
 
+key_and_need_reader : IsReader (field_then key_number_at (λ _. quorum_at)) (λ (y : ℕ × ℕ). before (decimal y.0) (decimal y.1))
+    (λ (y : ℕ × ℕ). IsKeyNumber y.0 × IsQuorum y.1)
+key_and_need_reader = then_reader key_number_reader key_number_solid (λ _. quorum_reader)
+
+key_and_need_takes : (bytes : List ℕ) (f : Fields) → key_and_need_at bytes ≡ Some f → AreRead (Some bytes) f
+unfolding key_and_need_at
+key_and_need_takes =
+    made_of key_and_need_reader (λ y. KeyAndNeed y.0 y.1) (λ y h. h) (λ y. joined_named (decimal y.0) (decimal y.1))
+
+key_and_need_again : (key need : ℕ) → AreFields (KeyAndNeed key need)
+    → key_and_need_at (before (decimal key) (decimal need)) ≡ Some (KeyAndNeed key need)
+unfolding key_and_need_at
+key_and_need_again key need in_range = rw (key_and_need_reader.again (key, need) in_range) refl
+
 keyed_again : (key : ℕ) → IsKeyNumber key → keyed_at (decimal key) ≡ Some (Key key)
 unfolding keyed_at
 keyed_again key in_range = rw (key_number_reader.again key in_range) refl
@@ -298,6 +313,7 @@ shaped_takes shapes.Nothing bytes f e = absurd cc
 shaped_takes shapes.Key bytes f e = keyed_takes bytes f e
 shaped_takes shapes.KeyAndName bytes f e = named_takes KeyAndName (λ key name h. h) (λ key name. refl) bytes f e
 shaped_takes shapes.KeyAndOwner bytes f e = named_takes KeyAndOwner (λ key name h. h) (λ key name. refl) bytes f e
+shaped_takes shapes.KeyAndNeed bytes f e = key_and_need_takes bytes f e
 shaped_takes shapes.Registration bytes f e = register_takes bytes f e
 shaped_takes shapes.DateEdits bytes f e = edits_take bytes f e
 shaped_takes shapes.Revocation bytes f e = revoke_takes bytes f e
@@ -327,6 +343,11 @@ read_again (KeyAndOwner key owner) in_range = record {
   behind = Some (before (decimal key) owner);
   text = joined_named (decimal key) owner;
   read = named_again KeyAndOwner key owner in_range;
+}
+read_again (KeyAndNeed key need) in_range = record {
+  behind = Some (before (decimal key) (decimal need));
+  text = joined_named (decimal key) (decimal need);
+  read = key_and_need_again key need in_range;
 }
 read_again (Registration k o a p d u) in_range = record {
   behind = Some (text_of_registered (k, (o, (a, (p, (d, u))))));

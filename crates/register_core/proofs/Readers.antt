@@ -22,10 +22,11 @@ use Rattle.register_core.specs.declared.request.Edit.{Edit}
 use Rattle.register_core.specs.declared.request.Edit.TheVariants.{Keep, Clear, Set}
 use Rattle.register_core.specs.Name.{is_name_byte, max_name_length, IsName}
 use Rattle.register_core.specs.Number.{max_request_number, IsNumber}
+use Rattle.register_core.specs.Quorum.{min_approvals, max_approvals, IsQuorum}
 use Rattle.register_core.specs.Purpose.{is_purpose_byte, max_purpose_length, IsPurpose}
 use Rattle.period_core.specs.KeyType.{key_type_text}
 use Rattle.register_core.specs.CommandKind.{command_kind_text}
-use Rattle.register_core.specs.Reading.{◌>>=◌, number_at, moment_at, date_at, edit_at, key_number_at, reasons, reason_at, occurrence_at, request_number_at, name_at, purpose_at, key_types, key_type_at, command_kinds, kind_at, is_space, is_trimmed}
+use Rattle.register_core.specs.Reading.{◌>>=◌, number_at, moment_at, date_at, edit_at, key_number_at, reasons, reason_at, occurrence_at, request_number_at, quorum_at, name_at, purpose_at, key_types, key_type_at, command_kinds, kind_at, is_space, is_trimmed}
 use Rattle.register_core.specs.Request.{IsDate, IsKeyNumber, IsEdit, date_text, edit_text}
 use Rattle.register_core.proofs.FieldReading.{IsReader, is_read, bind_some, some_is}
 
@@ -158,6 +159,16 @@ request_number_reader = record {
   takes = λ field n e. number_takes 1 max_request_number field n e;
   again = λ n in_range. number_again 1 max_request_number (omega arith) n in_range;
 }
+
+pub quorum_reader : IsReader quorum_at decimal IsQuorum
+unfolding quorum_at
+quorum_reader = record {
+  takes = λ field n e. number_takes min_approvals max_approvals field n e;
+  again = λ n in_range. number_again min_approvals max_approvals (omega arith) n in_range;
+}
+
+pub quorum_small : (n : ℕ) → IsQuorum n → n < 2 ^ 64
+quorum_small n in_range = omega arith
 
 -- a number that was made of the number in the field
 pub made_of_number : {read_by : List ℕ → Option ℕ} {P : ℕ → Type 0} → IsReader read_by decimal P → ((x : ℕ) → P x → x < 2 ^ 64) → (field : List ℕ) (o : Option ℕ) (n : ℕ) → n < 2 ^ 64

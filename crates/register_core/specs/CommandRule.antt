@@ -15,7 +15,7 @@ use Rattle.register_core.specs.declared.command_rule.Giver.TheVariants.{Anybody,
 use Rattle.register_core.specs.declared.request.Command.{Command}
 use Rattle.register_core.specs.declared.request.Command.TheVariants.{Register, Activate, SetDates, Revoke, Assign}
 use Rattle.register_core.specs.declared.request.Command.TheVariants.{AddCustodian, RemoveCustodian, Approve, Withdraw}
-use Rattle.register_core.specs.declared.request.Command.TheVariants.{Destroy, Advance}
+use Rattle.register_core.specs.declared.request.Command.TheVariants.{Destroy, Advance, SetQuorum}
 
 pub record Rule : Type 0 where
   pub kind : CommandKind
@@ -67,6 +67,8 @@ rule (Withdraw key) =
 rule (Destroy key) =
     record { kind = kinds.Destroy; giver = Owner; states = before_destruction; looks_at_custody = true }
 rule Advance = record { kind = kinds.Advance; giver = Anybody; states = any_state; looks_at_custody = false }
+rule (SetQuorum key need) =
+    record { kind = kinds.SetQuorum; giver = Owner; states = any_state; looks_at_custody = false }
 
 -- ---- what it says
 
@@ -93,6 +95,11 @@ is_one_of states state = list_any (λ s. state_code s == state_code state) state
 -- the command is for a key in this state
 abbrev pub is_for : Command → State → Bool
 is_for c state = is_one_of (rule c).states state
+
+-- the command is one that the approvals of custodians are needed for
+abbrev pub needs_approvals : Command → Bool
+needs_approvals (Destroy key) = true
+needs_approvals _ = false
 
 -- a decision on the command looks at the key's custodians, or at the approvals of its destruction
 abbrev pub looks_at_custody : Command → Bool

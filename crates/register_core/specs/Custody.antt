@@ -1,5 +1,5 @@
 -- Custodians of keys, and approvals of their destruction, as the accepted requests say. All of it is this register's own.
-use Rattle.std.specs.Prelude.{ℕ, nat_le, Bool, false, not, ◌&&◌, ◌||◌, List, [], ◌∷◌, ◌++◌, filter, Option, None, Some, is_none, if◌then◌else◌}
+use Rattle.std.specs.Prelude.{ℕ, nat_le, Bool, false, not, ◌&&◌, ◌||◌, List, [], ◌∷◌, ◌++◌, filter, fold, Option, None, Some, is_none, unwrap_or, if◌then◌else◌}
 use Rattle.std.specs.List.{list_any}
 use Rattle.lifecycle_core.specs.State.{state_at}
 use Rattle.lifecycle_core.specs.Reason.{is_compromise}
@@ -9,7 +9,9 @@ use Rattle.register_core.specs.declared.request.Command.TheVariants.{Revoke, Add
 use Rattle.register_core.specs.declared.view.Held.{Held}
 use Rattle.register_core.specs.KeyName.{KeyName, key_name, is_key_name, is_at, names_at}
 use Rattle.register_core.specs.Names.{sorted_names}
-use Rattle.register_core.specs.History.{latest, count, type, dates, owner}
+use Rattle.register_core.specs.Effect.{need_after}
+use Rattle.register_core.specs.History.{latest, count, own, type, dates, owner}
+use Rattle.register_core.specs.Quorum.{min_approvals}
 
 -- ---- custodians
 
@@ -75,17 +77,17 @@ approvals_from before (q ∷ later) = approval_of before q later ++ approvals_fr
 abbrev pub all_approvals : List Request → List (KeyName)
 all_approvals h = approvals_from [] h
 
--- how many approvals the destruction of a key needs
-abbrev pub min_approvals : ℕ
-min_approvals = 2
-
 -- those whose approval of the destruction of key k stands, in order of their bytes
 abbrev pub approvals : List Request → ℕ → List (List ℕ)
 approvals h k = sorted_names (names_at k (all_approvals h))
 
+-- how many the owner of key k asked for last, if it asked for a number
+abbrev pub set_need : List Request → ℕ → Option ℕ
+set_need h k = fold (λ before p. need_after before p.request.command) None (own h k)
+
 -- how many approvals the destruction of key k needs (own)
 abbrev pub need : List Request → ℕ → ℕ
-need h k = min_approvals
+need h k = unwrap_or (set_need h k) min_approvals
 
 -- ---- a key as it stands
 

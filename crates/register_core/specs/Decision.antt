@@ -11,10 +11,11 @@ use Rattle.register_core.specs.declared.reply.Reply.{Reply}
 use Rattle.register_core.specs.declared.view.Held.{Held}
 use Rattle.register_core.specs.declared.view.View.{View}
 use Rattle.register_core.specs.declared.change.CustodyChange.{CustodyChange}
-use Rattle.register_core.specs.declared.change.CustodyChange.TheVariants.{Kept, CustodianAdded, CustodianRemoved, Approved, Withdrawn, ApprovalsEnded}
+use Rattle.register_core.specs.declared.change.CustodyChange.TheVariants.{Kept, CustodianAdded, CustodianRemoved, Approved, Withdrawn, ApprovalsEnded, NeedSet}
 use Rattle.register_core.specs.declared.change.Change.{Change}
 use Rattle.register_core.specs.declared.change.Change.TheVariants as change
 use Rattle.register_core.specs.History.{latest, count, period, type}
+use Rattle.register_core.specs.Settings.{KeyNeed, with_need, all_needs}
 use Rattle.register_core.specs.Custody.{all_custodians, custodians, all_approvals, approvals, need, held}
 use Rattle.register_core.specs.declared.key.Key.{Key}
 use Rattle.register_core.specs.Verdict.{named_key, always}
@@ -91,10 +92,16 @@ approvals_by key (Withdrawn name) entries = filter (λ entry. not (is_key_name k
 approvals_by key ApprovalsEnded entries = filter (λ entry. not (is_at key entry)) entries
 approvals_by key _ entries = entries
 
--- the custodians and approvals behind the request are those before it, with the change
+-- and of the needs that are set
+abbrev pub needs_by : ℕ → CustodyChange → List KeyNeed → List KeyNeed
+needs_by key (NeedSet need) sets = with_need key need sets
+needs_by key _ sets = sets
+
+-- the custodians, the approvals and the needs behind the request are those before it, with the change
 pub record CustodyLead (h : List Request) (q : Request) (key : ℕ) (custody : CustodyChange) : Type 0 where
   pub custodians_are : all_custodians (h ++ q ∷ []) ≡ custodians_by key custody (all_custodians h)
   pub approvals_are : all_approvals (h ++ q ∷ []) ≡ approvals_by key custody (all_approvals h)
+  pub needs_are : all_needs (h ++ q ∷ []) ≡ needs_by key custody (all_needs h)
 
 -- key k stands so in the history, with the custody that it has there
 abbrev pub Stands : List Request → ℕ → KeyType → List ℕ → Row → Type 0

@@ -8,11 +8,11 @@ use Rattle.period_core.specs.declared.key_type.KeyType.{KeyType}
 use Rattle.period_core.specs.Period.{Period}
 use Rattle.period_core.specs.Fitting.{filled, trimmed}
 use Rattle.register_core.specs.declared.request.Command.{Command}
-use Rattle.register_core.specs.declared.request.Command.TheVariants.{Register, Activate, SetDates, Revoke, Assign, AddCustodian, RemoveCustodian, Approve, Withdraw, Destroy}
+use Rattle.register_core.specs.declared.request.Command.TheVariants.{Register, Activate, SetDates, Revoke, Assign, AddCustodian, RemoveCustodian, Approve, Withdraw, Destroy, SetQuorum}
 use Rattle.register_core.specs.declared.request.Edit.{Edit}
 use Rattle.register_core.specs.declared.request.Edit.TheVariants.{Keep, Clear, Set}
 use Rattle.register_core.specs.declared.change.CustodyChange.{CustodyChange}
-use Rattle.register_core.specs.declared.change.CustodyChange.TheVariants.{Kept, CustodianAdded, CustodianRemoved, Approved, Withdrawn, ApprovalsEnded}
+use Rattle.register_core.specs.declared.change.CustodyChange.TheVariants.{Kept, CustodianAdded, CustodianRemoved, Approved, Withdrawn, ApprovalsEnded, NeedSet}
 use Rattle.register_core.specs.Subject.{Subject, Makes, Names, NoKey, subject}
 
 abbrev pub kind_by : KeyType → Subject → KeyType
@@ -82,6 +82,11 @@ row_at d t = record { dates = d; state = state_at d t }
 
 -- ---- custody
 
+-- how many approvals the destruction of a key needs after a command that names it, if its owner asked for a number
+abbrev pub need_after : Option ℕ → Command → Option ℕ
+need_after before (SetQuorum key need) = Some need
+need_after before _ = before
+
 -- what becomes of the custody of a key with these dates, by a caller's command
 abbrev pub custody_change : Dates → List ℕ → Command → CustodyChange
 custody_change d caller (Revoke key reason occurrence) = if is_compromise reason && is_none d.destroy then ApprovalsEnded else Kept
@@ -89,4 +94,5 @@ custody_change d caller (AddCustodian key name) = CustodianAdded name
 custody_change d caller (RemoveCustodian key name) = CustodianRemoved name
 custody_change d caller (Approve key) = Approved caller
 custody_change d caller (Withdraw key) = Withdrawn caller
+custody_change d caller (SetQuorum key need) = NeedSet need
 custody_change d caller _ = Kept

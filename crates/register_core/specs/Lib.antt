@@ -6,6 +6,7 @@ pub mod KeyName
 pub mod Settings
 pub mod Number
 pub mod Purpose
+pub mod Quorum
 pub mod Reply
 pub mod Answer
 pub mod CommandKind

@@ -8,12 +8,15 @@ use Rattle.register_core.specs.declared.request.Command.TheVariants.{Register, A
 use Rattle.register_core.specs.declared.view.Held.{Held}
 use Rattle.register_core.specs.declared.view.View.{View}
 use Rattle.register_core.specs.History.{latest, count, period}
-use Rattle.register_core.specs.CommandRule.{looks_at_custody}
+use Rattle.register_core.specs.CommandRule.{looks_at_custody, needs_approvals}
+use Rattle.register_core.specs.Quorum.{min_approvals}
 use Rattle.register_core.specs.Verdict.{named_key}
 
--- the key, with both lists left empty where the command looks at neither
+-- the key, with both lists left empty where the command looks at neither, and the least need where it does not look at
+-- that
 abbrev pub needed_of : Command → Held → Held
 needed_of c held = record held {
+  need = if needs_approvals c then held.need else min_approvals;
   custodians = if looks_at_custody c then held.custodians else [];
   approvals = if looks_at_custody c then held.approvals else [];
 }

@@ -12,7 +12,7 @@ use Rattle.register_core.specs.declared.request.Request.{Request}
 use Rattle.register_core.specs.declared.request.Command.{Command}
 use Rattle.register_core.specs.declared.fields.Fields.{Fields}
 use Rattle.register_core.specs.declared.fields.Fields.TheVariants.{Nothing, Key, KeyAndName, KeyAndOwner}
-use Rattle.register_core.specs.declared.fields.Fields.TheVariants.{Registration, DateEdits, Revocation}
+use Rattle.register_core.specs.declared.fields.Fields.TheVariants.{KeyAndNeed, Registration, DateEdits, Revocation}
 use Rattle.register_core.specs.declared.fields.Shape.{Shape}
 use Rattle.register_core.specs.declared.fields.Shape.TheVariants as shapes
 use Rattle.register_core.specs.Fields.{command_with}
@@ -24,6 +24,7 @@ use Rattle.moment_core.specs.Moment.{last_second}
 use Rattle.register_core.specs.Name.{is_name_byte, max_name_length}
 use Rattle.register_core.specs.Number.{max_request_number}
 use Rattle.register_core.specs.Purpose.{is_purpose_byte, max_purpose_length}
+use Rattle.register_core.specs.Quorum.{min_approvals, max_approvals}
 use Rattle.register_core.specs.CommandKind.{command_kind_text, command_shape}
 use Rattle.register_core.specs.Request.{max_line_length}
 use Rattle.period_core.specs.KeyType.{key_type_text}
@@ -93,6 +94,10 @@ occurrence_at reason field = if is_compromise reason then date_at field else if 
 unfoldable pub request_number_at : List ℕ → Option ℕ
 request_number_at field = number_at 1 max_request_number field
 
+-- how many approvals the field writes that a destruction needs
+unfoldable pub quorum_at : List ℕ → Option ℕ
+quorum_at field = number_at min_approvals max_approvals field
+
 -- the name that the field is
 unfoldable pub name_at : List ℕ → Option (List ℕ)
 name_at field =
@@ -120,7 +125,7 @@ key_type_at field = find (λ kind. bytes_eq (key_type_text kind) field) key_type
 abbrev pub command_kinds : List CommandKind
 command_kinds =
     kinds.Register ∷ kinds.Activate ∷ kinds.SetDates ∷ kinds.Revoke ∷ kinds.Assign ∷ kinds.AddCustodian
-    ∷ kinds.RemoveCustodian ∷ kinds.Approve ∷ kinds.Withdraw ∷ kinds.Destroy ∷ kinds.Advance ∷ []
+    ∷ kinds.RemoveCustodian ∷ kinds.Approve ∷ kinds.Withdraw ∷ kinds.Destroy ∷ kinds.Advance ∷ kinds.SetQuorum ∷ []
 
 -- the kind whose word this is
 unfoldable pub kind_at : List ℕ → Option CommandKind
@@ -156,6 +161,12 @@ register_at bytes = do
 -- the number of a key, and the name behind it
 unfoldable pub key_and_name_at : List ℕ → Option (ℕ × List ℕ)
 key_and_name_at bytes = field_then key_number_at (λ _. name_at) bytes
+
+-- the number of a key, and behind it how many approvals its destruction needs
+unfoldable pub key_and_need_at : List ℕ → Option Fields
+key_and_need_at bytes = do
+  read ← field_then key_number_at (λ _. quorum_at) bytes
+  Some (KeyAndNeed read.0 read.1)
 
 -- what edits_at reads, as fields
 abbrev pub edits : ℕ × (Edit × (Edit × Edit)) → Fields
@@ -195,6 +206,7 @@ shaped_at shapes.Nothing bytes = None
 shaped_at shapes.Key bytes = keyed_at bytes
 shaped_at shapes.KeyAndName bytes = named_at KeyAndName bytes
 shaped_at shapes.KeyAndOwner bytes = named_at KeyAndOwner bytes
+shaped_at shapes.KeyAndNeed bytes = key_and_need_at bytes
 shaped_at shapes.Registration bytes = register_at bytes
 shaped_at shapes.DateEdits bytes = edits_at bytes
 shaped_at shapes.Revocation bytes = revoke_at bytes

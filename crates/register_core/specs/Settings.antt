@@ -1,7 +1,11 @@
 -- What is set beside the keys themselves: the usage period of a type, and the approvals that a key needs.
-use Rattle.std.specs.Prelude.{ℕ}
+use Rattle.std.specs.Prelude.{ℕ, ◌==◌, not, List, [], ◌∷◌, ◌++◌, filter, find, fold, Option}
+use Rattle.std.specs.Option.{option_map}
 use Rattle.period_core.specs.declared.key_type.KeyType.{KeyType}
 use Rattle.period_core.specs.Period.{Period}
+use Rattle.register_core.specs.declared.request.Request.{Request}
+use Rattle.register_core.specs.declared.request.Command.{Command}
+use Rattle.register_core.specs.declared.request.Command.TheVariants.{SetQuorum}
 
 -- a type with the period that the office set for it
 pub record TypePeriod : Type 0 where
@@ -13,6 +17,21 @@ pub record KeyNeed : Type 0 where
   pub key : ℕ
   pub need : ℕ
 
--- how many approvals an owner asks for at most (own)
-abbrev pub max_need : ℕ
-max_need = 5
+-- ---- needs
+
+-- the need of this key, in the place of the one that was set before, if one was
+abbrev pub with_need : ℕ → ℕ → List KeyNeed → List KeyNeed
+with_need key need sets =
+    filter (λ (set : KeyNeed). not (set.key == key)) sets ++ record { key = key; need = need } ∷ []
+
+abbrev pub needs_after : List KeyNeed → Command → List KeyNeed
+needs_after before (SetQuorum key need) = with_need key need before
+needs_after before _ = before
+
+-- the needs that were set, each as it was set last
+abbrev pub all_needs : List Request → List KeyNeed
+all_needs h = fold (λ before q. needs_after before q.command) [] h
+
+-- the need that is set for a key among these, or none
+abbrev pub need_at : ℕ → List KeyNeed → Option ℕ
+need_at key sets = option_map (λ (set : KeyNeed). set.need) (find (λ (set : KeyNeed). set.key == key) sets)

@@ -34,6 +34,7 @@ subject_by (fields.Registration kind owner activation protect_stop deactivation 
 subject_by (fields.Key key) = Names key
 subject_by (fields.KeyAndName key name) = Names key
 subject_by (fields.KeyAndOwner key owner) = Names key
+subject_by (fields.KeyAndNeed key need) = Names key
 subject_by (fields.DateEdits key activation protect_stop deactivation) = Names key
 subject_by (fields.Revocation key reason occurrence) = Names key
 

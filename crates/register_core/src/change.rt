@@ -1,6 +1,7 @@
 //! What an accepted request changes, and its reply.
 use crate::key::Key;
 use crate::name::Name;
+use crate::quorum::Quorum;
 use crate::reply::Reply;
 use lifecycle_core::Row;
 
@@ -19,6 +20,8 @@ pub enum CustodyChange {
     Withdrawn(Name),
     /// All approvals end.
     ApprovalsEnded,
+    /// The key's destruction needs so many approvals.
+    NeedSet(Quorum),
 }
 
 /// What an accepted request changes, beside the latest moment.

@@ -6,17 +6,19 @@ ghost use Rattle.register_core.specs.declared.fields.Fields.TheVariants.{Revocat
 ghost use Rattle.register_core.specs.Request.{fields_text, command_text};
 ghost use Rattle.register_core.specs.CommandText.{IsCommandItem};
 ghost use Rattle.register_core.specs.Reading.{register_at, edits_at, revoke_at, key_and_name_at};
-ghost use Rattle.register_core.specs.Reading.{shaped_at, behind_at, word_at, command_at};
+ghost use Rattle.register_core.specs.Reading.{key_and_need_at, shaped_at, behind_at, word_at};
+ghost use Rattle.register_core.specs.Reading.{command_at};
 
 use crate::command_kind::MAX_WORD_LENGTH;
 use crate::field::{
     command_kind_of, date_of, edit_of, key_number_of, key_type_of, name_of, next_field,
-    occurrence_of, purpose_of, put_date, put_edit, put_number, reason_of, split_field,
+    occurrence_of, purpose_of, put_date, put_edit, put_number, quorum_of, reason_of, split_field,
     split_key_number,
 };
 use crate::fields::{Fields, Shape};
 use crate::name::Name;
 use crate::purpose::Purpose;
+use crate::quorum::Quorum;
 use crate::request::{Command, Edit};
 use crate::short_text::ShortText;
 use arrayvec::ArrayString;
@@ -51,6 +53,16 @@ fn key_and_name_of(bytes: &[u8]) -> Option<(u32, Name)>
     let (key, rest) = split_key_number(bytes)?;
     let name = name_of(rest)?;
     Some((key, name))
+}
+
+/// The number of a key, and behind it how many approvals its destruction needs.
+#[tactic(auto, unfolding(crate::specs::Reading::key_and_need_at))]
+fn key_and_need_of(bytes: &[u8]) -> Option<Fields>
+    ensures { result ≡ key_and_need_at bytes.now }
+{
+    let (key, rest) = split_key_number(bytes)?;
+    let need = quorum_of(rest)?;
+    Some(Fields::KeyAndNeed { key, need })
 }
 
 /// The fields of a change of dates.
@@ -99,6 +111,7 @@ fn shaped_fields(shape: Shape, bytes: &[u8]) -> Option<Fields>
             let (key, owner) = key_and_name_of(bytes)?;
             Some(Fields::KeyAndOwner { key, owner })
         }
+        Shape::KeyAndNeed => key_and_need_of(bytes),
         Shape::Registration => register_of(bytes),
         Shape::DateEdits => edits_of(bytes),
         Shape::Revocation => revoke_of(bytes),
@@ -173,6 +186,17 @@ fn put_key_and_name(text: &mut ArrayString<MAX_COMMAND_LENGTH>, key: u32, name: 
     text.push_str(name.text());
 }
 
+/// The same with a number of approvals behind it.
+fn put_key_and_need(text: &mut ArrayString<MAX_COMMAND_LENGTH>, key: u32, need: Quorum)
+    requires { array_string_len text.old ≤ MAX_WORD_LENGTH }
+    ensures { text.new.bytes ≡ text.old.bytes ++
+        (codes " " ++ decimal key ++ codes " " ++ decimal need) }
+{
+    put_key(text, key);
+    text.push_str(" ");
+    put_number(text, u64::from(need.get()));
+}
+
 /// Appends the fields of a registration.
 fn put_registration(
     text: &mut ArrayString<MAX_COMMAND_LENGTH>,
@@ -245,6 +269,7 @@ fn put_fields(text: &mut ArrayString<MAX_COMMAND_LENGTH>, fields: &Fields)
             key,
             owner: ref name,
         } => put_key_and_name(text, key, name),
+        Fields::KeyAndNeed { key, need } => put_key_and_need(text, key, need),
         Fields::Registration {
             kind,
             ref owner,

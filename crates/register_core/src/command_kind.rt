@@ -20,6 +20,7 @@ pub enum CommandKind {
     Withdraw,
     Destroy,
     Advance,
+    SetQuorum,
 }
 
 /// What the commands of a kind look like.
@@ -36,7 +37,7 @@ impl CommandKind {
     ghost use Rattle.register_core.specs.CommandKind.{form, command_kind_text, command_shape};
 
     /// Each kind once.
-    pub const ALL: [CommandKind; 11] = [
+    pub const ALL: [CommandKind; 12] = [
         CommandKind::Register,
         CommandKind::Activate,
         CommandKind::SetDates,
@@ -48,6 +49,7 @@ impl CommandKind {
         CommandKind::Withdraw,
         CommandKind::Destroy,
         CommandKind::Advance,
+        CommandKind::SetQuorum,
     ];
 
     /// The one table of all kinds.
@@ -69,6 +71,7 @@ impl CommandKind {
             CommandKind::Withdraw => Form { word: "withdraw", shape: Shape::Key },
             CommandKind::Destroy => Form { word: "destroy", shape: Shape::Key },
             CommandKind::Advance => Form { word: "advance", shape: Shape::Nothing },
+            CommandKind::SetQuorum => Form { word: "set-quorum", shape: Shape::KeyAndNeed },
         }
     }
 

@@ -54,7 +54,7 @@ static DATED_BY_HAND: [State; 2] = [State::PreActive, State::Active];
 
 impl Command {
     ghost use Rattle.register_core.specs.CommandRule.{rule, kind_of, is_owners, is_custodians};
-    ghost use Rattle.register_core.specs.CommandRule.{is_for, looks_at_custody};
+    ghost use Rattle.register_core.specs.CommandRule.{is_for, looks_at_custody, needs_approvals};
 
     /// The command's rule.
     #[rattlefmt::skip]
@@ -103,6 +103,9 @@ impl Command {
             Command::Advance => {
                 Rule { kind: Kind::Advance, giver: Anybody, states: &State::ALL, looks_at_custody: false }
             }
+            Command::SetQuorum { .. } => {
+                Rule { kind: Kind::SetQuorum, giver: Owner, states: &State::ALL, looks_at_custody: false }
+            }
         }
     }
 
@@ -132,6 +135,14 @@ impl Command {
         ensures { result ≡ is_for self.now state }
     {
         self.rule().states.contains(&state)
+    }
+
+    /// Whether the command is one that the approvals of custodians are needed for. A decision on any other does not look at
+    /// how many those are.
+    pub fn needs_approvals(&self) -> bool
+        ensures { result ≡ needs_approvals self.now }
+    {
+        matches!(self, Command::Destroy { .. })
     }
 
     /// Whether a decision on the command looks at the custodians of its key, or at the approvals of

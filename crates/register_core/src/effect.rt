@@ -156,6 +156,7 @@ pub(crate) fn custody_change(dates: &Dates, caller: Name, command: &Command) -> 
         Command::RemoveCustodian { name, .. } => CustodyChange::CustodianRemoved(name),
         Command::Approve { .. } => CustodyChange::Approved(caller),
         Command::Withdraw { .. } => CustodyChange::Withdrawn(caller),
+        Command::SetQuorum { need, .. } => CustodyChange::NeedSet(need),
         _ => CustodyChange::Kept,
     }
 }

@@ -7,12 +7,14 @@ ghost use Rattle.register_core.specs.Request.{IsKeyNumber, date_text, edit_text}
 ghost use Rattle.register_core.specs.Reading.{Gives, is_space, field_at, field_as, moment_at};
 ghost use Rattle.register_core.specs.Reading.{date_at, edit_at, key_number_at, reason_at};
 ghost use Rattle.register_core.specs.Reading.{occurrence_at, request_number_at, name_at};
-ghost use Rattle.register_core.specs.Reading.{key_type_at, kind_at, purpose_at};
+ghost use Rattle.register_core.specs.Reading.{key_type_at, kind_at, purpose_at, quorum_at};
+ghost use Rattle.register_core.specs.Quorum.{IsQuorum};
 
 use crate::command_kind::CommandKind;
 use crate::name::Name;
 use crate::number::RequestNumber;
 use crate::purpose::Purpose;
+use crate::quorum::Quorum;
 use crate::request::Edit;
 use arrayvec::ArrayString;
 use itoa::Buffer;
@@ -164,6 +166,21 @@ pub(crate) fn request_number_of(field: &[u8]) -> Option<RequestNumber>
     ensures { result ≡ request_number_at field.now }
 {
     RequestNumber::new(read_decimal(field)?)
+}
+
+/// So many approvals, or `None` out of the range.
+fn quorum(number: u64) -> Option<Quorum>
+    ensures in_range { IsSome result ↔ IsQuorum number }
+    ensures value { IfSome result (λ n. n ≡ number) }
+{
+    Quorum::new(u8::try_from(number).ok()?)
+}
+
+/// How many approvals the field writes that a destruction needs.
+pub(crate) fn quorum_of(field: &[u8]) -> Option<Quorum>
+    ensures { result ≡ quorum_at field.now }
+{
+    quorum(read_decimal(field)?)
 }
 
 /// The name that the field is.

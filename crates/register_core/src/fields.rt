@@ -7,6 +7,7 @@ ghost use Rattle.register_core.specs.Fields.{fields_of, command_with};
 use crate::command_kind::CommandKind;
 use crate::name::Name;
 use crate::purpose::Purpose;
+use crate::quorum::Quorum;
 use crate::request::{Command, Edit};
 use lifecycle_core::Reason;
 use moment_core::Moment;
@@ -19,6 +20,7 @@ pub enum Shape {
     Key,
     KeyAndName,
     KeyAndOwner,
+    KeyAndNeed,
     Registration,
     DateEdits,
     Revocation,
@@ -40,6 +42,10 @@ pub enum Fields {
     KeyAndOwner {
         key: u32,
         owner: Name,
+    },
+    KeyAndNeed {
+        key: u32,
+        need: Quorum,
     },
     Registration {
         kind: KeyType,
@@ -75,6 +81,7 @@ impl Fields {
             Fields::Key { key }
             | Fields::KeyAndName { key, .. }
             | Fields::KeyAndOwner { key, .. }
+            | Fields::KeyAndNeed { key, .. }
             | Fields::DateEdits { key, .. }
             | Fields::Revocation { key, .. } => Some(key),
         }
@@ -151,6 +158,7 @@ impl Command {
             Command::Withdraw { key } => Fields::Key { key },
             Command::Destroy { key } => Fields::Key { key },
             Command::Advance => Fields::Nothing,
+            Command::SetQuorum { key, need } => Fields::KeyAndNeed { key, need },
         }
     }
 
@@ -166,6 +174,10 @@ impl Command {
             Fields::KeyAndName { key, name } => named(kind, key, name),
             Fields::KeyAndOwner { key, owner } => match kind {
                 Kind::Assign => Some(Command::Assign { key, owner }),
+                _ => None,
+            },
+            Fields::KeyAndNeed { key, need } => match kind {
+                Kind::SetQuorum => Some(Command::SetQuorum { key, need }),
                 _ => None,
             },
             Fields::Registration { kind: key_type, owner, activation, protect_stop, deactivation, purpose } => {

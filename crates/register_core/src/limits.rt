@@ -2,9 +2,9 @@
 /// How many keys the register takes (this register's own limit).
 pub const MAX_KEYS: u32 = 1_000_000;
 
-/// How many approvals, of different custodians, the destruction of a key needs (this register's
-/// own).
+/// How many approvals, of different custodians, the destruction of a key needs at the least, and where its owner has set
+/// nothing (this register's own).
 pub const MIN_APPROVALS: u8 = 2;
 
-/// How many approvals the owner of a key asks for at most (this register's own).
-pub const MAX_NEED: u8 = 5;
+/// How many its owner may ask for at the most (this register's own).
+pub const MAX_APPROVALS: u8 = 5;

@@ -2,6 +2,7 @@
 use crate::name::Name;
 use crate::number::RequestNumber;
 use crate::purpose::Purpose;
+use crate::quorum::Quorum;
 use lifecycle_core::Reason;
 use moment_core::Moment;
 use period_core::KeyType;
@@ -76,6 +77,11 @@ pub enum Command {
     },
     /// Nothing but that the moment has come.
     Advance,
+    /// The key's destruction needs so many approvals from here on.
+    SetQuorum {
+        key: u32,
+        need: Quorum,
+    },
 }
 
 impl Command {

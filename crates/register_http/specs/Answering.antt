@@ -40,7 +40,7 @@ found_reply reply (Some found) = reply found
 abbrev pub record_reply : Record → Reply
 record_reply key =
     key_reply (record { number = key.number; kind = key.kind; owner = key.owner; purpose = key.purpose; row = key.row })
-    key.custodians key.approvals
+    key.need key.custodians key.approvals
 
 -- the reply of the register of this history
 abbrev pub reply_to : List Request → ℕ → Asked → Reply

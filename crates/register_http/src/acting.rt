@@ -44,6 +44,7 @@ fn record_text(alloc: Global, shown: Record) -> Result<String, AllocError>
         owner,
         purpose,
         row,
+        need,
         custodians,
         approvals,
     } = shown;
@@ -54,7 +55,7 @@ fn record_text(alloc: Global, shown: Record) -> Result<String, AllocError>
         purpose,
         row,
     };
-    key_text(alloc, &key, &custodians, &approvals)
+    key_text(alloc, &key, need, &custodians, &approvals)
 }
 
 /// Shows a key.

@@ -19,13 +19,13 @@ use Rattle.period_core.specs.KeyType.{key_type_code}
 use Rattle.period_core.specs.Period.{IsPeriod}
 use Rattle.register_core.specs.declared.kept_reply.KeptReply.{KeptReply}
 use Rattle.register_core.specs.declared.key.Key.{Key}
-use Rattle.register_core.specs.Custody.{min_approvals}
 use Rattle.register_core.specs.KeptReply.{IsKeptReply}
 use Rattle.register_core.specs.KeyName.{KeyName}
 use Rattle.register_core.specs.Name.{IsName}
 use Rattle.register_core.specs.Purpose.{IsPurpose}
 use Rattle.register_core.specs.Request.{IsDate, command_text}
-use Rattle.register_core.specs.Settings.{KeyNeed, TypePeriod, max_need}
+use Rattle.register_core.specs.Quorum.{IsQuorum}
+use Rattle.register_core.specs.Settings.{KeyNeed, TypePeriod}
 use Rattle.register_core.specs.Version.{current, version_number}
 use Rattle.register_store.specs.declared.table.TableName.{TableName}
 use Rattle.register_store.specs.declared.table.TableName.TheVariants.{Meta, Keys, Custodian, Approval, Request, Period}
@@ -156,9 +156,8 @@ AreNames names = AllByRecursion IsNamed names
 abbrev pub IsSetPeriod : TypePeriod → Type 0
 IsSetPeriod set = IsPeriod set.period
 
-pub record IsSetNeed (set : KeyNeed) : Type 0 where
-  pub least : min_approvals ≤ set.need
-  pub most : set.need ≤ max_need
+abbrev pub IsSetNeed : KeyNeed → Type 0
+IsSetNeed set = IsQuorum set.need
 
 -- ---- what they refer to
 

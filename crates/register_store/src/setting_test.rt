@@ -9,11 +9,11 @@ ghost use Rattle.register_store.specs.Tests.{IsNeedOf};
 ghost use Rattle.register_store.specs.Checking.{ShowsKeyNeed, ShowsTypePeriod, TestsBy, counts_of};
 ghost use Rattle.register_store.specs.Taking.{IsAny, key_need, type_period};
 
-use crate::cell::{kind_in, months_in, number_in};
+use crate::cell::{kind_in, months_in, need_in, number_in};
 use crate::error::CheckError;
 use crate::found::Found;
 use period_core::{KeyType, Period};
-use register_core::{MAX_NEED, MIN_APPROVALS};
+use register_core::Quorum;
 use row_tests::{RowTest, test_rows};
 use sqlite::{Alter, Connection, Row};
 use std::alloc::AllocError;
@@ -29,7 +29,7 @@ struct PeriodRow {
 #[derive(Clone, Copy)]
 struct NeedRow {
     key: u64,
-    need: u64,
+    need: Quorum,
 }
 
 /// The period of a type that the row shows.
@@ -47,17 +47,13 @@ fn period_in(row: &Row) -> Option<PeriodRow>
 }
 
 /// The need of a key that the row shows.
-fn need_in(row: &Row) -> Option<NeedRow>
+fn need_row_in(row: &Row) -> Option<NeedRow>
     ensures { MatchOption result ((set : KeyNeed) → ¬ ShowsKeyNeed row.now set)
         (λ shown. ShowsKeyNeed row.now (key_need shown.key shown.need)) }
 {
     let key = number_in(row, 0)?;
-    let need = number_in(row, 1)?;
-    if need >= u64::from(MIN_APPROVALS) && need <= u64::from(MAX_NEED) {
-        Some(NeedRow { key, need })
-    } else {
-        None
-    }
+    let need = need_in(row, 1)?;
+    Some(NeedRow { key, need })
 }
 
 /// Each period by itself. Nothing is kept of them.
@@ -130,7 +126,7 @@ impl RowTest for NeedTest {
         RefusesEach ShowsKeyNeed (IsNeedOf (counts_of first.found)) rows };
 
     fn take(&mut self, row: &Row) -> Result<bool, AllocError> {
-        let Some(shown) = need_in(row) else {
+        let Some(shown) = need_row_in(row) else {
             return Ok(false);
         };
         Ok(is_need_of(shown, self.found))

@@ -163,9 +163,9 @@ pub static BODIES: [WorkedExchange; 5] = [
              "GET /keys/1 HTTP/1.1\r\nHost: localhost\r\n\r\n",
              "HTTP/1.1 200 OK\r\n\
               Content-Type: application/json\r\n\
-              Content-Length: 257\r\n\
+              Content-Length: 266\r\n\
               Connection: close\r\n\r\n\
-              {\"activation\":0,\"approvals\":[],\"compromised\":null,\"custodians\":[],\"deactivation\":157766400,\"destroyed\":null,\"initial\":100,\"number\":1,\"occurrence\":null,\"owner\":\"bob\",\"protect_stop\":63072000,\"purpose\":\"payroll disks\",\"state\":\"Active\",\"type\":\"data-encryption\"}"),
+              {\"activation\":0,\"approvals\":[],\"compromised\":null,\"custodians\":[],\"deactivation\":157766400,\"destroyed\":null,\"initial\":100,\"need\":2,\"number\":1,\"occurrence\":null,\"owner\":\"bob\",\"protect_stop\":63072000,\"purpose\":\"payroll disks\",\"state\":\"Active\",\"type\":\"data-encryption\"}"),
         ],
         stands: (100, 1),
     },

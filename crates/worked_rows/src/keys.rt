@@ -214,9 +214,9 @@ pub static CUSTODY: [WorkedRow; 6] = [
     },
 ];
 
-/// A destruction behind a compromise.
+/// A destruction behind a compromise, and one whose need is set.
 #[rattlefmt::skip]
-pub static DESTRUCTION: [WorkedRow; 1] = [
+pub static DESTRUCTION: [WorkedRow; 2] = [
     WorkedRow {
         name: "destroyed after a compromise",
         lines: &[
@@ -236,6 +236,26 @@ pub static DESTRUCTION: [WorkedRow; 1] = [
         shown: Some(Shown {
             state: State::DestroyedCompromised,
             dates: [None, None, None, Some(108), Some(105), Some(50)],
+            custodians: "cat dan ",
+            approvals: "cat dan ",
+        }),
+    },
+    WorkedRow {
+        name: "three approvals asked for",
+        lines: &[
+            REGISTERED, CAT_ADDED, DAN_ADDED,
+            ("103 bob 3 set-quorum 1 3", "ok 1 Pre-Active 103"),
+            ("104 cat 1 approve 1", "ok 1 Pre-Active 104"),
+            ("105 dan 1 approve 1", "ok 1 Pre-Active 105"),
+            ("106 bob 4 destroy 1", "refused 18 ApprovalsMissing have=2 need=3"),
+            ("106 bob 4 set-quorum 1 2", "ok 1 Pre-Active 106"),
+            ("107 bob 5 destroy 1", "ok 1 Destroyed 107"),
+            ("108 bob 6 set-quorum 1 6", "refused 1 BadLine"),
+        ],
+        rest: "",
+        shown: Some(Shown {
+            state: State::Destroyed,
+            dates: [None, None, None, Some(107), None, None],
             custodians: "cat dan ",
             approvals: "cat dan ",
         }),

@@ -41,7 +41,7 @@ pub fn custody() -> &'static [WorkedRow] {
     &keys::CUSTODY
 }
 
-/// A destruction behind a compromise.
+/// A destruction behind a compromise, and one whose need is set.
 pub fn destruction() -> &'static [WorkedRow] {
     &keys::DESTRUCTION
 }

@@ -8,7 +8,7 @@ use super::keys::{answer_by, change_by, dates_in, outcome_by, view_in, view_with
 use lifecycle_core::{Dates, State};
 use moment_core::Moment;
 use period_core::{KeyType, period_of};
-use register_core::{Change, CustodyChange, Name, Refusal, View, read_request};
+use register_core::{Change, CustodyChange, Name, Quorum, Refusal, View, read_request};
 use std::alloc::Global;
 use std::test::Fail;
 
@@ -197,6 +197,7 @@ fn custody_after_commands(rt: HostRuntime) -> Result<(), Fail> {
     let removed = CustodyChange::CustodianRemoved(name("dan")?);
     let approved = CustodyChange::Approved(name("eve")?);
     let withdrawn = CustodyChange::Withdrawn(name("cat")?);
+    let set = CustodyChange::NeedSet(Quorum::new(3).ok_or("a quorum")?);
     let rows = [
         (DESTROYED, "1000 zed 1 revoke 1 2 -", kept),
         (DESTROYED, "1000 zed 1 revoke 1 3 50", kept),
@@ -207,6 +208,8 @@ fn custody_after_commands(rt: HostRuntime) -> Result<(), Fail> {
         (PRE, "1000 bob 1 remove-custodian 1 dan", removed),
         (PRE, "1000 eve 1 approve 1", approved),
         (PRE, "1000 cat 1 withdraw 1", withdrawn),
+        (PRE, "1000 bob 1 set-quorum 1 3", set),
+        (DESTROYED, "1000 bob 1 set-quorum 1 3", set),
         (PRE, "1000 bob 1 destroy 1", kept),
     ];
     for (state, line, expected) in rows {

@@ -36,6 +36,15 @@ const DESTROYED: [Row; 6] = [
 /// It is compromised before that.
 const COMPROMISED: [Row; 1] = [("105 zed 1 revoke 1 3 50", "ok 1 Compromised 105\n")];
 
+/// Its owner asks for a third approval, and then for two again.
+#[rattlefmt::skip]
+const NEEDING: [Row; 4] = [
+    ("105 bob 3 set-quorum 1 3", "ok 1 Pre-Active 105\n"),
+    ("106 bob 4 destroy 1", "refused 18 ApprovalsMissing have=2 need=3\n"),
+    ("106 bob 4 set-quorum 1 2", "ok 1 Pre-Active 106\n"),
+    ("107 bob 5 destroy 1", "ok 1 Destroyed 107\n"),
+];
+
 /// The first row whose reply is another.
 fn first_wrong(answers: &[Result<Reply, Refusal>], rows: &[Row]) -> Option<usize> {
     answers.iter().zip(rows).position(|(answer, (_, reply))| reply_line(answer).as_str() != *reply)
@@ -116,6 +125,18 @@ fn compromise(rt: HostRuntime) -> Result<(), Fail> {
     let key = key_behind(&rt, rt.alloc(), &COMPROMISED)?;
     assert!(rt; is_key(&key, State::Compromised, None, Some(105), &[]));
     assert_eq!(rt; key.row.dates.compromise_occurrence, Moment::new(50));
+    Ok(())
+}
+
+/// What was asked for last counts, and two where nothing was.
+#[test]
+fn needs(rt: HostRuntime) -> Result<(), Fail> {
+    assert_eq!(rt; key_behind(&rt, rt.alloc(), &COMPROMISED)?.need, 2);
+    let asked = key_behind(&rt, rt.alloc(), NEEDING.get(..1).ok_or("a row")?)?;
+    assert_eq!(rt; asked.need, 3);
+    let key = key_behind(&rt, rt.alloc(), &NEEDING)?;
+    assert_eq!(rt; key.need, 2);
+    assert!(rt; is_key(&key, State::Destroyed, Some(107), None, &["cat", "dan"]));
     Ok(())
 }
 

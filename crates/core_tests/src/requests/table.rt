@@ -53,7 +53,7 @@ const NOT_CUSTODIAN: [Cell; 6] = [Cell::NotCustodian; 6];
 /// are the states of the key: Pre-Active, Active, Deactivated, Compromised, Destroyed,
 /// Destroyed-Compromised. Of the custodians cat has approved, and eve, who approves, has not.
 #[rattlefmt::skip]
-const TABLE: [(&str, [Cell; 6]); 33] = [
+const TABLE: [(&str, [Cell; 6]); 36] = [
     ("1000 bob 1 activate 1", [ACTIVE, WRONG_STATE, WRONG_STATE, WRONG_STATE, WRONG_STATE, WRONG_STATE]),
     ("1000 cat 1 activate 1", NOT_OWNER),
     ("1000 zed 1 activate 1", NOT_OWNER),
@@ -72,6 +72,9 @@ const TABLE: [(&str, [Cell; 6]); 33] = [
     ("1000 bob 1 assign 1 gil", [PRE_ACTIVE, ACTIVE, DEACTIVATED, COMPROMISED, DESTROYED, DESTROYED_COMPROMISED]),
     ("1000 cat 1 assign 1 gil", NOT_OWNER),
     ("1000 zed 1 assign 1 gil", NOT_OWNER),
+    ("1000 bob 1 set-quorum 1 3", [PRE_ACTIVE, ACTIVE, DEACTIVATED, COMPROMISED, DESTROYED, DESTROYED_COMPROMISED]),
+    ("1000 cat 1 set-quorum 1 3", NOT_OWNER),
+    ("1000 zed 1 set-quorum 1 3", NOT_OWNER),
     ("1000 bob 1 add-custodian 1 fay", [PRE_ACTIVE, ACTIVE, DEACTIVATED, COMPROMISED, DESTROYED, DESTROYED_COMPROMISED]),
     ("1000 cat 1 add-custodian 1 fay", NOT_OWNER),
     ("1000 zed 1 add-custodian 1 fay", NOT_OWNER),

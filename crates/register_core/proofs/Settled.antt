@@ -1,0 +1,141 @@
+-- The list of the needs that were set says what the history says of each key.
+use Rattle.std.proofs.Common.{◌≡◌, ◌==◌, inl, inr, ℕ, ◌≤◌, not, Bool, true, false, cond, List, [], ◌∷◌, ◌++◌, Option, None, Some}
+use Rattle.std.proofs.Common.{IfSome, refl, sym, ap, subst, ◌∙◌, arith}
+use Rattle.std.specs.Prelude.{filter, find, fold, unwrap_or}
+use Rattle.std.specs.List.{AllByRecursion}
+use Rattle.std.specs.Option.{option_map}
+use Rattle.std.proofs.lemmas.Bool.{cases_Bool, eq-eqb, eqb-true}
+use Rattle.std.proofs.lemmas.List.Sums.{fold-append}
+use Rattle.register_core.specs.declared.request.Request.{Request}
+use Rattle.register_core.specs.declared.request.Command.{Command}
+use Rattle.register_core.specs.declared.request.Command.TheVariants.{SetQuorum}
+use Rattle.register_core.specs.Effect.{need_after}
+use Rattle.register_core.specs.History.{Placed, count, own_from}
+use Rattle.register_core.specs.Custody.{set_need, need}
+use Rattle.register_core.specs.Quorum.{min_approvals, IsQuorum}
+use Rattle.register_core.specs.Request.{IsRequest, IsCommand}
+use Rattle.register_core.specs.Settings.{KeyNeed, with_need, needs_after, all_needs, need_at}
+use Rattle.register_core.specs.Subject.{is_key, key_of}
+use Rattle.register_core.proofs.Histories.{concerning, placed}
+
+abbrev need_step : Option ℕ → Placed → Option ℕ
+need_step before p = need_after before p.request.command
+
+-- one request more
+pub needs_next : (h : List Request) (q : Request) → all_needs (h ++ q ∷ []) ≡ needs_after (all_needs h) q.command
+needs_next h q = fold-append (λ (before : List KeyNeed) (p : Request). needs_after before p.command) [] h (q ∷ [])
+
+-- ---- what stands for a key after another entry took the place of its own
+
+abbrev set_in : List KeyNeed → KeyNeed → List KeyNeed
+set_in sets new = filter (λ (e : KeyNeed). not (e.key == new.key)) sets ++ new ∷ []
+
+found : (sets : List KeyNeed) (new : KeyNeed) (k : ℕ)
+    → find (λ (e : KeyNeed). e.key == k) (set_in sets new)
+    ≡ cond (new.key == k) (Some new) (find (λ (e : KeyNeed). e.key == k) sets)
+found [] new k = refl
+found (x ∷ xs) new k = elim (cases_Bool (x.key == new.key)) [
+  | inl same ↦
+      let at : (x.key == k) ≡ (new.key == k) = ap (λ (n : ℕ). n == k) (eqb-true _ _ same) in
+      ap (λ (b : Bool). find (λ (e : KeyNeed). e.key == k) (cond (not b) (x ∷ kept) kept ++ new ∷ [])) same
+      ∙ found xs new k ∙ gone (new.key == k) (Some new) (Some x) (find (λ (e : KeyNeed). e.key == k) xs)
+      ∙ ap (λ (b : Bool). cond (new.key == k) (Some new) (cond b (Some x) (find (λ (e : KeyNeed). e.key == k) xs))) (sym at)
+  | inr other ↦
+      ap (λ (b : Bool). find (λ (e : KeyNeed). e.key == k) (cond (not b) (x ∷ kept) kept ++ new ∷ [])) other
+      ∙ ap (λ (o : Option KeyNeed). cond (x.key == k) (Some x) o) (found xs new k)
+      ∙ turned (x.key == k) (new.key == k)
+      (λ here there. let both : (x.key == new.key) ≡ true = eq-eqb _ _ (eqb-true _ _ here ∙ sym (eqb-true _ _ there)) in
+      sym both ∙ other)
+      (Some x) (Some new) (find (λ (e : KeyNeed). e.key == k) xs)
+]
+  where
+    kept : List KeyNeed
+    kept = filter (λ (e : KeyNeed). not (e.key == new.key)) xs
+
+    gone : {O : Type 0} (b : Bool) (a c o : O) → cond b a o ≡ cond b a (cond b c o)
+    gone true a c o = refl
+    gone false a c o = refl
+
+    turned : {O : Type 0} (b c : Bool) → (b ≡ true → c ≡ true → true ≡ false) → (x n o : O)
+        → cond b x (cond c n o) ≡ cond c n (cond b x o)
+    turned true true never x n o = absurd (let none = never refl refl in cc)
+    turned true false never x n o = refl
+    turned false c never x n o = refl
+
+-- ---- the need of a key
+
+by_need : (b : Bool) (n : ℕ) (e : KeyNeed) (o : Option KeyNeed) → e.need ≡ n
+    → option_map (λ (e : KeyNeed). e.need) (cond b (Some e) o)
+    ≡ cond b (Some n) (option_map (λ (e : KeyNeed). e.need) o)
+by_need true n e o is = ap Some is
+by_need false n e o is = refl
+
+-- a command of another kind says nothing, whether it is about the key or not
+idle : (b : Bool) (before : List Request) (q : Request) (first : Option ℕ) → need_after first q.command ≡ first
+    → fold need_step first (cond b (placed before q ∷ []) []) ≡ first
+idle true before q first same = same
+idle false before q first same = refl
+
+asked : (b : Bool) (before : List Request) (q : Request) (n : ℕ) (first : Option ℕ)
+    → need_after first q.command ≡ Some n
+    → cond b (Some n) first ≡ fold need_step first (cond b (placed before q ∷ []) [])
+asked true before q n first is = sym is
+asked false before q n first is = refl
+
+need_one : (before : List Request) (q : Request) (sets : List KeyNeed) (k : ℕ) (c : Command) → q.command ≡ c
+    → need_at k (needs_after sets c) ≡ fold need_step (need_at k sets) (concerning before q k)
+need_one before q sets k (SetQuorum key n) is =
+    let new : KeyNeed = record { key = key; need = n } in
+    ap (option_map (λ (e : KeyNeed). e.need)) (found sets new k)
+    ∙ by_need (key == k) n new (find (λ (e : KeyNeed). e.key == k) sets) refl
+    ∙ asked (key == k) before q n (need_at k sets) (ap (need_after (need_at k sets)) is)
+    ∙ ap (λ (c : Command). fold need_step (need_at k sets)
+    (cond (is_key k (key_of (count before) c)) (placed before q ∷ []) [])) (sym is)
+need_one before q sets k c is =
+    sym (idle (is_key k (key_of (count before) q.command)) before q (need_at k sets)
+    (ap (need_after (need_at k sets)) is))
+
+needs_from : (h before : List Request) (sets : List KeyNeed) (k : ℕ)
+    → need_at k (fold (λ (before : List KeyNeed) (q : Request). needs_after before q.command) sets h)
+    ≡ fold need_step (need_at k sets) (own_from before h k)
+needs_from [] before sets k = refl
+needs_from (q ∷ later) before sets k =
+    needs_from later (before ++ q ∷ []) (needs_after sets q.command) k
+    ∙ ap (λ (o : Option ℕ). fold need_step o (own_from (before ++ q ∷ []) later k))
+    (need_one before q sets k q.command refl)
+    ∙ sym (fold-append need_step (need_at k sets) (concerning before q k) (own_from (before ++ q ∷ []) later k))
+
+pub needs_are : (h : List Request) (k : ℕ) → need_at k (all_needs h) ≡ set_need h k
+needs_are h k = needs_from h [] [] k
+
+-- ---- ranges
+
+abbrev IsEnough : Option ℕ → Type 0
+IsEnough set = IfSome set IsQuorum
+
+enough_after : (c : Command) (before : Option ℕ) → IsCommand c → IsEnough before → IsEnough (need_after before c)
+enough_after (SetQuorum key need) before is enough = is.1
+enough_after c before is enough = enough
+
+one_step : (before : List Request) (q : Request) (k : ℕ) (first : Option ℕ) → IsRequest q → IsEnough first
+    → IsEnough (fold need_step first (concerning before q k))
+one_step before q k first is enough = by (is_key k (key_of (count before) q.command))
+  where
+    by : (b : Bool) → IsEnough (fold need_step first (cond b (placed before q ∷ []) []))
+    by true = enough_after q.command first is.command enough
+    by false = enough
+
+all_steps : (h before : List Request) (k : ℕ) (first : Option ℕ) → AllByRecursion IsRequest h → IsEnough first
+    → IsEnough (fold need_step first (own_from before h k))
+all_steps [] before k first all enough = enough
+all_steps (q ∷ later) before k first all enough =
+    subst IsEnough (sym (fold-append need_step first (concerning before q k) (own_from (before ++ q ∷ []) later k)))
+    (all_steps later (before ++ q ∷ []) k _ all.1 (one_step before q k first all.0 enough))
+
+shown : (o : Option ℕ) → IsEnough o → IsQuorum (unwrap_or o min_approvals)
+shown None enough = (omega arith, omega arith)
+shown (Some need) enough = enough
+
+-- what the destruction of a key needs is in its range
+pub need_in_range : (h : List Request) → AllByRecursion IsRequest h → (k : ℕ) → IsQuorum (need h k)
+need_in_range h all k = shown (set_need h k) (all_steps h [] k None all tt)
