@@ -55,6 +55,14 @@ def is_quorum(text):
     return is_number(text, 2, 5)
 
 
+def is_originator(text):
+    return is_number(text, 1, 1200)
+
+
+def is_recipient(text):
+    return is_number(text, 0, 1200)
+
+
 def is_reason(text):
     return is_number(text, 1, 7)
 
@@ -64,7 +72,7 @@ FIELDS = {
     "register": (is_type, is_name, is_date, is_date, is_date, is_purpose), "activate": (is_key,),
     "set": (is_key, is_edit, is_edit, is_edit), "revoke": (is_key, is_reason, is_date), "assign": (is_key, is_name),
     "add-custodian": (is_key, is_name), "remove-custodian": (is_key, is_name), "approve": (is_key,), "withdraw": (is_key,),
-    "destroy": (is_key,), "advance": (), "set-quorum": (is_key, is_quorum),
+    "destroy": (is_key,), "advance": (), "set-quorum": (is_key, is_quorum), "set-period": (is_type, is_originator, is_recipient),
 }
 
 

@@ -72,6 +72,12 @@ WORKED_ROWS = [
      ((106, "bob", 4, ("destroy", 1)), "refused 18 ApprovalsMissing have=2 need=3"),
      ((106, "bob", 4, ("set-quorum", 1, 2)), "ok 1 Pre-Active 106"),
      ((107, "bob", 5, ("destroy", 1)), "ok 1 Destroyed 107")],
+    [((100, "ann", 1, ("register", "data-encryption", "bob", 0, None, None, "payroll disks")), "ok 1 Active 100"),
+     ((200, "zed", 1, ("set-period", "data-encryption", 12, 36)), "refused 21 NotOffice"),
+     ((200, "office", 1, ("set-period", "data-encryption", 12, 36)), "ok 0 - 200"),
+     ((300, "ann", 2, ("register", "data-encryption", "bob", 0, 63072000, None, "x")), "refused 10 PeriodTooLong limit=31536000"),
+     ((300, "ann", 2, ("register", "data-encryption", "bob", 0, None, None, "x")), "ok 2 Active 300"),
+     ((400, "bob", 1, ("set", 1, "=", "=", 150000000)), "refused 10 PeriodTooLong limit=31536000")],
     [((LAST, "ann", 1, ("register", "data-encryption", "bob", LAST, None, None, "x")), "refused 11 DateRange"),
      ((LAST, "ann", 1, ("register", "data-encryption", "bob", LAST, LAST, LAST, "x")), f"ok 1 Deactivated {LAST}")],
     [((100, "ann", 1, ("register", "master", "bob", 1000, 2000, 2000, "x")), "ok 1 Pre-Active 100"),
@@ -253,7 +259,7 @@ ANN = ("Caller: ann", "Request-Number: 1")
 
 
 def commands():
-    """All commands and the refusals 2 and 4 to 19, each by curl or by one of the other ways, and the keys behind each."""
+    """All commands and the refusals 2, 4 to 19 and 21, each by curl or by one of the other ways, and the keys behind each."""
     now = int(time.time())
     with Served() as served:
         office = Office("commands", served)
@@ -359,6 +365,20 @@ def commands():
             ("zed", 3, ("revoke", 6, 2, now), None),
             *(("bob", 20 + reason, ("revoke", key, reason, None), None) for key, reason in ((1, 1), (2, 4), (4, 5), (7, 6), (8, 7))),
             ("bob", 30, ("revoke", 1, 1, None), 7),
+            # The period of a type: what comes behind it goes by it, and the dates that keys have stay.
+            ("zed", 4, ("set-period", "master", 24, 12), 21),
+            ("bob", 31, ("set-period", "data-encryption", 1, 0), 21),
+            ("office", 1, ("set-period", "master", 24, 12), None),
+            ("office", 1, ("set-period", "master", 24, 12), None),
+            ("office", 1, ("set-period", "master", 24, 13), 2),
+            ("ann", 31, ("register", "master", "bob", now, now + 600 * DAY, None, "two years"), None),
+            ("ann", 32, ("register", "master", "bob", now, now + 800 * DAY, None, "x"), 10),
+            ("office", 2, ("set-period", "data-encryption", 1, 0), None),
+            ("ann", 32, ("register", "data-encryption", "bob", now, now + 32 * DAY, None, "x"), 10),
+            ("ann", 32, ("register", "data-encryption", "bob", now, None, None, "a month"), None),
+            ("bob", 31, ("set", 1, "=", "=", "="), 7),
+            ("office", 3, ("set-period", "data-encryption", 1200, 1200), None),
+            ("ann", 33, ("register", "data-encryption", "bob", now, now + 90 * YEAR, None, "a century"), None),
             ("ann", 30, ("advance",), None),
             ("ann", 30, ("advance",), None),
             ("ann", 1, first, None),
@@ -366,7 +386,7 @@ def commands():
         ways = ["curl", "curl", "raw", "curl", "python", "bytes"]
         for place, (caller, number, command, said) in enumerate(asked):
             office.post(caller, number, command, said, ways[place % len(ways)])
-            if len(command) > 1 and command[0] != "register" and command[1] <= len(office.register.keys):
+            if len(command) > 1 and command[0] not in ("register", "set-period") and command[1] <= len(office.register.keys):
                 office.get(command[1], ways[place % 5])
         for key in range(1, len(office.register.keys) + 2):
             office.get(key)
@@ -641,7 +661,7 @@ def lengths_and_callers():
 SAMPLES = [
     ("register", "master", "bob", 5, 6, 7, "spare"), ("activate", 1), ("set", 1, 5, 6, 7), ("revoke", 1, 2, 5), ("assign", 1, "bob"),
     ("add-custodian", 1, "cat"), ("remove-custodian", 1, "cat"), ("approve", 1), ("withdraw", 1), ("destroy", 1), ("advance",),
-    ("set-quorum", 1, 3),
+    ("set-quorum", 1, 3), ("set-period", "master", 6, 7),
 ]
 # What no member may be; a number is written into the text as it stands here.
 NO_MOMENT = [
@@ -656,10 +676,11 @@ NO_PURPOSE = [
 ]
 NO_TYPE = ["null", "1", '""', '"Master"', '"master "', '"data encryption"', '"public"', "[]", "{}", "true"]
 NO_NEED = ["0", "1", "6", "2.0", "2e0", "-2", "-0", "null", '"2"', "true", "[2]", "{}", "258", "4294967298", "18446744073709551618"]
+NO_MONTHS = ["1201", "1.0", "1e0", "-1", "-0", "null", '"1"', "true", "[1]", "{}", "65537", "4294967297", "18446744073709551617"]
 NO_REASON = ["0", "8", "2.0", "2e0", "-2", "null", '"2"', "true", "258", "4294967298"]
 WRONG = {
     "key": NO_KEY, "owner": NO_NAME, "name": NO_NAME, "purpose": NO_PURPOSE, "type": NO_TYPE, "reason": NO_REASON,
-    "need": NO_NEED,
+    "need": NO_NEED, "originator": ["0", *NO_MONTHS], "recipient": NO_MONTHS,
     "activation": NO_MOMENT, "protect_stop": NO_MOMENT, "deactivation": NO_MOMENT, "occurrence": [*NO_MOMENT, '"keep"'],
     "kind": ["null", "1", '""', '"Advance"', '"advance "', '"setdates"', '"add_custodian"', '"list"', "[]", "{}", '["advance"]'],
 }

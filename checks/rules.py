@@ -13,15 +13,18 @@ GREATEST_NUMBER = 9007199254740991
 MOST_KEYS, MOST_CUSTODIANS = 1_000_000, 8
 # The approvals that the destruction of a key needs where its owner has set nothing.
 LEAST_NEED = 2
+# The usage periods of the types where the office has set nothing.
 PERIODS = {
     "data-encryption": (24, 36), "authentication": (24, 36), "key-wrapping": (24, 36), "private-signature": (36, 0),
     "private-authentication": (24, 0), "private-transport": (24, 0), "master": (12, 0),
 }
+# The caller that sets them.
+OFFICE = "office"
 NAMES = {
     1: "BadLine", 2: "RequestReused", 3: "MomentBehind", 4: "UnknownKey", 5: "NotOwner", 6: "NotCustodian", 7: "WrongState",
     8: "DateFrozen", 9: "DateOrder", 10: "PeriodTooLong", 11: "DateRange", 12: "AlreadyCustodian", 13: "NoSuchCustodian",
     14: "TooManyCustodians", 15: "OwnerCustodian", 16: "AlreadyApproved", 17: "NoApproval", 18: "ApprovalsMissing",
-    19: "OccurrenceLater", 20: "Full",
+    19: "OccurrenceLater", 20: "Full", 21: "NotOffice",
 }
 PRE_ACTIVE, ACTIVE, DEACTIVATED, COMPROMISED = "Pre-Active", "Active", "Deactivated", "Compromised"
 DESTROYED, DESTROYED_COMPROMISED = "Destroyed", "Destroyed-Compromised"
@@ -64,9 +67,9 @@ def plus_months(moment, months):
     return calendar.timegm(later.timetuple())
 
 
-def with_defaults(kind, activation, stop, end, is_trimmed):
-    """Fill, or Trim, of the three dates."""
-    originator, recipient = PERIODS[kind]
+def with_defaults(period, activation, stop, end, is_trimmed):
+    """Fill, or Trim, of the three dates, by this period of the type."""
+    originator, recipient = period
     is_past = False
     limit = None if activation is None else plus_months(activation, originator)
     if activation is not None and stop is None:
@@ -109,7 +112,7 @@ class Key:
 
 class Register:
     def __init__(self):
-        self.latest, self.keys, self.kept = 0, [], {}
+        self.latest, self.keys, self.kept, self.periods = 0, [], {}, dict(PERIODS)
 
     def copy(self):
         return copy.deepcopy(self)
@@ -127,13 +130,18 @@ class Register:
         return reply
 
     def changed(self, moment, caller, command):
-        """Does what the command says and gives the number of its key, 0 for an advance."""
+        """Does what the command says and gives the number of its key, 0 for a command about none."""
         word, *values = command
         if word == "advance":
             return 0
+        if word == "set-period":
+            refuse_where(caller != OFFICE, 21)
+            kind, *months = values
+            self.periods[kind] = tuple(months)
+            return 0
         if word == "register":
             kind, owner, activation, stop, end, purpose = values
-            dates = with_defaults(kind, activation, stop, end, False)
+            dates = with_defaults(self.periods[kind], activation, stop, end, False)
             refuse_where(len(self.keys) >= MOST_KEYS, 20)
             self.keys.append(Key(kind, owner, purpose, moment, dates))
             return len(self.keys)
@@ -153,13 +161,13 @@ class Register:
         return number
 
     def activate(self, key, moment, caller):
-        key.activation, key.stop, key.end = with_defaults(key.kind, moment, key.stop, key.end, True)
+        key.activation, key.stop, key.end = with_defaults(self.periods[key.kind], moment, key.stop, key.end, True)
 
     def set(self, key, moment, caller, *edits):
         refuse_where(edits[0] != "=" and key.state(moment) != PRE_ACTIVE, 8)
         refuse_where(edits[1] != "=" and key.stop is not None and key.stop <= moment, 8)
         dates = [old if edit == "=" else edit for old, edit in zip((key.activation, key.stop, key.end), edits)]
-        key.activation, key.stop, key.end = with_defaults(key.kind, *dates, False)
+        key.activation, key.stop, key.end = with_defaults(self.periods[key.kind], *dates, False)
 
     def revoke(self, key, moment, caller, reason, occurrence):
         if reason not in (2, 3):
@@ -238,7 +246,7 @@ MEMBERS = {
     "set": ("key", "activation", "protect_stop", "deactivation"),
     "revoke": ("key", "reason", "occurrence"), "assign": ("key", "owner"),
     "add-custodian": ("key", "name"), "remove-custodian": ("key", "name"), "advance": (),
-    "set-quorum": ("key", "need"),
+    "set-quorum": ("key", "need"), "set-period": ("type", "originator", "recipient"),
 }
 
 

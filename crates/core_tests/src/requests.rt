@@ -108,13 +108,14 @@ fn is_line_of_reply(key: u32, state: Option<State>, seconds: u64, line: &str) ->
 
 /// Refusals that tell of no moment.
 #[rattlefmt::skip]
-const REFUSALS: [(Refusal, &str); 6] = [
+const REFUSALS: [(Refusal, &str); 7] = [
     (Refusal::BadLine, "refused 1 BadLine\n"),
     (Refusal::RequestReused, "refused 2 RequestReused\n"),
     (Refusal::DateOrder, "refused 9 DateOrder\n"),
     (Refusal::DateRange, "refused 11 DateRange\n"),
     (Refusal::ApprovalsMissing { have: 1, need: 2 }, "refused 18 ApprovalsMissing have=1 need=2\n"),
     (Refusal::Full, "refused 20 Full\n"),
+    (Refusal::NotOffice, "refused 21 NotOffice\n"),
 ];
 
 fn is_line_of(refusal: Refusal, line: &str) -> bool {
@@ -152,7 +153,7 @@ fn lines_of_answers(rt: HostRuntime) {
 type CommandRow = (CommandKind, &'static str, &'static str, Giver, usize, bool);
 
 #[rattlefmt::skip]
-const COMMANDS: [CommandRow; 13] = [
+const COMMANDS: [CommandRow; 14] = [
     (CommandKind::Register, "register", "register data-encryption bob 0 - - payroll disks", Giver::Anybody, 6, false),
     (CommandKind::Activate, "activate", "activate 1", Giver::Owner, 1, false),
     (CommandKind::SetDates, "set", "set 1 = - 3000", Giver::Owner, 2, false),
@@ -165,6 +166,7 @@ const COMMANDS: [CommandRow; 13] = [
     (CommandKind::Withdraw, "withdraw", "withdraw 1", Giver::Custodian, 4, true),
     (CommandKind::Destroy, "destroy", "destroy 1", Giver::Owner, 3, true),
     (CommandKind::SetQuorum, "set-quorum", "set-quorum 1 3", Giver::Owner, 6, false),
+    (CommandKind::SetPeriod, "set-period", "set-period data-encryption 12 36", Giver::Office, 6, false),
     (CommandKind::Advance, "advance", "advance", Giver::Anybody, 6, false),
 ];
 
@@ -211,6 +213,28 @@ fn texts_and_rules_of_commands(rt: HostRuntime) {
     assert!(rt; read_command(b"set-quorum 1 3 ").is_none());
 }
 
+/// Texts that are none of a period that is set.
+const NO_PERIODS: [&str; 9] = [
+    "set-period master 12",
+    "set-period 12 0",
+    "set-period Master 12 0",
+    "set-period master 0 0",
+    "set-period master 1201 0",
+    "set-period master 12 1201",
+    "set-period master 012 0",
+    "set-period master - 0",
+    "set-period master 12 0 ",
+];
+
+#[test]
+fn periods_that_the_office_may_set(rt: HostRuntime) {
+    assert!(rt; read_command(b"set-period master 1 0").is_some());
+    assert!(rt; read_command(b"set-period master 1200 1200").is_some());
+    for text in &NO_PERIODS {
+        assert!(rt; read_command(text.as_bytes()).is_none(), "{text}");
+    }
+}
+
 /// Whether so many approvals are what an owner may ask for.
 fn is_quorum(approvals: u8) -> bool {
     match Quorum::new(approvals) {
@@ -231,12 +255,13 @@ fn needs_that_owners_may_ask_for(rt: HostRuntime) {
 type NeededRow = (&'static str, Option<KeyType>, Option<KeyType>);
 
 #[rattlefmt::skip]
-const NEEDED: [NeededRow; 6] = [
+const NEEDED: [NeededRow; 7] = [
     ("register authentication bob - - - x", Some(KeyType::Authentication), Some(KeyType::Authentication)),
     ("activate 1", Some(KeyType::Master), None),
     ("set 1 = = =", Some(KeyType::Master), None),
     ("revoke 1 5 -", None, None),
     ("set-quorum 1 3", None, None),
+    ("set-period master 12 0", None, None),
     ("advance", None, None),
 ];
 

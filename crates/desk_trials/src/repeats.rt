@@ -11,7 +11,7 @@ pub type Sent = (&'static str, &'static str, &'static str, &'static str);
 
 /// A day on which each command is accepted; the key is destroyed before it ends.
 #[rattlefmt::skip]
-pub static DAY: [Sent; 17] = [
+pub static DAY: [Sent; 18] = [
     ("100", "ann 1", "register master bob 1000 2000 2000 root", "ok 1 Pre-Active 100"),
     ("101", "bob 1", "add-custodian 1 cat", "ok 1 Pre-Active 101"),
     ("102", "bob 2", "add-custodian 1 dan", "ok 1 Pre-Active 102"),
@@ -28,7 +28,8 @@ pub static DAY: [Sent; 17] = [
     ("113", "fay 3", "revoke 1 5 -", "ok 1 Deactivated 113"),
     ("114", "fay 4", "destroy 1", "ok 1 Destroyed 114"),
     ("115", "zed 1", "advance", "ok 0 - 115"),
-    ("116", "zed 2", "revoke 1 2 50", "ok 1 Destroyed-Compromised 116"),
+    ("116", "office 1", "set-period master 24 12", "ok 0 - 116"),
+    ("117", "zed 2", "revoke 1 2 50", "ok 1 Destroyed-Compromised 117"),
 ];
 
 const REUSED: &str = "refused 2 RequestReused";
@@ -102,7 +103,7 @@ pub fn is_each_command_repeated(alloc: Global) -> Result<bool, Fail> {
     let plain = plain_replies(alloc, &lines.requests)?;
     Ok(
         ran.writer.as_slice() == lines.replies.as_slice()
-            && ran.stands == (116, 1)
+            && ran.stands == (117, 1)
             && plain.as_slice() == lines.replies.as_slice(),
     )
 }

@@ -13,9 +13,10 @@ use worked_rows::WorkedRow;
 /// takes 1 where nothing is, a transaction 2, the two updates of due keys 2, the request's row and that of meta 2. A
 /// command that names a key takes 2 to read it and 1 to change it; one that looks at custody 1 more for each list and for
 /// each name in it; a destruction 2 more to read the need that is set; one that changes custody 1 more, and one that sets
-/// the need 2 more.
-const STEPS: [u64; 17] = [
-    8, 13, 14, 15, 16, 15, 16, 17, 16, 12, 16, 10, 10, 10, 18, 7, 10,
+/// the need 2 more. A registration, an activation and a change of dates take 1 more to look for the period of the type,
+/// which is not set, and a command that sets it 2 more.
+const STEPS: [u64; 18] = [
+    9, 13, 14, 15, 16, 15, 16, 17, 16, 12, 16, 11, 11, 10, 18, 7, 9, 10,
 ];
 
 /// How many steps a run over the line takes.
@@ -69,10 +70,10 @@ static BEHIND: [(&str, u64); 9] = [
     ("99 bob 9 activate 1", 1),
     // No such key, and not the owner.
     ("100 bob 9 activate 2", 2),
-    ("100 eve 9 activate 1", 3),
+    ("100 eve 9 activate 1", 4),
     // No time has passed: no key is due.
     ("100 eve 9 advance", 5),
-    ("100 bob 9 set 1 = = =", 8),
+    ("100 bob 9 set 1 = = =", 9),
     // Both lists are full.
     ("101 bob 10 add-custodian 1 c9", 21),
     ("101 bob 11 remove-custodian 1 c8", 29),

@@ -7,12 +7,14 @@ use Rattle.lifecycle_core.specs.declared.reason.Reason.{Reason}
 use Rattle.lifecycle_core.specs.Reason.{reason_code}
 use Rattle.period_core.specs.declared.key_type.KeyType.{KeyType}
 use Rattle.period_core.specs.KeyType.{key_type_text}
+use Rattle.period_core.specs.Period.{Period, of_months}
 use Rattle.register_core.specs.CommandRule.{kind_of}
 use Rattle.register_core.specs.Reading.{key_type_at, reason_at}
 use Rattle.register_core.specs.declared.command_kind.CommandKind.{CommandKind}
 use Rattle.register_core.specs.declared.request.Command.{Command}
 use Rattle.register_core.specs.declared.fields.Fields.{Fields}
-use Rattle.register_core.specs.declared.fields.Fields.TheVariants.{Nothing, Registration, DateEdits, Revocation}
+use Rattle.register_core.specs.declared.fields.Fields.TheVariants.{Nothing, TypeAndPeriod}
+use Rattle.register_core.specs.declared.fields.Fields.TheVariants.{Registration, DateEdits, Revocation}
 use Rattle.register_core.specs.CommandKind.{command_shape}
 use Rattle.register_core.specs.Fields.{fields_of, shape_of}
 use Rattle.register_core.specs.declared.request.Edit.{Edit}
@@ -64,6 +66,10 @@ one_edit a b e = sym (edit_again a) ∙ ap edit_in e ∙ edit_again b
 one_type : (a b : KeyType) → key_type_text a ≡ key_type_text b → a ≡ b
 one_type a b e = some_is a b (sym (key_type_reader.again a tt) ∙ ap key_type_at e ∙ key_type_reader.again b tt)
 
+one_period : (a b : Period) → a.originator ≡ b.originator → a.recipient ≡ b.recipient → a ≡ b
+one_period a b e f =
+    ap (λ (n : ℕ). of_months n a.recipient) e ∙ ap (λ (n : ℕ). of_months b.originator n) f
+
 one_reason : (a b : Reason) → reason_code a ≡ reason_code b → a ≡ b
 one_reason a b e =
     some_is a b (sym (reason_reader.again a tt) ∙ ap (λ code. reason_at (decimal code)) e ∙ reason_reader.again b tt)
@@ -73,6 +79,12 @@ one_reason a b e =
 -- The last two rows have every other two fields: of two shapes, or such that the members show them as they are.
 same_members : (kind : Data) (p q : Fields) → shape_of p ≡ shape_of q → fields_members kind p ≡ fields_members kind q
     → p ≡ q
+same_members kind (TypeAndPeriod type period) (TypeAndPeriod other months) same e =
+    let types = one_type type other cc in
+    let first : period.originator ≡ months.originator = cc in
+    let second : period.recipient ≡ months.recipient = cc in
+    let periods = one_period period months first second in
+    cc (types, periods)
 same_members kind (Registration type owner a p d purpose) (Registration other name a2 p2 d2 aim) same e =
     let types = one_type type other cc in
     let activations = one_date a a2 cc in

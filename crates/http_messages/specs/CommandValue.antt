@@ -8,7 +8,7 @@ use Rattle.register_core.specs.declared.command_kind.CommandKind.{CommandKind}
 use Rattle.register_core.specs.declared.request.Command.{Command}
 use Rattle.register_core.specs.declared.fields.Fields.{Fields}
 use Rattle.register_core.specs.declared.fields.Fields.TheVariants.{Nothing, Key, KeyAndName}
-use Rattle.register_core.specs.declared.fields.Fields.TheVariants.{KeyAndOwner, KeyAndNeed, Registration}
+use Rattle.register_core.specs.declared.fields.Fields.TheVariants.{KeyAndOwner, KeyAndNeed, TypeAndPeriod, Registration}
 use Rattle.register_core.specs.declared.fields.Fields.TheVariants.{DateEdits, Revocation}
 use Rattle.register_core.specs.declared.fields.Shape.{Shape}
 use Rattle.register_core.specs.Fields.{fields_of, shape_of}
@@ -42,6 +42,11 @@ keyed_members key kind = member (codes "key") key (member (codes "kind") kind no
 abbrev pub named_members : List ℕ → Data → Data → Data → Members
 named_members field key kind value =
     member (codes "key") key (member (codes "kind") kind (member field value no_members))
+
+abbrev pub period_members : Data → Data → Data → Data → Members
+period_members kind originator recipient type =
+    member (codes "kind") kind (member (codes "originator") originator
+    (member (codes "recipient") recipient (member (codes "type") type no_members)))
 
 abbrev pub revoke_members : Data → Data → Data → Data → Members
 revoke_members key kind occurrence reason =
@@ -77,6 +82,9 @@ fields_members kind (KeyAndOwner key owner) =
     named_members (codes "owner") (number_data key) kind (string owner)
 fields_members kind (KeyAndNeed key need) =
     named_members (codes "need") (number_data key) kind (number_data need)
+fields_members kind (TypeAndPeriod type period) =
+    period_members kind (number_data period.originator) (number_data period.recipient)
+    (string (key_type_text type))
 fields_members kind (Registration type owner activation protect_stop deactivation purpose) =
     register_members (date_data activation) (date_data deactivation) kind (string owner)
     (date_data protect_stop) (string purpose) (string (key_type_text type))

@@ -3,12 +3,13 @@ ghost use Rattle.std.specs.Prelude.{◌≡◌, ◌≢◌, ℕ, List, codes, Opti
 ghost use Rattle.serde_json.specs.Data.{Data, string};
 ghost use Rattle.serde_json.specs.View.{view, members_view};
 ghost use Rattle.period_core.specs.declared.key_type.KeyType.{KeyType};
+ghost use Rattle.period_core.specs.Period.{Period};
 ghost use Rattle.lifecycle_core.specs.declared.reason.Reason.{Reason};
 ghost use Rattle.register_core.specs.declared.request.Edit.{Edit};
 ghost use Rattle.register_core.specs.declared.request.Command.{Command};
 ghost use Rattle.register_core.specs.declared.fields.Fields.{Fields};
 ghost use Rattle.register_core.specs.declared.fields.Fields.TheVariants.{Nothing, Registration};
-ghost use Rattle.register_core.specs.declared.fields.Fields.TheVariants.{DateEdits, Revocation};
+ghost use Rattle.register_core.specs.declared.fields.Fields.TheVariants.{DateEdits, Revocation, TypeAndPeriod};
 ghost use Rattle.register_core.specs.declared.fields.Shape.TheVariants as shapes;
 ghost use Rattle.register_core.specs.Fields.{fields_of};
 ghost use Rattle.register_core.specs.Name.{IsName};
@@ -18,11 +19,11 @@ ghost use Rattle.register_core.specs.CommandRule.{kind_of};
 ghost use Rattle.http_messages.specs.CommandValue.{number_data, command_data, HasMembers};
 ghost use Rattle.http_messages.specs.CommandValue.{IsShaped};
 ghost use Rattle.http_messages.specs.CommandValue.{keyed_members, named_members, revoke_members};
-ghost use Rattle.http_messages.specs.CommandValue.{set_members, register_members};
+ghost use Rattle.http_messages.specs.CommandValue.{set_members, register_members, period_members};
 
 use crate::members::{
     command_kind_of, date_of, edit_of, key_of, key_type_of, last_named, name_of, next_named,
-    purpose_of, quorum_of, reason_of,
+    period_of, purpose_of, quorum_of, reason_of,
 };
 use register_core::{Command, CommandKind, Fields, Name, Quorum, Shape};
 use serde_json::{Map, Value};
@@ -109,6 +110,48 @@ fn needed_of(members: &Map<String, Value>) -> Option<(u32, Quorum)>
     let key = key_of(values.key)?;
     let need = quorum_of(values.value)?;
     Some((key, need))
+}
+
+/// The values of the members that name a type, and the months of its period.
+#[derive(Drop)]
+struct PeriodMembers<'v> {
+    originator: &'v Value,
+    recipient: &'v Value,
+    key_type: &'v Value,
+}
+
+/// The members that name a type, and the months of its period.
+fn period_members_of<'v>(members: &'v Map<String, Value>) -> Option<PeriodMembers<'v>>
+    ensures found { IfSome result (λ m. (kind : Data) × (members_view members.now.entries
+        ≡ period_members kind (view m.originator.now) (view m.recipient.now)
+        (view m.key_type.now))) }
+    ensures none { IfNone result ((kind originator recipient type : Data) →
+        members_view members.now.entries ≢ period_members kind originator recipient type) }
+{
+    let mut rest = members.iter();
+    let _kind = next_named(&mut rest, "kind")?;
+    let originator = next_named(&mut rest, "originator")?;
+    let recipient = next_named(&mut rest, "recipient")?;
+    let key_type = last_named(&mut rest, "type")?;
+    Some(PeriodMembers {
+        originator,
+        recipient,
+        key_type,
+    })
+}
+
+/// The fields that are a type and its period.
+fn type_and_period_of(members: &Map<String, Value>) -> Option<Fields>
+    ensures found { IfSome result
+        (IsShaped shapes.TypeAndPeriod (members_view members.now.entries)) }
+    ensures none { IfNone result ((type : KeyType) (period : Period) →
+        AreFields (TypeAndPeriod type period) →
+        HasMembers (members_view members.now.entries) (TypeAndPeriod type period) → ⊥) }
+{
+    let values = period_members_of(members)?;
+    let kind = key_type_of(values.key_type)?;
+    let period = period_of(values.originator, values.recipient)?;
+    Some(Fields::TypeAndPeriod { kind, period })
 }
 
 /// The values of the members of a revocation.
@@ -292,6 +335,7 @@ fn fields_with(shape: Shape, members: &Map<String, Value>) -> Option<Fields>
             let (key, need) = needed_of(members)?;
             Some(Fields::KeyAndNeed { key, need })
         }
+        Shape::TypeAndPeriod => type_and_period_of(members),
         Shape::Registration => register_of(members),
         Shape::DateEdits => edits_of(members),
         Shape::Revocation => revoke_of(members),

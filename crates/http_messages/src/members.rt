@@ -1,11 +1,13 @@
 //! The members of a JSON object, read in their order, and what the value of each stands for.
-ghost use Rattle.std.specs.Prelude.{◌≡◌, ◌≢◌, ◌↔◌, ℕ, List, Option, IsTrue, IfSome, IfNone};
+ghost use Rattle.std.specs.Prelude.{◌≡◌, ◌≢◌, ◌↔◌, ◌<◌, ◌^◌, ℕ, List};
+ghost use Rattle.std.specs.Prelude.{Option, IsTrue, IfSome, IfNone};
 ghost use Rattle.serde_json.specs.Data.{Data, Members, string, member, no_members};
 ghost use Rattle.serde_json.specs.View.{view, members_view};
 ghost use Rattle.lifecycle_core.specs.declared.reason.Reason.{Reason};
 ghost use Rattle.lifecycle_core.specs.Reason.{reason_code};
 ghost use Rattle.period_core.specs.declared.key_type.KeyType.{KeyType};
 ghost use Rattle.period_core.specs.KeyType.{key_type_text};
+ghost use Rattle.period_core.specs.Period.{Period, IsPeriod};
 ghost use Rattle.moment_core.specs.Moment.{IsMoment};
 ghost use Rattle.register_core.specs.Name.{IsName};
 ghost use Rattle.register_core.specs.Purpose.{IsPurpose};
@@ -17,7 +19,7 @@ ghost use Rattle.http_messages.specs.CommandValue.{number_data, date_data, edit_
 
 use lifecycle_core::Reason;
 use moment_core::Moment;
-use period_core::KeyType;
+use period_core::{KeyType, Period};
 use register_core::{CommandKind, Edit, Name, Purpose, Quorum};
 use serde_json::Value;
 use std::collections::btree_map::Iter;
@@ -71,6 +73,29 @@ pub(crate) fn quorum_of(value: &Value) -> Option<Quorum>
     ensures none { IfNone result ((need : ℕ) → IsQuorum need → view value.now ≢ number_data need) }
 {
     Quorum::new(u8::try_from(value.as_u64()?).ok()?)
+}
+
+/// The number of at most sixteen bits that the value is.
+fn months_of(value: &Value) -> Option<u16>
+    ensures found { IfSome result (λ months. view value.now ≡ number_data months) }
+    ensures none { IfNone result ((months : ℕ) → months < 2 ^ 16 →
+        view value.now ≢ number_data months) }
+{
+    u16::try_from(value.as_u64()?).ok()
+}
+
+/// The period whose months of originator use and of recipient use the values are.
+pub(crate) fn period_of(originator: &Value, recipient: &Value) -> Option<Period>
+    ensures found { IfSome result (λ period. IsPeriod period ×
+        (view originator.now ≡ number_data period.originator) ×
+        (view recipient.now ≡ number_data period.recipient)) }
+    ensures none { IfNone result ((period : Period) → IsPeriod period →
+        view originator.now ≡ number_data period.originator →
+        view recipient.now ≢ number_data period.recipient) }
+{
+    let originator = months_of(originator)?;
+    let recipient = months_of(recipient)?;
+    Period::new(originator, recipient)
 }
 
 /// The moment that the value is.

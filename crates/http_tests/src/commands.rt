@@ -6,7 +6,7 @@ use std::alloc::{AllocError, Global};
 
 /// A body, and the text of its command.
 #[rattlefmt::skip]
-const COMMANDS: [(&str, &str); 28] = [
+const COMMANDS: [(&str, &str); 30] = [
     (r#"{"kind":"register","type":"data-encryption","owner":"bob","activation":0,"protect_stop":null,"deactivation":null,"purpose":"payroll disks"}"#, "register data-encryption bob 0 - - payroll disks"),
     (r#"{"kind":"register","type":"authentication","owner":"a.b-c_d@E9","activation":1,"protect_stop":2,"deactivation":253402300799,"purpose":"x"}"#, "register authentication a.b-c_d@E9 1 2 253402300799 x"),
     (r#"{"kind":"register","type":"key-wrapping","owner":"bob","activation":null,"protect_stop":2,"deactivation":null,"purpose":"say \"hi\", twice"}"#, "register key-wrapping bob - 2 - say \"hi\", twice"),
@@ -30,6 +30,8 @@ const COMMANDS: [(&str, &str); 28] = [
     (r#"{"kind":"destroy","key":1}"#, "destroy 1"),
     (r#"{"key":1,"kind":"set-quorum","need":3}"#, "set-quorum 1 3"),
     (r#"{"kind":"set-quorum","need":5,"key":4294967295}"#, "set-quorum 4294967295 5"),
+    (r#"{"kind":"set-period","originator":12,"recipient":36,"type":"data-encryption"}"#, "set-period data-encryption 12 36"),
+    (r#"{"type":"master","recipient":0,"kind":"set-period","originator":1200}"#, "set-period master 1200 0"),
     (r#"{"kind":"advance"}"#, "advance"),
     (" {\t\"kind\" :\r\n\"advance\" } ", "advance"),
     (r#"{"k\u0069nd":"\u0061dvance"}"#, "advance"),
@@ -65,7 +67,7 @@ fn each_command_has_its_bodies(rt: HostRuntime) -> Result<(), AllocError> {
 
 /// Bodies that are of no command.
 #[rattlefmt::skip]
-const OF_NONE: [&str; 70] = [
+const OF_NONE: [&str; 80] = [
     // No object, or no JSON.
     "", " ", "advance", "null", "true", "18", "\"advance\"", "[]", "[\"advance\"]", "{", "}",
     r#"{"kind":"advance""#, r#"{"kind":"advance"}x"#, r#"{"kind":"advance"}{}"#, r#"{kind:"advance"}"#,
@@ -90,6 +92,17 @@ const OF_NONE: [&str; 70] = [
     r#"{"kind":"set-quorum","key":1,"need":1}"#, r#"{"kind":"set-quorum","key":1,"need":6}"#,
     r#"{"kind":"set-quorum","key":1,"need":259}"#, r#"{"kind":"set-quorum","key":1,"need":3.0}"#,
     r#"{"kind":"set-quorum","key":1,"need":"3"}"#, r#"{"kind":"set-quorum","key":0,"need":3}"#,
+    // Periods.
+    r#"{"kind":"set-period","originator":12,"recipient":0}"#,
+    r#"{"kind":"set-period","originator":12,"type":"master"}"#,
+    r#"{"kind":"set-period","originator":0,"recipient":0,"type":"master"}"#,
+    r#"{"kind":"set-period","originator":1201,"recipient":0,"type":"master"}"#,
+    r#"{"kind":"set-period","originator":12,"recipient":1201,"type":"master"}"#,
+    r#"{"kind":"set-period","originator":65548,"recipient":0,"type":"master"}"#,
+    r#"{"kind":"set-period","originator":12.0,"recipient":0,"type":"master"}"#,
+    r#"{"kind":"set-period","originator":12,"recipient":null,"type":"master"}"#,
+    r#"{"kind":"set-period","originator":12,"recipient":0,"type":"Master"}"#,
+    r#"{"kind":"set-period","key":1,"originator":12,"recipient":0,"type":"master"}"#,
     // Dates: an occurrence without compromise, one past the range, and words in their place.
     r#"{"kind":"revoke","key":1,"reason":5,"occurrence":100}"#, r#"{"kind":"revoke","key":1,"reason":5,"occurrence":0}"#,
     r#"{"kind":"set","key":1,"activation":"keep","protect_stop":"keep","deactivation":253402300800}"#,

@@ -20,7 +20,7 @@ const CONFLICT: &str = "409 Conflict";
 
 /// The refusals that tell no moment, with their statuses and bodies.
 #[rattlefmt::skip]
-const REFUSALS: [(Refusal, &str, &str); 18] = [
+const REFUSALS: [(Refusal, &str, &str); 19] = [
     (Refusal::BadLine, "400 Bad Request", r#"{"name":"BadLine","refused":1}"#),
     (Refusal::RequestReused, CONFLICT, r#"{"name":"RequestReused","refused":2}"#),
     (Refusal::UnknownKey, "404 Not Found", r#"{"name":"UnknownKey","refused":4}"#),
@@ -39,6 +39,7 @@ const REFUSALS: [(Refusal, &str, &str); 18] = [
     (Refusal::ApprovalsMissing { have: 0, need: 2 }, CONFLICT, r#"{"have":0,"name":"ApprovalsMissing","need":2,"refused":18}"#),
     (Refusal::OccurrenceLater, CONFLICT, r#"{"name":"OccurrenceLater","refused":19}"#),
     (Refusal::Full, CONFLICT, r#"{"name":"Full","refused":20}"#),
+    (Refusal::NotOffice, CONFLICT, r#"{"name":"NotOffice","refused":21}"#),
 ];
 
 /// Whether this is answered so.

@@ -1,9 +1,10 @@
-//! What a history makes of its latest moment, its keys, and the type, the owner and the dates of each.
+//! What a history makes of its latest moment, its keys, the periods of the types, and the type, the owner and the dates of
+//! each key.
 ghost use Rattle.std.specs.Prelude.{◌≡◌, ◌+◌, ◌^◌, ◌<◌, ◌≤◌, [], length};
 ghost use Rattle.std.specs.Prelude.{unwrap_or, IsSome, if◌then◌else◌};
-ghost use Rattle.register_core.specs.History.{latest, count, type, owner, dates};
+ghost use Rattle.register_core.specs.History.{latest, count, period, type, owner, dates};
 ghost use Rattle.register_core.specs.Subject.{key_of, made_by, is_key};
-ghost use Rattle.register_core.specs.Effect.{kind_after, owner_after, dates_after, no_dates};
+ghost use Rattle.register_core.specs.Effect.{kind_after, owner_after, dates_after, period_after, no_dates};
 
 use lifecycle_core::Dates;
 use moment_core::Moment;
@@ -129,20 +130,54 @@ fn no_dates() -> Dates
     given_dates(Moment::new(0).unwrap(), None, None, None)
 }
 
-/// The dates of a key after the request, where this is the period of its type.
-fn dates_with(period: Period, before: Dates, key: u32, made: u32, request: &Request) -> Dates
+/// The period of the type after the command, if the office set one.
+fn period_with(before: Option<Period>, kind: KeyType, command: &Command) -> Option<Period>
+    ensures { result ≡ period_after kind before command.now }
+{
+    match *command {
+        Command::SetPeriod { kind: of, period } if of.code() == kind.code() => Some(period),
+        _ => before,
+    }
+}
+
+/// The period of the type behind a history: the one that was set last, or the table's.
+pub(crate) fn period(history: &[Request], kind: KeyType) -> Period
+    ensures { result ≡ period history.now kind }
+{
+    let mut set = None;
+    for request in history {
+        set = period_with(set, kind, &request.command);
+    }
+    match set {
+        Some(period) => period,
+        None => period_of(kind),
+    }
+}
+
+/// The dates of a key of this type after the request, where this is the history before it.
+fn dates_with(
+    history: &[Request],
+    kind: KeyType,
+    before: Dates,
+    key: u32,
+    made: u32,
+    request: &Request,
+) -> Dates
     requires { made + 1 < 2 ^ 32 }
     ensures { result ≡ (if is_key key (key_of made request.now.command)
-        then dates_after period before request.now.moment request.now.command else before) }
+        then dates_after (period history.now kind) before request.now.moment request.now.command
+        else before) }
 {
     if concerns(key, made, &request.command) {
+        let period = period(history, kind);
         dates_after(period, &before, request.moment, &request.command)
     } else {
         before
     }
 }
 
-/// The dates that the requests of the key give it, one after the other.
+/// The dates that the requests of the key give it, one after the other, each by the period that its
+/// type had before it.
 pub fn dates(history: &[Request], key: u32) -> Dates
     requires { length history.now + 1 < 2 ^ 32 }
     ensures { result ≡ dates history.now key }
@@ -150,8 +185,9 @@ pub fn dates(history: &[Request], key: u32) -> Dates
     let kind = kind_of_key(history, key);
     let mut dates = no_dates();
     let mut made = 0;
-    for request in history {
-        dates = dates_with(period_of(kind), dates, key, made, request);
+    for at in 0..history.len() {
+        let request = &history[at];
+        dates = dates_with(&history[..at], kind, dates, key, made, request);
         made += made_by(&request.command);
     }
     dates

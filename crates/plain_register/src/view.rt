@@ -5,9 +5,9 @@ ghost use Rattle.register_core.specs.Verdict.{judgement};
 ghost use Rattle.register_core.specs.Decision.{IsViewOf};
 
 use crate::custody::{approvals, custodians, need};
-use crate::history::{count, dates, kind_of_key, latest, owner};
+use crate::history::{count, dates, kind_of_key, latest, owner, period};
 use lifecycle_core::{Row, state_of};
-use period_core::{KeyType, period_of};
+use period_core::KeyType;
 use register_core::{Command, Held, Refusal, Request, View, judge, type_needed};
 use std::alloc::{AllocError, Global};
 
@@ -48,7 +48,7 @@ fn view(alloc: Global, history: &[Request], command: &Command) -> Result<View, A
     Ok(View {
         latest: latest(history),
         keys: count(history),
-        period: period_of(kind),
+        period: period(history, kind),
         key,
     })
 }

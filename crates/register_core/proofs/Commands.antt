@@ -6,7 +6,7 @@ use Rattle.register_core.specs.declared.request.Command.{Command}
 use Rattle.register_core.specs.declared.request.Command.TheVariants.{Advance}
 use Rattle.register_core.specs.declared.fields.Fields.{Fields}
 use Rattle.register_core.specs.declared.fields.Fields.TheVariants.{Nothing, Key, KeyAndName, KeyAndOwner}
-use Rattle.register_core.specs.declared.fields.Fields.TheVariants.{KeyAndNeed, Registration, DateEdits, Revocation}
+use Rattle.register_core.specs.declared.fields.Fields.TheVariants.{KeyAndNeed, TypeAndPeriod, Registration, DateEdits, Revocation}
 use Rattle.register_core.specs.CommandKind.{command_shape}
 use Rattle.register_core.specs.CommandRule.{kind_of}
 use Rattle.register_core.specs.Fields.{fields_of, command_with, shape_of}
@@ -43,6 +43,7 @@ made (Key key) kinds.Activate c e = record { kind_is = cc; fields_are = cc }
 made (KeyAndName key name) kinds.AddCustodian c e = record { kind_is = cc; fields_are = cc }
 made (KeyAndOwner key owner) kinds.Assign c e = record { kind_is = cc; fields_are = cc }
 made (KeyAndNeed key need) kinds.SetQuorum c e = record { kind_is = cc; fields_are = cc }
+made (TypeAndPeriod kind period) kinds.SetPeriod c e = record { kind_is = cc; fields_are = cc }
 made (Registration kind owner a p d purpose) kinds.Register c e = record { kind_is = cc; fields_are = cc }
 made (DateEdits key a p d) kinds.SetDates c e = record { kind_is = cc; fields_are = cc }
 made (Revocation key reason occurrence) kinds.Revoke c e = record { kind_is = cc; fields_are = cc }
@@ -56,6 +57,7 @@ some_made (Key key) kinds.Activate same none = cc
 some_made (KeyAndName key name) kinds.AddCustodian same none = cc
 some_made (KeyAndOwner key owner) kinds.Assign same none = cc
 some_made (KeyAndNeed key need) kinds.SetQuorum same none = cc
+some_made (TypeAndPeriod kind period) kinds.SetPeriod same none = cc
 some_made (Registration kind owner a p d purpose) kinds.Register same none = cc
 some_made (DateEdits key a p d) kinds.SetDates same none = cc
 some_made (Revocation key reason occurrence) kinds.Revoke same none = cc

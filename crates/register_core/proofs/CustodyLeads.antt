@@ -9,7 +9,7 @@ use Rattle.std.proofs.lemmas.List.{append-nil}
 use Rattle.lifecycle_core.specs.Reason.{is_compromise}
 use Rattle.register_core.specs.declared.request.Request.{Request}
 use Rattle.register_core.specs.declared.request.Command.{Command}
-use Rattle.register_core.specs.declared.request.Command.TheVariants.{Revoke, AddCustodian, RemoveCustodian, Approve, Withdraw, Advance, SetQuorum}
+use Rattle.register_core.specs.declared.request.Command.TheVariants.{Revoke, AddCustodian, RemoveCustodian, Approve, Withdraw, Advance, SetPeriod, SetQuorum}
 use Rattle.register_core.specs.declared.reply.Refusal.{Refusal}
 use Rattle.register_core.specs.declared.change.CustodyChange.{CustodyChange}
 use Rattle.register_core.specs.declared.change.CustodyChange.TheVariants.{Kept, ApprovalsEnded}
@@ -108,6 +108,8 @@ record LeavesNames (h : List Request) (caller : List ℕ) (c : Command) : Type 0
 -- One that names no key does. The last row has every command that names one, and every other that does not.
 leaves : (h : List Request) (caller : List ℕ) (c : Command) → named c ≡ None → LeavesNames h caller c
 leaves h caller Advance none = record { about = λ entry. refl; added = refl; ends = λ entry. refl; approved = refl; needs = λ sets. refl }
+leaves h caller (SetPeriod kind period) none =
+    record { about = λ entry. refl; added = refl; ends = λ entry. refl; approved = refl; needs = λ sets. refl }
 leaves h caller c none = record { about = λ entry. cc; added = cc; ends = λ entry. cc; approved = cc; needs = λ sets. cc }
 
 left : (p : KeyName → Bool) (more entries : List (KeyName)) → ((entry : KeyName) → p entry ≡ false) → more ≡ []

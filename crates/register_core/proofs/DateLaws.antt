@@ -1,17 +1,16 @@
 -- The dates of each key over lawful histories: they fit, and move only where they may.
-use Rattle.std.proofs.Common.{◌≡◌, ℕ, List, [], ◌∷◌, ◌++◌, None, refl, sym, ap, subst, ◌∙◌, arith, inl, inr}
+use Rattle.std.proofs.Common.{◌≡◌, ℕ, cond, List, [], ◌∷◌, ◌++◌, None, refl, sym, ap, subst, ◌∙◌, arith, inl, inr}
 use Rattle.lifecycle_core.specs.declared.dates.Dates.{Dates}
 use Rattle.period_core.specs.Period.{Period}
-use Rattle.period_core.specs.Period.{periods}
 use Rattle.period_core.specs.Fitting.{filled}
 use Rattle.register_core.specs.declared.request.Request.{Request}
-use Rattle.register_core.specs.History.{type, dates}
-use Rattle.register_core.specs.Effect.{given_dates, dates_after}
+use Rattle.register_core.specs.History.{period, type, dates, dated_by}
+use Rattle.register_core.specs.Effect.{given_dates, dates_after, sets_dates}
 use Rattle.register_core.specs.Verdict.{unfit, judgement}
 use Rattle.register_core.specs.Fold.{IsLawful}
 use Rattle.register_core.specs.Laws.{IsAccepted, HasKey, MovesOnly}
 use Rattle.register_core.proofs.Verdicts.{judged}
-use Rattle.register_core.proofs.Histories.{count_grows, kind_other, dates_other, kind_named, dates_named, kind_made, dates_made}
+use Rattle.register_core.proofs.Histories.{count_grows, dates_other, dated_other, dates_named, dated_named, dates_made, dated_made}
 use Rattle.register_core.proofs.Subjects.{is_registration}
 use Rattle.register_core.proofs.Decisions.{standing}
 use Rattle.register_core.proofs.Lawful.{lawful_holds}
@@ -26,36 +25,38 @@ sound_as period other_period d other same_period same sound =
 
 -- the dates that the key is registered with
 pub made_sound : (h : List Request) (q : Request) (k : ℕ) → IsMade h q k
-    → IsSound (periods (type (h ++ q ∷ []) k)) (dates (h ++ q ∷ []) k)
+    → IsSound (dated_by (h ++ q ∷ []) k) (dates (h ++ q ∷ []) k)
 made_sound h q k made =
     let r = made.registration in
     let given : Dates = given_dates q.moment r.activation r.protect_stop r.deactivation in
-    let period : Period = periods r.kind in
+    let span : Period = period h r.kind in
     let fit =
-    filled_fits period given (sym (ap (unfit periods None q.moment) (is_registration q.command r made.makes)) ∙ made.fit) in
-    let kind = ap (type (h ++ q ∷ [])) made.next ∙ kind_made h q r made.makes in
+    filled_fits span given (sym (ap (unfit (period h) None q.moment) (is_registration q.command r made.makes)) ∙ made.fit) in
+    let set = ap (dated_by (h ++ q ∷ [])) made.next ∙ dated_made h q r made.makes in
     let its = ap (dates (h ++ q ∷ [])) made.next ∙ dates_made h q r made.makes in
-    sound_as period _ (filled period given) _ (ap periods kind) its
-    (sound_by period given (filled period given) fit (filled_keeps period given) refl)
+    sound_as span _ (filled span given) _ set its
+    (sound_by span given (filled span given) fit (filled_keeps span given) refl)
 
 -- what the request makes of the dates of the key that it names
-on_steps : (h : List Request) (q : Request) (k : ℕ) → IsOn h q k → IsSound (periods (type h k)) (dates h k)
-    → Steps (periods (type h k)) (dates h k) q.moment (dates_after (periods (type h k)) (dates h k) q.moment q.command)
-on_steps h q k on sound = step (standing h k) q.moment k q.command on.names sound on.fits_state on.not_frozen on.fit
+on_steps : (h : List Request) (q : Request) (k : ℕ) → IsOn h q k → IsSound (dated_by h k) (dates h k)
+    → Steps (cond (sets_dates q.command) (period h (type h k)) (dated_by h k)) (dates h k) q.moment
+    (dates_after (period h (type h k)) (dates h k) q.moment q.command)
+on_steps h q k on sound =
+    step (period h) (dated_by h k) (standing h k) q.moment k q.command on.names sound on.fits_state on.not_frozen on.fit
 
 abbrev AllSound : List Request → Type 0
-AllSound h = (k : ℕ) → HasKey h k → IsSound (periods (type h k)) (dates h k)
+AllSound h = (k : ℕ) → HasKey h k → IsSound (dated_by h k) (dates h k)
 
 sound_next : (h : List Request) (q : Request) → IsLawful h → judgement h q ≡ None → AllSound h → AllSound (h ++ q ∷ [])
 sound_next h q lawful accepted before k has = elim (which h q k accepted has.1) [
   | inl made ↦ made_sound h q k made
   | inr (inl on) ↦
       let steps = on_steps h q k on (before k (on.low, on.high)) in
-      sound_as (periods (type h k)) _ _ _ (ap periods (kind_named h q k on.names)) (dates_named h q k on.names)
-      steps.sound
+      sound_as (cond (sets_dates q.command) (period h (type h k)) (dated_by h k)) _ _ _ (dated_named h q k on.names)
+      (dates_named h q k on.names) steps.sound
   | inr (inr other) ↦
-      sound_as (periods (type h k)) _ (dates h k) _ (ap periods (kind_other h q k other.other))
-      (dates_other h q k other.other) (before k (has.0, other.high))
+      sound_as (dated_by h k) _ (dates h k) _ (dated_other h q k other.other) (dates_other h q k other.other)
+      (before k (has.0, other.high))
 ]
 
 pub all_sound : (h : List Request) → IsLawful h → AllSound h

@@ -9,6 +9,7 @@ use Rattle.lifecycle_core.specs.State.{state_at, is_reached_at}
 use Rattle.lifecycle_core.specs.Reason.{is_compromise}
 use Rattle.moment_core.specs.Calendar.{months_after}
 use Rattle.moment_core.proofs.Forward.{months_forward}
+use Rattle.period_core.specs.declared.key_type.KeyType.{KeyType}
 use Rattle.period_core.specs.Period.{Period}
 use Rattle.period_core.specs.Period.{periods}
 use Rattle.period_core.specs.Fitting.{is_not_after, months_on_date, Fits, KeepsDate, cut, filled, trimmed}
@@ -17,7 +18,7 @@ use Rattle.register_core.specs.declared.request.Command.TheVariants.{Register as
 use Rattle.register_core.specs.declared.request.Edit.{Edit}
 use Rattle.register_core.specs.declared.request.Edit.TheVariants.{Keep, Clear, Set}
 use Rattle.register_core.specs.declared.view.Held.{Held}
-use Rattle.register_core.specs.Effect.{edited, edited_dates, no_later_than, compromised, deactivated, dates_after}
+use Rattle.register_core.specs.Effect.{edited, edited_dates, no_later_than, compromised, deactivated, dates_after, sets_dates}
 use Rattle.register_core.specs.CommandRule.{before_compromise, is_one_of, is_for}
 use Rattle.register_core.specs.Verdict.{is_kept, frozen, unfit}
 use Rattle.register_core.specs.Subject.{named}
@@ -282,20 +283,21 @@ revoked period d t false occurrence sound fits_state =
       moves = deactivated_moves d t active;
     }
 
-pub step : (key : Held) (t k : ℕ) (c : Command) → named c ≡ Some k → IsSound (periods key.kind) key.row.dates
-    → is_for c (state_at key.row.dates t) ≡ true → frozen (Some key) t c ≡ None → unfit periods (Some key) t c ≡ None
-    → Steps (periods key.kind) key.row.dates t (dates_after (periods key.kind) key.row.dates t c)
-step key t k (Registers kind owner activation protect_stop deactivation purpose) names sound fits_state free fit = absurd cc
-step key t k (Activate n) names sound fits_state free fit =
-    let period : Period = periods key.kind in
+-- the dates are sound by the period of the type where the command gives them, and else by the one that they were sound by
+pub step : (ps : KeyType → Period) (before : Period) (key : Held) (t k : ℕ) (c : Command) → named c ≡ Some k → IsSound before key.row.dates
+    → is_for c (state_at key.row.dates t) ≡ true → frozen (Some key) t c ≡ None → unfit ps (Some key) t c ≡ None
+    → Steps (cond (sets_dates c) (ps key.kind) before) key.row.dates t (dates_after (ps key.kind) key.row.dates t c)
+step ps before key t k (Registers kind owner activation protect_stop deactivation purpose) names sound fits_state free fit = absurd cc
+step ps before key t k (Activate n) names sound fits_state free fit =
+    let period : Period = ps key.kind in
     let d : Dates = key.row.dates in
     let given : Dates = record d { activation = Some t } in
     record {
       sound = sound_by period given _ (trimmed_fits period given fit) (trimmed_keeps period given) sound.occurs;
       moves = activated_moves period d t (is_pre_active (state_at d t) fits_state);
     }
-step key t k (SetDates n activation protect_stop deactivation) names sound fits_state free fit =
-    let period : Period = periods key.kind in
+step ps before key t k (SetDates n activation protect_stop deactivation) names sound fits_state free fit =
+    let period : Period = ps key.kind in
     let d : Dates = key.row.dates in
     let given : Dates = edited_dates activation protect_stop deactivation d in
     record {
@@ -304,13 +306,13 @@ step key t k (SetDates n activation protect_stop deactivation) names sound fits_
           edited_moves period d t activation protect_stop deactivation (is_early (state_at d t) fits_state)
           (not_refused _ _ free);
     }
-step key t k (Revoke n reason occurrence) names sound fits_state free fit =
-    revoked (periods key.kind) key.row.dates t (is_compromise reason) occurrence sound fits_state
-step key t k (Destroy n) names sound fits_state free fit =
+step ps before key t k (Revoke n reason occurrence) names sound fits_state free fit =
+    revoked before key.row.dates t (is_compromise reason) occurrence sound fits_state
+step ps before key t k (Destroy n) names sound fits_state free fit =
     let d : Dates = key.row.dates in
     let still = nothing_moves d t in
     record {
-      sound = destroyed_sound (periods key.kind) d t sound;
+      sound = destroyed_sound before d t sound;
       moves = record {
         activation = still.activation;
         deactivation = still.deactivation;
@@ -321,4 +323,4 @@ step key t k (Destroy n) names sound fits_state free fit =
         compromise_occurrence = still.compromise_occurrence;
       };
     }
-step key t k c names sound fits_state free fit = same_step (periods key.kind) key.row.dates t sound
+step ps before key t k c names sound fits_state free fit = same_step before key.row.dates t sound

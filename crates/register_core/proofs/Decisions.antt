@@ -11,6 +11,9 @@ use Rattle.period_core.specs.Period.{Period}
 use Rattle.period_core.specs.Fitting.{filled}
 use Rattle.register_core.specs.declared.request.Request.{Request}
 use Rattle.register_core.specs.declared.request.Command.{Command}
+use Rattle.register_core.specs.declared.request.Command.TheVariants.{Advance, SetPeriod}
+use Rattle.register_core.specs.Settings.{TypePeriod, periods_after, all_periods}
+use Rattle.register_core.proofs.Settled.{periods_next}
 use Rattle.register_core.specs.declared.reply.Reply.{Reply}
 use Rattle.register_core.specs.declared.reply.Refusal.TheVariants.{UnknownKey, AlreadyCustodian, AlreadyApproved}
 use Rattle.register_core.specs.declared.view.Held.{Held}
@@ -24,7 +27,7 @@ use Rattle.register_core.specs.Custody.{custodians, approvals, need, held}
 use Rattle.register_core.specs.KeptReply.{reply}
 use Rattle.register_core.specs.Verdict.{unknown, named_key, judgement}
 use Rattle.register_core.specs.CustodyRefusal.{already_custodian, already_approved}
-use Rattle.register_core.specs.Decision.{held_change, registered_key, change_of, change_by, reply_to, Stands, LeadsTo}
+use Rattle.register_core.specs.Decision.{held_change, registered_key, change_of, change_by, change_without_key, reply_to, Stands, LeadsTo}
 use Rattle.register_core.proofs.Histories.{latest_grows, count_grows, key_named, kind_named, owner_named, dates_named, kind_made, owner_made, dates_made}
 use Rattle.register_core.proofs.Refusals.{IsPassed, passes}
 use Rattle.register_core.proofs.CustodyLeads.{not_refused, IsNew, nobody_changes, custody_lead}
@@ -117,6 +120,24 @@ reply_of_key : (h : List Request) (q : Request) (k : ℕ) (d : Dates) → key_of
 reply_of_key h q k d is same =
     sym (ap (replied h q) is ∙ ap (λ (e : Dates). record { key = k; state = Some (state_at e q.moment); moment = q.moment }) same)
 
+-- ---- periods that stay
+
+-- a command about a key sets no period
+sets_none : (c : Command) (s : Subject) → subject c ≡ s → (s ≡ NoKey → ⊥) → (sets : List TypePeriod)
+    → periods_after sets c ≡ sets
+sets_none (SetPeriod kind period) s is keyed sets = absurd (keyed (sym is))
+sets_none c s is keyed sets = refl
+
+periods_made : (h : List Request) (q : Request) (r : Registration) → subject q.command ≡ Makes r
+    → all_periods (h ++ q ∷ []) ≡ all_periods h
+periods_made h q r makes =
+    periods_next h q ∙ sets_none q.command (Makes r) makes (λ e. absurd cc) (all_periods h)
+
+periods_named : (h : List Request) (q : Request) (k : ℕ) → named q.command ≡ Some k
+    → all_periods (h ++ q ∷ []) ≡ all_periods h
+periods_named h q k names =
+    periods_next h q ∙ sets_none q.command (Names k) (is_named (subject q.command) k names) (λ e. absurd cc) (all_periods h)
+
 -- ---- changes
 
 -- the change's reply is the request's, and the change leads to what the history says
@@ -129,7 +150,7 @@ agrees_made h q r makes =
     let replies =
     reply_of_key h q (count h + 1) (filled (period h r.kind) given) (ap (key_by (count h)) makes)
     (dates_made h q r makes) in
-    (replies, (held_made h q r makes, nobody_changes h q (count h + 1) (ap named_by makes)))
+    (replies, (held_made h q r makes, nobody_changes h q (count h + 1) (ap named_by makes), periods_made h q r makes))
 
 agrees_named : (h : List Request) (q : Request) (k : ℕ) → named q.command ≡ Some k → is_there h k ≡ true → IsNew h q k →
     Agrees h q (held_change (period h) k (standing h k) q)
@@ -137,7 +158,7 @@ agrees_named h q k names is new =
     let replies =
     reply_of_key h q k (dates_after (period h (type h k)) (dates h k) q.moment q.command)
     (key_named q.command (count h) k names) (dates_named h q k names) in
-    (replies, (held_named h q k names is, custody_lead h q k names new))
+    (replies, (held_named h q k names is, custody_lead h q k names new, periods_named h q k names))
 
 pub change_named : (periods : KeyType → Period) (c : Command) (k : ℕ) (key : Held) (q : Request) → named c ≡ Some k
     → change_of periods (subject c) (Some key) q ≡ held_change periods k key q
@@ -165,13 +186,26 @@ agrees_key h q k (Some key) names is passed =
     let new = new_names h q k custodian approval in
     subst (Agrees h q) (sym same) (agrees_named h q k names stands.0 new)
 
+-- a command about no key
+agrees_without : (h : List Request) (q : Request) (c : Command) → q.command ≡ c → subject c ≡ NoKey
+    → Agrees h q (change_without_key c)
+agrees_without h q (SetPeriod kind period) is none = (
+  sym (ap (λ (c : Command). replied h q (key_of (count h) c)) is),
+  (nobody_changes h q 0 (ap named is), periods_next h q ∙ ap (periods_after (all_periods h)) is),
+)
+agrees_without h q Advance is none = (
+  sym (ap (λ (c : Command). replied h q (key_of (count h) c)) is),
+  (nobody_changes h q 0 (ap named is), periods_next h q ∙ ap (periods_after (all_periods h)) is),
+)
+agrees_without h q c is none = absurd cc
+
 agrees_by : (h : List Request) (q : Request) (s : Subject) (key : Option Held) → subject q.command ≡ s
     → key ≡ named_key h q.command → IsPassed (latest h) (count h) (period h) key q
     → Agrees h q (change_of (period h) s key q)
 agrees_by h q (Makes r) key is view passed = agrees_made h q r is
 agrees_by h q (Names k) key is view passed =
     agrees_key h q k key (ap named_by is) (view ∙ ap (λ (s : Subject). option_and_then (held h) (named_by s)) is) passed
-agrees_by h q NoKey key is view passed = (sym (ap (λ (s : Subject). replied h q (key_by (count h) s)) is), nobody_changes h q 0 (ap named_by is))
+agrees_by h q NoKey key is view passed = agrees_without h q q.command refl is
 
 -- ---- accepted requests
 

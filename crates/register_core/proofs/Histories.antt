@@ -12,10 +12,11 @@ use Rattle.period_core.specs.declared.key_type.KeyType.TheVariants.{DataEncrypti
 use Rattle.period_core.specs.Fitting.{filled}
 use Rattle.register_core.specs.declared.request.Request.{Request}
 use Rattle.register_core.specs.declared.request.Command.{Command}
-use Rattle.register_core.specs.History.{latest, registrations, count, Placed, own_from, own, period, type, dates, owner}
+use Rattle.register_core.specs.History.{latest, registrations, count, Placed, own_from, own, period, type, dates, owner, dated_by}
 use Rattle.register_core.specs.Subject.{Registration, Subject, Makes, Names, NoKey, subject, registration_by, named_by, key_by, count_by, registration_of, named, key_of, made_by, is_key}
 use Rattle.register_core.proofs.Subjects.{is_registration, is_named}
-use Rattle.register_core.specs.Effect.{kind_by, kind_after, no_dates, given_dates, dates_after, owner_after}
+use Rattle.register_core.specs.Effect.{kind_by, kind_after, no_dates, given_dates, dates_after, owner_after, sets_dates}
+use Rattle.period_core.specs.Period.{Period, periods}
 
 -- ---- lists with one more
 
@@ -100,6 +101,9 @@ owner_step before p = owner_after before p.request.command
 abbrev pub dates_step : KeyType → Dates → Placed → Dates
 dates_step kind d p = dates_after (period p.before kind) d p.request.moment p.request.command
 
+abbrev pub dated_step : KeyType → Period → Placed → Period
+dated_step kind before p = cond (sets_dates p.request.command) (period p.before kind) before
+
 fold_same : {X : Type 0} (step : X → Placed → X) (first : X) (h : List Request) (q : Request) (k : ℕ)
     → is_key k (key_of (count h) q.command) ≡ false
     → fold step first (own (h ++ q ∷ []) k) ≡ fold step first (own h k)
@@ -124,6 +128,12 @@ dates_other h q k other =
     ap (λ (kind : KeyType). fold (dates_step kind) no_dates (own (h ++ q ∷ []) k)) (kind_other h q k other)
     ∙ fold_same (dates_step (type h k)) no_dates h q k other
 
+pub dated_other : (h : List Request) (q : Request) (k : ℕ) → is_key k (key_of (count h) q.command) ≡ false
+    → dated_by (h ++ q ∷ []) k ≡ dated_by h k
+dated_other h q k other =
+    ap (λ (kind : KeyType). fold (dated_step kind) (periods kind) (own (h ++ q ∷ []) k)) (kind_other h q k other)
+    ∙ fold_same (dated_step (type h k)) (periods (type h k)) h q k other
+
 -- ---- a request that names the key
 
 pub kind_named : (h : List Request) (q : Request) (k : ℕ) → named q.command ≡ Some k → type (h ++ q ∷ []) k ≡ type h k
@@ -137,6 +147,12 @@ pub dates_named : (h : List Request) (q : Request) (k : ℕ) → named q.command
 dates_named h q k names =
     ap (λ (kind : KeyType). fold (dates_step kind) no_dates (own (h ++ q ∷ []) k)) (kind_named h q k names)
     ∙ fold_ends (dates_step (type h k)) no_dates h q k (key_named q.command (count h) k names)
+
+pub dated_named : (h : List Request) (q : Request) (k : ℕ) → named q.command ≡ Some k
+    → dated_by (h ++ q ∷ []) k ≡ cond (sets_dates q.command) (period h (type h k)) (dated_by h k)
+dated_named h q k names =
+    ap (λ (kind : KeyType). fold (dated_step kind) (periods kind) (own (h ++ q ∷ []) k)) (kind_named h q k names)
+    ∙ fold_ends (dated_step (type h k)) (periods (type h k)) h q k (key_named q.command (count h) k names)
 
 -- ---- the registration of the key, which overrides whatever came before
 
@@ -156,6 +172,14 @@ dates_made h q r makes =
     ap (λ (kind : KeyType). fold (dates_step kind) no_dates (own (h ++ q ∷ []) (count h + 1))) (kind_made h q r makes)
     ∙ fold_ends (dates_step r.kind) no_dates h q (count h + 1) (ap (key_by (count h)) makes)
     ∙ ap (λ (c : Command). dates_after (period h r.kind) before q.moment c) (is_registration q.command r makes)
+
+pub dated_made : (h : List Request) (q : Request) (r : Registration) → subject q.command ≡ Makes r
+    → dated_by (h ++ q ∷ []) (count h + 1) ≡ period h r.kind
+dated_made h q r makes =
+    let before : Period = fold (dated_step r.kind) (periods r.kind) (own h (count h + 1)) in
+    ap (λ (kind : KeyType). fold (dated_step kind) (periods kind) (own (h ++ q ∷ []) (count h + 1))) (kind_made h q r makes)
+    ∙ fold_ends (dated_step r.kind) (periods r.kind) h q (count h + 1) (ap (key_by (count h)) makes)
+    ∙ ap (λ (c : Command). cond (sets_dates c) (period h r.kind) before) (is_registration q.command r makes)
 
 -- ---- the front of a history, one request longer
 

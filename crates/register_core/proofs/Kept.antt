@@ -20,10 +20,11 @@ use Rattle.period_core.specs.declared.key_type.KeyType.{KeyType}
 use Rattle.period_core.specs.Period.{Period}
 use Rattle.register_core.specs.declared.request.Request.{Request}
 use Rattle.register_core.specs.declared.request.Command.{Command}
+use Rattle.register_core.specs.declared.request.Command.TheVariants.{SetPeriod}
 use Rattle.register_core.specs.declared.reply.Reply.{Reply}
 use Rattle.register_core.specs.declared.view.Held.{Held}
 use Rattle.register_core.specs.declared.view.View.{View}
-use Rattle.register_core.specs.Decision.{change_of, change_by, reply_to, reply_of_view}
+use Rattle.register_core.specs.Decision.{change_of, change_by, change_without_key, reply_to, reply_of_view}
 use Rattle.register_core.specs.declared.reply.Refusal.TheVariants.{RequestReused}
 use Rattle.register_core.specs.Fold.{IsLawful, history}
 use Rattle.register_core.specs.History.{count, dates}
@@ -227,22 +228,31 @@ all_kept h lawful = holds_of_each AllKept all_next (λ lawful. tt) h lawful lawf
 
 -- ---- the reply of a decision
 
+without_whole : (keys t : ℕ) (c : Command) → is_whole_by NoKey (reply_to keys t (change_without_key c)) ≡ true
+without_whole keys t (SetPeriod kind period) = refl
+without_whole keys t c = refl
+
+without_key : (keys t : ℕ) (c : Command) → (reply_to keys t (change_without_key c)).key ≡ 0
+without_key keys t (SetPeriod kind period) = refl
+without_key keys t c = refl
+
 whole_decided : (keys t : ℕ) (ps : KeyType → Period) (key : Option Held) (q : Request) (s : Subject) → ((k : ℕ) → named_by s ≡ Some k → 1 ≤ k) → (key ≡ None → named_by s ≡ None)
     → is_whole_by s (reply_to keys t (change_of ps s key q)) ≡ true
 whole_decided keys t ps key q (Makes r) low known = ap (λ (b : Bool). b && true) (lt-ltb 0 (keys + 1) (omega arith))
 whole_decided keys t ps (Some held) q (Names k) low known = ap (λ (b : Bool). b && true) (lt-ltb 0 k (low k refl))
 whole_decided keys t ps None q (Names k) low known = absurd (let none = known refl in cc)
-whole_decided keys t ps key q NoKey low known = refl
+whole_decided keys t ps key q NoKey low known = without_whole keys t q.command
 
 key_decided : (keys t : ℕ) (ps : KeyType → Period) (key : Option Held) (q : Request) (s : Subject) → keys ≤ max_keys → ((k : ℕ) → named_by s ≡ Some k → k ≤ max_key_number) → (reply_to keys t (change_of ps s key q)).key ≤ max_key_number
 key_decided keys t ps key q (Makes r) few high = omega (arith, few)
 key_decided keys t ps (Some held) q (Names k) few high = high k refl
 key_decided keys t ps None q (Names k) few high = omega arith
-key_decided keys t ps key q NoKey few high = omega arith
+key_decided keys t ps key q NoKey few high = omega (arith, without_key keys t q.command)
 
 moment_decided : (keys t : ℕ) (change : Change) → (reply_to keys t change).moment ≡ t
 moment_decided keys t (Made key) = refl
 moment_decided keys t (change.Held key owner row custody) = refl
+moment_decided keys t (change.PeriodSet kind period) = refl
 moment_decided keys t Nothing = refl
 
 -- an accepted request names a key that is there

@@ -16,7 +16,7 @@ use Rattle.register_core.specs.declared.request.Request.{Request}
 use Rattle.register_core.specs.declared.request.Command.{Command}
 use Rattle.register_core.specs.declared.fields.Fields.{Fields}
 use Rattle.register_core.specs.declared.fields.Fields.TheVariants.{Nothing, Key, KeyAndName, KeyAndOwner}
-use Rattle.register_core.specs.declared.fields.Fields.TheVariants.{KeyAndNeed, Registration, DateEdits, Revocation}
+use Rattle.register_core.specs.declared.fields.Fields.TheVariants.{KeyAndNeed, TypeAndPeriod, Registration, DateEdits, Revocation}
 use Rattle.register_core.specs.declared.fields.Shape.{Shape}
 use Rattle.register_core.specs.declared.fields.Shape.TheVariants as shapes
 use Rattle.register_core.specs.Fields.{fields_of, command_with, shape_of}
@@ -30,14 +30,15 @@ use Rattle.register_core.specs.Number.{IsNumber}
 use Rattle.register_core.specs.Purpose.{IsPurpose}
 use Rattle.register_core.specs.Quorum.{IsQuorum}
 use Rattle.period_core.specs.KeyType.{key_type_text}
+use Rattle.period_core.specs.Period.{Period}
 use Rattle.register_core.specs.CommandKind.{command_kind_text, command_shape}
 use Rattle.register_core.specs.CommandRule.{kind_of}
 use Rattle.register_core.specs.Request.{max_line_length, AreFields, IsCommand, IsDate, IsEdit, IsKeyNumber, IsRequest, IsLineOf, StandsFor, IsItem, date_text, edit_text, fields_text, command_text, request_text}
 use Rattle.register_core.specs.CommandText.{IsCommandText, IsCommandItem}
-use Rattle.register_core.specs.Reading.{◌>>=◌, is_space, field_at, field_then, moment_at, date_at, edit_at, key_number_at, reason_at, occurrence_at, request_number_at, name_at, key_type_at, purpose_at, registered, register_at, edits, edits_at, revoked, revoke_at, key_and_name_at, key_and_need_at, quorum_at, keyed_at, named_at, kind_at, shaped_at, behind_at, split_by, word_at, command_at, requested, fields_at, request_at}
+use Rattle.register_core.specs.Reading.{◌>>=◌, is_space, field_at, field_then, moment_at, date_at, edit_at, key_number_at, reason_at, occurrence_at, request_number_at, name_at, key_type_at, purpose_at, registered, register_at, edits, edits_at, revoked, revoke_at, key_and_name_at, key_and_need_at, quorum_at, type_and_period_at, originator_at, recipient_at, set_period, keyed_at, named_at, kind_at, shaped_at, behind_at, split_by, word_at, command_at, requested, fields_at, request_at}
 use Rattle.register_core.proofs.Commands.{made, made_again, has_shape}
 use Rattle.register_core.proofs.FieldReading.{bind_some, some_is, none_from, IsReader, HasNoSpace, field_takes, field_again, then_reader}
-use Rattle.register_core.proofs.Readers.{moment_reader, date_reader, edit_reader, moment_small, key_number_reader, key_number_small, request_number_reader, request_number_small, quorum_reader, name_reader, purpose_reader, key_type_reader, kind_reader, reason_reader, reason_text, reason_small, IsOccurrence, occurrence_reader, not_space}
+use Rattle.register_core.proofs.Readers.{moment_reader, date_reader, edit_reader, moment_small, key_number_reader, key_number_small, request_number_reader, request_number_small, quorum_reader, originator_reader, recipient_reader, IsMonths, months_small, name_reader, purpose_reader, key_type_reader, kind_reader, reason_reader, reason_text, reason_small, IsOccurrence, occurrence_reader, not_space}
 
 -- ---- what has no space
 
@@ -252,6 +253,32 @@ key_and_need_again : (key need : ℕ) → AreFields (KeyAndNeed key need)
 unfolding key_and_need_at
 key_and_need_again key need in_range = rw (key_and_need_reader.again (key, need) in_range) refl
 
+abbrev Months : Type 0
+Months = KeyType × (ℕ × ℕ)
+
+type_and_period_reader : IsReader (field_then key_type_at (λ _. field_then originator_at (λ _. recipient_at)))
+    (λ (x : Months). before (key_type_text x.0) (before (decimal x.1.0) (decimal x.1.1)))
+    (λ (x : Months). Unit {0} × (IsMonths 1 x.1.0 × IsMonths 0 x.1.1))
+type_and_period_reader =
+    then_reader key_type_reader (λ k _. key_type_solid k) (λ _.
+    then_reader originator_reader (λ n in_range. decimal_solid n (months_small 1 n in_range)) (λ _. recipient_reader))
+
+type_and_period_takes : (bytes : List ℕ) (f : Fields) → type_and_period_at bytes ≡ Some f → AreRead (Some bytes) f
+unfolding type_and_period_at
+type_and_period_takes =
+    made_of type_and_period_reader set_period
+    (λ x h. record { some = h.1.0.0; originator = h.1.0.1; recipient = h.1.1.1 })
+    (λ x. joined_revoke (key_type_text x.0) (decimal x.1.0) (decimal x.1.1))
+
+type_and_period_again : (kind : KeyType) (p : Period) → AreFields (TypeAndPeriod kind p)
+    → type_and_period_at (before (key_type_text kind) (before (decimal p.originator) (decimal p.recipient)))
+    ≡ Some (TypeAndPeriod kind p)
+unfolding type_and_period_at
+type_and_period_again kind p in_range =
+    ap (λ (read : Option Months). read >>= λ x. Some (set_period x))
+    (type_and_period_reader.again (kind, (p.originator, p.recipient))
+    (tt, ((in_range.some, in_range.originator), (omega arith, in_range.recipient))))
+
 keyed_again : (key : ℕ) → IsKeyNumber key → keyed_at (decimal key) ≡ Some (Key key)
 unfolding keyed_at
 keyed_again key in_range = rw (key_number_reader.again key in_range) refl
@@ -314,6 +341,7 @@ shaped_takes shapes.Key bytes f e = keyed_takes bytes f e
 shaped_takes shapes.KeyAndName bytes f e = named_takes KeyAndName (λ key name h. h) (λ key name. refl) bytes f e
 shaped_takes shapes.KeyAndOwner bytes f e = named_takes KeyAndOwner (λ key name h. h) (λ key name. refl) bytes f e
 shaped_takes shapes.KeyAndNeed bytes f e = key_and_need_takes bytes f e
+shaped_takes shapes.TypeAndPeriod bytes f e = type_and_period_takes bytes f e
 shaped_takes shapes.Registration bytes f e = register_takes bytes f e
 shaped_takes shapes.DateEdits bytes f e = edits_take bytes f e
 shaped_takes shapes.Revocation bytes f e = revoke_takes bytes f e
@@ -348,6 +376,11 @@ read_again (KeyAndNeed key need) in_range = record {
   behind = Some (before (decimal key) (decimal need));
   text = joined_named (decimal key) (decimal need);
   read = key_and_need_again key need in_range;
+}
+read_again (TypeAndPeriod kind p) in_range = record {
+  behind = Some (before (key_type_text kind) (before (decimal p.originator) (decimal p.recipient)));
+  text = joined_revoke (key_type_text kind) (decimal p.originator) (decimal p.recipient);
+  read = type_and_period_again kind p in_range;
 }
 read_again (Registration k o a p d u) in_range = record {
   behind = Some (text_of_registered (k, (o, (a, (p, (d, u))))));

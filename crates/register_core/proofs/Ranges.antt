@@ -5,7 +5,7 @@ use Rattle.std.proofs.lemmas.Bool.{lt-ltb}
 use Rattle.lifecycle_core.specs.Reason.{is_compromise}
 use Rattle.register_core.specs.declared.request.Command.{Command}
 use Rattle.register_core.specs.declared.fields.Fields.{Fields}
-use Rattle.register_core.specs.declared.fields.Fields.TheVariants.{Nothing, Registration, Revocation}
+use Rattle.register_core.specs.declared.fields.Fields.TheVariants.{Nothing, TypeAndPeriod, Registration, Revocation}
 use Rattle.register_core.specs.Fields.{fields_of}
 use Rattle.register_core.specs.Request.{AreFields, IsCommand, IsKeyNumber, is_numbered, is_dated, has_text}
 use Rattle.register_core.specs.Subject.{subject_by, named_by, named}
@@ -20,6 +20,7 @@ of_compromise false x only = absurd (let e = only refl in cc)
 -- The last row has all other fields: each names a key, and has nothing else that its types leave open.
 fields_in_range : (f : Fields) → AreFields f → (is_numbered (named_by (subject_by f)) && is_dated f) ≡ true
 fields_in_range Nothing is = refl
+fields_in_range (TypeAndPeriod kind period) is = refl
 fields_in_range (Registration kind owner activation protect_stop deactivation purpose) is = refl
 fields_in_range (Revocation key reason (Some occurrence)) is =
     both key (is_compromise reason) is.0 (of_compromise (is_compromise reason) occurrence is.2)
@@ -33,6 +34,7 @@ same_number key k names in_range = let same : key ≡ k = cc in subst IsKeyNumbe
 
 key_in_range : (f : Fields) (k : ℕ) → AreFields f → named_by (subject_by f) ≡ Some k → IsKeyNumber k
 key_in_range Nothing k is names = absurd cc
+key_in_range (TypeAndPeriod kind period) k is names = absurd cc
 key_in_range (Registration kind owner activation protect_stop deactivation purpose) k is names = absurd cc
 key_in_range f k is names = same_number _ k names (omega arith, omega arith)
 

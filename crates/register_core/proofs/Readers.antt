@@ -25,8 +25,9 @@ use Rattle.register_core.specs.Number.{max_request_number, IsNumber}
 use Rattle.register_core.specs.Quorum.{min_approvals, max_approvals, IsQuorum}
 use Rattle.register_core.specs.Purpose.{is_purpose_byte, max_purpose_length, IsPurpose}
 use Rattle.period_core.specs.KeyType.{key_type_text}
+use Rattle.period_core.specs.Period.{max_months}
 use Rattle.register_core.specs.CommandKind.{command_kind_text}
-use Rattle.register_core.specs.Reading.{◌>>=◌, number_at, moment_at, date_at, edit_at, key_number_at, reasons, reason_at, occurrence_at, request_number_at, quorum_at, name_at, purpose_at, key_types, key_type_at, command_kinds, kind_at, is_space, is_trimmed}
+use Rattle.register_core.specs.Reading.{◌>>=◌, number_at, moment_at, date_at, edit_at, key_number_at, reasons, reason_at, occurrence_at, request_number_at, quorum_at, originator_at, recipient_at, name_at, purpose_at, key_types, key_type_at, command_kinds, kind_at, is_space, is_trimmed}
 use Rattle.register_core.specs.Request.{IsDate, IsKeyNumber, IsEdit, date_text, edit_text}
 use Rattle.register_core.proofs.FieldReading.{IsReader, is_read, bind_some, some_is}
 
@@ -169,6 +170,26 @@ quorum_reader = record {
 
 pub quorum_small : (n : ℕ) → IsQuorum n → n < 2 ^ 64
 quorum_small n in_range = omega arith
+
+abbrev pub IsMonths : ℕ → ℕ → Type 0
+IsMonths least n = (least ≤ n) × (n ≤ max_months)
+
+pub originator_reader : IsReader originator_at decimal (IsMonths 1)
+unfolding originator_at
+originator_reader = record {
+  takes = λ field n e. number_takes 1 max_months field n e;
+  again = λ n in_range. number_again 1 max_months (omega arith) n in_range;
+}
+
+pub recipient_reader : IsReader recipient_at decimal (IsMonths 0)
+unfolding recipient_at
+recipient_reader = record {
+  takes = λ field n e. number_takes 0 max_months field n e;
+  again = λ n in_range. number_again 0 max_months (omega arith) n in_range;
+}
+
+pub months_small : (least n : ℕ) → IsMonths least n → n < 2 ^ 64
+months_small least n in_range = omega (arith, in_range.1)
 
 -- a number that was made of the number in the field
 pub made_of_number : {read_by : List ℕ → Option ℕ} {P : ℕ → Type 0} → IsReader read_by decimal P → ((x : ℕ) → P x → x < 2 ^ 64) → (field : List ℕ) (o : Option ℕ) (n : ℕ) → n < 2 ^ 64

@@ -5,7 +5,7 @@ use Rattle.period_core.specs.Period.{Period}
 use Rattle.register_core.specs.declared.request.Request.{Request}
 use Rattle.register_core.specs.declared.view.Held.{Held}
 use Rattle.register_core.specs.CustodyRefusal.{already_custodian, no_such_custodian, too_many_custodians, owner_custodian, already_approved, no_approval, approvals_missing}
-use Rattle.register_core.specs.Verdict.{behind, unknown, not_owner, not_custodian, wrong_state, frozen, unfit, occurs_later, too_many, judge}
+use Rattle.register_core.specs.Verdict.{behind, unknown, not_owner, not_custodian, not_office, wrong_state, frozen, unfit, occurs_later, too_many, judge}
 use Rattle.register_core.proofs.Filling.{past}
 
 pub record IsPassed (last keys : ℕ) (periods : KeyType → Period) (key : Option Held) (q : Request) : Type 0 where
@@ -13,6 +13,7 @@ pub record IsPassed (last keys : ℕ) (periods : KeyType → Period) (key : Opti
   pub known : unknown key q.command ≡ None
   pub owners : not_owner key q.caller q.command ≡ None
   pub custodians : not_custodian key q.caller q.command ≡ None
+  pub office : not_office q.caller q.command ≡ None
   pub state : wrong_state key q.moment q.command ≡ None
   pub free : frozen key q.moment q.command ≡ None
   pub fit : unfit periods key q.moment q.command ≡ None
@@ -34,7 +35,8 @@ passes last keys periods key q accepted =
     let known = past _ _ in_time.later in
     let owners = past _ _ known.later in
     let custodians = past _ _ owners.later in
-    let state = past _ _ custodians.later in
+    let office = past _ _ custodians.later in
+    let state = past _ _ office.later in
     let free = past _ _ entry.later in
     let fit = past _ _ free.later in
     let custody = past _ _ fit.later in
@@ -52,6 +54,7 @@ passes last keys periods key q accepted =
       known = known.here;
       owners = owners.here;
       custodians = custodians.here;
+      office = office.here;
       state = state.here;
       free = free.here;
       fit = fit.here;

@@ -1,4 +1,4 @@
--- The list of the needs that were set says what the history says of each key.
+-- The lists of what was set say what the history says of each type and of each key.
 use Rattle.std.proofs.Common.{◌≡◌, ◌==◌, inl, inr, ℕ, ◌≤◌, not, Bool, true, false, cond, List, [], ◌∷◌, ◌++◌, Option, None, Some}
 use Rattle.std.proofs.Common.{IfSome, refl, sym, ap, subst, ◌∙◌, arith}
 use Rattle.std.specs.Prelude.{filter, find, fold, unwrap_or}
@@ -8,13 +8,17 @@ use Rattle.std.proofs.lemmas.Bool.{cases_Bool, eq-eqb, eqb-true}
 use Rattle.std.proofs.lemmas.List.Sums.{fold-append}
 use Rattle.register_core.specs.declared.request.Request.{Request}
 use Rattle.register_core.specs.declared.request.Command.{Command}
-use Rattle.register_core.specs.declared.request.Command.TheVariants.{SetQuorum}
-use Rattle.register_core.specs.Effect.{need_after}
-use Rattle.register_core.specs.History.{Placed, count, own_from}
+use Rattle.register_core.specs.declared.request.Command.TheVariants.{SetPeriod, SetQuorum}
+use Rattle.period_core.specs.declared.key_type.KeyType.{KeyType}
+use Rattle.period_core.specs.KeyType.{key_type_code}
+use Rattle.period_core.specs.Period.{Period}
+use Rattle.register_core.specs.Effect.{need_after, period_after}
+use Rattle.register_core.specs.History.{Placed, count, own_from, set_period}
 use Rattle.register_core.specs.Custody.{set_need, need}
 use Rattle.register_core.specs.Quorum.{min_approvals, IsQuorum}
 use Rattle.register_core.specs.Request.{IsRequest, IsCommand}
-use Rattle.register_core.specs.Settings.{KeyNeed, with_need, needs_after, all_needs, need_at}
+use Rattle.register_core.specs.Settings.{KeyNeed, TypePeriod, with_need, needs_after, all_needs, need_at}
+use Rattle.register_core.specs.Settings.{periods_after, all_periods, period_at}
 use Rattle.register_core.specs.Subject.{is_key, key_of}
 use Rattle.register_core.proofs.Histories.{concerning, placed}
 
@@ -25,42 +29,78 @@ need_step before p = need_after before p.request.command
 pub needs_next : (h : List Request) (q : Request) → all_needs (h ++ q ∷ []) ≡ needs_after (all_needs h) q.command
 needs_next h q = fold-append (λ (before : List KeyNeed) (p : Request). needs_after before p.command) [] h (q ∷ [])
 
+pub periods_next : (h : List Request) (q : Request) → all_periods (h ++ q ∷ []) ≡ periods_after (all_periods h) q.command
+periods_next h q = fold-append (λ (before : List TypePeriod) (p : Request). periods_after before p.command) [] h (q ∷ [])
+
 -- ---- what stands for a key after another entry took the place of its own
 
-abbrev set_in : List KeyNeed → KeyNeed → List KeyNeed
-set_in sets new = filter (λ (e : KeyNeed). not (e.key == new.key)) sets ++ new ∷ []
+module _ {A : Type 0} (key : A → ℕ) where
+  abbrev set_in : List A → A → List A
+  set_in sets new = filter (λ (e : A). not (key e == key new)) sets ++ new ∷ []
 
-found : (sets : List KeyNeed) (new : KeyNeed) (k : ℕ)
-    → find (λ (e : KeyNeed). e.key == k) (set_in sets new)
-    ≡ cond (new.key == k) (Some new) (find (λ (e : KeyNeed). e.key == k) sets)
-found [] new k = refl
-found (x ∷ xs) new k = elim (cases_Bool (x.key == new.key)) [
-  | inl same ↦
-      let at : (x.key == k) ≡ (new.key == k) = ap (λ (n : ℕ). n == k) (eqb-true _ _ same) in
-      ap (λ (b : Bool). find (λ (e : KeyNeed). e.key == k) (cond (not b) (x ∷ kept) kept ++ new ∷ [])) same
-      ∙ found xs new k ∙ gone (new.key == k) (Some new) (Some x) (find (λ (e : KeyNeed). e.key == k) xs)
-      ∙ ap (λ (b : Bool). cond (new.key == k) (Some new) (cond b (Some x) (find (λ (e : KeyNeed). e.key == k) xs))) (sym at)
-  | inr other ↦
-      ap (λ (b : Bool). find (λ (e : KeyNeed). e.key == k) (cond (not b) (x ∷ kept) kept ++ new ∷ [])) other
-      ∙ ap (λ (o : Option KeyNeed). cond (x.key == k) (Some x) o) (found xs new k)
-      ∙ turned (x.key == k) (new.key == k)
-      (λ here there. let both : (x.key == new.key) ≡ true = eq-eqb _ _ (eqb-true _ _ here ∙ sym (eqb-true _ _ there)) in
-      sym both ∙ other)
-      (Some x) (Some new) (find (λ (e : KeyNeed). e.key == k) xs)
-]
-  where
-    kept : List KeyNeed
-    kept = filter (λ (e : KeyNeed). not (e.key == new.key)) xs
+  found : (sets : List A) (new : A) (k : ℕ)
+      → find (λ (e : A). key e == k) (set_in sets new)
+      ≡ cond (key new == k) (Some new) (find (λ (e : A). key e == k) sets)
+  found [] new k = refl
+  found (x ∷ xs) new k = elim (cases_Bool (key x == key new)) [
+    | inl same ↦
+        let at : (key x == k) ≡ (key new == k) = ap (λ (n : ℕ). n == k) (eqb-true _ _ same) in
+        ap (λ (b : Bool). find (λ (e : A). key e == k) (cond (not b) (x ∷ kept) kept ++ new ∷ [])) same
+        ∙ found xs new k ∙ gone (key new == k) (Some new) (Some x) (find (λ (e : A). key e == k) xs)
+        ∙ ap (λ (b : Bool). cond (key new == k) (Some new) (cond b (Some x) (find (λ (e : A). key e == k) xs)))
+        (sym at)
+    | inr other ↦
+        ap (λ (b : Bool). find (λ (e : A). key e == k) (cond (not b) (x ∷ kept) kept ++ new ∷ [])) other
+        ∙ ap (λ (o : Option A). cond (key x == k) (Some x) o) (found xs new k)
+        ∙ turned (key x == k) (key new == k)
+        (λ here there.
+        let both : (key x == key new) ≡ true = eq-eqb _ _ (eqb-true _ _ here ∙ sym (eqb-true _ _ there)) in
+        sym both ∙ other)
+        (Some x) (Some new) (find (λ (e : A). key e == k) xs)
+  ]
+    where
+      kept : List A
+      kept = filter (λ (e : A). not (key e == key new)) xs
 
-    gone : {O : Type 0} (b : Bool) (a c o : O) → cond b a o ≡ cond b a (cond b c o)
-    gone true a c o = refl
-    gone false a c o = refl
+      gone : {O : Type 0} (b : Bool) (a c o : O) → cond b a o ≡ cond b a (cond b c o)
+      gone true a c o = refl
+      gone false a c o = refl
 
-    turned : {O : Type 0} (b c : Bool) → (b ≡ true → c ≡ true → true ≡ false) → (x n o : O)
-        → cond b x (cond c n o) ≡ cond c n (cond b x o)
-    turned true true never x n o = absurd (let none = never refl refl in cc)
-    turned true false never x n o = refl
-    turned false c never x n o = refl
+      turned : {O : Type 0} (b c : Bool) → (b ≡ true → c ≡ true → true ≡ false) → (x n o : O)
+          → cond b x (cond c n o) ≡ cond c n (cond b x o)
+      turned true true never x n o = absurd (let none = never refl refl in cc)
+      turned true false never x n o = refl
+      turned false c never x n o = refl
+
+-- ---- the period of a type
+
+by_period : (b : Bool) (p : Period) (e : TypePeriod) (o : Option TypePeriod) → e.period ≡ p
+    → option_map (λ (e : TypePeriod). e.period) (cond b (Some e) o)
+    ≡ cond b (Some p) (option_map (λ (e : TypePeriod). e.period) o)
+by_period true p e o is = ap Some is
+by_period false p e o is = refl
+
+period_step : (sets : List TypePeriod) (kind : KeyType) (c : Command)
+    → period_at kind (periods_after sets c) ≡ period_after kind (period_at kind sets) c
+period_step sets kind (SetPeriod other p) =
+    let new : TypePeriod = record { kind = other; period = p } in
+    ap (option_map (λ (e : TypePeriod). e.period))
+    (found (λ (e : TypePeriod). key_type_code e.kind) sets new (key_type_code kind))
+    ∙ by_period (key_type_code other == key_type_code kind) p new
+    (find (λ (e : TypePeriod). key_type_code e.kind == key_type_code kind) sets) refl
+period_step sets kind c = refl
+
+periods_from : (h : List Request) (sets : List TypePeriod) (kind : KeyType) (first : Option Period)
+    → period_at kind sets ≡ first
+    → period_at kind (fold (λ (before : List TypePeriod) (q : Request). periods_after before q.command) sets h)
+    ≡ fold (λ (before : Option Period) (q : Request). period_after kind before q.command) first h
+periods_from [] sets kind first same = same
+periods_from (q ∷ later) sets kind first same =
+    periods_from later (periods_after sets q.command) kind (period_after kind first q.command)
+    (period_step sets kind q.command ∙ ap (λ (o : Option Period). period_after kind o q.command) same)
+
+pub periods_are : (h : List Request) (kind : KeyType) → period_at kind (all_periods h) ≡ set_period h kind
+periods_are h kind = periods_from h [] kind None refl
 
 -- ---- the need of a key
 
@@ -86,7 +126,7 @@ need_one : (before : List Request) (q : Request) (sets : List KeyNeed) (k : ℕ)
     → need_at k (needs_after sets c) ≡ fold need_step (need_at k sets) (concerning before q k)
 need_one before q sets k (SetQuorum key n) is =
     let new : KeyNeed = record { key = key; need = n } in
-    ap (option_map (λ (e : KeyNeed). e.need)) (found sets new k)
+    ap (option_map (λ (e : KeyNeed). e.need)) (found (λ (e : KeyNeed). e.key) sets new k)
     ∙ by_need (key == k) n new (find (λ (e : KeyNeed). e.key == k) sets) refl
     ∙ asked (key == k) before q n (need_at k sets) (ap (need_after (need_at k sets)) is)
     ∙ ap (λ (c : Command). fold need_step (need_at k sets)

@@ -4,7 +4,7 @@ use Rattle.register_core.specs.declared.command_kind.CommandKind.{CommandKind}
 use Rattle.register_core.specs.declared.command_kind.CommandKind.TheVariants as kinds
 use Rattle.register_core.specs.declared.fields.Shape.{Shape}
 use Rattle.register_core.specs.declared.fields.Shape.TheVariants.{Nothing, Key, KeyAndName, KeyAndOwner}
-use Rattle.register_core.specs.declared.fields.Shape.TheVariants.{KeyAndNeed, Registration, DateEdits, Revocation}
+use Rattle.register_core.specs.declared.fields.Shape.TheVariants.{KeyAndNeed, TypeAndPeriod, Registration, DateEdits, Revocation}
 
 -- what the commands of a kind look like: their word, and the shape of the fields behind it
 pub record Form : Type 0 where
@@ -24,6 +24,7 @@ form kinds.Withdraw = record { word = codes "withdraw"; shape = Key }
 form kinds.Destroy = record { word = codes "destroy"; shape = Key }
 form kinds.Advance = record { word = codes "advance"; shape = Nothing }
 form kinds.SetQuorum = record { word = codes "set-quorum"; shape = KeyAndNeed }
+form kinds.SetPeriod = record { word = codes "set-period"; shape = TypeAndPeriod }
 
 -- the word of a kind
 abbrev pub command_kind_text : CommandKind → List ℕ

@@ -11,11 +11,11 @@ use Rattle.lifecycle_core.specs.Reason.{is_compromise}
 use Rattle.register_core.specs.declared.command_kind.CommandKind.{CommandKind}
 use Rattle.register_core.specs.declared.command_kind.CommandKind.TheVariants as kinds
 use Rattle.register_core.specs.declared.command_rule.Giver.{Giver}
-use Rattle.register_core.specs.declared.command_rule.Giver.TheVariants.{Anybody, Owner, Custodian}
+use Rattle.register_core.specs.declared.command_rule.Giver.TheVariants.{Anybody, Owner, Custodian, Office}
 use Rattle.register_core.specs.declared.request.Command.{Command}
 use Rattle.register_core.specs.declared.request.Command.TheVariants.{Register, Activate, SetDates, Revoke, Assign}
 use Rattle.register_core.specs.declared.request.Command.TheVariants.{AddCustodian, RemoveCustodian, Approve, Withdraw}
-use Rattle.register_core.specs.declared.request.Command.TheVariants.{Destroy, Advance, SetQuorum}
+use Rattle.register_core.specs.declared.request.Command.TheVariants.{Destroy, Advance, SetQuorum, SetPeriod}
 
 pub record Rule : Type 0 where
   pub kind : CommandKind
@@ -69,6 +69,8 @@ rule (Destroy key) =
 rule Advance = record { kind = kinds.Advance; giver = Anybody; states = any_state; looks_at_custody = false }
 rule (SetQuorum key need) =
     record { kind = kinds.SetQuorum; giver = Owner; states = any_state; looks_at_custody = false }
+rule (SetPeriod kind period) =
+    record { kind = kinds.SetPeriod; giver = Office; states = any_state; looks_at_custody = false }
 
 -- ---- what it says
 
@@ -79,6 +81,7 @@ abbrev pub is_same_giver : Giver → Giver → Bool
 is_same_giver Owner Owner = true
 is_same_giver Custodian Custodian = true
 is_same_giver Anybody Anybody = true
+is_same_giver Office Office = true
 is_same_giver _ _ = false
 
 -- the command is one for the key's owner alone
@@ -88,6 +91,10 @@ is_owners c = is_same_giver Owner (rule c).giver
 -- the command is one for a custodian of the key alone
 abbrev pub is_custodians : Command → Bool
 is_custodians c = is_same_giver Custodian (rule c).giver
+
+-- the command is one for the office alone
+abbrev pub is_offices : Command → Bool
+is_offices c = is_same_giver Office (rule c).giver
 
 abbrev pub is_one_of : List State → State → Bool
 is_one_of states state = list_any (λ s. state_code s == state_code state) states

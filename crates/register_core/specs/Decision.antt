@@ -7,6 +7,7 @@ use Rattle.period_core.specs.Period.{Period}
 use Rattle.period_core.specs.Fitting.{filled}
 use Rattle.register_core.specs.declared.request.Request.{Request}
 use Rattle.register_core.specs.declared.request.Command.{Command}
+use Rattle.register_core.specs.declared.request.Command.TheVariants.{SetPeriod}
 use Rattle.register_core.specs.declared.reply.Reply.{Reply}
 use Rattle.register_core.specs.declared.view.Held.{Held}
 use Rattle.register_core.specs.declared.view.View.{View}
@@ -15,7 +16,7 @@ use Rattle.register_core.specs.declared.change.CustodyChange.TheVariants.{Kept, 
 use Rattle.register_core.specs.declared.change.Change.{Change}
 use Rattle.register_core.specs.declared.change.Change.TheVariants as change
 use Rattle.register_core.specs.History.{latest, count, period, type}
-use Rattle.register_core.specs.Settings.{KeyNeed, with_need, all_needs}
+use Rattle.register_core.specs.Settings.{KeyNeed, TypePeriod, with_need, with_period, all_needs, all_periods}
 use Rattle.register_core.specs.Custody.{all_custodians, custodians, all_approvals, approvals, need, held}
 use Rattle.register_core.specs.declared.key.Key.{Key}
 use Rattle.register_core.specs.Verdict.{named_key, always}
@@ -40,8 +41,9 @@ registered_key periods t new = record {
   row = row_at (filled (periods new.kind) (given_dates t new.activation new.protect_stop new.deactivation)) t;
 }
 
--- what an accepted command that is about no key changes of what the register keeps besides keys: nothing
+-- what an accepted command that is about no key changes of what the register keeps besides keys
 abbrev pub change_without_key : Command → Change
+change_without_key (SetPeriod kind period) = change.PeriodSet kind period
 change_without_key c = change.Nothing
 
 -- what an accepted request about this subject changes, where the key that it names stands so
@@ -58,6 +60,7 @@ change_by periods key q = change_of periods (subject q.command) key q
 abbrev pub reply_to : ℕ → ℕ → Change → Reply
 reply_to keys t (change.Made key) = record { key = keys + 1; state = Some key.row.state; moment = t }
 reply_to keys t (change.Held key owner row custody) = record { key = key; state = Some row.state; moment = t }
+reply_to keys t (change.PeriodSet kind period) = record { key = 0; state = None; moment = t }
 reply_to keys t change.Nothing = record { key = 0; state = None; moment = t }
 
 -- the reply to the request, where the decision rests on this view and accepts it
@@ -103,6 +106,15 @@ pub record CustodyLead (h : List Request) (q : Request) (key : ℕ) (custody : C
   pub approvals_are : all_approvals (h ++ q ∷ []) ≡ approvals_by key custody (all_approvals h)
   pub needs_are : all_needs (h ++ q ∷ []) ≡ needs_by key custody (all_needs h)
 
+-- what a change makes of the periods that are set
+abbrev pub periods_by : Change → List TypePeriod → List TypePeriod
+periods_by (change.PeriodSet kind period) sets = with_period kind period sets
+periods_by _ sets = sets
+
+-- the periods behind the request are those before it, with the change
+abbrev pub PeriodsLead : List Request → Request → Change → Type 0
+PeriodsLead h q change = all_periods (h ++ q ∷ []) ≡ periods_by change (all_periods h)
+
 -- key k stands so in the history, with the custody that it has there
 abbrev pub Stands : List Request → ℕ → KeyType → List ℕ → Row → Type 0
 Stands h k kind owner row = held h k ≡ Some (record {
@@ -115,8 +127,14 @@ Stands h k kind owner row = held h k ≡ Some (record {
 })
 
 -- The key that the change is of stands as the change says, once the request is at the end of this history. Its custodians
--- and approvals are those that the change leaves; at no other key does anybody come or go.
+-- and approvals are those that the change leaves; at no other key does anybody come or go. So are the periods that are set.
 abbrev pub LeadsTo : List Request → Request → Change → Type 0
-LeadsTo h q (change.Made key) = Stands (h ++ q ∷ []) (count h + 1) key.kind key.owner key.row × CustodyLead h q (count h + 1) Kept
-LeadsTo h q (change.Held key owner row custody) = Stands (h ++ q ∷ []) key (type h key) owner row × CustodyLead h q key custody
-LeadsTo h q change.Nothing = CustodyLead h q 0 Kept
+LeadsTo h q (change.Made key) =
+    Stands (h ++ q ∷ []) (count h + 1) key.kind key.owner key.row × CustodyLead h q (count h + 1) Kept
+    × PeriodsLead h q (change.Made key)
+LeadsTo h q (change.Held key owner row custody) =
+    Stands (h ++ q ∷ []) key (type h key) owner row × CustodyLead h q key custody
+    × PeriodsLead h q (change.Held key owner row custody)
+LeadsTo h q (change.PeriodSet kind period) =
+    CustodyLead h q 0 Kept × PeriodsLead h q (change.PeriodSet kind period)
+LeadsTo h q change.Nothing = CustodyLead h q 0 Kept × PeriodsLead h q change.Nothing

@@ -1,14 +1,15 @@
 -- What a command does to a key: to its type, its owner, its dates and its custody.
-use Rattle.std.specs.Prelude.{ℕ, min, unwrap_or, ◌&&◌, List, Option, None, Some, is_none, if◌then◌else◌}
+use Rattle.std.specs.Prelude.{ℕ, min, ◌==◌, Bool, true, false, unwrap_or, ◌&&◌, List, Option, None, Some, is_none, if◌then◌else◌}
 use Rattle.lifecycle_core.specs.declared.dates.Dates.{Dates}
 use Rattle.lifecycle_core.specs.declared.row.Row.{Row}
 use Rattle.lifecycle_core.specs.State.{state_at}
 use Rattle.lifecycle_core.specs.Reason.{is_compromise}
 use Rattle.period_core.specs.declared.key_type.KeyType.{KeyType}
+use Rattle.period_core.specs.KeyType.{key_type_code}
 use Rattle.period_core.specs.Period.{Period}
 use Rattle.period_core.specs.Fitting.{filled, trimmed}
 use Rattle.register_core.specs.declared.request.Command.{Command}
-use Rattle.register_core.specs.declared.request.Command.TheVariants.{Register, Activate, SetDates, Revoke, Assign, AddCustodian, RemoveCustodian, Approve, Withdraw, Destroy, SetQuorum}
+use Rattle.register_core.specs.declared.request.Command.TheVariants.{Register, Activate, SetDates, Revoke, Assign, AddCustodian, RemoveCustodian, Approve, Withdraw, Destroy, SetQuorum, SetPeriod}
 use Rattle.register_core.specs.declared.request.Edit.{Edit}
 use Rattle.register_core.specs.declared.request.Edit.TheVariants.{Keep, Clear, Set}
 use Rattle.register_core.specs.declared.change.CustodyChange.{CustodyChange}
@@ -79,6 +80,21 @@ dates_after p d t _ = d
 -- dates, with the state that they give at t
 abbrev pub row_at : Dates → ℕ → Row
 row_at d t = record { dates = d; state = state_at d t }
+
+-- ---- usage periods
+
+-- the period of a type after a command, if the office set one
+abbrev pub period_after : KeyType → Option Period → Command → Option Period
+period_after kind before (SetPeriod other period) =
+    if key_type_code other == key_type_code kind then Some period else before
+period_after kind before _ = before
+
+-- the command gives its key dates, which are held to the period of the type
+abbrev pub sets_dates : Command → Bool
+sets_dates (Register kind owner activation protect_stop deactivation purpose) = true
+sets_dates (Activate key) = true
+sets_dates (SetDates key activation protect_stop deactivation) = true
+sets_dates _ = false
 
 -- ---- custody
 

@@ -5,10 +5,10 @@ use Rattle.register_core.specs.declared.command_kind.CommandKind.TheVariants as 
 use Rattle.register_core.specs.declared.request.Command.{Command}
 use Rattle.register_core.specs.declared.request.Command.TheVariants.{Register, Activate, SetDates, Revoke, Assign}
 use Rattle.register_core.specs.declared.request.Command.TheVariants.{AddCustodian, RemoveCustodian, Approve, Withdraw}
-use Rattle.register_core.specs.declared.request.Command.TheVariants.{Destroy, Advance, SetQuorum}
+use Rattle.register_core.specs.declared.request.Command.TheVariants.{Destroy, Advance, SetQuorum, SetPeriod}
 use Rattle.register_core.specs.declared.fields.Fields.{Fields}
 use Rattle.register_core.specs.declared.fields.Fields.TheVariants.{Nothing, Key, KeyAndName, KeyAndOwner}
-use Rattle.register_core.specs.declared.fields.Fields.TheVariants.{KeyAndNeed, Registration, DateEdits, Revocation}
+use Rattle.register_core.specs.declared.fields.Fields.TheVariants.{KeyAndNeed, TypeAndPeriod, Registration, DateEdits, Revocation}
 use Rattle.register_core.specs.declared.fields.Shape.{Shape}
 use Rattle.register_core.specs.declared.fields.Shape.TheVariants as shapes
 
@@ -27,6 +27,7 @@ fields_of (Withdraw key) = Key key
 fields_of (Destroy key) = Key key
 fields_of Advance = Nothing
 fields_of (SetQuorum key need) = KeyAndNeed key need
+fields_of (SetPeriod kind period) = TypeAndPeriod kind period
 
 -- the command of this kind with these fields, if the kind has such fields
 abbrev pub command_with : CommandKind → Fields → Option Command
@@ -44,6 +45,7 @@ command_with kinds.Withdraw (Key key) = Some (Withdraw key)
 command_with kinds.Destroy (Key key) = Some (Destroy key)
 command_with kinds.Advance Nothing = Some Advance
 command_with kinds.SetQuorum (KeyAndNeed key need) = Some (SetQuorum key need)
+command_with kinds.SetPeriod (TypeAndPeriod kind period) = Some (SetPeriod kind period)
 command_with kind fields = None
 
 -- the shape of fields
@@ -53,6 +55,7 @@ shape_of (Key key) = shapes.Key
 shape_of (KeyAndName key name) = shapes.KeyAndName
 shape_of (KeyAndOwner key owner) = shapes.KeyAndOwner
 shape_of (KeyAndNeed key need) = shapes.KeyAndNeed
+shape_of (TypeAndPeriod kind period) = shapes.TypeAndPeriod
 shape_of (Registration kind owner activation protect_stop deactivation purpose) = shapes.Registration
 shape_of (DateEdits key activation protect_stop deactivation) = shapes.DateEdits
 shape_of (Revocation key reason occurrence) = shapes.Revocation

@@ -1,6 +1,6 @@
 -- The model of the register: the list of the requests that it accepted, oldest first, and what that list says of
 -- each key. A key's number is its place in the order of registration, from 1.
-use Rattle.std.specs.Prelude.{ℕ, List, [], ◌∷◌, ◌++◌, length, fold, if◌then◌else◌}
+use Rattle.std.specs.Prelude.{ℕ, List, [], ◌∷◌, ◌++◌, length, fold, Option, None, unwrap_or, if◌then◌else◌}
 use Rattle.std.specs.List.{filter_map}
 use Rattle.lifecycle_core.specs.declared.dates.Dates.{Dates}
 use Rattle.period_core.specs.declared.key_type.KeyType.{KeyType}
@@ -9,7 +9,7 @@ use Rattle.period_core.specs.Period.{Period}
 use Rattle.period_core.specs.Period.{periods}
 use Rattle.register_core.specs.declared.request.Request.{Request}
 use Rattle.register_core.specs.Subject.{Registration, registration_of, key_of, is_key}
-use Rattle.register_core.specs.Effect.{kind_after, owner_after, no_dates, dates_after}
+use Rattle.register_core.specs.Effect.{kind_after, owner_after, period_after, sets_dates, no_dates, dates_after}
 
 -- the moment of the latest accepted request, 0 before the first
 abbrev pub latest : List Request → ℕ
@@ -42,9 +42,13 @@ own h k = own_from [] h k
 
 -- ---- usage periods
 
--- the period of a type behind a history: the table's, whatever was accepted
+-- the period of a type that the office set last, if it set one
+abbrev pub set_period : List Request → KeyType → Option Period
+set_period h kind = fold (λ before q. period_after kind before q.command) None h
+
+-- the period of a type behind a history: the one that was set last, or the table's
 abbrev pub period : List Request → KeyType → Period
-period h kind = periods kind
+period h kind = unwrap_or (set_period h kind) (periods kind)
 
 -- ---- what the requests of a key give it
 
@@ -56,6 +60,12 @@ type h k = fold (λ before p. kind_after before p.request.command) DataEncryptio
 abbrev pub dates : List Request → ℕ → Dates
 dates h k =
     fold (λ d p. dates_after (period p.before (type h k)) d p.request.moment p.request.command) no_dates (own h k)
+
+-- the period that the dates of key k were held to when a command gave it dates last
+abbrev pub dated_by : List Request → ℕ → Period
+dated_by h k =
+    fold (λ before p. if sets_dates p.request.command then period p.before (type h k) else before) (periods (type h k))
+    (own h k)
 
 -- the owner that the latest of the key's requests which names one gives it
 abbrev pub owner : List Request → ℕ → List ℕ

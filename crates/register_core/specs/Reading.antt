@@ -12,7 +12,7 @@ use Rattle.register_core.specs.declared.request.Request.{Request}
 use Rattle.register_core.specs.declared.request.Command.{Command}
 use Rattle.register_core.specs.declared.fields.Fields.{Fields}
 use Rattle.register_core.specs.declared.fields.Fields.TheVariants.{Nothing, Key, KeyAndName, KeyAndOwner}
-use Rattle.register_core.specs.declared.fields.Fields.TheVariants.{KeyAndNeed, Registration, DateEdits, Revocation}
+use Rattle.register_core.specs.declared.fields.Fields.TheVariants.{KeyAndNeed, TypeAndPeriod, Registration, DateEdits, Revocation}
 use Rattle.register_core.specs.declared.fields.Shape.{Shape}
 use Rattle.register_core.specs.declared.fields.Shape.TheVariants as shapes
 use Rattle.register_core.specs.Fields.{command_with}
@@ -28,6 +28,7 @@ use Rattle.register_core.specs.Quorum.{min_approvals, max_approvals}
 use Rattle.register_core.specs.CommandKind.{command_kind_text, command_shape}
 use Rattle.register_core.specs.Request.{max_line_length}
 use Rattle.period_core.specs.KeyType.{key_type_text}
+use Rattle.period_core.specs.Period.{max_months, of_months}
 
 -- one step, and then the next, unless the first gives none
 infixl 10 ◌>>=◌
@@ -98,6 +99,14 @@ request_number_at field = number_at 1 max_request_number field
 unfoldable pub quorum_at : List ℕ → Option ℕ
 quorum_at field = number_at min_approvals max_approvals field
 
+-- how many months of originator use the field writes
+unfoldable pub originator_at : List ℕ → Option ℕ
+originator_at field = number_at 1 max_months field
+
+-- how many months of recipient use the field writes
+unfoldable pub recipient_at : List ℕ → Option ℕ
+recipient_at field = number_at 0 max_months field
+
 -- the name that the field is
 unfoldable pub name_at : List ℕ → Option (List ℕ)
 name_at field =
@@ -125,7 +134,7 @@ key_type_at field = find (λ kind. bytes_eq (key_type_text kind) field) key_type
 abbrev pub command_kinds : List CommandKind
 command_kinds =
     kinds.Register ∷ kinds.Activate ∷ kinds.SetDates ∷ kinds.Revoke ∷ kinds.Assign ∷ kinds.AddCustodian
-    ∷ kinds.RemoveCustodian ∷ kinds.Approve ∷ kinds.Withdraw ∷ kinds.Destroy ∷ kinds.Advance ∷ kinds.SetQuorum ∷ []
+    ∷ kinds.RemoveCustodian ∷ kinds.Approve ∷ kinds.Withdraw ∷ kinds.Destroy ∷ kinds.Advance ∷ kinds.SetQuorum ∷ kinds.SetPeriod ∷ []
 
 -- the kind whose word this is
 unfoldable pub kind_at : List ℕ → Option CommandKind
@@ -168,6 +177,16 @@ key_and_need_at bytes = do
   read ← field_then key_number_at (λ _. quorum_at) bytes
   Some (KeyAndNeed read.0 read.1)
 
+-- what type_and_period_at reads, as fields
+abbrev pub set_period : KeyType × (ℕ × ℕ) → Fields
+set_period (kind, (originator, recipient)) = TypeAndPeriod kind (of_months originator recipient)
+
+-- a type, and behind it the months of its period
+unfoldable pub type_and_period_at : List ℕ → Option Fields
+type_and_period_at bytes = do
+  read ← field_then key_type_at (λ _. field_then originator_at (λ _. recipient_at)) bytes
+  Some (set_period read)
+
 -- what edits_at reads, as fields
 abbrev pub edits : ℕ × (Edit × (Edit × Edit)) → Fields
 edits (key, (activation, (protect_stop, deactivation))) = DateEdits key activation protect_stop deactivation
@@ -207,6 +226,7 @@ shaped_at shapes.Key bytes = keyed_at bytes
 shaped_at shapes.KeyAndName bytes = named_at KeyAndName bytes
 shaped_at shapes.KeyAndOwner bytes = named_at KeyAndOwner bytes
 shaped_at shapes.KeyAndNeed bytes = key_and_need_at bytes
+shaped_at shapes.TypeAndPeriod bytes = type_and_period_at bytes
 shaped_at shapes.Registration bytes = register_at bytes
 shaped_at shapes.DateEdits bytes = edits_at bytes
 shaped_at shapes.Revocation bytes = revoke_at bytes

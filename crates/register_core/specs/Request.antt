@@ -6,11 +6,12 @@ use Rattle.register_core.specs.Number.{IsNumber}
 use Rattle.register_core.specs.Purpose.{IsPurpose}
 use Rattle.register_core.specs.Quorum.{IsQuorum}
 use Rattle.period_core.specs.KeyType.{key_type_text}
+use Rattle.period_core.specs.Period.{IsPeriod}
 use Rattle.register_core.specs.declared.request.Request.{Request}
 use Rattle.register_core.specs.declared.request.Command.{Command}
 use Rattle.register_core.specs.declared.fields.Fields.{Fields}
 use Rattle.register_core.specs.declared.fields.Fields.TheVariants.{Nothing, Key, KeyAndName, KeyAndOwner}
-use Rattle.register_core.specs.declared.fields.Fields.TheVariants.{KeyAndNeed, Registration, DateEdits, Revocation}
+use Rattle.register_core.specs.declared.fields.Fields.TheVariants.{KeyAndNeed, TypeAndPeriod, Registration, DateEdits, Revocation}
 use Rattle.register_core.specs.Fields.{fields_of}
 use Rattle.register_core.specs.declared.request.Edit.{Edit}
 use Rattle.register_core.specs.declared.request.Edit.TheVariants.{Keep, Clear, Set}
@@ -51,6 +52,7 @@ AreFields (Key key) = IsKeyNumber key
 AreFields (KeyAndName key name) = IsKeyNumber key × IsName name
 AreFields (KeyAndOwner key owner) = IsKeyNumber key × IsName owner
 AreFields (KeyAndNeed key need) = IsKeyNumber key × IsQuorum need
+AreFields (TypeAndPeriod kind period) = IsPeriod period
 AreFields (Registration kind owner activation protect_stop deactivation purpose) =
     IsName owner × IsDate activation × IsDate protect_stop × IsDate deactivation × IsPurpose purpose
 AreFields (DateEdits key activation protect_stop deactivation) =
@@ -101,6 +103,8 @@ fields_text (Key key) = codes " " ++ decimal key
 fields_text (KeyAndName key name) = codes " " ++ decimal key ++ codes " " ++ name
 fields_text (KeyAndOwner key owner) = codes " " ++ decimal key ++ codes " " ++ owner
 fields_text (KeyAndNeed key need) = codes " " ++ decimal key ++ codes " " ++ decimal need
+fields_text (TypeAndPeriod kind period) =
+    codes " " ++ key_type_text kind ++ codes " " ++ decimal period.originator ++ codes " " ++ decimal period.recipient
 fields_text (Registration kind owner activation protect_stop deactivation purpose) =
     codes " " ++ key_type_text kind ++ codes " " ++ owner ++ codes " " ++ date_text activation
     ++ codes " " ++ date_text protect_stop ++ codes " " ++ date_text deactivation ++ codes " " ++ purpose

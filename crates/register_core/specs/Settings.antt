@@ -2,10 +2,11 @@
 use Rattle.std.specs.Prelude.{ℕ, ◌==◌, not, List, [], ◌∷◌, ◌++◌, filter, find, fold, Option}
 use Rattle.std.specs.Option.{option_map}
 use Rattle.period_core.specs.declared.key_type.KeyType.{KeyType}
+use Rattle.period_core.specs.KeyType.{key_type_code}
 use Rattle.period_core.specs.Period.{Period}
 use Rattle.register_core.specs.declared.request.Request.{Request}
 use Rattle.register_core.specs.declared.request.Command.{Command}
-use Rattle.register_core.specs.declared.request.Command.TheVariants.{SetQuorum}
+use Rattle.register_core.specs.declared.request.Command.TheVariants.{SetPeriod, SetQuorum}
 
 -- a type with the period that the office set for it
 pub record TypePeriod : Type 0 where
@@ -16,6 +17,28 @@ pub record TypePeriod : Type 0 where
 pub record KeyNeed : Type 0 where
   pub key : ℕ
   pub need : ℕ
+
+-- ---- periods
+
+-- the period of this type, in the place of the one that was set before, if one was
+abbrev pub with_period : KeyType → Period → List TypePeriod → List TypePeriod
+with_period kind period sets =
+    filter (λ (set : TypePeriod). not (key_type_code set.kind == key_type_code kind)) sets
+    ++ record { kind = kind; period = period } ∷ []
+
+abbrev pub periods_after : List TypePeriod → Command → List TypePeriod
+periods_after before (SetPeriod kind period) = with_period kind period before
+periods_after before _ = before
+
+-- the periods that were set, each as it was set last
+abbrev pub all_periods : List Request → List TypePeriod
+all_periods h = fold (λ before q. periods_after before q.command) [] h
+
+-- the period that is set for a type among these, or none
+abbrev pub period_at : KeyType → List TypePeriod → Option Period
+period_at kind sets =
+    option_map (λ (set : TypePeriod). set.period)
+    (find (λ (set : TypePeriod). key_type_code set.kind == key_type_code kind) sets)
 
 -- ---- needs
 

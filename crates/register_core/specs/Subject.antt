@@ -23,6 +23,7 @@ pub data Subject : Type 0 where
 -- what a command with these fields is about
 abbrev pub subject_by : Fields → Subject
 subject_by fields.Nothing = NoKey
+subject_by (fields.TypeAndPeriod kind period) = NoKey
 subject_by (fields.Registration kind owner activation protect_stop deactivation purpose) = Makes (record {
   kind = kind;
   owner = owner;

@@ -1,5 +1,5 @@
 -- What a request comes to behind a history: it is accepted, it repeats one that was, or it is refused.
-use Rattle.std.specs.Prelude.{ℕ, nat_lt, nat_le, Bool, true, false, not, ◌&&◌, ◌||◌, List, [], ◌∷◌, Option, None, Some, is_some, Result, Ok, Err, if◌then◌else◌}
+use Rattle.std.specs.Prelude.{ℕ, nat_lt, nat_le, Bool, true, false, not, ◌&&◌, ◌||◌, List, [], ◌∷◌, codes, Option, None, Some, is_some, Result, Ok, Err, if◌then◌else◌}
 use Rattle.std.specs.Option.{option_and_then}
 use Rattle.std.specs.Str.{bytes_eq}
 use Rattle.lifecycle_core.specs.declared.state.State.TheVariants.{PreActive}
@@ -16,7 +16,7 @@ use Rattle.register_core.specs.declared.view.View.{View}
 use Rattle.register_core.specs.declared.kept_reply.KeptReply.{KeptReply}
 use Rattle.register_core.specs.declared.reply.Reply.{Reply}
 use Rattle.register_core.specs.declared.reply.Refusal.{Refusal}
-use Rattle.register_core.specs.declared.reply.Refusal.TheVariants.{RequestReused, MomentBehind, UnknownKey, NotOwner, NotCustodian, WrongState, DateFrozen, DateOrder, PeriodTooLong, DateRange, OccurrenceLater, Full}
+use Rattle.register_core.specs.declared.reply.Refusal.TheVariants.{RequestReused, MomentBehind, UnknownKey, NotOwner, NotCustodian, WrongState, DateFrozen, DateOrder, PeriodTooLong, DateRange, OccurrenceLater, Full, NotOffice}
 use Rattle.lifecycle_core.specs.declared.dates.Dates.{Dates}
 use Rattle.period_core.specs.declared.filling.DateRefusal.{DateRefusal}
 use Rattle.period_core.specs.declared.filling.DateRefusal.TheVariants as dates
@@ -29,7 +29,7 @@ use Rattle.register_core.specs.KeptReply.{reply, kept, kept_under}
 use Rattle.register_core.specs.Request.{command_text}
 use Rattle.register_core.specs.Effect.{given_dates, edited_dates}
 use Rattle.register_core.specs.Custody.{held}
-use Rattle.register_core.specs.CommandRule.{is_owners, is_custodians, is_one_of, is_for}
+use Rattle.register_core.specs.CommandRule.{is_owners, is_custodians, is_offices, is_one_of, is_for}
 use Rattle.register_core.specs.CustodyRefusal.{refused_custody}
 use Rattle.register_core.specs.Subject.{named}
 
@@ -73,6 +73,14 @@ abbrev pub not_custodian : Option Held → List ℕ → Command → Option Refus
 not_custodian None caller c = None
 not_custodian (Some held) caller c = if is_custodians c && not (is_among caller held.custodians) then Some NotCustodian else None
 
+-- who sets the periods of types (own)
+abbrev pub office : List ℕ
+office = codes "office"
+
+-- the command is the office's, and the caller is another
+abbrev pub not_office : List ℕ → Command → Option Refusal
+not_office caller c = if is_offices c && not (bytes_eq caller office) then Some NotOffice else None
+
 -- the command is not for the state that the key has at t
 abbrev pub wrong_state : Option Held → ℕ → Command → Option Refusal
 wrong_state None t c = None
@@ -113,6 +121,7 @@ entry_refusals last key q =
     ∷ unknown key q.command
     ∷ not_owner key q.caller q.command
     ∷ not_custodian key q.caller q.command
+    ∷ not_office q.caller q.command
     ∷ wrong_state key q.moment q.command
     ∷ []
 

@@ -4,6 +4,7 @@ use crate::name::Name;
 use crate::quorum::Quorum;
 use crate::reply::Reply;
 use lifecycle_core::Row;
+use period_core::{KeyType, Period};
 
 /// What becomes of the custodians of a key, and of the approvals of its destruction.
 #[derive(Clone, Copy, Debug, PartialEq, Eq)]
@@ -35,6 +36,11 @@ pub enum Change {
         owner: Name,
         row: Row,
         custody: CustodyChange,
+    },
+    /// Keys of the type are held to this usage period.
+    PeriodSet {
+        kind: KeyType,
+        period: Period,
     },
     /// Nothing.
     Nothing,

@@ -1,19 +1,19 @@
 //! The text of a command, which is the end of a request's line: the word of its kind, and behind it the kind's fields.
 ghost use Rattle.std.specs.Prelude.{◌≡◌, ◌+◌, ◌≤◌, ◌++◌, codes, decimal, length, option_map};
 ghost use Rattle.arrayvec.specs.ArrayString.{array_string_len};
-ghost use Rattle.register_core.specs.declared.fields.Fields.TheVariants.{Registration, DateEdits};
+ghost use Rattle.register_core.specs.declared.fields.Fields.TheVariants.{Registration, DateEdits, TypeAndPeriod};
 ghost use Rattle.register_core.specs.declared.fields.Fields.TheVariants.{Revocation};
 ghost use Rattle.register_core.specs.Request.{fields_text, command_text};
 ghost use Rattle.register_core.specs.CommandText.{IsCommandItem};
 ghost use Rattle.register_core.specs.Reading.{register_at, edits_at, revoke_at, key_and_name_at};
 ghost use Rattle.register_core.specs.Reading.{key_and_need_at, shaped_at, behind_at, word_at};
-ghost use Rattle.register_core.specs.Reading.{command_at};
+ghost use Rattle.register_core.specs.Reading.{command_at, type_and_period_at};
 
 use crate::command_kind::MAX_WORD_LENGTH;
 use crate::field::{
     command_kind_of, date_of, edit_of, key_number_of, key_type_of, name_of, next_field,
-    occurrence_of, purpose_of, put_date, put_edit, put_number, quorum_of, reason_of, split_field,
-    split_key_number,
+    occurrence_of, originator_of, purpose_of, put_date, put_edit, put_number, quorum_of, reason_of,
+    recipient_of, split_field, split_key_number,
 };
 use crate::fields::{Fields, Shape};
 use crate::name::Name;
@@ -24,7 +24,7 @@ use crate::short_text::ShortText;
 use arrayvec::ArrayString;
 use lifecycle_core::Reason;
 use moment_core::Moment;
-use period_core::KeyType;
+use period_core::{KeyType, Period};
 
 /// How many bytes the text of a command has at most.
 pub const MAX_COMMAND_LENGTH: usize = 400;
@@ -63,6 +63,19 @@ fn key_and_need_of(bytes: &[u8]) -> Option<Fields>
     let (key, rest) = split_key_number(bytes)?;
     let need = quorum_of(rest)?;
     Some(Fields::KeyAndNeed { key, need })
+}
+
+/// A type, and behind it the months of its period.
+#[tactic(auto, unfolding(crate::specs::Reading::type_and_period_at))]
+fn type_and_period_of(bytes: &[u8]) -> Option<Fields>
+    ensures { result ≡ type_and_period_at bytes.now }
+{
+    let mut rest = bytes;
+    let kind = key_type_of(next_field(&mut rest)?)?;
+    let originator = originator_of(next_field(&mut rest)?)?;
+    let recipient = recipient_of(rest)?;
+    let period = Period::new(originator, recipient)?;
+    Some(Fields::TypeAndPeriod { kind, period })
 }
 
 /// The fields of a change of dates.
@@ -112,6 +125,7 @@ fn shaped_fields(shape: Shape, bytes: &[u8]) -> Option<Fields>
             Some(Fields::KeyAndOwner { key, owner })
         }
         Shape::KeyAndNeed => key_and_need_of(bytes),
+        Shape::TypeAndPeriod => type_and_period_of(bytes),
         Shape::Registration => register_of(bytes),
         Shape::DateEdits => edits_of(bytes),
         Shape::Revocation => revoke_of(bytes),
@@ -197,6 +211,19 @@ fn put_key_and_need(text: &mut ArrayString<MAX_COMMAND_LENGTH>, key: u32, need: 
     put_number(text, u64::from(need.get()));
 }
 
+/// Appends a type with its period.
+fn put_type_and_period(text: &mut ArrayString<MAX_COMMAND_LENGTH>, kind: KeyType, period: Period)
+    requires { array_string_len text.old ≤ MAX_WORD_LENGTH }
+    ensures { text.new.bytes ≡ text.old.bytes ++ fields_text (TypeAndPeriod kind period) }
+{
+    text.push_str(" ");
+    text.push_str(kind.text());
+    text.push_str(" ");
+    put_number(text, u64::from(period.originator()));
+    text.push_str(" ");
+    put_number(text, u64::from(period.recipient()));
+}
+
 /// Appends the fields of a registration.
 fn put_registration(
     text: &mut ArrayString<MAX_COMMAND_LENGTH>,
@@ -270,6 +297,7 @@ fn put_fields(text: &mut ArrayString<MAX_COMMAND_LENGTH>, fields: &Fields)
             owner: ref name,
         } => put_key_and_name(text, key, name),
         Fields::KeyAndNeed { key, need } => put_key_and_need(text, key, need),
+        Fields::TypeAndPeriod { kind, period } => put_type_and_period(text, kind, period),
         Fields::Registration {
             kind,
             ref owner,

@@ -21,6 +21,7 @@ pub enum CommandKind {
     Destroy,
     Advance,
     SetQuorum,
+    SetPeriod,
 }
 
 /// What the commands of a kind look like.
@@ -37,7 +38,7 @@ impl CommandKind {
     ghost use Rattle.register_core.specs.CommandKind.{form, command_kind_text, command_shape};
 
     /// Each kind once.
-    pub const ALL: [CommandKind; 12] = [
+    pub const ALL: [CommandKind; 13] = [
         CommandKind::Register,
         CommandKind::Activate,
         CommandKind::SetDates,
@@ -50,6 +51,7 @@ impl CommandKind {
         CommandKind::Destroy,
         CommandKind::Advance,
         CommandKind::SetQuorum,
+        CommandKind::SetPeriod,
     ];
 
     /// The one table of all kinds.
@@ -72,6 +74,7 @@ impl CommandKind {
             CommandKind::Destroy => Form { word: "destroy", shape: Shape::Key },
             CommandKind::Advance => Form { word: "advance", shape: Shape::Nothing },
             CommandKind::SetQuorum => Form { word: "set-quorum", shape: Shape::KeyAndNeed },
+            CommandKind::SetPeriod => Form { word: "set-period", shape: Shape::TypeAndPeriod },
         }
     }
 

@@ -13,6 +13,8 @@ pub enum Giver {
     Owner,
     /// A custodian of the key alone.
     Custodian,
+    /// The caller named [`OFFICE`](crate::OFFICE) alone.
+    Office,
 }
 
 /// What is asked of a command beside its moment, its key and its dates: all of it is this register's own.
@@ -54,6 +56,7 @@ static DATED_BY_HAND: [State; 2] = [State::PreActive, State::Active];
 
 impl Command {
     ghost use Rattle.register_core.specs.CommandRule.{rule, kind_of, is_owners, is_custodians};
+    ghost use Rattle.register_core.specs.CommandRule.{is_offices};
     ghost use Rattle.register_core.specs.CommandRule.{is_for, looks_at_custody, needs_approvals};
 
     /// The command's rule.
@@ -65,7 +68,7 @@ impl Command {
         ensures custody { result.looks_at_custody ≡ (rule self.now).looks_at_custody }
     {
         use CommandKind as Kind;
-        use Giver::{Anybody, Custodian, Owner};
+        use Giver::{Anybody, Custodian, Office, Owner};
         match *self {
             Command::Register { .. } => {
                 Rule { kind: Kind::Register, giver: Anybody, states: &State::ALL, looks_at_custody: false }
@@ -106,6 +109,9 @@ impl Command {
             Command::SetQuorum { .. } => {
                 Rule { kind: Kind::SetQuorum, giver: Owner, states: &State::ALL, looks_at_custody: false }
             }
+            Command::SetPeriod { .. } => {
+                Rule { kind: Kind::SetPeriod, giver: Office, states: &State::ALL, looks_at_custody: false }
+            }
         }
     }
 
@@ -128,6 +134,13 @@ impl Command {
         ensures { result ≡ is_custodians self.now }
     {
         matches!(self.rule().giver, Giver::Custodian)
+    }
+
+    /// Whether the command is one for the office alone.
+    pub(crate) fn is_offices(&self) -> bool
+        ensures { result ≡ is_offices self.now }
+    {
+        matches!(self.rule().giver, Giver::Office)
     }
 
     /// Whether the command is for a key in this state.

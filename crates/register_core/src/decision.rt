@@ -32,11 +32,14 @@ fn held_change(period: Period, key: u32, held: &Held, request: &Request) -> Chan
     }
 }
 
-/// What the accepted command changes that is about no key, of what the register keeps besides keys: nothing.
-fn change_without_key(_command: &Command) -> Change
-    ensures { result ≡ change_without_key _command.now }
+/// What the accepted command changes that is about no key, of what the register keeps besides keys.
+fn change_without_key(command: &Command) -> Change
+    ensures { result ≡ change_without_key command.now }
 {
-    Change::Nothing
+    match *command {
+        Command::SetPeriod { kind, period } => Change::PeriodSet { kind, period },
+        _ => Change::Nothing,
+    }
 }
 
 /// What the accepted request changes, where it names this key, by this period.
@@ -83,7 +86,7 @@ fn reply_to(keys: u32, at: Moment, change: &Change) -> Reply
             state: Some(row.state),
             moment: at,
         },
-        Change::Nothing => Reply {
+        Change::PeriodSet { .. } | Change::Nothing => Reply {
             key: 0,
             state: None,
             moment: at,

@@ -8,7 +8,9 @@ ghost use Rattle.register_core.specs.Reading.{Gives, is_space, field_at, field_a
 ghost use Rattle.register_core.specs.Reading.{date_at, edit_at, key_number_at, reason_at};
 ghost use Rattle.register_core.specs.Reading.{occurrence_at, request_number_at, name_at};
 ghost use Rattle.register_core.specs.Reading.{key_type_at, kind_at, purpose_at, quorum_at};
+ghost use Rattle.register_core.specs.Reading.{originator_at, recipient_at};
 ghost use Rattle.register_core.specs.Quorum.{IsQuorum};
+ghost use Rattle.period_core.specs.Period.{max_months};
 
 use crate::command_kind::CommandKind;
 use crate::name::Name;
@@ -20,7 +22,7 @@ use arrayvec::ArrayString;
 use itoa::Buffer;
 use lifecycle_core::Reason;
 use moment_core::Moment;
-use period_core::KeyType;
+use period_core::{KeyType, MAX_MONTHS};
 use std::str;
 
 /// Where the first space stands.
@@ -181,6 +183,33 @@ pub(crate) fn quorum_of(field: &[u8]) -> Option<Quorum>
     ensures { result ≡ quorum_at field.now }
 {
     quorum(read_decimal(field)?)
+}
+
+/// The number as one of months from the least on, or `None` out of the range.
+fn months(least: u16, number: u64) -> Option<u16>
+    ensures in_range { IsSome result ↔ (least ≤ number) × (number ≤ max_months) }
+    ensures value { IfSome result (λ n. n ≡ number) }
+{
+    let months = u16::try_from(number).ok()?;
+    if (least..=MAX_MONTHS).contains(&months) {
+        Some(months)
+    } else {
+        None
+    }
+}
+
+/// How many months of originator use the field writes.
+pub(crate) fn originator_of(field: &[u8]) -> Option<u16>
+    ensures { result ≡ originator_at field.now }
+{
+    months(1, read_decimal(field)?)
+}
+
+/// How many months of recipient use the field writes.
+pub(crate) fn recipient_of(field: &[u8]) -> Option<u16>
+    ensures { result ≡ recipient_at field.now }
+{
+    months(0, read_decimal(field)?)
 }
 
 /// The name that the field is.

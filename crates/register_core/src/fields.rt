@@ -11,7 +11,7 @@ use crate::quorum::Quorum;
 use crate::request::{Command, Edit};
 use lifecycle_core::Reason;
 use moment_core::Moment;
-use period_core::KeyType;
+use period_core::{KeyType, Period};
 
 /// What the fields of a command are. Each kind of command has one shape.
 #[derive(Clone, Copy, Debug)]
@@ -21,6 +21,7 @@ pub enum Shape {
     KeyAndName,
     KeyAndOwner,
     KeyAndNeed,
+    TypeAndPeriod,
     Registration,
     DateEdits,
     Revocation,
@@ -46,6 +47,10 @@ pub enum Fields {
     KeyAndNeed {
         key: u32,
         need: Quorum,
+    },
+    TypeAndPeriod {
+        kind: KeyType,
+        period: Period,
     },
     Registration {
         kind: KeyType,
@@ -77,7 +82,7 @@ impl Fields {
         ensures { result ≡ named_by (subject_by self.now) }
     {
         match *self {
-            Fields::Nothing | Fields::Registration { .. } => None,
+            Fields::Nothing | Fields::Registration { .. } | Fields::TypeAndPeriod { .. } => None,
             Fields::Key { key }
             | Fields::KeyAndName { key, .. }
             | Fields::KeyAndOwner { key, .. }
@@ -159,6 +164,7 @@ impl Command {
             Command::Destroy { key } => Fields::Key { key },
             Command::Advance => Fields::Nothing,
             Command::SetQuorum { key, need } => Fields::KeyAndNeed { key, need },
+            Command::SetPeriod { kind, period } => Fields::TypeAndPeriod { kind, period },
         }
     }
 
@@ -178,6 +184,10 @@ impl Command {
             },
             Fields::KeyAndNeed { key, need } => match kind {
                 Kind::SetQuorum => Some(Command::SetQuorum { key, need }),
+                _ => None,
+            },
+            Fields::TypeAndPeriod { kind: key_type, period } => match kind {
+                Kind::SetPeriod => Some(Command::SetPeriod { kind: key_type, period }),
                 _ => None,
             },
             Fields::Registration { kind: key_type, owner, activation, protect_stop, deactivation, purpose } => {

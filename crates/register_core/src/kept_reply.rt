@@ -35,12 +35,13 @@ impl KeptReply {
     }
 
     /// Whether the reply has a key and a state exactly where the command is about a key: one with no
-    /// fields is about none.
+    /// fields, or with a type and its period, is about none.
     pub fn is_whole(&self) -> bool
         ensures { result ≡ is_whole self.now }
     {
         match self.command.fields() {
-            Fields::Nothing => self.reply.key == 0 && self.reply.state.is_none(),
+            Fields::Nothing | Fields::TypeAndPeriod { .. } => self.reply.key == 0
+                && self.reply.state.is_none(),
             _ => self.reply.key > 0 && self.reply.state.is_some(),
         }
     }

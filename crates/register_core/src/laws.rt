@@ -5,12 +5,11 @@ ghost use Rattle.std.specs.List.{AllByRecursion};
 ghost use Rattle.lifecycle_core.specs.State.{state_at};
 ghost use Rattle.lifecycle_core.specs.Transition.{Leads};
 ghost use Rattle.period_core.specs.Fitting.{Fits, is_not_after};
-ghost use Rattle.period_core.specs.Period.{periods};
 ghost use Rattle.register_core.specs.declared.request.Request.{Request};
 ghost use Rattle.register_core.specs.declared.request.Command.{Command};
 ghost use Rattle.register_core.specs.declared.reply.Refusal.TheVariants.{RequestReused};
 ghost use Rattle.register_core.specs.Fold.{IsLawful, history};
-ghost use Rattle.register_core.specs.History.{latest, count, type, dates, owner};
+ghost use Rattle.register_core.specs.History.{latest, count, type, dates, dated_by, owner};
 ghost use Rattle.register_core.specs.Laws.{IsAccepted, HasKey, MovesOnly, AreDifferent};
 ghost use Rattle.register_core.specs.KeptReply.{kept, reply};
 ghost use Rattle.register_core.specs.Laws.{IsKeptIn, sent_under, state_of_key};
@@ -58,10 +57,11 @@ pub fn kept_replies_are_in_range()
     ensures { (h : List Request) → IsLawful h → AllByRecursion (IsKeptIn h) (kept h) }
 {}
 
-/// The dates of each key fit its type, after each request that is accepted.
+/// The dates of each key fit the period that they were held to when a command gave it dates last, after each request that
+/// is accepted.
 pub fn dates_fit()
     ensures { (h : List Request) (q : Request) → IsAccepted h q → (k : ℕ) → HasKey (h ++ q ∷ []) k →
-        Fits (periods (type (h ++ q ∷ []) k)) (dates (h ++ q ∷ []) k) }
+        Fits (dated_by (h ++ q ∷ []) k) (dates (h ++ q ∷ []) k) }
 {}
 
 /// Each request that is accepted takes each key along the standard's transitions, from the state

@@ -5,7 +5,7 @@ use crate::purpose::Purpose;
 use crate::quorum::Quorum;
 use lifecycle_core::Reason;
 use moment_core::Moment;
-use period_core::KeyType;
+use period_core::{KeyType, Period};
 
 /// What becomes of a date of a key.
 #[derive(Clone, Copy, Debug, PartialEq, Eq)]
@@ -81,6 +81,11 @@ pub enum Command {
     SetQuorum {
         key: u32,
         need: Quorum,
+    },
+    /// Keys of the type are held to this usage period from here on.
+    SetPeriod {
+        kind: KeyType,
+        period: Period,
     },
 }
 

@@ -1,14 +1,14 @@
 //! The verdict on a request, where the key that it names is known.
 ghost use Rattle.std.specs.Prelude.{◌≡◌, IsSome};
 ghost use Rattle.register_core.specs.Verdict.{refused_dates, behind, unknown, not_owner};
-ghost use Rattle.register_core.specs.Verdict.{not_custodian, wrong_state};
+ghost use Rattle.register_core.specs.Verdict.{not_custodian, not_office, wrong_state};
 ghost use Rattle.register_core.specs.Verdict.{is_kept, frozen, unfit, refused_entry, occurs_later};
 ghost use Rattle.register_core.specs.Verdict.{too_many, always, judge_view};
 ghost use Rattle.period_core.specs.Fitting.{fill_of, trim_of};
 
 use crate::custody_refusal::refused_custody;
 use crate::effect::{edited_dates, given_dates};
-use crate::limits::MAX_KEYS;
+use crate::limits::{MAX_KEYS, OFFICE};
 use crate::name::Name;
 use crate::reply::Refusal;
 use crate::request::{Command, Edit, Request};
@@ -60,6 +60,17 @@ fn not_custodian(key: &Option<Held>, caller: &Name, command: &Command) -> Option
             Some(Refusal::NotCustodian)
         }
         _ => None,
+    }
+}
+
+/// The command is the office's, and the caller is another.
+fn not_office(caller: &Name, command: &Command) -> Option<Refusal>
+    ensures { result ≡ not_office caller.now command.now }
+{
+    if command.is_offices() && caller.text() != OFFICE {
+        Some(Refusal::NotOffice)
+    } else {
+        None
     }
 }
 
@@ -217,6 +228,9 @@ fn refused_entry(view: &View, request: &Request) -> Option<Refusal>
         return Some(refusal);
     }
     if let Some(refusal) = not_custodian(&view.key, &request.caller, command) {
+        return Some(refusal);
+    }
+    if let Some(refusal) = not_office(&request.caller, command) {
         return Some(refusal);
     }
     wrong_state(&view.key, at, command)

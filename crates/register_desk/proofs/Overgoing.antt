@@ -25,7 +25,9 @@ use Rattle.period_core.specs.declared.key_type.KeyType.{KeyType}
 use Rattle.period_core.specs.Period.{Period}
 use Rattle.register_core.specs.declared.view.Held.{Held}
 use Rattle.register_core.specs.declared.view.View.{View}
-use Rattle.register_core.specs.Decision.{change_by, change_of, reply_of_view, reply_to}
+use Rattle.register_core.specs.Decision.{change_by, change_of, change_without_key, reply_of_view, reply_to}
+use Rattle.register_core.specs.declared.request.Command.{Command}
+use Rattle.register_core.specs.declared.request.Command.TheVariants.{SetPeriod}
 use Rattle.register_core.specs.KeptReply.{kept_with, IsKeptReply}
 use Rattle.register_core.specs.Subject.{Subject, Makes, Names, NoKey, subject}
 use Rattle.register_core.specs.Verdict.{always, answer_by, judge, judge_view, Repeats, Refuses}
@@ -51,6 +53,7 @@ keys_with (change.Held number owner row custody) t =
     let same = length-map (enumerate_from 1 t.keys) (where_number number (held_by owner row)) in
     let counted = length-enumerate_from 1 t.keys in
     omega (arith, same, counted)
+keys_with (change.PeriodSet kind period) t = omega arith
 keys_with Nothing t = omega arith
 
 -- ---- the state of each key
@@ -62,14 +65,19 @@ AllRight at keys = AllByRecursion (λ (k : Key). IsRightAt k.row at) keys
 abbrev IsRightChange : ℕ → Change → Type 0
 IsRightChange at (Made key) = IsRightAt key.row at
 IsRightChange at (change.Held number owner row custody) = IsRightAt row at
+IsRightChange at (change.PeriodSet kind period) = Unit {0}
 IsRightChange at Nothing = Unit {0}
+
+right_without : (t : ℕ) (c : Command) → IsRightChange t (change_without_key c)
+right_without t (SetPeriod kind period) = tt
+right_without t c = tt
 
 right_change : (periods : KeyType → Period) (s : Subject) (key : Option Held) (q : Request)
     → IsRightChange q.moment (change_of periods s key q)
 right_change periods (Makes made) key q = refl
 right_change periods (Names k) None q = tt
 right_change periods (Names k) (Some held) q = refl
-right_change periods NoKey key q = tt
+right_change periods NoKey key q = right_without q.moment q.command
 
 advanced_right : (at : ℕ) (keys : List Key) → AllRight at (map (advanced at) keys)
 advanced_right at [] = tt
@@ -93,6 +101,7 @@ right_with (Made key) t at right =
     all_more (λ (k : Key). IsRightAt k.row at) (map (advanced at) t.keys) key (advanced_right at t.keys) right
 right_with (change.Held number owner row custody) t at right =
     held_right at number owner row right 1 (map (advanced at) t.keys) (advanced_right at t.keys)
+right_with (change.PeriodSet kind period) t at right = advanced_right at t.keys
 right_with Nothing t at right = advanced_right at t.keys
 
 -- ---- after an acceptance

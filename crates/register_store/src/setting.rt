@@ -1,17 +1,82 @@
-//! What is set beside the keys themselves: how many approvals the destruction of a key needs.
-ghost use Rattle.std.specs.Prelude.{◌≡◌, ◌≢◌, IfOk, IfErr};
+//! What is set beside the keys themselves: the usage periods of types, and how many approvals the destruction of a key
+//! needs.
+ghost use Rattle.std.specs.Prelude.{◌≡◌, ◌≢◌, IfOk, IfErr, MatchOption};
 ghost use Rattle.sql_steps.specs.Steps.{StepsBy};
+ghost use Rattle.period_core.specs.Period.{IsPeriod, Period as UsagePeriod};
 ghost use Rattle.register_core.specs.Quorum.{IsQuorum};
 ghost use Rattle.register_store.specs.Counting.{Takes};
 ghost use Rattle.register_store.specs.Making.{Makes, Always, HasNoNeed};
 ghost use Rattle.register_store.specs.Making.{more_need, with_need_set, without_need};
-ghost use Rattle.register_store.specs.Reading.{Calls, HasNeed, IsRowOf, Reads, ShowsNeed, ShowsNone};
+ghost use Rattle.register_store.specs.Making.{HasNoPeriod, more_period, with_period_set};
+ghost use Rattle.register_store.specs.Making.{without_period};
+ghost use Rattle.register_store.specs.Reading.{Calls, HasNeed, HasPeriod, IsRowOf, Reads};
+ghost use Rattle.register_store.specs.Reading.{ShowsNeed, ShowsNone, ShowsPeriod};
 
-use crate::cell::need_in;
+use crate::cell::{months_in, need_in};
 use crate::counted::{Counted, Inside, StepCount};
 use crate::error::StoreError;
+use period_core::{KeyType, Period};
 use register_core::Quorum;
 use sqlite::{Alter, Error, Row, params};
+
+/// Takes out the period of the type, if one was set.
+fn clear_period<T: Inside>(
+    tx: &mut T,
+    steps: &mut StepCount,
+    kind: KeyType,
+) -> Result<(), StoreError>
+    ensures same_reference { T.Inside.name tx.new ≡ T.Inside.name tx.old }
+    ensures counted { Takes 1 steps.old steps.new }
+    ensures cleared { StepsBy (λ _. Makes Always (without_period kind))
+        (T.Inside.sees tx.old) (T.Inside.sees tx.new) result }
+{
+    tx.execute(
+        steps,
+        "DELETE FROM period WHERE kind = ?1",
+        params![u32::from(kind.code())],
+    )?;
+    Ok(())
+}
+
+/// Adds the period of the type. The database refuses it where one is set.
+fn add_period<T: Inside>(
+    tx: &mut T,
+    steps: &mut StepCount,
+    kind: KeyType,
+    period: Period,
+) -> Result<(), StoreError>
+    ensures same_reference { T.Inside.name tx.new ≡ T.Inside.name tx.old }
+    ensures counted { Takes 1 steps.old steps.new }
+    ensures added { StepsBy (λ _. Makes (HasNoPeriod kind) (more_period kind period))
+        (T.Inside.sees tx.old) (T.Inside.sees tx.new) result }
+{
+    tx.execute(
+        steps,
+        "INSERT INTO period (kind, originator, recipient) VALUES (?1, ?2, ?3)",
+        params![
+            u32::from(kind.code()),
+            u32::from(period.originator()),
+            u32::from(period.recipient())
+        ],
+    )?;
+    Ok(())
+}
+
+/// Sets the period of the type, in the place of the one that was set before.
+pub(crate) fn set_period<T: Inside>(
+    tx: &mut T,
+    steps: &mut StepCount,
+    kind: KeyType,
+    period: Period,
+) -> Result<(), StoreError>
+    ensures same_reference { T.Inside.name tx.new ≡ T.Inside.name tx.old }
+    ensures counted { Takes 2 steps.old steps.new }
+    ensures set { StepsBy (λ _. Makes Always (with_period_set kind period))
+        (T.Inside.sees tx.old) (T.Inside.sees tx.new) result }
+{
+    clear_period(tx, steps, kind)?;
+    add_period(tx, steps, kind, period)
+}
 
 /// Takes out the need of the key, if one was set.
 fn clear_need<T: Inside>(tx: &mut T, steps: &mut StepCount, key: u32) -> Result<(), StoreError>
@@ -91,4 +156,46 @@ pub fn find_need<S: Alter>(
     ensures reads { Reads S.Store (HasNeed key) connection.old connection.new result }
 {
     need_of(connection.query_row("SELECT need FROM quorum WHERE key_no = ?1", params![key]))
+}
+
+/// The period in the first two cells.
+fn period_in(row: &Row) -> Option<Period>
+    ensures { MatchOption result ((period : UsagePeriod) → ¬ ShowsPeriod row.now period)
+        (ShowsPeriod row.now) }
+{
+    Period::new(months_in(row, 0)?, months_in(row, 1)?)
+}
+
+/// The period of the answer to the search for one, `None` where there is no row.
+fn period_of(answer: Result<Row, Error>) -> Result<Option<Period>, StoreError>
+    ensures row { IfOk result (IsRowOf ShowsPeriod answer) }
+    ensures failed { IfErr result (λ error. error ≢ StoreError.Memory) }
+    ensures unregistered { IfErr result (λ error. error ≡ StoreError.NoRegister
+        → ShowsNone IsPeriod ShowsPeriod answer) }
+{
+    match answer {
+        Ok(row) => match period_in(&row) {
+            Some(period) => Ok(Some(period)),
+            None => Err(StoreError::NoRegister),
+        },
+        Err(Error::QueryReturnedNoRows) => Ok(None),
+        Err(error) => Err(StoreError::Database(error)),
+    }
+}
+
+/// The usage period that is set for the type, or `None` where none is. It changes nothing.
+///
+/// # Errors
+/// As [`find_need`].
+pub fn find_period<S: Alter>(
+    connection: &mut Counted<S>,
+    kind: KeyType,
+) -> Result<Option<Period>, StoreError>
+    ensures counted { Calls 2 connection.old connection.new }
+    ensures reads { Reads S.Store (HasPeriod kind) connection.old connection.new result }
+{
+    period_of(connection.query_row(
+        "SELECT originator, recipient FROM period WHERE kind = ?1",
+        params![u32::from(kind.code())],
+    ))
 }

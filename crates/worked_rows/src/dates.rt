@@ -285,3 +285,21 @@ pub static LIMITS: [WorkedRow; 6] = [
         }),
     },
 ];
+
+/// A usage period that the office sets.
+#[rattlefmt::skip]
+pub static SET_PERIODS: [WorkedRow; 1] = [
+    WorkedRow {
+        name: "a period set by the office",
+        lines: &[
+            DEFAULTS,
+            ("200 zed 1 set-period data-encryption 12 36", "refused 21 NotOffice"),
+            ("200 office 1 set-period data-encryption 12 36", "ok 0 - 200"),
+            ("300 ann 2 register data-encryption bob 0 63072000 - x", "refused 10 PeriodTooLong limit=31536000"),
+            ("300 ann 2 register data-encryption bob 0 - - x", "ok 2 Active 300"),
+            ("400 bob 1 set 1 = = 150000000", "refused 10 PeriodTooLong limit=31536000"),
+        ],
+        rest: "",
+        shown: Some(DEFAULT_KEY),
+    },
+];

@@ -31,6 +31,11 @@ pub fn limits() -> &'static [WorkedRow] {
     &dates::LIMITS
 }
 
+/// A usage period that the office sets.
+pub fn set_periods() -> &'static [WorkedRow] {
+    &dates::SET_PERIODS
+}
+
 /// Rows on states, and on dates that are set.
 pub fn states() -> &'static [WorkedRow] {
     &keys::STATES
@@ -47,12 +52,13 @@ pub fn destruction() -> &'static [WorkedRow] {
 }
 
 /// All worked rows, table by table.
-pub fn tables() -> [&'static [WorkedRow]; 7] {
+pub fn tables() -> [&'static [WorkedRow]; 8] {
     [
         lines(),
         repeats(),
         periods(),
         limits(),
+        set_periods(),
         states(),
         custody(),
         destruction(),

@@ -1,4 +1,4 @@
-//! Histories of custodians, approvals and destruction, line by line, by the plain program.
+//! Histories of custodians, approvals, destruction and periods, line by line, by the plain program.
 use super::keys::names_of;
 use lifecycle_core::State;
 use moment_core::Moment;
@@ -43,6 +43,16 @@ const NEEDING: [Row; 4] = [
     ("106 bob 4 destroy 1", "refused 18 ApprovalsMissing have=2 need=3\n"),
     ("106 bob 4 set-quorum 1 2", "ok 1 Pre-Active 106\n"),
     ("107 bob 5 destroy 1", "ok 1 Destroyed 107\n"),
+];
+
+/// The office sets the period of a type before a key of it is registered, and behind that another.
+#[rattlefmt::skip]
+const PERIODS_SET: [Row; 5] = [
+    ("100 office 1 set-period data-encryption 12 36", "ok 0 - 100\n"),
+    ("300 ann 1 register data-encryption bob 0 - - x", "ok 1 Active 300\n"),
+    ("400 office 2 set-period data-encryption 1 0", "ok 0 - 400\n"),
+    ("400 bob 1 set 1 = = =", "refused 10 PeriodTooLong limit=2678400\n"),
+    ("400 ann 2 register authentication bob 0 63072000 - x", "ok 2 Active 400\n"),
 ];
 
 /// The first row whose reply is another.
@@ -137,6 +147,15 @@ fn needs(rt: HostRuntime) -> Result<(), Fail> {
     let key = key_behind(&rt, rt.alloc(), &NEEDING)?;
     assert_eq!(rt; key.need, 2);
     assert!(rt; is_key(&key, State::Destroyed, Some(107), None, &["cat", "dan"]));
+    Ok(())
+}
+
+/// The dates that a key has stay, whatever period is set behind them.
+#[test]
+fn periods(rt: HostRuntime) -> Result<(), Fail> {
+    let key = key_after(&rt, rt.alloc(), &PERIODS_SET)?.ok_or("a key")?;
+    assert_eq!(rt; key.row.dates.protect_stop, Moment::new(31_536_000));
+    assert_eq!(rt; key.row.dates.deactivation, Moment::new(126_230_400));
     Ok(())
 }
 

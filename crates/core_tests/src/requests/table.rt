@@ -3,7 +3,7 @@
 use super::keys::{answer_by, change_by, outcome_by, view_in};
 use lifecycle_core::State;
 use moment_core::Moment;
-use period_core::{KeyType, period_of};
+use period_core::{KeyType, Period, period_of};
 use register_core::{Change, MAX_KEYS, Refusal, View, read_request};
 use std::alloc::Global;
 use std::test::Fail;
@@ -121,13 +121,17 @@ fn commands_by_state_and_caller(rt: HostRuntime) -> Result<(), Fail> {
 type Replied = Result<(u32, Option<State>), Refusal>;
 
 /// How many keys were made, a line that finds none, and what is replied. Anybody may register and
-/// advance: the owner of other keys, a custodian, and the stranger.
+/// advance: the owner of other keys, a custodian, and the stranger. The office alone sets a period.
 #[rattlefmt::skip]
-const WITHOUT_A_KEY: [(u32, &str, Replied); 11] = [
+const WITHOUT_A_KEY: [(u32, &str, Replied); 15] = [
     (1, "1000 bob 1 advance", Ok((0, None))),
     (1, "1000 cat 1 advance", Ok((0, None))),
     (1, "1000 zed 1 advance", Ok((0, None))),
     (1_000_000, "1000 zed 1 advance", Ok((0, None))),
+    (1, "1000 bob 1 set-period master 12 0", Err(Refusal::NotOffice)),
+    (1, "1000 zed 1 set-period master 12 0", Err(Refusal::NotOffice)),
+    (1, "1000 office 1 set-period master 12 0", Ok((0, None))),
+    (1_000_000, "1000 office 1 set-period authentication 1200 1200", Ok((0, None))),
     (1, "1000 bob 1 register master gil - - - x", Ok((2, Some(State::PreActive)))),
     (1, "1000 cat 1 register master gil 1000 - - x", Ok((2, Some(State::Active)))),
     (1, "1000 zed 1 register master gil 100 - 1000 x", Ok((2, Some(State::Deactivated)))),
@@ -165,15 +169,27 @@ fn commands_without_a_key(rt: HostRuntime) {
     }
 }
 
-#[test]
-fn advance_changes_nothing(rt: HostRuntime) -> Result<(), Fail> {
+/// Whether the line changes so much of what a register of one key keeps.
+fn is_change_of(line: &str, expected: &Change) -> bool {
+    let (Some(latest), Some(request)) = (Moment::new(600), read_request(line.as_bytes())) else {
+        return false;
+    };
     let view = View {
-        latest: Moment::new(600).ok_or("a moment")?,
+        latest,
         keys: 1,
         period: period_of(KeyType::Master),
         key: None,
     };
-    let request = read_request(b"1000 zed 1 advance").ok_or("a request")?;
-    assert!(rt; change_by(&view, &request) == Some(Change::Nothing));
+    change_by(&view, &request) == Some(*expected)
+}
+
+#[test]
+fn changes_without_a_key(rt: HostRuntime) -> Result<(), Fail> {
+    assert!(rt; is_change_of("1000 zed 1 advance", &Change::Nothing));
+    let set = Change::PeriodSet {
+        kind: KeyType::DataEncryption,
+        period: Period::new(12, 36).ok_or("a period")?,
+    };
+    assert!(rt; is_change_of("1000 office 1 set-period data-encryption 12 36", &set));
     Ok(())
 }

@@ -33,6 +33,7 @@ pub const DAY: &[Exchange] = &[
     ("2400 fay 4 set-quorum 9 2", "ok 9 Deactivated 2400"),
     ("2500 fay 5 destroy 9", "ok 9 Destroyed 2500"),
     ("2600 zed 1 advance", "ok 0 - 2600"),
+    ("2600 office 1 set-period data-encryption 12 36", "ok 0 - 2600"),
     ("2700 zed 2 revoke 9 2 50", "ok 9 Destroyed-Compromised 2700"),
     ("2800 bob 6 add-custodian 8 cat", "ok 8 Deactivated 2800"),
     ("2900 cat 4 approve 8", "ok 8 Deactivated 2900"),
