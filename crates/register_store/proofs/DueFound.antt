@@ -141,7 +141,7 @@ not_before sy sx ny nx h = ranked (int_cmp (pos sy) (pos sx)) (int_ranks (pos sy
     ranked Greater high h = inl (omega (arith, ints))
 
 -- a number has one key
-one_number : (t : Tables) (x y : ℕ × Key) → Has (numbered t.keys) x → Has (numbered t.keys) y → x.0 ≡ y.0 → y ≡ x
+pub one_number : (t : Tables) (x y : ℕ × Key) → Has (numbered t.keys) x → Has (numbered t.keys) y → x.0 ≡ y.0 → y ≡ x
 one_number t x y here there same =
     let a = at_number 1 t.keys x here in
     let b = at_number 1 t.keys y there in

@@ -9,8 +9,8 @@ ghost use Rattle.register_store.specs.Making.{Makes, Always, HasNoNeed};
 ghost use Rattle.register_store.specs.Making.{more_need, with_need_set, without_need};
 ghost use Rattle.register_store.specs.Making.{HasNoPeriod, more_period, with_period_set};
 ghost use Rattle.register_store.specs.Making.{without_period};
-ghost use Rattle.register_store.specs.Reading.{Calls, HasNeed, HasPeriod, IsRowOf, Reads};
-ghost use Rattle.register_store.specs.Reading.{ShowsNeed, ShowsNone, ShowsPeriod};
+ghost use Rattle.register_store.specs.Reading.{Calls, HasNeed, HasPeriod, IsRowOf, KeepsSight, Reads};
+ghost use Rattle.register_store.specs.Reading.{ShowsNeed, ShowsNone, ShowsPeriod, seen};
 
 use crate::cell::{months_in, need_in};
 use crate::counted::{Counted, Inside, StepCount};
@@ -192,6 +192,7 @@ pub fn find_period<S: Alter>(
     kind: KeyType,
 ) -> Result<Option<Period>, StoreError>
     ensures counted { Calls 2 connection.old connection.new }
+    ensures sight { KeepsSight (seen S.Store connection.old) (seen S.Store connection.new) }
     ensures reads { Reads S.Store (HasPeriod kind) connection.old connection.new result }
 {
     period_of(connection.query_row(
