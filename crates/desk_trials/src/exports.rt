@@ -67,6 +67,30 @@ static SEVERAL: Written = Written {
     ],
 };
 
+/// The worked rows *a period set by the office* and *a key longer than a new period*; and a long key within the horizon.
+#[rattlefmt::skip]
+static LONG: Written = Written {
+    lines: "100 ann 1 register data-encryption bob 0 - - payroll disks\n\
+        200 office 1 set-period data-encryption 12 36\n\
+        300 ann 2 register data-encryption bob 0 - - x\n",
+    export: "number,type,owner,activation,protect_stop,deactivation,state,initial,destroyed,compromised,occurrence,purpose\n\
+        1,data-encryption,bob,1970-01-01T00:00:00Z,1972-01-01T00:00:00Z,1975-01-01T00:00:00Z,Active,1970-01-01T00:01:40Z,,,,payroll disks\n\
+        2,data-encryption,bob,1970-01-01T00:00:00Z,1971-01-01T00:00:00Z,1974-01-01T00:00:00Z,Active,1970-01-01T00:05:00Z,,,,x\n",
+    reports: &[
+        (0, "Keys due for rotation by 1970-01-01T00:05:00Z\n\
+            \x20     1  1972-01-01T00:00:00Z  long     data-encryption         bob  payroll disks\n\
+            total 1\n"),
+        (365, "Keys due for rotation by 1971-01-01T00:05:00Z\n\
+            \x20     2  1971-01-01T00:00:00Z  due      data-encryption         bob  x\n\
+            \x20     1  1972-01-01T00:00:00Z  long     data-encryption         bob  payroll disks\n\
+            total 2\n"),
+        (730, "Keys due for rotation by 1972-01-01T00:05:00Z\n\
+            \x20     2  1971-01-01T00:00:00Z  due      data-encryption         bob  x\n\
+            \x20     1  1972-01-01T00:00:00Z  due      data-encryption         bob  payroll disks\n\
+            total 2\n"),
+    ],
+};
+
 /// Whether a call did this and wrote this text.
 fn is_written(outcome: Outcome, bytes: &[u8], text: &str) -> bool {
     let expected = Outcome {
@@ -109,7 +133,8 @@ pub fn are_registers_written_out(alloc: Global) -> Result<bool, Fail> {
     Ok(
         is_written_out(alloc, &EMPTY)?
             && is_written_out(alloc, &DEFAULTS)?
-            && is_written_out(alloc, &SEVERAL)?,
+            && is_written_out(alloc, &SEVERAL)?
+            && is_written_out(alloc, &LONG)?,
     )
 }
 

@@ -92,13 +92,13 @@ pub fn line_of_other_steps(alloc: Global) -> Result<Option<&'static str>, Fail> 
 
 /// Protect Stop Dates of keys that are due, and the steps of an export of them and of a report on them. An export takes
 /// for each row a search and the row; a report the same, one search more behind the last row of each date that several
-/// have, and the search that finds none.
+/// have, and the search that finds none; and one before for the period of each of the seven types, of which none is set.
 static ROWS: [(&[u64], u64, u64); 5] = [
-    (&[], 0, 1),
-    (&[700, 500, 600], 6, 7),
-    (&[500, 500], 4, 6),
-    (&[500, 500, 500, 600], 8, 10),
-    (&[500, 600, 600, 700], 8, 10),
+    (&[], 0, 8),
+    (&[700, 500, 600], 6, 14),
+    (&[500, 500], 4, 13),
+    (&[500, 500, 500, 600], 8, 17),
+    (&[500, 600, 600, 700], 8, 17),
 ];
 
 /// A desk with an Active key for each of these Protect Stop Dates.

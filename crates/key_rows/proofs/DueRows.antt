@@ -1,9 +1,11 @@
 -- The rows that are due, gathered one after another, and the laws about them.
-use Rattle.std.proofs.Common.{◌≡◌, ◌⊎◌, inl, inr, ℕ, true, false, List, [], ◌∷◌, ◌++◌, refl, sym, subst}
-use Rattle.std.specs.List.{Contains}
+use Rattle.std.proofs.Common.{◌≡◌, ◌⊎◌, inl, inr, ℕ, Bool, true, false, cond, List, [], ◌∷◌, ◌++◌, refl, sym, ap, subst}
+use Rattle.std.proofs.Common.{◌∙◌}
+use Rattle.std.specs.Prelude.{filter}
+use Rattle.std.specs.List.{Contains, AllByRecursion}
 use Rattle.std.proofs.lemmas.Bool.{cases_Bool}
 use Rattle.key_rows.specs.declared.key_row.KeyRow.{KeyRow}
-use Rattle.key_rows.specs.DueRows.{is_due, IsBefore, IsBehind, AreInOrder, AreDue, AreFirstDue, HaveOwnNumbers}
+use Rattle.key_rows.specs.DueRows.{is_due, IsBefore, IsBehind, AreInOrder, AreDue, AreThose, AreFirstDue, HaveOwnNumbers}
 use Rattle.key_rows.proofs.Members.{Has, has_of, contains_of, each_of, all_of, has_before, has_last, has_cases}
 use Rattle.key_rows.proofs.DueOrder.{before_trans, compared, with_last, same_rows, begun}
 
@@ -71,12 +73,12 @@ all_first all until rows first none = record {
 
 -- ---- the laws
 
-pub one_list : (all : List KeyRow) (until : ℕ) (rows others : List KeyRow) → AreDue all until rows
-    → AreDue all until others → rows ≡ others
-one_list all until rows others p q = same_rows rows others p.in_order q.in_order
+pub one_list : (holds : KeyRow → Bool) (all rows others : List KeyRow) → AreThose holds all rows
+    → AreThose holds all others → rows ≡ others
+one_list holds all rows others p q = same_rows rows others p.in_order q.in_order
     (to rows others p q) (to others rows q p)
   where
-    to : (xs ys : List KeyRow) → AreDue all until xs → AreDue all until ys → (r : KeyRow) → Has xs r
+    to : (xs ys : List KeyRow) → AreThose holds all xs → AreThose holds all ys → (r : KeyRow) → Has xs r
         → Has ys r
     to xs ys p q r h = let e = p.each r (contains_of xs r h) in has_of ys r (q.every r e.0 e.1)
 
@@ -163,16 +165,16 @@ placed r (x ∷ rows) in_order own =
       },
     )
 
--- the rows that are due among those of a list, in order
-record Gathers (until : ℕ) (all rows : List KeyRow) : Type 0 where
+-- the rows of a list for which this holds, in order
+record Gathers (holds : KeyRow → Bool) (all rows : List KeyRow) : Type 0 where
   in_order : AreInOrder rows
-  each : (r : KeyRow) → Has rows r → Has all r × (is_due until r ≡ true)
-  every : (r : KeyRow) → Has all r → is_due until r ≡ true → Has rows r
+  each : (r : KeyRow) → Has rows r → Has all r × (holds r ≡ true)
+  every : (r : KeyRow) → Has all r → holds r ≡ true → Has rows r
 
-gathered : (until : ℕ) (all : List KeyRow)
+gathered : (holds : KeyRow → Bool) (all : List KeyRow)
     → ((r s : KeyRow) → Has all r → Has all s → r.number ≡ s.number → r ≡ s)
-    → (rows : List KeyRow) × Gathers until all rows
-gathered until [] own = (
+    → (rows : List KeyRow) × Gathers holds all rows
+gathered holds [] own = (
   [],
   record {
     in_order = tt;
@@ -180,12 +182,12 @@ gathered until [] own = (
     every = λ r h due. absurd h;
   },
 )
-gathered until (x ∷ all) own = with_first (gathered until all (λ r s h k. own r s (inr h) (inr k)))
-    (cases_Bool (is_due until x))
+gathered holds (x ∷ all) own = with_first (gathered holds all (λ r s h k. own r s (inr h) (inr k)))
+    (cases_Bool (holds x))
   where
-    with_first : (rows : List KeyRow) × Gathers until all rows
-        → (is_due until x ≡ true) ⊎ (is_due until x ≡ false)
-        → (out : List KeyRow) × Gathers until (x ∷ all) out
+    with_first : (rows : List KeyRow) × Gathers holds all rows
+        → (holds x ≡ true) ⊎ (holds x ≡ false)
+        → (out : List KeyRow) × Gathers holds (x ∷ all) out
     with_first (rows, g) (inl due) =
         let p = placed x rows g.in_order (λ s h. own x s (inl refl) (inr (g.each s h).0)) in (
           p.0,
@@ -193,7 +195,7 @@ gathered until (x ∷ all) own = with_first (gathered until all (λ r s h k. own
             in_order = p.1.in_order;
             each =
                 λ r h. elim (p.1.each r h) [
-                  | inl e ↦ (inl e, subst (λ y. is_due until y ≡ true) (sym e) due)
+                  | inl e ↦ (inl e, subst (λ y. holds y ≡ true) (sym e) due)
                   | inr k ↦ (inr (g.each r k).0, (g.each r k).1)
                 ];
             every =
@@ -210,16 +212,16 @@ gathered until (x ∷ all) own = with_first (gathered until all (λ r s h k. own
         each = λ r h. (inr (g.each r h).0, (g.each r h).1);
         every =
             λ r h then. elim h [
-              | inl e ↦ absurd (let d = subst (λ y. is_due until y ≡ true) e then in cc)
+              | inl e ↦ absurd (let d = subst (λ y. holds y ≡ true) e then in cc)
               | inr k ↦ g.every r k then
             ];
       },
     )
 
-pub a_list : (all : List KeyRow) (until : ℕ) → HaveOwnNumbers all
-    → (rows : List KeyRow) × AreDue all until rows
-a_list all until own =
-    let g = gathered until all (λ r s h k. own r s (contains_of all r h) (contains_of all s k)) in (
+pub a_list : (holds : KeyRow → Bool) (all : List KeyRow) → HaveOwnNumbers all
+    → (rows : List KeyRow) × AreThose holds all rows
+a_list holds all own =
+    let g = gathered holds all (λ r s h k. own r s (contains_of all r h) (contains_of all s k)) in (
       g.0,
       record {
         in_order = g.1.in_order;
@@ -227,3 +229,49 @@ a_list all until own =
         every = λ r h due. contains_of g.0 r (g.1.every r (has_of all r h) due);
       },
     )
+
+-- ---- fewer of them
+
+has_left : (p : KeyRow → Bool) (rows : List KeyRow) (x : KeyRow) → Has (filter p rows) x → Has rows x × (p x ≡ true)
+has_left p [] x h = absurd h
+has_left p (r ∷ rows) x h = by (p r) refl h (has_left p rows x)
+  where
+    by : (b : Bool) → p r ≡ b → Has (cond b (r ∷ filter p rows) (filter p rows)) x
+        → (Has (filter p rows) x → Has rows x × (p x ≡ true)) → Has (r ∷ rows) x × (p x ≡ true)
+    by true is (inl e) rest = (inl e, ap p e ∙ is)
+    by true is (inr h) rest = let it = rest h in (inr it.0, it.1)
+    by false is h rest = let it = rest h in (inr it.0, it.1)
+
+stays_left : (p : KeyRow → Bool) (rows : List KeyRow) (x : KeyRow) → Has rows x → p x ≡ true → Has (filter p rows) x
+stays_left p [] x h is = absurd h
+stays_left p (r ∷ rows) x (inl e) is =
+    subst (λ (b : Bool). Has (cond b (r ∷ filter p rows) (filter p rows)) x) (sym (sym (ap p e) ∙ is)) (inl e)
+stays_left p (r ∷ rows) x (inr h) is = by (p r) (stays_left p rows x h is)
+  where
+    by : (b : Bool) → Has (filter p rows) x → Has (cond b (r ∷ filter p rows) (filter p rows)) x
+    by true there = inr there
+    by false there = there
+
+left_in_order : (p : KeyRow → Bool) (rows : List KeyRow) → AreInOrder rows → AreInOrder (filter p rows)
+left_in_order p [] in_order = tt
+left_in_order p (r ∷ rows) in_order = by (p r) (left_in_order p rows in_order.1)
+  where
+    behind : AllByRecursion (IsBefore r) (filter p rows)
+    behind = all_of (IsBefore r) (filter p rows) (λ x h. each_of (IsBefore r) rows in_order.0 x (has_left p rows x h).0)
+
+    by : (b : Bool) → AreInOrder (filter p rows) → AreInOrder (cond b (r ∷ filter p rows) (filter p rows))
+    by true rest = (behind, rest)
+    by false rest = rest
+
+-- those of the rows for which more holds are those of all
+pub fewer : (wide narrow : KeyRow → Bool) (all rows : List KeyRow) → AreThose wide all rows
+    → ((r : KeyRow) → Contains all r → narrow r ≡ true → wide r ≡ true) → AreThose narrow all (filter narrow rows)
+fewer wide narrow all rows those within = record {
+  in_order = left_in_order narrow rows those.in_order;
+  each = λ r h.
+      let it = has_left narrow rows r (has_of (filter narrow rows) r h) in
+      ((those.each r (contains_of rows r it.0)).0, it.1);
+  every = λ r there is.
+      contains_of (filter narrow rows) r
+      (stays_left narrow rows r (has_of rows r (those.every r there (within r there is))) is);
+}

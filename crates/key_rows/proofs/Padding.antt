@@ -37,13 +37,14 @@ number_right n =
     ∙ ap (λ (l : List ℕ). l ++ (decimal n ++ [])) front
     ∙ ap (λ (l : List ℕ). spaces (7 - length (decimal n)) ++ l) (append-nil (decimal n))
 
-abbrev due_mark : Bool → List ℕ
-due_mark overdue = if overdue then codes "overdue" else codes "due"
+abbrev due_mark : Bool → Bool → List ℕ
+due_mark overdue due = if overdue then codes "overdue" else if due then codes "due" else codes "long"
 
-pub mark_left : (overdue : Bool) → to_left 7 (due_mark overdue) ≡ left 7 (due_mark overdue)
+pub mark_left : (overdue due : Bool) → to_left 7 (due_mark overdue due) ≡ left 7 (due_mark overdue due)
 unfolding padded char_count take_chars lib.Utf8.encode
-mark_left true = refl
-mark_left false = refl
+mark_left true due = refl
+mark_left false true = refl
+mark_left false false = refl
 
 pub kind_left : (kind : KeyType) → to_left 22 (key_type_text kind) ≡ left 22 (key_type_text kind)
 unfolding padded char_count take_chars lib.Utf8.encode
@@ -56,15 +57,16 @@ kind_left PrivateTransport = refl
 kind_left Master = refl
 
 -- a line, as one `format!` writes it
-abbrev pub formatted : ℕ → KeyRow → List ℕ
-formatted latest r =
+abbrev pub formatted : ℕ → ℕ → KeyRow → List ℕ
+formatted latest until r =
     to_right 7 r.number ++ (codes "  " ++ (date_text r.row.dates.protect_stop ++ (codes "  "
-    ++ (to_left 7 (mark latest r)
+    ++ (to_left 7 (mark latest until r)
     ++ (codes "  " ++ (to_left 22 (key_type_text r.kind) ++ (codes "  "
     ++ (r.owner ++ (codes "  " ++ (r.purpose ++ codes "\n"))))))))))
 
-pub line_text : (latest : ℕ) (r : KeyRow) → formatted latest r ≡ report_line latest r
+pub line_text : (latest until : ℕ) (r : KeyRow) → formatted latest until r ≡ report_line latest until r
 unfolding report_line
-line_text latest r =
+line_text latest until r =
     let overdue = is_reached_at r.row.dates.protect_stop latest in
-    rw (number_right r.number, mark_left overdue, kind_left r.kind) (simp append_assoc)
+    let due = is_reached_at r.row.dates.protect_stop until in
+    rw (number_right r.number, mark_left overdue due, kind_left r.kind) (simp append_assoc)

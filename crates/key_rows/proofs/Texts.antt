@@ -21,8 +21,8 @@ export_more rows r = rows_more export_row export_header rows r
 
 pub report_more : (latest until : ℕ) (rows : List KeyRow) (r : KeyRow)
     → report_begun latest until (rows ++ r ∷ []) ≡ report_begun latest until rows
-    ++ report_line latest r
-report_more latest until rows r = rows_more (report_line latest) (report_head until) rows r
+    ++ report_line latest until r
+report_more latest until rows r = rows_more (report_line latest until) (report_head until) rows r
 
 -- the text of some rows begins that of more
 pub export_begins : (rows rest : List KeyRow)
@@ -33,12 +33,12 @@ export_begins rows rest =
 
 pub report_begins : (latest until : ℕ) (rows rest : List KeyRow)
     → report_text latest until (rows ++ rest) ≡ report_begun latest until rows
-    ++ (flat_map (report_line latest) rest ++ report_total (length (rows ++ rest)))
+    ++ (flat_map (report_line latest until) rest ++ report_total (length (rows ++ rest)))
 report_begins latest until rows rest =
     ap (λ l. (report_head until ++ l) ++ report_total (length (rows ++ rest)))
-    (flat_map-append (report_line latest) rows rest)
+    (flat_map-append (report_line latest until) rows rest)
     ∙ ap (λ l. l ++ report_total (length (rows ++ rest)))
-    (sym (append_assoc (report_head until) (flat_map (report_line latest) rows)
-    (flat_map (report_line latest) rest)))
-    ∙ append_assoc (report_begun latest until rows) (flat_map (report_line latest) rest)
+    (sym (append_assoc (report_head until) (flat_map (report_line latest until) rows)
+    (flat_map (report_line latest until) rest)))
+    ∙ append_assoc (report_begun latest until rows) (flat_map (report_line latest until) rest)
     (report_total (length (rows ++ rest)))

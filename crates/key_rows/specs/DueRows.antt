@@ -1,8 +1,11 @@
 -- The rows of the keys that are due for rotation, and their order.
-use Rattle.std.specs.Prelude.{◌≡◌, ◌⊎◌, ◌==◌, ◌&&◌, ◌<◌, ℕ, Bool, true, List, [], ◌∷◌, Contains, unwrap_or}
+use Rattle.std.specs.Prelude.{◌≡◌, ◌⊎◌, ◌==◌, ◌&&◌, ◌||◌, ◌<◌, ℕ, Bool, true, List, [], ◌∷◌, Contains, unwrap_or}
 use Rattle.std.specs.List.{AllByRecursion}
 use Rattle.lifecycle_core.specs.declared.state.State.TheVariants.{Active}
 use Rattle.lifecycle_core.specs.State.{is_reached_at, state_code}
+use Rattle.period_core.specs.declared.key_type.KeyType.{KeyType}
+use Rattle.period_core.specs.Fitting.{is_long}
+use Rattle.period_core.specs.Period.{Period}
 use Rattle.key_rows.specs.declared.key_row.KeyRow.{KeyRow}
 
 -- the key is Active, and its Protect Stop Date is reached at this moment (SP 800-57 Part 1: a key
@@ -28,11 +31,25 @@ AreInOrder (r ∷ rows) = AllByRecursion (IsBefore r) rows × AreInOrder rows
 abbrev pub IsBehind : List KeyRow → KeyRow → Type 0
 IsBehind rows r = AllByRecursion (λ x. IsBefore x r) rows
 
--- these are the rows of all of them that are due, in order
-pub record AreDue (all : List KeyRow) (until : ℕ) (rows : List KeyRow) : Type 0 where
+-- these are the rows of all of them for which this holds, in order
+pub record AreThose (holds : KeyRow → Bool) (all rows : List KeyRow) : Type 0 where
   pub in_order : AreInOrder rows
-  pub each : (r : KeyRow) → Contains rows r → Contains all r × (is_due until r ≡ true)
-  pub every : (r : KeyRow) → Contains all r → is_due until r ≡ true → Contains rows r
+  pub each : (r : KeyRow) → Contains rows r → Contains all r × (holds r ≡ true)
+  pub every : (r : KeyRow) → Contains all r → holds r ≡ true → Contains rows r
+
+-- these are the rows of all of them that are due, in order
+abbrev pub AreDue : List KeyRow → ℕ → List KeyRow → Type 0
+AreDue all until rows = AreThose (is_due until) all rows
+
+-- the key is Active, and is due up to this moment or is used for longer than the period of its type
+abbrev pub is_listed : ℕ → (KeyType → Period) → KeyRow → Bool
+is_listed until periods r =
+    (state_code r.row.state == state_code Active)
+    && (is_reached_at r.row.dates.protect_stop until || is_long (periods r.kind) r.row.dates)
+
+-- these are the rows of all of them that are to be listed, in order
+abbrev pub AreListed : List KeyRow → ℕ → (KeyType → Period) → List KeyRow → Type 0
+AreListed all until periods rows = AreThose (is_listed until periods) all rows
 
 -- these are the first of them: all others come behind
 pub record AreFirstDue (all : List KeyRow) (until : ℕ) (rows : List KeyRow) : Type 0 where

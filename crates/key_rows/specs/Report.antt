@@ -26,15 +26,18 @@ left places text = text ++ spaces (places - length text)
 unfoldable pub report_head : ℕ → List ℕ
 report_head until = codes "Keys due for rotation by " ++ moment_text until ++ codes "\n"
 
--- a key is overdue where its Protect Stop Date is reached at the latest moment
-abbrev pub mark : ℕ → KeyRow → List ℕ
-mark latest r =
-    if is_reached_at r.row.dates.protect_stop latest then codes "overdue" else codes "due"
+-- A key is overdue where its Protect Stop Date is reached at the latest moment, due where it is up to the horizon, and
+-- past that it is listed since it is long.
+abbrev pub mark : ℕ → ℕ → KeyRow → List ℕ
+mark latest until r =
+    if is_reached_at r.row.dates.protect_stop latest then codes "overdue"
+    else if is_reached_at r.row.dates.protect_stop until then codes "due"
+    else codes "long"
 
-unfoldable pub report_line : ℕ → KeyRow → List ℕ
-report_line latest r =
+unfoldable pub report_line : ℕ → ℕ → KeyRow → List ℕ
+report_line latest until r =
     right 7 (decimal r.number) ++ codes "  " ++ date_text r.row.dates.protect_stop ++ codes "  "
-    ++ left 7 (mark latest r) ++ codes "  " ++ left 22 (key_type_text r.kind) ++ codes "  "
+    ++ left 7 (mark latest until r) ++ codes "  " ++ left 22 (key_type_text r.kind) ++ codes "  "
     ++ r.owner ++ codes "  " ++ r.purpose ++ codes "\n"
 
 unfoldable pub report_total : ℕ → List ℕ
@@ -42,8 +45,8 @@ report_total count = codes "total " ++ decimal count ++ codes "\n"
 
 -- a report without its last line: the first, and those of these keys
 abbrev pub report_begun : ℕ → ℕ → List KeyRow → List ℕ
-report_begun latest until rows = report_head until ++ flat_map (report_line latest) rows
+report_begun latest until rows = report_head until ++ flat_map (report_line latest until) rows
 
--- the report on these keys, which are due by then
+-- the report on these keys, which are due by then or long
 abbrev pub report_text : ℕ → ℕ → List KeyRow → List ℕ
 report_text latest until rows = report_begun latest until rows ++ report_total (length rows)

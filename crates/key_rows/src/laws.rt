@@ -1,13 +1,13 @@
-//! Laws about the rows that are due for rotation. Each function does nothing: its contract is the
+//! Laws about the rows that are due for rotation, or listed beside these. Each function does nothing: its contract is the
 //! law.
-ghost use Rattle.std.specs.Prelude.{◌≡◌, ℕ, List, ◌++◌};
+ghost use Rattle.std.specs.Prelude.{◌≡◌, ℕ, Bool, List, ◌++◌};
 ghost use Rattle.key_rows.specs.declared.key_row.KeyRow.{KeyRow};
-ghost use Rattle.key_rows.specs.DueRows.{AreDue, AreFirstDue, HaveOwnNumbers};
+ghost use Rattle.key_rows.specs.DueRows.{AreDue, AreFirstDue, AreThose, HaveOwnNumbers};
 
-/// The rows that are due are one list only.
-pub fn due_rows_are_one_list()
-    ensures { (all : List KeyRow) (until : ℕ) (rows others : List KeyRow) →
-        AreDue all until rows → AreDue all until others → rows ≡ others }
+/// The rows for which something holds, in their order, are one list only.
+pub fn those_rows_are_one_list()
+    ensures { (holds : KeyRow → Bool) (all rows others : List KeyRow) →
+        AreThose holds all rows → AreThose holds all others → rows ≡ others }
 {}
 
 /// The first of the rows that are due begin their list.
@@ -17,8 +17,8 @@ pub fn first_rows_begin_the_due_rows()
         (rest : List KeyRow) × (rows ≡ first ++ rest) }
 {}
 
-/// Of rows with a number each there is a list of those that are due.
-pub fn due_rows_are_a_list()
-    ensures { (all : List KeyRow) (until : ℕ) → HaveOwnNumbers all →
-        (rows : List KeyRow) × AreDue all until rows }
+/// Of rows with a number each there is a list of those for which something holds.
+pub fn those_rows_are_a_list()
+    ensures { (holds : KeyRow → Bool) (all : List KeyRow) → HaveOwnNumbers all →
+        (rows : List KeyRow) × AreThose holds all rows }
 {}

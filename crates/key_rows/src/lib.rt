@@ -4,7 +4,7 @@
 //! ```
 //! let until = horizon(latest, 90);
 //! writer.write_all(report_head(alloc, until)?.as_bytes())?;
-//! writer.write_all(report_line(alloc, latest, &row)?.as_bytes())?;
+//! writer.write_all(report_line(alloc, latest, until, &row)?.as_bytes())?;
 //! writer.write_all(report_total(alloc, 1)?.as_bytes())?;
 //! ```
 #![tactic(auto)]
@@ -17,4 +17,4 @@ mod report;
 
 pub use export::{export_header, export_row};
 pub use key_row::KeyRow;
-pub use report::{horizon, report_head, report_line, report_total};
+pub use report::{horizon, is_listed, last_moment, report_head, report_line, report_total};

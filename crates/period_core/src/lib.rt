@@ -14,9 +14,11 @@ mod filling;
 mod fitting;
 mod key_type;
 pub mod laws;
+mod office;
 mod period;
 
 pub use filling::{DateRefusal, fill, trim};
 pub use fitting::{are_in_order, filled, fits, is_long, is_not_after, trimmed};
 pub use key_type::KeyType;
+pub use office::OfficePeriods;
 pub use period::{MAX_MONTHS, Period, period_of};

@@ -25,6 +25,8 @@ pub mod Dating
 pub mod Showing
 pub mod DateSteps
 pub mod DateLaws
+pub mod UnsetPeriods
+pub mod DateRanges
 pub mod PathSteps
 pub mod PathLaws
 pub mod CustodyLaws

@@ -1,21 +1,21 @@
 //! Laws about this crate's definitions. Each function does nothing: its contract is the law.
 ghost use Rattle.std.specs.Prelude.{◌≡◌, ◌<◌, ◌≤◌, ◌++◌, ℕ, List, [], ◌∷◌, length, true, false};
-ghost use Rattle.std.specs.Prelude.{Option, Some, is_some, IsSome, IsTrue};
+ghost use Rattle.std.specs.Prelude.{Option, None, Some, is_some, IsSome, IsTrue};
 ghost use Rattle.std.specs.List.{AllByRecursion};
 ghost use Rattle.lifecycle_core.specs.State.{state_at};
 ghost use Rattle.lifecycle_core.specs.Transition.{Leads};
-ghost use Rattle.period_core.specs.Fitting.{Fits, is_not_after};
+ghost use Rattle.period_core.specs.Fitting.{Fits, is_long, is_not_after};
 ghost use Rattle.register_core.specs.declared.request.Request.{Request};
 ghost use Rattle.register_core.specs.declared.request.Command.{Command};
 ghost use Rattle.register_core.specs.declared.reply.Refusal.TheVariants.{RequestReused};
 ghost use Rattle.register_core.specs.Fold.{IsLawful, history};
-ghost use Rattle.register_core.specs.History.{latest, count, type, dates, dated_by, owner};
+ghost use Rattle.register_core.specs.History.{latest, count, type, dates, dated_by, owner, period, set_period};
 ghost use Rattle.register_core.specs.Laws.{IsAccepted, HasKey, MovesOnly, AreDifferent};
 ghost use Rattle.register_core.specs.KeptReply.{kept, reply};
 ghost use Rattle.register_core.specs.Laws.{IsKeptIn, sent_under, state_of_key};
 ghost use Rattle.register_core.specs.Name.{is_among};
 ghost use Rattle.register_core.specs.Custody.{custodians, approvals};
-ghost use Rattle.register_core.specs.Request.{IsLineOf};
+ghost use Rattle.register_core.specs.Request.{IsDate, IsLineOf};
 ghost use Rattle.register_core.specs.Verdict.{max_keys, verdict, Repeats, Refuses};
 ghost use Rattle.register_core.specs.Verdict.{is_same_command};
 ghost use Rattle.register_core.specs.Version.{max_custodians};
@@ -62,6 +62,17 @@ pub fn kept_replies_are_in_range()
 pub fn dates_fit()
     ensures { (h : List Request) (q : Request) → IsAccepted h q → (k : ℕ) → HasKey (h ++ q ∷ []) k →
         Fits (dated_by (h ++ q ∷ []) k) (dates (h ++ q ∷ []) k) }
+{}
+
+/// Where the office set no period of a key's type, the key is not used for longer than the period allows.
+pub fn no_key_is_long_by_its_type()
+    ensures { (h : List Request) → IsLawful h → (k : ℕ) → HasKey h k → set_period h (type h k) ≡ None
+        → is_long (period h (type h k)) (dates h k) ≡ false }
+{}
+
+/// A Protect Stop Date of a key is a moment.
+pub fn protect_stop_is_a_moment()
+    ensures { (h : List Request) → IsLawful h → (k : ℕ) → IsDate (dates h k).protect_stop }
 {}
 
 /// Each request that is accepted takes each key along the standard's transitions, from the state

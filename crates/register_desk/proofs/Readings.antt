@@ -1,5 +1,5 @@
 -- Calls of a desk that only read, and calls that do nothing.
-use Rattle.std.proofs.Common.{◌≡◌, ℕ, ◌≢◌, List, Result, Ok, Err, inl, inr, refl, sym, subst, ◌∙◌}
+use Rattle.std.proofs.Common.{◌≡◌, ℕ, ◌≢◌, List, Result, Ok, Err, IfOk, inl, inr, refl, sym, subst, ◌∙◌}
 use Rattle.sqlite_trees.specs.declared.store.Store as store
 use Rattle.sqlite.specs.State.{State, HasCleanDisk, IsUnchanged, Survives}
 use Rattle.register_store.specs.declared.counted.Counted.{Counted}
@@ -177,6 +177,12 @@ module _ {S : Type 0} (g : store.Ghosts S) where
 
     unchanged_in : IsUnchanged (seen g old.connection) (seen g after)
     unchanged_in = found_so.1
+
+  pub found_by : {T : Type 0} (Found : Tables → T → Type 0) (old : Desk S g) (after : Counted S g)
+      (r : Result T StoreError) → IsWhole old → ReadsBy Found (seen g old.connection) (seen g after) r
+      → (t : Tables) → Sees g t old → HasCleanDisk (seen g after) → IfOk r (Found t)
+  found_by Found old after (Ok value) whole reads t sees clean = found_in Found old after value whole reads t sees clean
+  found_by Found old after (Err error) whole reads t sees clean = tt
 
   pub read_well : {T : Type 0} (Found : Tables → T → Type 0) (old new : Desk S g) (after : Counted S g) (value : T)
       → IsWhole old → ReadsBy Found (seen g old.connection) (seen g after) (Ok value)

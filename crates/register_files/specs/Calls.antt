@@ -5,12 +5,12 @@ use Rattle.sqlite_trees.specs.declared.store.Store.{Ghosts}
 use Rattle.sqlite_trees.specs.View.{IsClean as IsCleanStore}
 use Rattle.sqlite.specs.Recovery.{Image}
 use Rattle.key_rows.specs.declared.key_row.KeyRow.{KeyRow}
-use Rattle.key_rows.specs.DueRows.{AreDue}
+use Rattle.key_rows.specs.DueRows.{AreListed}
 use Rattle.key_rows.specs.Export.{export_text}
 use Rattle.key_rows.specs.Report.{horizon, report_text}
 use Rattle.register_core.specs.declared.request.Request.{Request}
 use Rattle.register_core.specs.Fold.{IsLawful}
-use Rattle.register_core.specs.History.{latest}
+use Rattle.register_core.specs.History.{latest, period}
 use Rattle.register_desk.specs.Files.{HoldsRegister}
 use Rattle.register_desk.specs.Input.{HasItems}
 use Rattle.register_desk.specs.Rows.{all_rows}
@@ -80,10 +80,10 @@ module _ {S : Type 0} (g : Ghosts S) (may_leave : S → Image → Type 0) (found
   -- for this number of days
   pub record Reports (days : ℕ) (old new : Option (List ℕ)) (result : Result (Life S) (Refused S)) : Type 0 where
     -- Where the files held the register of a history, its report is written, and they hold it still.
-    pub lives : (h : List Request) (due : List KeyRow)
-        → IsLawful h → HoldsRegister h found → AreDue (all_rows h) (horizon (latest h) days) due
+    pub lives : (h : List Request) (rows : List KeyRow)
+        → IsLawful h → HoldsRegister h found → AreListed (all_rows h) (horizon (latest h) days) (period h) rows
         → OnLife result (λ life.
-        WritesOut h (report_text (latest h) (horizon (latest h) days) due) life.outcome old new (may_leave life.store))
+        WritesOut h (report_text (latest h) (horizon (latest h) days) rows) life.outcome old new (may_leave life.store))
     pub refuses : OnRefusal result
 
   -- of so many exchanges at most

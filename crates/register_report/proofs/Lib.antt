@@ -9,3 +9,4 @@ pub mod TextLemmas
 pub mod RowsWritten
 pub mod TableWritten
 pub mod WholeTable
+pub mod ListedRows

@@ -1,7 +1,8 @@
 -- The rows of which the lines were written so far.
-use Rattle.std.proofs.Common.{◌≡◌, ◌≢◌, ◌+◌, ℕ, List, [], ◌∷◌, ◌++◌, length}
+use Rattle.std.proofs.Common.{◌≡◌, ◌≢◌, ◌+◌, ◌≤◌, ℕ, Bool, true, false, cond, List, [], ◌∷◌, ◌++◌, length, filter}
+use Rattle.std.specs.Prelude.{if◌then◌else◌}
 use Rattle.std.proofs.Common.{Option, Some, None, Result, Ok, Err, OnOk, refl, sym, ap, subst}
-use Rattle.std.proofs.Common.{◌∙◌, append_assoc, length-append, arith}
+use Rattle.std.proofs.Common.{◌∙◌, append_assoc, arith}
 use Rattle.std.proofs.lemmas.List.{append-nil}
 use Rattle.std.specs.Prelude.{IsErrAnd}
 use Rattle.sqlite_trees.specs.declared.store.Store.{Ghosts}
@@ -17,24 +18,46 @@ use Rattle.register_desk.specs.Register.{StandsFor}
 use Rattle.register_desk.specs.Rows.{AreAll, AreSoFar, GiveNext, HaveGiven, all_rows, until_of}
 use Rattle.register_desk.proofs.Readings.{nothing_done, nothing_then, stands_still}
 use Rattle.register_report.specs.declared.table.Table.{Table}
-use Rattle.register_report.specs.Table.{line_text, lines_text}
+use Rattle.register_report.specs.Table.{count_in, lines_text, lists, row_text}
 use Rattle.register_report.specs.Writing.{Puts, PutsRows, PutsText}
-use Rattle.register_report.proofs.TextLemmas.{front_whole, no_fault, puts_nothing, text_failed, text_same, text_then}
+use Rattle.register_report.proofs.TextLemmas.{front_whole, no_fault, puts_nothing, puts_well, text_failed, text_same, text_then}
 
--- the lines of one row more
+-- the lines of one row more, and their number
 one_line : (table : Table) (given : List KeyRow) (row : KeyRow)
-    → lines_text table (given ++ row ∷ []) ≡ lines_text table given ++ line_text table row
-one_line table [] row = append-nil (line_text table row)
+    → lines_text table (given ++ row ∷ []) ≡ lines_text table given ++ row_text table row
+one_line table [] row = append-nil (row_text table row)
 one_line table (r ∷ given) row =
-    ap (λ text. line_text table r ++ text) (one_line table given row)
-    ∙ sym (append_assoc (line_text table r) (lines_text table given) (line_text table row))
+    ap (λ text. row_text table r ++ text) (one_line table given row)
+    ∙ sym (append_assoc (row_text table r) (lines_text table given) (row_text table row))
+
+abbrev pub one_if : Bool → ℕ
+one_if listed = if listed then 1 else 0
+
+pub at_most_one : (listed : Bool) → one_if listed ≤ 1
+at_most_one true = omega arith
+at_most_one false = omega arith
+
+count_more : (table : Table) (given : List KeyRow) (row : KeyRow)
+    → count_in table (given ++ row ∷ []) ≡ count_in table given + one_if (lists table row)
+count_more table [] row = by (lists table row)
+  where
+    by : (b : Bool) → length (cond b (row ∷ []) []) ≡ 0 + one_if b
+    by true = refl
+    by false = refl
+count_more table (r ∷ given) row = by (lists table r) (count_more table given row)
+  where
+    by : (b : Bool) → count_in table (given ++ row ∷ []) ≡ count_in table given + one_if (lists table row)
+        → length (cond b (r ∷ filter (lists table) (given ++ row ∷ [])) (filter (lists table) (given ++ row ∷ [])))
+        ≡ length (cond b (r ∷ filter (lists table) given) (filter (lists table) given)) + one_if (lists table row)
+    by true rest = omega (arith, rest)
+    by false rest = rest
 
 module _ {W S : Type 0} (contents : W → Option (List ℕ)) (g : Ghosts S) (table : Table) where
   pub record SoFar (old now : Watched W) (before after : ℕ) (start rows : KeyRows S g)
       (count : ℕ) : Type 0 where
     pub given : List KeyRow
     pub puts : Puts {T = Unit {0}} contents old now before after (lines_text table given) (Ok tt)
-    pub counted : count ≡ length given
+    pub counted : count ≡ count_in table given
     pub reads : ChangesNothing g start.desk.now rows.desk.now
     pub mark : rows.desk.now.is_broken ≡ start.desk.now.is_broken
     pub until : until_of rows ≡ until_of start
@@ -108,24 +131,25 @@ module _ {W S : Type 0} {contents : W → Option (List ℕ)} {g : Ghosts S} {tab
   module _ {row : KeyRow} {next : KeyRows S g} (it : Next rows next (Some row)) {new : Watched W}
       {later : ℕ} where
     -- what was written with the next line, or with a part of it
-    with_line : {r : Result (Unit {0}) End}
-        → PutsText contents now new after later (line_text table row) r
+    with_line : {T : Type 0} {r : Result T End}
+        → PutsText contents now new after later (row_text table row) r
         → PutsText contents old new before later (lines_text table (so.given ++ row ∷ [])) r
-    with_line {r} line =
+    with_line {T} {r} line =
         text_same (sym (one_line table so.given row))
         (text_then (text_as {T = Unit {0}} (Ok tt) (no_fault (tt {0}))) line)
 
     -- one line more
-    pub one_more : PutsText {T = Unit {0}} contents now new after later (line_text table row)
-        (Ok tt) → SoFar contents g table old new before later start next (count + 1)
-    one_more line =
+    pub one_more : (more : ℕ) → more ≡ count + one_if (lists table row)
+        → {listed : Bool} → PutsText {T = Bool} contents now new after later (row_text table row) (Ok listed)
+        → SoFar contents g table old new before later start next more
+    one_more more is {listed} line =
         let both = with_line line in
         record {
           given = so.given ++ row ∷ [];
           puts =
               subst (λ bytes. Puts {T = Unit {0}} contents old new before later bytes (Ok tt))
-              both.whole both.puts;
-          counted = let more = length-append so.given (row ∷ []) in omega (arith, so.counted, more);
+              both.whole (puts_well (tt {0}) both.puts);
+          counted = let grown = count_more table so.given row in omega (arith, is, so.counted, grown);
           reads = still it.reads;
           mark = it.mark ∙ so.mark;
           until = it.until ∙ so.until;
@@ -133,8 +157,8 @@ module _ {W S : Type 0} {contents : W → Option (List ℕ)} {g : Ghosts S} {tab
         }
 
     -- a part of the next line
-    pub part_of_line : {e : End} → PutsText {T = Unit {0}} contents now new after later
-        (line_text table row) (Err e) → PutsRows contents g old new before later start next table
+    pub part_of_line : {e : End} → PutsText {T = Bool} contents now new after later
+        (row_text table row) (Err e) → PutsRows contents g old new before later start next table
         (Err e)
     part_of_line {e} line = record {
       given = so.given ++ row ∷ [];

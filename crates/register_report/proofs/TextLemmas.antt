@@ -66,6 +66,17 @@ module _ {W : Type 0} {contents : W → Option (List ℕ)} {a b : Watched W} {i 
     bounded = puts.bounded;
   }
 
+  -- what a call put that went well, whatever it gave
+  pub puts_well : {T U : Type 0} {bytes : List ℕ} {x : T} (y : U)
+      → Puts {T = T} contents a b i j bytes (Ok x) → Puts {T = U} contents a b i j bytes (Ok y)
+  puts_well {T} {U} {bytes} {x} y puts = record {
+    written = puts.written;
+    counted = puts.counted;
+    flushed = λ other before. puts.flushed (no_fault x) before;
+    fault = λ is. absurd (no_fault y is);
+    bounded = puts.bounded;
+  }
+
   pub text_failed : {T U : Type 0} {text : List ℕ} {e : End}
       → PutsText {T = T} contents a b i j text (Err e)
       → PutsText {T = U} contents a b i j text (Err e)

@@ -8,24 +8,24 @@ use Rattle.std.specs.Prelude.{IsErrAnd}
 use Rattle.sqlite_trees.specs.declared.store.Store.{Ghosts}
 use Rattle.streams.specs.declared.watched.Watched.{Watched}
 use Rattle.key_rows.specs.declared.key_row.KeyRow.{KeyRow}
-use Rattle.key_rows.specs.Export.{export_text}
-use Rattle.key_rows.specs.Report.{report_text}
+use Rattle.key_rows.specs.DueRows.{is_due}
 use Rattle.key_rows.proofs.DueRows.{first_begin, one_list}
 use Rattle.register_core.specs.declared.request.Request.{Request}
 use Rattle.register_desk.specs.declared.desk.Desk.{Desk}
 use Rattle.register_desk.specs.declared.end.End.{End}
-use Rattle.register_desk.specs.declared.end.End.TheVariants.{Broken, WriteFault}
+use Rattle.register_desk.specs.declared.end.End.TheVariants.{WriteFault}
 use Rattle.register_desk.specs.declared.rows.KeyRows.{KeyRows}
 use Rattle.register_desk.specs.declared.runs.Finish.{Finish}
-use Rattle.register_desk.specs.Leaving.{IsClean, IsWhole}
+use Rattle.register_desk.specs.Leaving.{ChangesNothing, IsClean, IsWhole}
 use Rattle.register_desk.specs.Register.{StandsFor}
 use Rattle.register_desk.specs.Rows.{AreAll, HaveGiven, all_rows, until_of}
 use Rattle.register_desk.specs.Run.{IsFrontOf}
 use Rattle.register_report.specs.declared.table.Table.{Table}
-use Rattle.register_report.specs.declared.table.Table.TheVariants.{Export, Report}
-use Rattle.register_report.specs.Table.{foot_text, head_text, line_text, lines_text, table_text}
-use Rattle.register_report.specs.Writing.{AreUpTo, Puts, PutsAll, PutsTable, WritesText, finish_of}
-use Rattle.register_report.specs.Writing.{text_up_to, until_in}
+use Rattle.register_report.specs.declared.table.Table.TheVariants.{Export}
+use Rattle.register_report.specs.Table.{count_in, foot_text, head_text, lines_text, row_text, table_text}
+use Rattle.register_report.specs.Writing.{AreUpTo, IsExport, Puts, PutsAll, PutsTable, TextOf, WritesText, finish_of}
+use Rattle.register_report.specs.Writing.{text_up_to}
+use Rattle.register_desk.proofs.Readings.{stands_still}
 use Rattle.register_report.proofs.TextLemmas.{front_of_first, puts_nothing}
 
 -- ---- rows
@@ -57,7 +57,7 @@ begins false (Some until) all given rows first whole =
     record { rest = it.0; is = it.1; same = λ is. absurd cc }
 begins true None all given rows first whole = begins_whole given rows (first ∙ sym whole)
 begins true (Some until) all given rows first whole =
-    begins_whole given rows (one_list all until given rows first whole)
+    begins_whole given rows (one_list (is_due until) all given rows first whole)
 
 -- ---- texts
 
@@ -65,14 +65,14 @@ lines_then : (table : Table) (given rest : List KeyRow)
     → lines_text table (given ++ rest) ≡ lines_text table given ++ lines_text table rest
 lines_then table [] rest = refl
 lines_then table (r ∷ given) rest =
-    ap (λ text. line_text table r ++ text) (lines_then table given rest)
-    ∙ sym (append_assoc (line_text table r) (lines_text table given) (lines_text table rest))
+    ap (λ text. row_text table r ++ text) (lines_then table given rest)
+    ∙ sym (append_assoc (row_text table r) (lines_text table given) (lines_text table rest))
 
 text_then : (table : Table) (given rest : List KeyRow)
     → table_text table (given ++ rest) ≡ (head_text table ++ lines_text table given)
-    ++ (lines_text table rest ++ foot_text table (length (given ++ rest)))
+    ++ (lines_text table rest ++ foot_text table (count_in table (given ++ rest)))
 text_then table given rest =
-    let foot = foot_text table (length (given ++ rest)) in
+    let foot = foot_text table (count_in table (given ++ rest)) in
     ap (λ lines. head_text table ++ (lines ++ foot)) (lines_then table given rest)
     ∙ ap (λ text. head_text table ++ text)
     (append_assoc (lines_text table given) (lines_text table rest) foot)
@@ -86,7 +86,7 @@ front_so true table given rows bytes it front =
 front_so false table given rows bytes it front =
     subst (IsFrontOf bytes) (sym (ap (table_text table) it.is ∙ text_then table given it.rest))
     (front_of_first bytes (head_text table ++ lines_text table given)
-    (lines_text table it.rest ++ foot_text table (length (given ++ it.rest))) front)
+    (lines_text table it.rest ++ foot_text table (count_in table (given ++ it.rest))) front)
 
 whole_so : (is_all : Bool) (table : Table) (given rows : List KeyRow) (bytes : List ℕ)
     → (r : Result (Unit {0}) End) → Begins is_all given rows → OnOk r (is_all ≡ true)
@@ -98,56 +98,55 @@ whole_so is_all table given rows bytes (Ok x) it all whole =
 -- ---- a whole call
 
 module _ {W S : Type 0} {contents : W → Option (List ℕ)} {g : Ghosts S} {old new : Watched W}
-    {before after : ℕ} {table : Table} where
-  -- the rows were lent the desk
+    {before after : ℕ} {table : Table} {Text : TextOf} where
+  -- The rows were lent the desk, of which nothing had been changed, and the text is that of the table of all the rows.
   pub puts_all : (desk_old desk_new : Desk S g) {start next : KeyRows S g}
       → {r : Result (Unit {0}) End}
-      → PutsTable contents g old new before after start next table r → start.desk.now ≡ desk_old
-      → next.desk.now ≡ desk_new → until_of start ≡ until_in table
+      → PutsTable contents g old new before after start next table r
+      → ChangesNothing g desk_old start.desk.now → start.desk.now.is_broken ≡ desk_old.is_broken
+      → ChangesNothing g start.desk.now next.desk.now → next.desk.now ≡ desk_new
       → ((all : List KeyRow) → HaveGiven start all [])
-      → PutsAll contents g old new before after desk_old desk_new table r
-  puts_all desk_old desk_new {start} {next} {r} it lent back until none = record {
+      → ((h : List Request) (text : List ℕ) → StandsFor g desk_old h → IsWhole desk_old → IsClean g start.desk.now
+      → Text h text → (rows : List KeyRow) × AreAll (until_of start) (all_rows h) rows × (table_text table rows ≡ text))
+      → PutsAll contents g old new before after desk_old desk_new Text r
+  puts_all desk_old desk_new {start} {next} {r} it nothing mark reads back none full = record {
     bytes = it.text.bytes;
     puts = it.text.puts;
-    front = λ h rows stands whole clean all.
-        let first = so h rows stands whole clean all in
-        front_so it.is_all table it.given rows it.text.bytes first it.text.front;
-    whole = λ h rows stands whole clean all.
-        let first = so h rows stands whole clean all in
-        whole_so it.is_all table it.given rows it.text.bytes r first it.whole it.text.whole;
+    front = λ h text stands whole clean is.
+        let all = so h text stands whole clean is in
+        subst (IsFrontOf it.text.bytes) all.2
+        (front_so it.is_all table it.given all.0 it.text.bytes all.1 it.text.front);
+    whole = λ h text stands whole clean is.
+        let all = so h text stands whole clean is in
+        subst (λ t. OnOk r (it.text.bytes ≡ t)) all.2
+        (whole_so it.is_all table it.given all.0 it.text.bytes r all.1 it.whole it.text.whole);
   }
     where
-      so : (h : List Request) (rows : List KeyRow) → StandsFor g desk_old h → IsWhole desk_old
-          → IsClean g desk_new → AreAll (until_in table) (all_rows h) rows
-          → Begins it.is_all it.given rows
-      so h rows stands whole clean all =
-          let stands_lent = subst (λ (d : Desk S g). StandsFor g d h) (sym lent) stands in
-          let whole_lent = subst (λ (d : Desk S g). IsWhole d) (sym lent) whole in
-          let clean_back = subst (λ (d : Desk S g). IsClean g d) (sym back) clean in
-          let first = it.are h stands_lent whole_lent clean_back none in
-          let up_to = subst (λ u. AreUpTo it.is_all u (all_rows h) it.given) until first in
-          begins it.is_all (until_in table) (all_rows h) it.given rows up_to all
+      so : (h : List Request) (text : List ℕ) → StandsFor g desk_old h → IsWhole desk_old
+          → IsClean g desk_new → Text h text
+          → (rows : List KeyRow) × Begins it.is_all it.given rows × (table_text table rows ≡ text)
+      so h text stands whole clean is =
+          let clean_next = subst (λ (d : Desk S g). IsClean g d) (sym back) clean in
+          let stands_lent = stands_still g desk_old start.desk.now nothing h stands in
+          let first = it.are h stands_lent (mark ∙ whole) clean_next none in
+          let all = full h text stands whole (reads.clean clean_next) is in
+          (all.0, begins it.is_all (until_of start) (all_rows h) it.given all.0 first all.1, all.2)
 
--- the desk lent no rows
+-- no rows were lent
 pub puts_none : {W S : Type 0} {contents : W → Option (List ℕ)} {g : Ghosts S} {writer : Watched W}
-    → {count : ℕ} {desk_old desk_new : Desk S g} {table : Table} (r : Result (Unit {0}) End)
-    → {e : End}
-    → e ≡ Broken → IsErrAnd r (λ x. x ≡ e)
-    → PutsAll contents g writer writer count count desk_old desk_new table r
-puts_none (Ok x) broken failed = absurd failed
-puts_none {contents = contents} {writer = writer} {count = count} {table = table} (Err e) broken
-    is = record {
-      bytes = [];
-      puts = puts_nothing contents writer count (Err e) other;
-      front = λ h rows stands whole clean all. (table_text table rows, refl);
-      whole = λ h rows stands whole clean all. tt;
-    }
+    → {count : ℕ} {desk_old desk_new : Desk S g} {Text : TextOf} (r : Result (Unit {0}) End)
+    → {e : End} → e ≢ WriteFault → IsErrAnd r (λ x. x ≡ e)
+    → PutsAll contents g writer writer count count desk_old desk_new Text r
+puts_none (Ok x) other failed = absurd failed
+puts_none {contents = contents} {writer = writer} {count = count} (Err e) {e = f} other is = record {
+  bytes = [];
+  puts = puts_nothing contents writer count (Err e) no_fault_of;
+  front = λ h text stands whole clean text_is. (text, refl);
+  whole = λ h text stands whole clean text_is. tt;
+}
   where
-    other : ◌≢◌ {A = Result (Unit {0}) End} (Err e) (Err WriteFault)
-    other failed =
-        let same : e ≡ WriteFault = cc in
-        let both = sym (is ∙ broken) ∙ same in
-        cc
+    no_fault_of : ◌≢◌ {A = Result (Unit {0}) End} (Err e) (Err WriteFault)
+    no_fault_of failed = other (let same : e ≡ WriteFault = cc in sym is ∙ same)
 
 -- ---- what is told of it
 
@@ -161,29 +160,27 @@ module _ {W : Type 0} {contents : W → Option (List ℕ)} {old new : Watched W}
   writes_text {text} {bytes} (Err e) puts front whole = (bytes, front, puts.written)
 
 module _ {W S : Type 0} {contents : W → Option (List ℕ)} {g : Ghosts S} {begun new : Watched W}
-    {after : ℕ} {desk_old desk_new : Desk S g} {table : Table} {r : Result (Unit {0}) End} where
+    {after : ℕ} {desk_old desk_new : Desk S g} {Text : TextOf} {r : Result (Unit {0}) End} where
   -- what a call agrees with, whose writer began anew
   pub agrees : {old : W} {end : Finish}
-      → PutsAll contents g begun new 0 after desk_old desk_new table r → begun.inner ≡ old
-      → end ≡ finish_of r → {text : List ℕ} (rows : List KeyRow) → table_text table rows ≡ text
-      → {h : List Request} → StandsFor g desk_old h → IsWhole desk_old → IsClean g desk_new
-      → AreAll (until_in table) (all_rows h) rows
+      → PutsAll contents g begun new 0 after desk_old desk_new Text r → begun.inner ≡ old
+      → end ≡ finish_of r → {h : List Request} (text : List ℕ) → StandsFor g desk_old h → IsWhole desk_old
+      → IsClean g desk_new → Text h text
       → WritesText text end (contents old) (contents new.inner)
-  agrees {old} {end} it inner finish {text} rows is {h} stands whole clean all =
-      let front = subst (IsFrontOf it.bytes) is (it.front h rows stands whole clean all) in
-      let full = subst (λ t. OnOk r (it.bytes ≡ t)) is (it.whole h rows stands whole clean all) in
-      let told = writes_text r it.puts front full in
+  agrees {old} {end} it inner finish {h} text stands whole clean is =
+      let told = writes_text r it.puts (it.front h text stands whole clean is) (it.whole h text stands whole clean is) in
       let ended = subst (λ f. WritesText text f (contents begun.inner) (contents new.inner))
       (sym finish) told in
       subst (λ w. WritesText text end (contents w) (contents new.inner)) inner ended
 
 -- ---- the two texts
 
-pub export_is : (rows : List KeyRow) → table_text Export rows ≡ export_text rows
-export_is rows = ap (λ lines. head_text Export ++ lines) (append-nil (lines_text Export rows))
-
-pub report_is : (latest until : ℕ) (rows : List KeyRow)
-    → table_text (Report latest until) rows ≡ report_text latest until rows
-report_is latest until rows =
-    sym (append_assoc (head_text (Report latest until)) (lines_text (Report latest until) rows)
-    (foot_text (Report latest until) (length rows)))
+-- that of all rows
+pub export_rows : {S : Type 0} {g : Ghosts S} (start : KeyRows S g) → until_of start ≡ None
+    → (h : List Request) (text : List ℕ) → IsExport h text
+    → (rows : List KeyRow) × AreAll (until_of start) (all_rows h) rows × (table_text Export rows ≡ text)
+export_rows start until h text is = (
+  all_rows h,
+  subst (λ u. AreAll u (all_rows h) (all_rows h)) (sym until) refl,
+  ap (λ lines. head_text Export ++ lines) (append-nil (lines_text Export (all_rows h))) ∙ sym is,
+)

@@ -6,7 +6,11 @@ use Rattle.sqlite_trees.specs.declared.store.Store.{Ghosts}
 use Rattle.streams.specs.declared.watched.Watched.{Watched}
 use Rattle.streams.specs.Watched.{IsFaulted}
 use Rattle.key_rows.specs.declared.key_row.KeyRow.{KeyRow}
+use Rattle.key_rows.specs.DueRows.{AreListed}
+use Rattle.key_rows.specs.Export.{export_text}
+use Rattle.key_rows.specs.Report.{horizon, report_text}
 use Rattle.register_core.specs.declared.request.Request.{Request}
+use Rattle.register_core.specs.History.{latest, period}
 use Rattle.register_desk.specs.declared.desk.Desk.{Desk}
 use Rattle.register_desk.specs.declared.end.End.{End}
 use Rattle.register_desk.specs.declared.end.End.TheVariants.{Memory, Store, Broken, ReadFault, WriteFault, BadHeader}
@@ -18,8 +22,7 @@ use Rattle.register_desk.specs.Register.{StandsFor}
 use Rattle.register_desk.specs.Rows.{AreAll, AreSoFar, HaveGiven, all_rows, until_of}
 use Rattle.register_desk.specs.Run.{IsFrontOf, max_idle_turns}
 use Rattle.register_report.specs.declared.table.Table.{Table}
-use Rattle.register_report.specs.declared.table.Table.TheVariants.{Export, Report}
-use Rattle.register_report.specs.Table.{head_text, lines_text, table_text}
+use Rattle.register_report.specs.Table.{count_in, head_text, lines_text, table_text}
 
 -- ---- a writer
 
@@ -63,7 +66,7 @@ pub record PutsRows {W S : Type 0} (contents : W → Option (List ℕ)) (g : Gho
     (result : Result ℕ End) : Type 0 where
   pub given : List KeyRow
   pub text : PutsText contents old new before after (lines_text table given) result
-  pub counted : IfOk result (λ count. count ≡ length given)
+  pub counted : IfOk result (λ count. count ≡ count_in table given)
   pub are : GivesRows g rows_old rows_new (is_ok result) given
 
 -- the text of a table as far as these rows, and of all of it where they are all
@@ -87,24 +90,30 @@ abbrev pub finish_of : Result (Unit {0}) End → Finish
 finish_of (Ok done) = AtEnd 0
 finish_of (Err end) = Ended end
 
--- the moment up to which a report's rows are due; an export has all rows
-abbrev pub until_in : Table → Option ℕ
-until_in Export = None
-until_in (Report latest until) = Some until
+-- which text a call writes of a history
+abbrev pub TextOf : Type 1
+TextOf = List Request → List ℕ → Type 0
 
--- a front of the table of the rows that the desk has was written, and the whole of it where the
--- call went well
+-- the export of its keys
+abbrev pub IsExport : TextOf
+IsExport h text = text ≡ export_text (all_rows h)
+
+-- the report on those of its keys that are due in so many days, or are long
+abbrev pub IsReport : ℕ → TextOf
+IsReport days h text = (rows : List KeyRow) × AreListed (all_rows h) (horizon (latest h) days) (period h) rows
+    × (text ≡ report_text (latest h) (horizon (latest h) days) rows)
+
+-- a front of the text of the history that the desk stands for was written, and the whole of it
+-- where the call went well
 pub record PutsAll {W S : Type 0} (contents : W → Option (List ℕ)) (g : Ghosts S)
-    (old new : Watched W) (before after : ℕ) (desk_old desk_new : Desk S g) (table : Table)
+    (old new : Watched W) (before after : ℕ) (desk_old desk_new : Desk S g) (Text : TextOf)
     (result : Result (Unit {0}) End) : Type 0 where
   pub bytes : List ℕ
   pub puts : Puts contents old new before after bytes result
-  pub front : (h : List Request) (rows : List KeyRow) → StandsFor g desk_old h → IsWhole desk_old
-      → IsClean g desk_new → AreAll (until_in table) (all_rows h) rows
-      → IsFrontOf bytes (table_text table rows)
-  pub whole : (h : List Request) (rows : List KeyRow) → StandsFor g desk_old h → IsWhole desk_old
-      → IsClean g desk_new → AreAll (until_in table) (all_rows h) rows
-      → OnOk result (bytes ≡ table_text table rows)
+  pub front : (h : List Request) (text : List ℕ) → StandsFor g desk_old h → IsWhole desk_old
+      → IsClean g desk_new → Text h text → IsFrontOf bytes text
+  pub whole : (h : List Request) (text : List ℕ) → StandsFor g desk_old h → IsWhole desk_old
+      → IsClean g desk_new → Text h text → OnOk result (bytes ≡ text)
 
 -- the text was written, or a front of it where the call ended before
 abbrev pub WritesText : List ℕ → Finish → Option (List ℕ) → Option (List ℕ) → Type 0

@@ -1,21 +1,21 @@
 //! The export of all keys, and the report on those that are due for rotation.
 ghost use Rattle.std.specs.Prelude.{◌≡◌, false, List, IfErr};
 ghost use Rattle.key_rows.specs.declared.key_row.KeyRow.{KeyRow};
-ghost use Rattle.key_rows.specs.DueRows.{AreDue};
+ghost use Rattle.key_rows.specs.DueRows.{AreListed};
 ghost use Rattle.key_rows.specs.Export.{export_text};
 ghost use Rattle.key_rows.specs.Report.{horizon, report_text};
 ghost use Rattle.register_core.specs.declared.request.Request.{Request};
-ghost use Rattle.register_core.specs.History.{latest};
+ghost use Rattle.register_core.specs.History.{latest, period};
 ghost use Rattle.register_desk.specs.Leaving.{IsClean, IsWhole};
 ghost use Rattle.register_desk.specs.Register.{StandsFor};
 ghost use Rattle.register_desk.specs.Rows.{all_rows};
 ghost use Rattle.register_desk.specs.Run.{LeavesWriter};
-ghost use Rattle.register_report.specs.Writing.{EndsAs, LeavesAlone, PutsAll, WritesText};
+ghost use Rattle.register_report.specs.Writing.{EndsAs, IsExport, IsReport, LeavesAlone, PutsAll, WritesText};
 ghost use Rattle.register_report.specs.Writing.{finish_of};
 
 use crate::table::Table;
 use crate::writing::put_table;
-use key_rows::horizon;
+use key_rows::{horizon, last_moment};
 use moment_core::Moment;
 use register_desk::{Desk, End, Finish, Outcome, Watched};
 use sqlite::Alter;
@@ -46,7 +46,7 @@ fn put_all_keys<W: Write, S: Alter>(
     written: &mut u64,
 ) -> Result<(), End>
     ensures puts { PutsAll W.contents S.Store writer.old writer.new written.old written.new
-        desk.old desk.new Table.Export result }
+        desk.old desk.new IsExport result }
     ensures alone { LeavesAlone S.Store desk.old desk.new (finish_of result) }
     ensures end { EndsAs (finish_of result) }
 {
@@ -54,28 +54,32 @@ fn put_all_keys<W: Write, S: Alter>(
     put_table(alloc, &Table::Export, &mut rows, writer, written)
 }
 
-/// Writes the report on the keys that are due up to a moment.
-fn put_due_keys<W: Write, S: Alter>(
+/// Writes the report on the keys that are due in so many days, or are long. Where the office set no period, no key is
+/// long, and the rows that are due are all; where it set one, the rows go on to the last moment, since a long key may have
+/// any Protect Stop Date.
+fn put_listed_keys<W: Write, S: Alter>(
     alloc: Global,
     desk: &mut Desk<S>,
-    latest: Moment,
-    until: Moment,
+    days: u32,
     writer: &mut Watched<W>,
     written: &mut u64,
 ) -> Result<(), End>
     ensures puts { PutsAll W.contents S.Store writer.old writer.new written.old written.new
-        desk.old desk.new (Table.Report latest until) result }
+        desk.old desk.new (IsReport days) result }
     ensures alone { LeavesAlone S.Store desk.old desk.new (finish_of result) }
     ensures end { EndsAs (finish_of result) }
 {
-    let mut rows = desk.due(until)?;
-    put_table(
-        alloc,
-        &Table::Report(latest, until),
-        &mut rows,
-        writer,
-        written,
-    )
+    let latest = desk.latest();
+    let until = horizon(latest, days);
+    let periods = desk.office_periods()?;
+    let last = if periods.are_none() {
+        until
+    } else {
+        last_moment()
+    };
+    let mut rows = desk.due(last)?;
+    let report = Table::Report(latest, until, periods);
+    put_table(alloc, &report, &mut rows, writer, written)
 }
 
 /// Writes all keys as CSV (RFC 4180), as of the latest accepted moment: the header row
@@ -109,8 +113,10 @@ pub fn export<W: Write, S: Alter>(
 }
 
 /// Writes the report on the keys that are due for rotation in so many days from the latest accepted
-/// moment: the Active keys with a Protect Stop Date up to the horizon, by that date and then by
-/// number, with `overdue` where it is reached. It changes nothing, and holds one row at a time.
+/// moment: the Active keys with a Protect Stop Date up to the horizon, and those that are used for
+/// longer than the period of their type, by that date and then by number, with `overdue` where it
+/// is reached, `due` up to the horizon, and `long` behind it. It changes nothing, and holds one row
+/// at a time.
 ///
 /// # Errors
 /// As of [`export`].
@@ -121,10 +127,10 @@ pub fn rotation<W: Write, S: Alter>(
     writer: &mut Watched<W>,
 ) -> Outcome
     requires { writer.old.failed ≡ false }
-    ensures agrees { (h : List Request) (due : List KeyRow) → StandsFor S.Store desk.old h →
+    ensures agrees { (h : List Request) (rows : List KeyRow) → StandsFor S.Store desk.old h →
         IsWhole desk.old → IsClean S.Store desk.new →
-        AreDue (all_rows h) (horizon (latest h) days) due →
-        WritesText (report_text (latest h) (horizon (latest h) days) due) result.end
+        AreListed (all_rows h) (horizon (latest h) days) (period h) rows →
+        WritesText (report_text (latest h) (horizon (latest h) days) rows) result.end
         (W.contents writer.old.inner) (W.contents writer.new.inner) }
     ensures alone { LeavesAlone S.Store desk.old desk.new result.end }
     ensures writer { LeavesWriter W.contents writer.old writer.new result }
@@ -132,9 +138,7 @@ pub fn rotation<W: Write, S: Alter>(
     ensures uncounted { (result.read ≡ 0) × (result.replies ≡ 0) }
 {
     writer.begin();
-    let latest = desk.latest();
-    let until = horizon(latest, days);
     let mut written: u64 = 0;
-    let done = put_due_keys(alloc, desk, latest, until, writer, &mut written);
+    let done = put_listed_keys(alloc, desk, days, writer, &mut written);
     outcome(written, done)
 }

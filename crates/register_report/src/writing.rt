@@ -2,9 +2,11 @@
 ghost use Rattle.std.specs.Prelude.{◌≡◌, ◌≢◌, Ok, IfOk, IfErr};
 ghost use Rattle.register_desk.specs.Leaving.{ChangesNothing};
 ghost use Rattle.register_desk.specs.Rows.{GoOn};
+ghost use Rattle.register_report.specs.Table.{lists, row_text};
 ghost use Rattle.register_report.specs.Writing.{IsEndOfWriting, PutsRows, PutsTable, PutsText};
 
 use crate::table::Table;
+use key_rows::KeyRow;
 use register_core::MAX_KEYS;
 use register_desk::{End, KeyRows, MAX_IDLE_TURNS, Watched};
 use sqlite::Alter;
@@ -45,7 +47,29 @@ fn put_text<W: Write>(writer: &mut Watched<W>, written: &mut u64, text: &[u8]) -
     }
 }
 
-/// Writes a line for each row that comes, and counts them.
+/// Writes the line of the row, if it has one, and tells whether it has.
+fn put_row<W: Write>(
+    alloc: Global,
+    table: &Table,
+    row: &KeyRow,
+    writer: &mut Watched<W>,
+    written: &mut u64,
+) -> Result<bool, End>
+    ensures puts { PutsText W.contents writer.old writer.new written.old written.new
+        (row_text table.now row.now) result }
+    ensures listed { IfOk result (λ listed. listed ≡ lists table.now row.now) }
+    ensures end { IfErr result IsEndOfWriting }
+    ensures sound { IfErr result (λ end. end ≢ End.Broken) }
+{
+    if !table.lists(row) {
+        return Ok(false);
+    }
+    let line = formed(table.line(alloc, row))?;
+    put_text(writer, written, &line)?;
+    Ok(true)
+}
+
+/// Writes a line for each row that comes and has one, and counts them.
 fn put_rows<W: Write, S: Alter>(
     alloc: Global,
     table: &Table,
@@ -62,19 +86,19 @@ fn put_rows<W: Write, S: Alter>(
     ensures sound { GoOn rows.old → IfErr result (λ end. end ≢ End.Broken) }
 {
     let mut count: u64 = 0;
-    'lines: while count <= u64::from(MAX_KEYS) {
+    'lines: for _ in 0..=MAX_KEYS {
         let Some(row) = rows.next_key()? else {
             return Ok(count);
         };
-        let line = formed(table.line(alloc, &row))?;
-        put_text(writer, written, &line)?;
-        count += 1;
+        if put_row(alloc, table, &row, writer, written)? {
+            count += 1;
+        }
     }
     // No register has as many keys.
     Err(End::Store)
 }
 
-/// Writes the table of the rows that come: its head, a line for each, and its foot.
+/// Writes the table of the rows that come: its head, a line for each that is listed, and its foot.
 pub(crate) fn put_table<W: Write, S: Alter>(
     alloc: Global,
     table: &Table,

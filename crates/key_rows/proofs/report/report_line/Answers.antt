@@ -6,6 +6,6 @@ use Rattle.key_rows.proofs.report.report_line.Goals as goal
 pub returns : goal.returns
 returns c =
     let r = c.args.row.now in
-    let written : IfOk c.format.result (λ line. string_bytes line ≡ formatted c.args.latest r) =
+    let written : IfOk c.format.result (λ line. string_bytes line ≡ formatted c.args.latest c.args.until r) =
     search rules in
-    rw (← line_text c.args.latest r) written
+    rw (← line_text c.args.latest c.args.until r) written

@@ -1,13 +1,13 @@
 use Rattle.std.proofs.Common.{refl, ap}
 use Rattle.streams.specs.declared.watched.Watched.{Watched}
+use Rattle.key_rows.specs.Export.{export_text}
 use Rattle.register_desk.specs.declared.runs.Outcome.{Outcome}
 use Rattle.register_desk.specs.Rows.{all_rows}
-use Rattle.register_report.proofs.WholeTable.{agrees, export_is}
+use Rattle.register_report.proofs.WholeTable.{agrees}
 use Rattle.register_report.proofs.exporting.export.Goals as goal
 
 pub returns-clause-agrees : goal.returns-clause-agrees
 returns-clause-agrees g c h stands whole clean =
     let inner = ap (λ (w : Watched _). w.inner) c.begin.ensures in
     let end = ap (λ (o : Outcome). o.end) c.outcome.ensures in
-    agrees c.put_all_keys-done.ensures.puts inner end (all_rows h) (export_is (all_rows h)) stands
-    whole clean refl
+    agrees c.put_all_keys-done.ensures.puts inner end (export_text (all_rows h)) stands whole clean refl

@@ -1,5 +1,4 @@
-use Rattle.std.proofs.Common.{◌≡◌, ◌≤◌, ◌-◌, ◌+◌}
-use Rattle.register_core.specs.declared.limits.TheConstants.{MAX_KEYS}
+use Rattle.std.proofs.Common.{◌≡◌, ◌≤◌}
 use Rattle.register_desk.specs.Rows.{GoOn}
 use Rattle.register_report.proofs.RowsWritten.{SoFar}
 use Rattle.register_report.proofs.writing.put_rows.Given as goal
@@ -11,8 +10,5 @@ invariant-lines g l = record {
       SoFar g.W.Write.contents g.S.Store l.fn.table l.fn.writer l.writer l.fn.written l.written
       l.fn.rows l.rows l.count;
   going : GoOn l.fn.rows → GoOn l.rows;
-  within : l.count ≤ MAX_KEYS + 1;
+  within : l.count ≤ l.counter;
 }
-
-abbrev pub decreases-lines : goal.decreases-lines
-decreases-lines g l = MAX_KEYS + 1 - l.count

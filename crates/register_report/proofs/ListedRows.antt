@@ -1,0 +1,78 @@
+-- The text of a report is that of the table of the rows which the desk gives.
+use Rattle.std.proofs.Common.{◌≡◌, ◌⊎◌, inl, inr, ℕ, ◌≤◌, Bool, true, false, cond, List, [], ◌∷◌, ◌++◌, length, filter, Option, None, Some, refl, sym, ap, ap₂, subst, ◌∙◌, append_assoc}
+use Rattle.std.specs.Prelude.{flat_map, unwrap_or}
+use Rattle.std.specs.List.{Contains}
+use Rattle.moment_core.specs.Moment.{last_second}
+use Rattle.period_core.specs.declared.key_type.KeyType.{KeyType}
+use Rattle.period_core.specs.declared.office.OfficePeriods.{OfficePeriods}
+use Rattle.period_core.specs.Office.{period_in, set_in}
+use Rattle.period_core.specs.Period.{Period, periods}
+use Rattle.key_rows.specs.declared.key_row.KeyRow.{KeyRow}
+use Rattle.key_rows.specs.DueRows.{AreDue, AreListed, is_due, is_listed}
+use Rattle.key_rows.specs.Report.{report_line, report_text, report_total}
+use Rattle.key_rows.proofs.DueRows.{a_list, fewer, one_list}
+use Rattle.register_core.specs.declared.request.Request.{Request}
+use Rattle.register_core.specs.Fold.{IsLawful}
+use Rattle.register_core.specs.History.{period, set_period}
+use Rattle.register_desk.specs.Rows.{all_rows}
+use Rattle.register_desk.proofs.KeyRowsOf.{listed_if_due, listed_is_due, own_numbers}
+use Rattle.register_report.specs.declared.table.Table.{Table}
+use Rattle.register_report.specs.declared.table.Table.TheVariants.{Report}
+use Rattle.register_report.specs.Table.{head_text, lines_text, lists, row_text, table_text}
+
+same_filter : (p q : KeyRow → Bool) → ((r : KeyRow) → p r ≡ q r) → (rows : List KeyRow) → filter p rows ≡ filter q rows
+same_filter p q same [] = refl
+same_filter p q same (r ∷ rows) =
+    ap (λ (b : Bool). cond b (r ∷ filter p rows) (filter p rows)) (same r)
+    ∙ ap (λ rest. cond (q r) (r ∷ rest) rest) (same_filter p q same rows)
+
+module _ (latest until : ℕ) (set : OfficePeriods) where
+  abbrev table : Table
+  table = Report latest until set
+
+  -- the lines of rows are those of the rows that are listed
+  lines_of : (rows : List KeyRow)
+      → lines_text table rows ≡ flat_map (report_line latest until) (filter (lists table) rows)
+  lines_of [] = refl
+  lines_of (r ∷ rows) = by (lists table r) (lines_of rows)
+    where
+      by : (b : Bool) → lines_text table rows ≡ flat_map (report_line latest until) (filter (lists table) rows)
+          → cond b (report_line latest until r) [] ++ lines_text table rows
+          ≡ flat_map (report_line latest until) (cond b (r ∷ filter (lists table) rows) (filter (lists table) rows))
+      by true rest = ap (λ lines. report_line latest until r ++ lines) rest
+      by false rest = rest
+
+  text_of : (wide rows : List KeyRow) → filter (lists table) wide ≡ rows
+      → table_text table wide ≡ report_text latest until rows
+  text_of wide rows is =
+      ap₂ (λ lines count. head_text table ++ (lines ++ report_total count))
+      (lines_of wide ∙ ap (flat_map (report_line latest until)) is) (ap length is)
+      ∙ sym (append_assoc (head_text table) (flat_map (report_line latest until) rows) (report_total (length rows)))
+
+  module _ (h : List Request) (lawful : IsLawful h) (found : (kind : KeyType) → set_in set kind ≡ set_period h kind) where
+    listed_same : (r : KeyRow) → lists table r ≡ is_listed until (period h) r
+    listed_same r =
+        ap (λ (o : Option Period). is_listed until (λ kind. unwrap_or o (periods r.kind)) r) (found r.kind)
+
+    -- the rows go to the horizon where no period was set, and else to the last moment
+    abbrev pub EndsAt : ℕ → Type 0
+    EndsAt last = (((kind : KeyType) → set_in set kind ≡ None) × (last ≡ until)) ⊎ (last ≡ last_second)
+
+    within : (last : ℕ) → until ≤ last_second → EndsAt last → (r : KeyRow) → Contains (all_rows h) r
+        → is_listed until (period h) r ≡ true → is_due last r ≡ true
+    within last le (inl none) r there listed =
+        subst (λ (m : ℕ). is_due m r ≡ true) (sym none.1)
+        (listed_if_due h lawful until r there (λ kind. sym (found kind) ∙ none.0 kind) listed)
+    within last le (inr end) r there listed =
+        subst (λ (m : ℕ). is_due m r ≡ true) (sym end) (listed_is_due h lawful until r there le listed)
+
+    pub report_rows : (last : ℕ) → until ≤ last_second → EndsAt last → (rows : List KeyRow)
+        → AreListed (all_rows h) until (period h) rows
+        → (wide : List KeyRow) × AreDue (all_rows h) last wide × (table_text table wide ≡ report_text latest until rows)
+    report_rows last le end rows listed =
+        let narrow = is_listed until (period h) in
+        let wide = a_list (is_due last) (all_rows h) (own_numbers h) in
+        let those = fewer (is_due last) narrow (all_rows h) wide.0 wide.1 (within last le end) in
+        let same = same_filter (lists table) narrow listed_same wide.0
+        ∙ one_list narrow (all_rows h) (filter narrow wide.0) rows those listed in
+        (wide.0, wide.1, text_of wide.0 rows same)
