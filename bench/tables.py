@@ -7,7 +7,9 @@ beside Python; an import beside a run of the same registrations.
 *Exports and reports.* A register of so many keys, each with the request that made it, is written by SQLite's own library from
 the formats of docs/SPECIFICATION.md: keys of all types and in all states but Destroyed, most with all their dates. About half
 are Active, and with 30 days about half of these are due, their dates out of the order of numbers, every eighth key with the
-date of the one before it. The same rows are read by
+date of the one before it. The line *report, periods set* is of a second register of the same keys, in which the office has set
+shorter periods of two types at the latest moment, so that the report has long keys too, and goes over all Active keys. The
+same rows are read by
 
     keyreg           the command, by its own searches, each line flushed before the next row is read
     bare             the program below: one SELECT given to the kit's `sqlite`, whose cells it adds up and does not write
@@ -52,6 +54,7 @@ import registers  # noqa: E402
 from measuring import built, measured, measured_behind, table  # noqa: E402
 from opened import opened  # noqa: E402
 from registers import INDEXES, STATES, TABLES, TYPES, UNSET, VERSION, all_rows, expect, keyreg  # noqa: E402
+from rules import PERIODS, is_long  # noqa: E402
 
 # What is read of the keys, by the bare program and by Python.
 SELECTS = {
@@ -60,6 +63,11 @@ SELECTS = {
     "report": "SELECT number, protect_stop, kind, owner, purpose FROM keys WHERE state = 2 AND protect_stop <= ?1 "
     "ORDER BY protect_stop, number",
 }
+# What Python reads of them for a report where periods are set.
+DATED = SELECTS["report"].replace("purpose", "purpose, activation, deactivation")
+
+# The months of originator and of recipient use that the office sets, by type.
+SHORTER = {1: (6, 36), 7: (6, 0)}
 
 HEADER = ("number", "type", "owner", "activation", "protect_stop", "deactivation", "state", "initial", "destroyed",
           "compromised", "occurrence", "purpose")
@@ -137,12 +145,17 @@ def request_rows(keys):
         yield "ann", number, command(kind, owner, *dates, text), number, state, MADE
 
 
-def write_register(file, keys):
+def write_register(file, keys, periods):
+    """A register of so many keys, in which the office then set these periods."""
     connection = sqlite3.connect(file)
     connection.executescript("PRAGMA synchronous = OFF; PRAGMA journal_mode = OFF;" + TABLES)
     connection.execute("INSERT INTO meta VALUES (1, ?, ?, ?)", (VERSION, LATEST, keys))
     connection.executemany(f"INSERT INTO keys VALUES ({', '.join('?' * 12)})", key_rows(keys))
     connection.executemany("INSERT INTO request VALUES (?, ?, ?, ?, ?, ?)", request_rows(keys))
+    for number, (kind, months) in enumerate(periods.items(), 1):
+        text = f"set-period {TYPES[kind]} {months[0]} {months[1]}"
+        connection.execute("INSERT INTO request VALUES ('office', ?, ?, 0, 0, ?)", (number, text, LATEST))
+        connection.execute("INSERT INTO period VALUES (?, ?, ?)", (kind, *months))
     connection.executescript(INDEXES)
     connection.commit()
     connection.close()
@@ -173,13 +186,27 @@ def write_export(connection, written, is_flushed):
             written.flush()
 
 
+def listed_rows(connection, until):
+    """The rows of a report: the keys that are due, and where periods are set the long ones too."""
+    set_periods = {kind: months for kind, *months in connection.execute("SELECT kind, originator, recipient FROM period")}
+    if not set_periods:
+        yield from connection.execute(SELECTS["report"], (until,))
+        return
+    periods = {kind: set_periods.get(kind, PERIODS[text]) for kind, text in TYPES.items()}
+    for *row, activation, deactivation in connection.execute(DATED, (UNSET - 1,)):
+        _, stop, kind, *_ = row
+        dates = (None if date == UNSET else date for date in (activation, stop, deactivation))
+        if stop <= until or is_long(periods[kind], *dates):
+            yield row
+
+
 def write_report(connection, written, is_flushed, days):
     latest, = connection.execute("SELECT latest FROM meta").fetchone()
     until, count = horizon(latest, days), 0
     written.write(f"Keys due for rotation by {date_text(until)}\n")
     written.flush()
-    for number, stop, kind, owner, text in connection.execute(SELECTS["report"], (until,)):
-        mark = "overdue" if stop <= latest else "due"
+    for number, stop, kind, owner, text in listed_rows(connection, until):
+        mark = "overdue" if stop <= latest else "due" if stop <= until else "long"
         written.write(f"{number:>7}  {date_text(stop)}  {mark:<7}  {TYPES[kind]:<22}  {owner}  {text}\n")
         if is_flushed:
             written.flush()
@@ -286,35 +313,35 @@ BY_PYTHON = ("python", "python, flushed", "python, tested")
 BESIDE = ("keyreg", "bare", *BY_PYTHON)
 
 
-def words_of(name, table_name, file, days):
-    """The words that start a program over a file."""
+def words_of(name, table_name, file, days, last):
+    """The words that start a program over a file; the bare one reads the rows of a report up to the last moment."""
     if name == "keyreg":
         horizon_words = ["--days", str(days)] if table_name == "report" else []
         return [registers.PROGRAM, table_name, "--file", file, *horizon_words]
     if name == "bare":
-        until = [str(horizon(LATEST, days))] if table_name == "report" else []
+        until = [str(last)] if table_name == "report" else []
         return [built("bare_tables", BARE_SOURCE), file, *until]
     return [sys.executable, os.path.abspath(__file__), "--python", table_name, name, file, str(days)]
 
 
-def expect_written(written, table_name, file, days):
+def expect_written(written, table_name, file, last):
     """Each program's output is to be what it has to be."""
     for name in BY_PYTHON:
         expect(filecmp.cmp(written["keyreg"], written[name], shallow=False), f"{table_name}: {name} writes other bytes")
     with open(written["bare"], encoding="utf-8") as told:
-        wanted = cell_sum(file, table_name, horizon(LATEST, days))
+        wanted = cell_sum(file, table_name, last)
         expect(told.read() == f"opened\n{wanted}\n", f"{table_name}: bare reads other cells than a sum of {wanted}")
 
 
-def table_rounds(table_name, file, days, rounds):
+def table_rounds(table_name, file, days, last, rounds):
     """What each program used in each round, and how many lines `keyreg` wrote."""
     used = {name: [] for name in BESIDE}
     with tempfile.TemporaryDirectory() as folder:
         for number in range(rounds):
             written = {name: os.path.join(folder, f"{name}_{number}") for name in BESIDE}
             for name in BESIDE:
-                used[name].append(measured_behind(words_of(name, table_name, file, days), written[name]))
-            expect_written(written, table_name, file, days)
+                used[name].append(measured_behind(words_of(name, table_name, file, days, last), written[name]))
+            expect_written(written, table_name, file, last)
         with open(written["keyreg"], "rb") as lines:
             return used, sum(1 for _ in lines)
 
@@ -403,9 +430,11 @@ def import_lines(used):
 def print_tables(keys, days, rounds):
     """The tables of exports, reports and their memory."""
     with tempfile.TemporaryDirectory() as folder:
-        file = os.path.join(folder, "office.keyreg")
-        write_register(file, keys)
-        found = {name: table_rounds(name, file, days, rounds) for name in SELECTS}
+        file, shorter = (os.path.join(folder, f"{name}.keyreg") for name in ("office", "shorter"))
+        write_register(file, keys, {})
+        write_register(shorter, keys, SHORTER)
+        found = {name: table_rounds(name, file, days, horizon(LATEST, days), rounds) for name in SELECTS}
+        found["report, periods set"] = table_rounds("report", shorter, days, UNSET - 1, rounds)
         table(("command", "lines", "program", "whole: processor s", "wall", "behind the opening: processor s", "wall",
                "keyreg / it: whole, processor", "wall", "behind, processor", "wall"), table_lines(found))
         print()

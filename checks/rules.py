@@ -67,6 +67,15 @@ def plus_months(moment, months):
     return calendar.timegm(later.timetuple())
 
 
+def is_long(period, activation, stop, end):
+    """Whether the dates go past one of the limits of this period of the type. A limit past the range limits nothing."""
+    for first, last, months in ((activation, stop, period[0]), (stop, end, period[1])):
+        limit = None if first is None else plus_months(first, months)
+        if last is not None and limit is not None and last > limit:
+            return True
+    return False
+
+
 def with_defaults(period, activation, stop, end, is_trimmed):
     """Fill, or Trim, of the three dates, by this period of the type."""
     originator, recipient = period
