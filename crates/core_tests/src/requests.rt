@@ -286,7 +286,7 @@ fn types_whose_periods_are_needed(rt: HostRuntime) -> Result<(), Fail> {
 #[test]
 fn this_version(rt: HostRuntime) {
     assert_eq!(rt; Version::CURRENT.number(), 2);
-    assert_eq!(rt; Version::CURRENT.max_custodians(), 8);
+    assert_eq!(rt; Version::CURRENT.max_custodians(), 16);
 }
 
 /// Registration lines, and the Protect Stop and the Deactivation that the specification gives their

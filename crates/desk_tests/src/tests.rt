@@ -62,8 +62,26 @@ fn wrong_edits_are_refused(rt: HostRuntime) -> Result<(), Fail> {
 }
 
 #[test]
-fn another_version_is_told(rt: HostRuntime) -> Result<(), Fail> {
-    assert!(rt; desk_trials::is_other_version_told(rt.alloc())?);
+fn a_newer_version_is_told(rt: HostRuntime) -> Result<(), Fail> {
+    assert!(rt; desk_trials::is_newer_version_told(rt.alloc())?);
+    Ok(())
+}
+
+#[test]
+fn the_first_version_is_taken_on(rt: HostRuntime) -> Result<(), Fail> {
+    assert_eq!(rt; desk_trials::first_version_not_taken_on(rt.alloc())?, None);
+    Ok(())
+}
+
+#[test]
+fn what_is_none_of_the_first_version_is_refused(rt: HostRuntime) -> Result<(), Fail> {
+    assert_eq!(rt; desk_trials::first_version_not_refused(rt.alloc())?, None);
+    Ok(())
+}
+
+#[test]
+fn an_index_in_the_way_is_told(rt: HostRuntime) -> Result<(), Fail> {
+    assert!(rt; desk_trials::is_index_in_the_way_told(rt.alloc())?);
     Ok(())
 }
 

@@ -1,4 +1,4 @@
-//! A key at the largest sizes: names of 64 bytes, a purpose of 200, and eight custodians who all approve of its destruction.
+//! A key at the largest sizes: names of 64 bytes, a purpose of 200, and sixteen custodians who all approve of its destruction.
 use crate::exchanges::exchanged;
 use crate::fresh_run::run_over;
 use crate::imports::{AT_END, replies_to};
@@ -13,18 +13,18 @@ const PURPOSE: &str =
 
 const SHOW: &str = "GET /keys/1 HTTP/1.1\r\nHost: localhost\r\n\r\n";
 
-/// A name of 64 bytes with this digit at its end.
-fn name(alloc: Global, digit: usize) -> Result<String, AllocError> {
-    format!(in alloc; "custodian-of-the-root-keys-of-the-second-site@hsm.example.org-0{digit}")
+/// A name of 64 bytes with this number, of two digits, at its end.
+fn name(alloc: Global, number: usize) -> Result<String, AllocError> {
+    format!(in alloc; "custodian-of-the-root-keys-of-the-second-site@hsm.example.org-{number}")
 }
 
-/// The lines that register the key, and make eight custodians who approve.
+/// The lines that register the key, and make sixteen custodians who approve.
 fn lines(alloc: Global) -> Result<String, AllocError> {
-    let owner = name(alloc, 0)?;
+    let owner = name(alloc, 10)?;
     let mut lines = format!(in alloc; "100 {owner} 1 register master {owner} - - - {PURPOSE}\n")?;
-    for digit in 1..9 {
-        let custodian = name(alloc, digit)?;
-        let added = format!(in alloc; "100 {owner} 1{digit} add-custodian 1 {custodian}\n")?;
+    for number in 11..27 {
+        let custodian = name(alloc, number)?;
+        let added = format!(in alloc; "100 {owner} {number} add-custodian 1 {custodian}\n")?;
         let approved = format!(in alloc; "100 {custodian} 1 approve 1\n")?;
         lines.push_str(&added)?;
         lines.push_str(&approved)?;
@@ -38,15 +38,15 @@ fn is_made(alloc: Global, desk: &mut Desk<MemStore>) -> Result<bool, Fail> {
     let mut replies = Vec::new(alloc);
     let outcome = run_over(desk, lines.as_bytes(), &mut replies);
     // Each reply is `ok 1 Pre-Active 100`.
-    Ok(outcome.replies == 17 && outcome.written == 340 && replies.as_slice().starts_with(b"ok 1 "))
+    Ok(outcome.replies == 33 && outcome.written == 660 && replies.as_slice().starts_with(b"ok 1 "))
 }
 
 /// Whether the desk shows the key with its purpose, its custodians and their approvals.
 fn is_shown(desk: &mut Desk<MemStore>) -> Result<bool, Fail> {
     match desk.show(1)? {
         Some(record) => Ok(
-            record.custodians.len() == 8
-                && record.approvals.len() == 8
+            record.custodians.len() == 16
+                && record.approvals.len() == 16
                 && record.purpose.text() == PURPOSE,
         ),
         None => Ok(false),
@@ -75,7 +75,7 @@ fn is_written_out(alloc: Global, desk: &mut Desk<MemStore>) -> bool {
 
 /// Whether a row with such a name and such a purpose is imported.
 fn is_imported(alloc: Global, desk: &mut Desk<MemStore>) -> Result<bool, Fail> {
-    let owner = name(alloc, 0)?;
+    let owner = name(alloc, 10)?;
     let table = format!(in alloc;
         "type,owner,activation,protect_stop,deactivation,purpose\nmaster,{owner},,,,\"{PURPOSE}\"\n"
     )?;

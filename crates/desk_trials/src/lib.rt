@@ -13,6 +13,7 @@ mod imports;
 mod largest;
 mod layouts;
 mod long_lines;
+mod migrations;
 mod openings;
 mod repeats;
 mod rows;
@@ -34,9 +35,13 @@ pub use imports::{
 pub use largest::is_largest_key_held;
 pub use layouts::goes_on_with_indexes_between;
 pub use long_lines::{is_long_rest_counted, long_line_not_refused};
+pub use migrations::{
+    first_version, first_version_not_refused, first_version_not_taken_on, is_index_in_the_way_told,
+    wrong_of_first_version,
+};
 pub use openings::{
     act_once_in_lives, edit_not_refused, goes_on_without_indexes, hundred_lines,
-    is_empty_database_refused, is_need_of_no_key_refused, is_other_version_told, wrong_edits,
+    is_empty_database_refused, is_need_of_no_key_refused, is_newer_version_told, wrong_edits,
 };
 pub use repeats::is_each_command_repeated;
 pub use rows::{is_first_day_served_in_pieces, worked_row_at_fault};

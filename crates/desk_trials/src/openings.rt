@@ -79,14 +79,10 @@ pub fn edit_not_refused(alloc: Global) -> Result<Option<&'static str>, Fail> {
     }
 }
 
-/// Whether a newer version is told, and an older one, whatever else stands in its row.
-pub fn is_other_version_told(alloc: Global) -> Result<bool, Fail> {
+/// Whether a newer version is told, whatever else stands in its row.
+pub fn is_newer_version_told(alloc: Global) -> Result<bool, Fail> {
     let newer = "UPDATE meta SET version = 7, latest = 253402300800";
-    let older = "UPDATE meta SET version = 1, latest = 253402300800";
-    Ok(
-        refusal_after(alloc, newer)? == Some(OpenRefusal::NewerVersion { found: 7 })
-            && refusal_after(alloc, older)? == Some(OpenRefusal::OlderVersion { found: 1 }),
-    )
+    Ok(refusal_after(alloc, newer)? == Some(OpenRefusal::NewerVersion { found: 7 }))
 }
 
 /// Whether a need of a key that is not there is refused, where the file's own schema lets it stand.

@@ -43,7 +43,7 @@ pub fn command_of_other_steps(alloc: Global) -> Result<Option<&'static str>, Fai
     Ok(None)
 }
 
-/// A key with eight custodians who all approve of its destruction.
+/// A key with sixteen custodians who all approve of its destruction.
 #[rattlefmt::skip]
 static FULL_CUSTODY: WorkedRow = WorkedRow {
     name: "full custody",
@@ -57,6 +57,14 @@ static FULL_CUSTODY: WorkedRow = WorkedRow {
         ("100 bob 6 add-custodian 1 c6", ""), ("100 c6 1 approve 1", ""),
         ("100 bob 7 add-custodian 1 c7", ""), ("100 c7 1 approve 1", ""),
         ("100 bob 8 add-custodian 1 c8", ""), ("100 c8 1 approve 1", ""),
+        ("100 bob 9 add-custodian 1 c9", ""), ("100 c9 1 approve 1", ""),
+        ("100 bob 10 add-custodian 1 c10", ""), ("100 c10 1 approve 1", ""),
+        ("100 bob 11 add-custodian 1 c11", ""), ("100 c11 1 approve 1", ""),
+        ("100 bob 12 add-custodian 1 c12", ""), ("100 c12 1 approve 1", ""),
+        ("100 bob 13 add-custodian 1 c13", ""), ("100 c13 1 approve 1", ""),
+        ("100 bob 14 add-custodian 1 c14", ""), ("100 c14 1 approve 1", ""),
+        ("100 bob 15 add-custodian 1 c15", ""), ("100 c15 1 approve 1", ""),
+        ("100 bob 16 add-custodian 1 c16", ""), ("100 c16 1 approve 1", ""),
     ],
     rest: "",
     shown: None,
@@ -67,16 +75,16 @@ static BEHIND: [(&str, u64); 9] = [
     // A request that comes again, one whose number is reused, and one whose moment is behind: the look-up alone.
     ("100 bob 1 add-custodian 1 c1", 2),
     ("100 bob 1 advance", 2),
-    ("99 bob 9 activate 1", 1),
+    ("99 bob 17 activate 1", 1),
     // No such key, and not the owner.
-    ("100 bob 9 activate 2", 2),
+    ("100 bob 17 activate 2", 2),
     ("100 eve 9 activate 1", 4),
     // No time has passed: no key is due.
     ("100 eve 9 advance", 5),
-    ("100 bob 9 set 1 = = =", 9),
+    ("100 bob 17 set 1 = = =", 9),
     // Both lists are full.
-    ("101 bob 10 add-custodian 1 c9", 21),
-    ("101 bob 11 remove-custodian 1 c8", 29),
+    ("101 bob 18 add-custodian 1 c17", 37),
+    ("101 bob 19 remove-custodian 1 c16", 45),
 ];
 
 /// A line that asks the database for more than it needs, if there is one.

@@ -25,6 +25,7 @@ use Rattle.register_core.proofs.Subjects.{is_named}
 use Rattle.register_core.specs.Effect.{given_dates, dates_after, owner_after, row_at}
 use Rattle.register_core.specs.Custody.{custodians, approvals, need, held}
 use Rattle.register_core.specs.KeptReply.{reply}
+use Rattle.register_core.specs.Version.{current}
 use Rattle.register_core.specs.Verdict.{unknown, named_key, judgement}
 use Rattle.register_core.specs.CustodyRefusal.{already_custodian, already_approved}
 use Rattle.register_core.specs.Decision.{held_change, registered_key, change_of, change_by, change_without_key, reply_to, Stands, LeadsTo}
@@ -48,7 +49,7 @@ standing h k = record {
 abbrev pub is_there : List Request → ℕ → Bool
 is_there h k = nat_le 1 k && nat_le k (count h)
 
-there : (h : List Request) (k : ℕ) → 1 ≤ k → k ≤ count h → is_there h k ≡ true
+pub there : (h : List Request) (k : ℕ) → 1 ≤ k → k ≤ count h → is_there h k ≡ true
 there h k low high = ap (λ (b : Bool). b && nat_le k (count h)) (le-leb 1 k low) ∙ le-leb k (count h) high
 
 module _ (needed : ℕ) (cs approving : List (List ℕ)) where
@@ -175,7 +176,7 @@ new_names h q k custodian approval = record {
 }
 
 agrees_key : (h : List Request) (q : Request) (k : ℕ) (key : Option Held) → named q.command ≡ Some k → key ≡ held h k
-    → IsPassed (latest h) (count h) (period h) key q → Agrees h q (change_of (period h) (Names k) key q)
+    → IsPassed current (latest h) (count h) (period h) key q → Agrees h q (change_of (period h) (Names k) key q)
 agrees_key h q k None names is passed = let refused = unknown_named q.command k names in let known = passed.known in absurd cc
 agrees_key h q k (Some key) names is passed =
     let stands = held_stands h k key is in
@@ -200,7 +201,7 @@ agrees_without h q Advance is none = (
 agrees_without h q c is none = absurd cc
 
 agrees_by : (h : List Request) (q : Request) (s : Subject) (key : Option Held) → subject q.command ≡ s
-    → key ≡ named_key h q.command → IsPassed (latest h) (count h) (period h) key q
+    → key ≡ named_key h q.command → IsPassed current (latest h) (count h) (period h) key q
     → Agrees h q (change_of (period h) s key q)
 agrees_by h q (Makes r) key is view passed = agrees_made h q r is
 agrees_by h q (Names k) key is view passed =
@@ -213,7 +214,7 @@ pub accepted_agrees : (h : List Request) (q : Request) → judgement h q ≡ Non
     → Agrees h q (change_by (period h) (named_key h q.command) q)
 accepted_agrees h q accepted =
     agrees_by h q (subject q.command) (named_key h q.command) refl refl
-    (passes (latest h) (count h) (period h) (named_key h q.command) q accepted)
+    (passes current (latest h) (count h) (period h) (named_key h q.command) q accepted)
 
 -- so do as many keys and a change that are these
 pub agrees_as : (h : List Request) (q : Request) (keys : ℕ) (change : Change) → keys ≡ count h

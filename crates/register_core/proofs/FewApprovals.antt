@@ -6,15 +6,17 @@ use Rattle.std.proofs.lemmas.Bool.{or_left, or_right}
 use Rattle.std.proofs.lemmas.List.Sums.{length-filter, count_by-le-length}
 use Rattle.std.proofs.lemmas.Map.Views.{any-filter_same}
 use Rattle.register_core.specs.declared.request.Request.{Request}
+use Rattle.register_core.specs.declared.version.Version.{Version}
 use Rattle.register_core.specs.Name.{is_among}
 use Rattle.register_core.specs.KeyName.{names_at}
 use Rattle.register_core.specs.Custody.{all_approvals, custodians, approvals}
-use Rattle.register_core.specs.Version.{max_custodians}
+use Rattle.register_core.specs.Version.{custodians_of}
 use Rattle.register_core.specs.Laws.{AreDifferent}
-use Rattle.register_core.specs.Fold.{IsLawful}
+use Rattle.register_core.specs.Fold.{IsLawfulIn}
 use Rattle.register_core.proofs.CustodyOnce.{different}
 use Rattle.register_core.proofs.Approvers.{approve}
 use Rattle.register_core.proofs.FewLaws.{sorted_length, few_custodians}
+use Rattle.register_core.proofs.Versions.{lawful_still}
 
 -- ---- names among others
 
@@ -59,11 +61,15 @@ no_more (name ∷ names) others apart within =
     (λ other is. stays name other others (another name other names apart.0 is) ∙ within other (or_right _ _ is)) in
     omega (arith, taken_out name others there, less)
 
--- ---- approvals
+-- ---- approvals, in any version
 
-pub few : (h : List Request) → IsLawful h → (k : ℕ) → length (approvals h k) ≤ max_custodians
-few h lawful k = omega (arith, no_more (approvals h k) (custodians h k) (different h k).1 (approve h lawful k), few_custodians h lawful k)
+pub few : (version : Version) (h : List Request) → IsLawfulIn version h → (k : ℕ)
+    → length (approvals h k) ≤ custodians_of version
+few version h lawful k =
+    let among = approve h (lawful_still version h lawful) k in
+    omega (arith, no_more (approvals h k) (custodians h k) (different h k).1 among, few_custodians version h lawful k)
 
 -- also before they are put in order
-pub few_approvals : (h : List Request) → IsLawful h → (k : ℕ) → length (names_at k (all_approvals h)) ≤ max_custodians
-few_approvals h lawful k = omega (arith, sorted_length (names_at k (all_approvals h)), few h lawful k)
+pub few_approvals : (version : Version) (h : List Request) → IsLawfulIn version h → (k : ℕ)
+    → length (names_at k (all_approvals h)) ≤ custodians_of version
+few_approvals version h lawful k = omega (arith, sorted_length (names_at k (all_approvals h)), few version h lawful k)

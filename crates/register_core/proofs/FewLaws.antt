@@ -1,12 +1,14 @@
--- A lawful history has no more keys than the register takes, and no key of it more custodians than it may have.
-use Rattle.std.proofs.Common.{◌≡◌, ℕ, ◌+◌, ◌≤◌, suc, Bool, true, false, not, ◌&&◌, cond, List, [], ◌∷◌, ◌++◌, length, filter, map, None, Some, refl, sym, ap, subst, ◌∙◌, arith, inl, inr, is_gt}
+-- A lawful history has no more keys than the register takes, and no key of it more custodians than its version allows.
+use Rattle.std.proofs.Common.{◌≡◌, ℕ, ◌+◌, ◌≤◌, suc, Bool, true, false, not, ◌&&◌, cond, List, [], ◌∷◌, ◌++◌, length, filter, map, Option, None, Some, refl, sym, ap, subst, ◌∙◌, arith, inl, inr, is_gt}
 use Rattle.std.specs.Prelude.{is_none}
+use Rattle.std.specs.Option.{option_and_then}
 use Rattle.std.specs.Ordering.{nat_cmp}
 use Rattle.std.specs.Cmp.Lexicographic.{slice_cmp}
 use Rattle.std.proofs.lemmas.Bool.{leb-false, cases_lt}
 use Rattle.std.proofs.lemmas.List.{length-append}
 use Rattle.lifecycle_core.specs.Reason.{is_compromise}
 use Rattle.register_core.specs.declared.request.Request.{Request}
+use Rattle.register_core.specs.declared.version.Version.{Version}
 use Rattle.register_core.specs.declared.request.Command.{Command}
 use Rattle.register_core.specs.declared.request.Command.TheVariants.{Register as Registers, Revoke, AddCustodian, RemoveCustodian}
 use Rattle.register_core.specs.KeyName.{KeyName, key_name, is_key_name, is_at, names_at}
@@ -14,21 +16,23 @@ use Rattle.register_core.specs.Names.{with_name, sorted_names}
 use Rattle.register_core.specs.History.{latest, count, period, dates}
 use Rattle.register_core.specs.Subject.{made_by}
 use Rattle.register_core.specs.Effect.{custody_change}
-use Rattle.register_core.specs.Custody.{all_custodians, custodians}
-use Rattle.register_core.specs.Verdict.{max_keys, too_many, named_key, judgement}
+use Rattle.register_core.specs.Custody.{all_custodians, custodians, held}
+use Rattle.register_core.specs.Verdict.{Accepts, max_keys, too_many, named_key, judgement, judgement_in, verdict_in}
 use Rattle.register_core.specs.CustodyRefusal.{too_many_custodians}
-use Rattle.register_core.specs.Version.{max_custodians}
+use Rattle.register_core.specs.Version.{current, custodians_of}
 use Rattle.register_core.specs.Decision.{custodians_by}
-use Rattle.register_core.specs.Fold.{IsLawful}
+use Rattle.register_core.specs.Fold.{IsLawful, IsLawfulIn}
 use Rattle.register_core.proofs.Histories.{count_grows}
 use Rattle.register_core.proofs.Refusals.{passes}
-use Rattle.register_core.proofs.Decisions.{standing}
+use Rattle.register_core.proofs.Decisions.{standing, there}
 use Rattle.register_core.proofs.CustodyLeads.{not_refused, kept_custodians, custody_lead}
 use Rattle.register_core.proofs.CustodyStay.{custody_made, custody_other}
 use Rattle.register_core.proofs.CustodyLaws.{nobody_yet}
 use Rattle.register_core.proofs.Walks.{names_joined}
-use Rattle.register_core.proofs.Lawful.{lawful_holds}
-use Rattle.register_core.proofs.OnKey.{which}
+use Rattle.register_core.proofs.Lawful.{holds_in, lawful_holds}
+use Rattle.register_core.proofs.OnKey.{IsOn, which}
+use Rattle.register_core.proofs.Verdicts.{judged_in}
+use Rattle.register_core.proofs.Versions.{lawful_still, still}
 
 -- ---- keys
 
@@ -38,7 +42,7 @@ room keys c free few = omega (arith, few)
 
 keys_next : (h : List Request) (q : Request) → IsLawful h → judgement h q ≡ None → count h ≤ max_keys → count (h ++ q ∷ []) ≤ max_keys
 keys_next h q lawful accepted few =
-    let free = (passes (latest h) (count h) (period h) (named_key h q.command) q accepted).numbered in
+    let free = (passes current (latest h) (count h) (period h) (named_key h q.command) q accepted).numbered in
     omega (arith, room (count h) q.command free few, count_grows h q)
 
 pub few_keys : (h : List Request) → IsLawful h → count h ≤ max_keys
@@ -83,43 +87,61 @@ one_more : (k : ℕ) (entries : List KeyName) (entry : KeyName) → length (name
 one_more k entries entry =
     omega (arith, ap length (names_joined k entries (entry ∷ [])), length-append (names_at k entries) (names_at k (entry ∷ [])), one_at_most k entry)
 
--- ---- custodians
+-- ---- custodians, in any version
 
-abbrev IsFew : ℕ → List KeyName → Type 0
-IsFew k entries = length (names_at k entries) ≤ max_custodians
+module _ (version : Version) where
+  abbrev IsFew : ℕ → List KeyName → Type 0
+  IsFew k entries = length (names_at k entries) ≤ custodians_of version
 
-few_after : (h : List Request) (q : Request) (k : ℕ) (c : Command) → too_many_custodians (Some (standing h k)) c ≡ None → IsFew k (all_custodians h)
-    → IsFew k (custodians_by k (custody_change (dates h k) q.caller c) (all_custodians h))
-few_after h q k (Revoke key reason occurrence) free few =
-    subst (IsFew k) (sym (kept_custodians k (is_compromise reason && is_none (dates h k).destroy) (all_custodians h))) few
-few_after h q k (AddCustodian key name) free few =
-    let space = leb-false _ _ (not_refused _ _ free) in
-    omega (arith, space, sorted_length (names_at k (all_custodians h)), one_more k (all_custodians h) (key_name k name))
-few_after h q k (RemoveCustodian key name) free few = omega (arith, few, fewer k (λ entry. not (is_key_name k name entry)) (all_custodians h))
-few_after h q k c free few = few
+  few_after : (h : List Request) (q : Request) (k : ℕ) (c : Command)
+      → too_many_custodians version (Some (standing h k)) c ≡ None → IsFew k (all_custodians h)
+      → IsFew k (custodians_by k (custody_change (dates h k) q.caller c) (all_custodians h))
+  few_after h q k (Revoke key reason occurrence) free few =
+      subst (IsFew k) (sym (kept_custodians k (is_compromise reason && is_none (dates h k).destroy) (all_custodians h))) few
+  few_after h q k (AddCustodian key name) free few =
+      let space = leb-false _ _ (not_refused _ _ free) in
+      omega (arith, space, sorted_length (names_at k (all_custodians h)), one_more k (all_custodians h) (key_name k name))
+  few_after h q k (RemoveCustodian key name) free few =
+      omega (arith, few, fewer k (λ entry. not (is_key_name k name entry)) (all_custodians h))
+  few_after h q k c free few = few
 
-abbrev AllFew : List Request → Type 0
-AllFew h = (k : ℕ) → k ≤ count h → IsFew k (all_custodians h)
+  -- there is room on the key that the request names
+  on_room : (h : List Request) (q : Request) (k : ℕ) → IsOn h q k → judgement_in version h q ≡ None
+      → too_many_custodians version (Some (standing h k)) q.command ≡ None
+  on_room h q k on passed =
+      let key : named_key h q.command ≡ Some (standing h k) =
+      ap (λ (n : Option ℕ). option_and_then (held h) n) on.names
+      ∙ ap (λ b. cond b (Some (standing h k)) None) (there h k on.low on.high) in
+      subst (λ o. too_many_custodians version o q.command ≡ None) key
+      (passes version (latest h) (count h) (period h) (named_key h q.command) q passed).room
 
-custodians_next : (h : List Request) (q : Request) → IsLawful h → judgement h q ≡ None → AllFew h → AllFew (h ++ q ∷ [])
-custodians_next h q lawful accepted before k high = elim (which h q k accepted high) [
-  | inl made ↦
-      let same = (custody_made h q k accepted made).custodians in
-      let nobody = (nobody_yet h lawful k (omega (arith, made.next))).0 in
-      omega (arith, ap length (same ∙ nobody))
-  | inr (inl on) ↦
-      let lead = custody_lead h q k on.names on.new in
-      subst (IsFew k) (sym lead.custodians_are) (few_after h q k q.command on.room (before k on.high))
-  | inr (inr other) ↦
-      let same = (custody_other h q k accepted other).custodians in
-      omega (arith, before k other.high, ap length same)
-]
+  abbrev AllFew : List Request → Type 0
+  AllFew h = (k : ℕ) → k ≤ count h → IsFew k (all_custodians h)
 
-pub at_most : (h : List Request) → IsLawful h → (k : ℕ) → IsFew k (all_custodians h)
-at_most h lawful k = elim (cases_lt (count h) k) [
-  | inl beyond ↦ omega (arith, ap length (nobody_yet h lawful k beyond).0)
-  | inr high ↦ lawful_holds AllFew custodians_next (λ k high. omega arith) h lawful k high
-]
+  custodians_next : (h : List Request) (q : Request) → IsLawfulIn version h → verdict_in version h q ≡ Accepts
+      → AllFew h → AllFew (h ++ q ∷ [])
+  custodians_next h q lawful accepted before k high =
+      let judged = (still version h q accepted).0 in
+      elim (which h q k judged high) [
+        | inl made ↦
+            let same = (custody_made h q k judged made).custodians in
+            let nobody = (nobody_yet h (lawful_still version h lawful) k (omega (arith, made.next))).0 in
+            omega (arith, ap length (same ∙ nobody))
+        | inr (inl on) ↦
+            let lead = custody_lead h q k on.names on.new in
+            let free = on_room h q k on (judged_in version h q accepted).passed in
+            subst (IsFew k) (sym lead.custodians_are) (few_after h q k q.command free (before k on.high))
+        | inr (inr other) ↦
+            let same = (custody_other h q k judged other).custodians in
+            omega (arith, before k other.high, ap length same)
+      ]
 
-pub few_custodians : (h : List Request) → IsLawful h → (k : ℕ) → length (custodians h k) ≤ max_custodians
-few_custodians h lawful k = omega (arith, sorted_length (names_at k (all_custodians h)), at_most h lawful k)
+  pub at_most : (h : List Request) → IsLawfulIn version h → (k : ℕ) → IsFew k (all_custodians h)
+  at_most h lawful k = elim (cases_lt (count h) k) [
+    | inl beyond ↦ omega (arith, ap length (nobody_yet h (lawful_still version h lawful) k beyond).0)
+    | inr high ↦ holds_in version AllFew custodians_next (λ k high. omega arith) h lawful k high
+  ]
+
+  pub few_custodians : (h : List Request) → IsLawfulIn version h → (k : ℕ)
+      → length (custodians h k) ≤ custodians_of version
+  few_custodians h lawful k = omega (arith, sorted_length (names_at k (all_custodians h)), at_most h lawful k)

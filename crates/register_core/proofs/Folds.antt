@@ -3,8 +3,11 @@ use Rattle.std.proofs.Common.{◌≡◌, ℕ, ◌+◌, ◌≤◌, ◌<◌, Bool,
 use Rattle.std.proofs.lemmas.List.{length-append, take_more}
 use Rattle.std.proofs.lemmas.List.Sums.{fold-append}
 use Rattle.register_core.specs.declared.request.Request.{Request}
-use Rattle.register_core.specs.Verdict.{verdict, is_accepted}
-use Rattle.register_core.specs.Fold.{history_after, history, answer_to, answers}
+use Rattle.register_core.specs.declared.version.Version.{Version}
+use Rattle.register_core.specs.Verdict.{verdict_in, is_accepted}
+use Rattle.register_core.specs.Version.{current}
+use Rattle.register_core.specs.Fold.{history_after, history_after_in, history, history_in}
+use Rattle.register_core.specs.Fold.{answer_to, answer_to_in, answers, answers_in}
 
 next_front : (items : List (Option Request)) (i : ℕ) (item : Option Request) → i < length items → item ≡ get_or items i item → take (i + 1) items ≡ take i items ++ item ∷ []
 next_front items i item lt is = take_more items i item lt ∙ ap (λ (x : Option Request). take i items ++ x ∷ []) (sym is)
@@ -13,18 +16,22 @@ pub history_next : (h : List Request) (items : List (Option Request)) (i : ℕ) 
     history h (take (i + 1) items) ≡ history_after (history h (take i items)) item
 history_next h items i item lt is = ap (history h) (next_front items i item lt is) ∙ fold-append history_after h (take i items) (item ∷ [])
 
-answers_push : (h : List Request) (items : List (Option Request)) (item : Option Request) → answers h (items ++ item ∷ []) ≡ answers h items ++ answer_to (history h items) item ∷ []
-answers_push h [] item = refl
-answers_push h (x ∷ items) item = ap (λ l. answer_to h x ∷ l) (answers_push (history_after h x) items item)
+pub answers_push : (version : Version) (h : List Request) (items : List (Option Request)) (item : Option Request)
+    → answers_in version h (items ++ item ∷ [])
+    ≡ answers_in version h items ++ answer_to_in version (history_in version h items) item ∷ []
+answers_push version h [] item = refl
+answers_push version h (x ∷ items) item =
+    ap (λ l. answer_to_in version h x ∷ l) (answers_push version (history_after_in version h x) items item)
 
 pub answers_next : (h : List Request) (items : List (Option Request)) (i : ℕ) (item : Option Request) → i < length items → item ≡ get_or items i item →
     answers h (take (i + 1) items) ≡ answers h (take i items) ++ answer_to (history h (take i items)) item ∷ []
-answers_next h items i item lt is = ap (answers h) (next_front items i item lt is) ∙ answers_push h (take i items) item
+answers_next h items i item lt is = ap (answers h) (next_front items i item lt is) ∙ answers_push current h (take i items) item
 
 -- an item makes a history at most one request longer
-pub history_within : (h : List Request) (item : Option Request) → length (history_after h item) ≤ length h + 1
-history_within h None = omega arith
-history_within h (Some q) = within (is_accepted (verdict h q))
+pub history_within : (version : Version) (h : List Request) (item : Option Request)
+    → length (history_after_in version h item) ≤ length h + 1
+history_within version h None = omega arith
+history_within version h (Some q) = within (is_accepted (verdict_in version h q))
   where
     within : (b : Bool) → length (cond b (h ++ q ∷ []) h) ≤ length h + 1
     within true = omega (arith, length-append h (q ∷ []))

@@ -32,6 +32,7 @@ use Rattle.register_core.specs.KeptReply.{reply, kept_with, kept_of, kept_from, 
 use Rattle.register_core.specs.Laws.{IsAccepted, IsKeptIn, sent_under}
 use Rattle.register_core.specs.Request.{IsRequest, IsKeyNumber, max_key_number, command_text}
 use Rattle.register_core.specs.Subject.{Subject, Makes, Names, NoKey, subject, named, named_by, key_by, count_by}
+use Rattle.register_core.specs.Version.{current}
 use Rattle.register_core.specs.Verdict.{Accepts, Repeats, Refuses, max_keys, always, judge, judge_view, verdict, is_accepted, is_same_command, repeated}
 use Rattle.register_core.proofs.CustodyLeads.{not_refused}
 use Rattle.register_core.proofs.Decisions.{unknown_named}
@@ -262,7 +263,7 @@ key_known view q accepted none = by (named q.command) refl
     by : (n : Option ℕ) → named q.command ≡ n → n ≡ None
     by None is = refl
     by (Some k) is =
-        let known = (passes view.latest view.keys (always view.period) None q (ap (λ (key : Option Held). judge view.latest view.keys (always view.period) key q) (sym none) ∙ accepted)).known in
+        let known = (passes current view.latest view.keys (always view.period) None q (ap (λ (key : Option Held). judge view.latest view.keys (always view.period) key q) (sym none) ∙ accepted)).known in
         let missing = unknown_named q.command k is in
         absurd cc
 
@@ -285,5 +286,5 @@ decided_at view q = moment_decided view.keys q.moment (change_by (always view.pe
 
 pub decided_in_time : (view : View) (q : Request) → judge_view view q ≡ None → view.latest ≤ (reply_of_view view q).moment
 decided_in_time view q accepted =
-    let early = ltb-false _ _ (not_refused _ _ (passes view.latest view.keys (always view.period) view.key q accepted).in_time) in
+    let early = ltb-false _ _ (not_refused _ _ (passes current view.latest view.keys (always view.period) view.key q accepted).in_time) in
     omega (arith, early, decided_at view q)

@@ -19,6 +19,7 @@ pub mod Verdicts
 pub mod Lawful
 pub mod Ranges
 pub mod OnKey
+pub mod Versions
 pub mod NeedLaws
 pub mod CustodyStay
 pub mod Dating

@@ -12,7 +12,8 @@ use Rattle.register_core.specs.Subject.{Registration, Subject, Makes, Names, NoK
 use Rattle.register_core.specs.Custody.{held}
 use Rattle.register_core.specs.CommandRule.{is_for}
 use Rattle.register_core.specs.Verdict.{not_custodian, frozen, unfit, occurs_later, judge, named_key, judgement}
-use Rattle.register_core.specs.CustodyRefusal.{too_many_custodians, owner_custodian, approvals_missing}
+use Rattle.register_core.specs.Version.{current}
+use Rattle.register_core.specs.CustodyRefusal.{owner_custodian, approvals_missing}
 use Rattle.register_core.proofs.Histories.{count_grows}
 use Rattle.register_core.proofs.CustodyLeads.{not_refused, IsNew}
 use Rattle.register_core.proofs.Refusals.{passes}
@@ -27,7 +28,6 @@ pub record IsOn (h : List Request) (q : Request) (k : ℕ) : Type 0 where
   pub fits_state : is_for q.command (state_at (dates h k) q.moment) ≡ true
   pub not_frozen : frozen (Some (standing h k)) q.moment q.command ≡ None
   pub fit : unfit (period h) (Some (standing h k)) q.moment q.command ≡ None
-  pub room : too_many_custodians (Some (standing h k)) q.command ≡ None
   pub apart : owner_custodian (Some (standing h k)) q.command ≡ None
   pub enough : approvals_missing (Some (standing h k)) q.command ≡ None
   pub occurred : occurs_later q.moment q.command ≡ None
@@ -43,12 +43,12 @@ judged h q key = judge (latest h) (count h) (period h) key q
 
 pub not_behind : (h : List Request) (q : Request) → judgement h q ≡ None → latest h ≤ q.moment
 not_behind h q accepted =
-    ltb-false _ _ (not_refused _ _ (passes (latest h) (count h) (period h) (named_key h q.command) q accepted).in_time)
+    ltb-false _ _ (not_refused _ _ (passes current (latest h) (count h) (period h) (named_key h q.command) q accepted).in_time)
 
 on_there : (h : List Request) (q : Request) (k : ℕ) → named q.command ≡ Some k → is_there h k ≡ true → judged h q (Some (standing h k)) ≡ None → IsOn h q k
 on_there h q k names there accepted =
     let key : Option Held = Some (standing h k) in
-    let passed = passes (latest h) (count h) (period h) key q accepted in
+    let passed = passes current (latest h) (count h) (period h) key q accepted in
     let both = and_parts _ _ there in
     record {
       names = names;
@@ -57,7 +57,6 @@ on_there h q k names there accepted =
       fits_state = right_state _ _ passed.state;
       not_frozen = passed.free;
       fit = passed.fit;
-      room = passed.room;
       apart = passed.apart;
       enough = passed.approved;
       occurred = passed.occurred;
@@ -75,7 +74,7 @@ on_key h q k accepted names = by (is_there h k) refl (sym (ap (judged h q) shown
     by true there none = on_there h q k names there none
     by false there none =
         let missing = unknown_named q.command k names in
-        let known = (passes (latest h) (count h) (period h) None q none).known in
+        let known = (passes current (latest h) (count h) (period h) None q none).known in
         absurd cc
 
 -- ---- each key
@@ -109,7 +108,7 @@ which h q k accepted high = by (subject q.command) refl
     by (Makes r) is = elim (eqb_tells (count h + 1) k) [
       | inl both ↦
           let shown : named_key h q.command ≡ None = ap (λ (s : Subject). option_and_then (held h) (named_by s)) is in
-          let passed = passes (latest h) (count h) (period h) None q (sym (ap (judged h q) shown) ∙ accepted) in
+          let passed = passes current (latest h) (count h) (period h) None q (sym (ap (judged h q) shown) ∙ accepted) in
           inl (record { next = sym both.1; registration = r; makes = is; fit = passed.fit })
       | inr apart ↦ let more = counted (Makes r) is in inr (inr (apart_from h q (Makes r) k is apart.0 (omega (arith, high, more, apart.1))))
     ]

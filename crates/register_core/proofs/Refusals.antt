@@ -3,12 +3,14 @@ use Rattle.std.proofs.Common.{◌≡◌, ℕ, Option, None}
 use Rattle.period_core.specs.declared.key_type.KeyType.{KeyType}
 use Rattle.period_core.specs.Period.{Period}
 use Rattle.register_core.specs.declared.request.Request.{Request}
+use Rattle.register_core.specs.declared.version.Version.{Version}
 use Rattle.register_core.specs.declared.view.Held.{Held}
 use Rattle.register_core.specs.CustodyRefusal.{already_custodian, no_such_custodian, too_many_custodians, owner_custodian, already_approved, no_approval, approvals_missing}
-use Rattle.register_core.specs.Verdict.{behind, unknown, not_owner, not_custodian, not_office, wrong_state, frozen, unfit, occurs_later, too_many, judge}
+use Rattle.register_core.specs.Verdict.{behind, unknown, not_owner, not_custodian, not_office, wrong_state, frozen, unfit, occurs_later, too_many, judge_in}
 use Rattle.register_core.proofs.Filling.{past}
 
-pub record IsPassed (last keys : ℕ) (periods : KeyType → Period) (key : Option Held) (q : Request) : Type 0 where
+pub record IsPassed (version : Version) (last keys : ℕ) (periods : KeyType → Period) (key : Option Held) (q : Request)
+    : Type 0 where
   pub in_time : behind last q.moment ≡ None
   pub known : unknown key q.command ≡ None
   pub owners : not_owner key q.caller q.command ≡ None
@@ -19,7 +21,7 @@ pub record IsPassed (last keys : ℕ) (periods : KeyType → Period) (key : Opti
   pub fit : unfit periods key q.moment q.command ≡ None
   pub new_custodian : already_custodian key q.command ≡ None
   pub old_custodian : no_such_custodian key q.command ≡ None
-  pub room : too_many_custodians key q.command ≡ None
+  pub room : too_many_custodians version key q.command ≡ None
   pub apart : owner_custodian key q.command ≡ None
   pub new_approval : already_approved key q.caller q.command ≡ None
   pub old_approval : no_approval key q.caller q.command ≡ None
@@ -27,9 +29,9 @@ pub record IsPassed (last keys : ℕ) (periods : KeyType → Period) (key : Opti
   pub occurred : occurs_later q.moment q.command ≡ None
   pub numbered : too_many keys q.command ≡ None
 
-pub passes : (last keys : ℕ) (periods : KeyType → Period) (key : Option Held) (q : Request)
-    → judge last keys periods key q ≡ None → IsPassed last keys periods key q
-passes last keys periods key q accepted =
+pub passes : (version : Version) (last keys : ℕ) (periods : KeyType → Period) (key : Option Held) (q : Request)
+    → judge_in version last keys periods key q ≡ None → IsPassed version last keys periods key q
+passes version last keys periods key q accepted =
     let entry = past _ _ accepted in
     let in_time = past _ _ entry.here in
     let known = past _ _ in_time.later in

@@ -67,13 +67,18 @@ fitting p d fits =
     by true false x y = absurd cc
     by false b x y = absurd cc
 
+-- the dates of a key were then all held to the type's own
+pub unset_fit : (h : List Request) → IsLawful h → (k : ℕ) → HasKey h k → set_period h (type h k) ≡ None
+    → Fits (periods (type h k)) (dates h k)
+unset_fit h lawful k has nothing =
+    subst (λ (p : Period). Fits p (dates h k)) (dated_from (type h k) h [] k (periods (type h k)) refl nothing)
+    (all_sound h lawful k has).fits
+
 -- where no period of its type was ever set, a key is not long
 pub none_long : (h : List Request) → IsLawful h → (k : ℕ) → HasKey h k → set_period h (type h k) ≡ None
     → is_long (period h (type h k)) (dates h k) ≡ false
 none_long h lawful k has nothing =
-    let kind = type h k in
-    let then_so : dated_by h k ≡ periods kind = dated_from kind h [] k (periods kind) refl nothing in
-    let now_so : period h kind ≡ periods kind =
-    ap (λ (o : Option Period). unwrap_or o (periods kind)) nothing in
-    fitting (period h kind) (dates h k)
-    (subst (λ (p : Period). Fits p (dates h k)) (then_so ∙ sym now_so) (all_sound h lawful k has).fits)
+    let now_so : period h (type h k) ≡ periods (type h k) =
+    ap (λ (o : Option Period). unwrap_or o (periods (type h k))) nothing in
+    fitting (period h (type h k)) (dates h k)
+    (subst (λ (p : Period). Fits p (dates h k)) (sym now_so) (unset_fit h lawful k has nothing))

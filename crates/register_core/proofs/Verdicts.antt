@@ -2,11 +2,13 @@
 use Rattle.std.proofs.Common.{◌≡◌, Bool, true, false, cond, List, [], ◌∷◌, Option, None, Some, refl, ap, ◌∙◌}
 use Rattle.register_core.specs.declared.kept_reply.KeptReply.{KeptReply}
 use Rattle.register_core.specs.declared.request.Request.{Request}
+use Rattle.register_core.specs.declared.version.Version.{Version}
 use Rattle.register_core.specs.declared.request.Command.{Command}
 use Rattle.register_core.specs.declared.reply.Refusal.{Refusal}
-use Rattle.register_core.specs.declared.reply.Refusal.TheVariants.{RequestReused}
+use Rattle.register_core.specs.declared.reply.Refusal.TheVariants.{BadLine, RequestReused}
 use Rattle.register_core.specs.KeptReply.{kept, kept_under}
-use Rattle.register_core.specs.Verdict.{Verdict, Accepts, Repeats, Refuses, verdict, verdict_by, judgement, is_accepted, is_same_command, repeated, unless_kept}
+use Rattle.register_core.specs.Version.{knows}
+use Rattle.register_core.specs.Verdict.{Verdict, Accepts, Repeats, Refuses, verdict, verdict_by, judgement, judgement_in, verdict_in, is_accepted, is_same_command, repeated, unless_kept}
 
 none_by : (j : Option Refusal) → verdict_by j ≡ Accepts → j ≡ None
 none_by None e = refl
@@ -31,6 +33,25 @@ is_new h q accepted = (new_by (kept_under q.caller q.number (kept h)) q.command 
 -- an accepted request is judged so
 pub judged : (h : List Request) (q : Request) → verdict h q ≡ Accepts → judgement h q ≡ None
 judged h q accepted = none_by (judgement h q) (new_by (kept_under q.caller q.number (kept h)) q.command (verdict_by (judgement h q)) accepted).1
+
+-- what is accepted in a version is known there, new, and judged so
+pub record IsJudged (version : Version) (h : List Request) (q : Request) : Type 0 where
+  pub known : knows version q.command ≡ true
+  pub new : kept_under q.caller q.number (kept h) ≡ []
+  pub passed : judgement_in version h q ≡ None
+
+pub judged_in : (version : Version) (h : List Request) (q : Request) → verdict_in version h q ≡ Accepts
+    → IsJudged version h q
+judged_in version h q accepted = by (knows version q.command) refl accepted
+  where
+    judged_so : Verdict
+    judged_so = unless_kept (kept_under q.caller q.number (kept h)) q.command (verdict_by (judgement_in version h q))
+
+    by : (b : Bool) → knows version q.command ≡ b → cond b judged_so (Refuses BadLine) ≡ Accepts → IsJudged version h q
+    by true known e =
+        let new = new_by (kept_under q.caller q.number (kept h)) q.command (verdict_by (judgement_in version h q)) e in
+        record { known = known; new = new.0; passed = none_by (judgement_in version h q) new.1 }
+    by false known e = absurd cc
 
 -- where nothing is kept under its caller and number, the verdict is what the judgement comes to
 pub verdict_is : (h : List Request) (q : Request) (j : Option Refusal) → kept_under q.caller q.number (kept h) ≡ [] → judgement h q ≡ j → verdict h q ≡ verdict_by j

@@ -8,7 +8,8 @@ use Rattle.register_core.specs.declared.view.Held.{Held}
 use Rattle.register_core.specs.declared.reply.Refusal.{Refusal}
 use Rattle.register_core.specs.declared.reply.Refusal.TheVariants.{AlreadyCustodian, NoSuchCustodian, TooManyCustodians, OwnerCustodian, AlreadyApproved, NoApproval, ApprovalsMissing}
 use Rattle.register_core.specs.Name.{is_among}
-use Rattle.register_core.specs.Version.{max_custodians}
+use Rattle.register_core.specs.declared.version.Version.{Version}
+use Rattle.register_core.specs.Version.{current, custodians_of}
 
 -- the name to add is a custodian of the key already
 abbrev pub already_custodian : Option Held → Command → Option Refusal
@@ -20,10 +21,11 @@ abbrev pub no_such_custodian : Option Held → Command → Option Refusal
 no_such_custodian (Some held) (RemoveCustodian key name) = if is_among name held.custodians then None else Some NoSuchCustodian
 no_such_custodian _ _ = None
 
--- the key has as many custodians as it may have
-abbrev pub too_many_custodians : Option Held → Command → Option Refusal
-too_many_custodians (Some held) (AddCustodian key name) = if nat_le max_custodians (length held.custodians) then Some TooManyCustodians else None
-too_many_custodians _ _ = None
+-- the key has as many custodians as it may have in this version
+abbrev pub too_many_custodians : Version → Option Held → Command → Option Refusal
+too_many_custodians version (Some held) (AddCustodian key name) =
+    if nat_le (custodians_of version) (length held.custodians) then Some TooManyCustodians else None
+too_many_custodians version _ _ = None
 
 -- a custodian would be the owner, or the owner a custodian
 abbrev pub owner_custodian : Option Held → Command → Option Refusal
@@ -47,17 +49,21 @@ approvals_missing (Some held) (Destroy key) =
     let have = length held.approvals in if nat_lt have held.need then Some (ApprovalsMissing have held.need) else None
 approvals_missing _ _ = None
 
--- each of these refusals, in order, where its condition holds
-abbrev pub custody_refusals : Option Held → List ℕ → Command → List (Option Refusal)
-custody_refusals key caller c =
+-- each of these refusals in a version, in order, where its condition holds
+abbrev pub custody_refusals : Version → Option Held → List ℕ → Command → List (Option Refusal)
+custody_refusals version key caller c =
     already_custodian key c
     ∷ no_such_custodian key c
-    ∷ too_many_custodians key c
+    ∷ too_many_custodians version key c
     ∷ owner_custodian key c
     ∷ already_approved key caller c
     ∷ no_approval key caller c
     ∷ approvals_missing key c
     ∷ []
 
+abbrev pub refused_custody_in : Version → Option Held → List ℕ → Command → Option Refusal
+refused_custody_in version key caller c = first_that_holds (custody_refusals version key caller c)
+
+-- in this program's version
 abbrev pub refused_custody : Option Held → List ℕ → Command → Option Refusal
-refused_custody key caller c = first_that_holds (custody_refusals key caller c)
+refused_custody = refused_custody_in current

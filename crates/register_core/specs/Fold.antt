@@ -1,34 +1,56 @@
--- What a list of items makes of a history, and what they are answered. An item is a request, or none for a line that is no request.
+-- What a list of items makes of a history, and what they are answered. An item is a request, or none for a line that is no
+-- request. The words that end in _in are said of a version, the others of this program's.
 use Rattle.std.specs.Prelude.{◌≡◌, List, [], ◌∷◌, ◌++◌, map, fold, Option, None, Some, Result, Err, if◌then◌else◌}
 use Rattle.std.specs.List.{AllByRecursion}
 use Rattle.register_core.specs.declared.request.Request.{Request}
 use Rattle.register_core.specs.declared.reply.Reply.{Reply}
 use Rattle.register_core.specs.declared.reply.Refusal.{Refusal}
 use Rattle.register_core.specs.declared.reply.Refusal.TheVariants.{BadLine}
+use Rattle.register_core.specs.declared.version.Version.{Version}
 use Rattle.register_core.specs.Request.{IsRequest}
 use Rattle.register_core.specs.Answer.{outcome}
-use Rattle.register_core.specs.Verdict.{verdict, is_accepted, answer}
+use Rattle.register_core.specs.Verdict.{verdict_in, is_accepted, answer_in}
+use Rattle.register_core.specs.Version.{current}
 
 -- the history after an item: with the request at its end where that is accepted, else as it was
+abbrev pub history_after_in : Version → List Request → Option Request → List Request
+history_after_in version h None = h
+history_after_in version h (Some q) = if is_accepted (verdict_in version h q) then h ++ q ∷ [] else h
+
 abbrev pub history_after : List Request → Option Request → List Request
-history_after h None = h
-history_after h (Some q) = if is_accepted (verdict h q) then h ++ q ∷ [] else h
+history_after = history_after_in current
 
 -- the history after the items, from the left
+abbrev pub history_in : Version → List Request → List (Option Request) → List Request
+history_in version h items = fold (history_after_in version) h items
+
 abbrev pub history : List Request → List (Option Request) → List Request
-history h items = fold history_after h items
+history = history_in current
 
 -- what an item is answered
+abbrev pub answer_to_in : Version → List Request → Option Request → Result Reply Refusal
+answer_to_in version h None = Err BadLine
+answer_to_in version h (Some q) = outcome (answer_in version h q)
+
 abbrev pub answer_to : List Request → Option Request → Result Reply Refusal
-answer_to h None = Err BadLine
-answer_to h (Some q) = outcome (answer h q)
+answer_to = answer_to_in current
 
 -- what the items are answered, one after the other
+abbrev pub answers_in : Version → List Request → List (Option Request) → List (Result Reply Refusal)
+answers_in version h [] = []
+answers_in version h (item ∷ items) = answer_to_in version h item ∷ answers_in version (history_after_in version h item) items
+
 abbrev pub answers : List Request → List (Option Request) → List (Result Reply Refusal)
-answers h [] = []
-answers h (item ∷ items) = answer_to h item ∷ answers (history_after h item) items
+answers = answers_in current
+
+-- these requests as items
+abbrev pub items : List Request → List (Option Request)
+items h = map (λ (q : Request). Some q) h
 
 -- a list of requests that the register comes to have accepted: each is in its range, and accepted behind those before it
-pub record IsLawful (h : List Request) : Type 0 where
+pub record IsLawfulIn (version : Version) (h : List Request) : Type 0 where
   pub in_range : AllByRecursion IsRequest h
-  pub accepted : history [] (map (λ q. Some q) h) ≡ h
+  pub accepted : history_in version [] (items h) ≡ h
+
+abbrev pub IsLawful : List Request → Type 0
+IsLawful = IsLawfulIn current

@@ -16,7 +16,7 @@ use Rattle.register_core.specs.declared.view.View.{View}
 use Rattle.register_core.specs.declared.kept_reply.KeptReply.{KeptReply}
 use Rattle.register_core.specs.declared.reply.Reply.{Reply}
 use Rattle.register_core.specs.declared.reply.Refusal.{Refusal}
-use Rattle.register_core.specs.declared.reply.Refusal.TheVariants.{RequestReused, MomentBehind, UnknownKey, NotOwner, NotCustodian, WrongState, DateFrozen, DateOrder, PeriodTooLong, DateRange, OccurrenceLater, Full, NotOffice}
+use Rattle.register_core.specs.declared.reply.Refusal.TheVariants.{BadLine, RequestReused, MomentBehind, UnknownKey, NotOwner, NotCustodian, WrongState, DateFrozen, DateOrder, PeriodTooLong, DateRange, OccurrenceLater, Full, NotOffice}
 use Rattle.lifecycle_core.specs.declared.dates.Dates.{Dates}
 use Rattle.period_core.specs.declared.filling.DateRefusal.{DateRefusal}
 use Rattle.period_core.specs.declared.filling.DateRefusal.TheVariants as dates
@@ -30,7 +30,9 @@ use Rattle.register_core.specs.Request.{command_text}
 use Rattle.register_core.specs.Effect.{given_dates, edited_dates}
 use Rattle.register_core.specs.Custody.{held}
 use Rattle.register_core.specs.CommandRule.{is_owners, is_custodians, is_offices, is_one_of, is_for}
-use Rattle.register_core.specs.CustodyRefusal.{refused_custody}
+use Rattle.register_core.specs.CustodyRefusal.{refused_custody_in}
+use Rattle.register_core.specs.declared.version.Version.{Version}
+use Rattle.register_core.specs.Version.{current, knows}
 use Rattle.register_core.specs.Subject.{named}
 
 -- ---- the refusals, each where its condition holds
@@ -128,29 +130,36 @@ entry_refusals last key q =
 abbrev pub refused_entry : ℕ → Option Held → Request → Option Refusal
 refused_entry last key q = first_that_holds (entry_refusals last key q)
 
--- then those of what it asks, by these periods of the types.
-abbrev pub refusals : ℕ → ℕ → (KeyType → Period) → Option Held → Request → List (Option Refusal)
-refusals last keys periods key q =
+-- then those of what it asks, in this version and by these periods of the types.
+abbrev pub refusals : Version → ℕ → ℕ → (KeyType → Period) → Option Held → Request → List (Option Refusal)
+refusals version last keys periods key q =
     refused_entry last key q
     ∷ frozen key q.moment q.command
     ∷ unfit periods key q.moment q.command
-    ∷ refused_custody key q.caller q.command
+    ∷ refused_custody_in version key q.caller q.command
     ∷ occurs_later q.moment q.command
     ∷ too_many keys q.command
     ∷ []
 
--- The refusal of a request where the latest moment, the number of keys, the periods of the types and the key that it
--- names are these, or none: it is accepted.
+-- The refusal of a request in a version where the latest moment, the number of keys, the periods of the types and the key
+-- that it names are these, or none: it is accepted.
+abbrev pub judge_in : Version → ℕ → ℕ → (KeyType → Period) → Option Held → Request → Option Refusal
+judge_in version last keys periods key q = first_that_holds (refusals version last keys periods key q)
+
+-- in this program's version
 abbrev pub judge : ℕ → ℕ → (KeyType → Period) → Option Held → Request → Option Refusal
-judge last keys periods key q = first_that_holds (refusals last keys periods key q)
+judge = judge_in current
 
 -- the key that the command names, as it stands
 abbrev pub named_key : List Request → Command → Option Held
 named_key h c = option_and_then (held h) (named c)
 
 -- the judgement of a request behind a history: the first refusal that holds, or none
+abbrev pub judgement_in : Version → List Request → Request → Option Refusal
+judgement_in version h q = judge_in version (latest h) (count h) (period h) (named_key h q.command) q
+
 abbrev pub judgement : List Request → Request → Option Refusal
-judgement h q = judge (latest h) (count h) (period h) (named_key h q.command) q
+judgement = judgement_in current
 
 -- this period, whatever the type
 abbrev pub always : Period → KeyType → Period
@@ -186,8 +195,15 @@ abbrev pub unless_kept : List KeptReply → Command → Verdict → Verdict
 unless_kept [] c judged = judged
 unless_kept (before ∷ more) c judged = repeated before c
 
+-- in a version, to which a command that it does not know is no request
+abbrev pub verdict_in : Version → List Request → Request → Verdict
+verdict_in version h q =
+    if knows version q.command
+    then unless_kept (kept_under q.caller q.number (kept h)) q.command (verdict_by (judgement_in version h q))
+    else Refuses BadLine
+
 abbrev pub verdict : List Request → Request → Verdict
-verdict h q = unless_kept (kept_under q.caller q.number (kept h)) q.command (verdict_by (judgement h q))
+verdict = verdict_in current
 
 abbrev pub is_accepted : Verdict → Bool
 is_accepted Accepts = true
@@ -200,5 +216,8 @@ answer_by Accepts new = Accepted new
 answer_by (Repeats first) new = Repeated first
 answer_by (Refuses refusal) new = Refused refusal
 
+abbrev pub answer_in : Version → List Request → Request → Answer
+answer_in version h q = answer_by (verdict_in version h q) (reply h q)
+
 abbrev pub answer : List Request → Request → Answer
-answer h q = answer_by (verdict h q) (reply h q)
+answer = answer_in current

@@ -1,5 +1,7 @@
 -- The versions of the register, and what they differ in beside their tables.
-use Rattle.std.specs.Prelude.{ℕ}
+use Rattle.std.specs.Prelude.{ℕ, Bool, true, false}
+use Rattle.register_core.specs.declared.request.Command.{Command}
+use Rattle.register_core.specs.declared.request.Command.TheVariants.{SetPeriod, SetQuorum}
 use Rattle.register_core.specs.declared.version.Version.{Version}
 use Rattle.register_core.specs.declared.version.Version.TheVariants.{First, Second}
 
@@ -11,7 +13,18 @@ version_number Second = 2
 -- how many custodians a key may have (own)
 abbrev pub custodians_of : Version → ℕ
 custodians_of First = 8
-custodians_of Second = 8
+custodians_of Second = 16
+
+-- the command is one of the first version (own)
+abbrev pub is_of_first : Command → Bool
+is_of_first (SetPeriod kind period) = false
+is_of_first (SetQuorum key need) = false
+is_of_first _ = true
+
+-- which commands a version knows
+abbrev pub knows : Version → Command → Bool
+knows First = is_of_first
+knows Second = λ _. true
 
 -- the version of this program
 abbrev pub current : Version

@@ -1,5 +1,6 @@
 //! The refusals of custodians and of approvals.
 ghost use Rattle.std.specs.Prelude.{◌≡◌};
+ghost use Rattle.register_core.specs.Version.{current};
 ghost use Rattle.register_core.specs.CustodyRefusal.{already_custodian, no_such_custodian};
 ghost use Rattle.register_core.specs.CustodyRefusal.{too_many_custodians, owner_custodian};
 ghost use Rattle.register_core.specs.CustodyRefusal.{already_approved, no_approval};
@@ -37,7 +38,7 @@ fn no_such_custodian(key: &Option<Held>, command: &Command) -> Option<Refusal>
 
 /// A custodian is to be added where there are as many as a key may have.
 fn too_many_custodians(key: &Option<Held>, command: &Command) -> Option<Refusal>
-    ensures { result ≡ too_many_custodians key.now command.now }
+    ensures { result ≡ too_many_custodians current key.now command.now }
 {
     match (key, command) {
         (Some(held), Command::AddCustodian { .. })

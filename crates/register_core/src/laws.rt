@@ -1,24 +1,29 @@
 //! Laws about this crate's definitions. Each function does nothing: its contract is the law.
 ghost use Rattle.std.specs.Prelude.{◌≡◌, ◌<◌, ◌≤◌, ◌++◌, ℕ, List, [], ◌∷◌, length, true, false};
-ghost use Rattle.std.specs.Prelude.{Option, None, Some, is_some, IsSome, IsTrue};
+ghost use Rattle.std.specs.Prelude.{Option, None, Some, is_some, IsSome, IsTrue, IfSome};
 ghost use Rattle.std.specs.List.{AllByRecursion};
 ghost use Rattle.lifecycle_core.specs.State.{state_at};
 ghost use Rattle.lifecycle_core.specs.Transition.{Leads};
+ghost use Rattle.period_core.specs.Period.{periods};
 ghost use Rattle.period_core.specs.Fitting.{Fits, is_long, is_not_after};
 ghost use Rattle.register_core.specs.declared.request.Request.{Request};
 ghost use Rattle.register_core.specs.declared.request.Command.{Command};
 ghost use Rattle.register_core.specs.declared.reply.Refusal.TheVariants.{RequestReused};
-ghost use Rattle.register_core.specs.Fold.{IsLawful, history};
+ghost use Rattle.register_core.specs.Fold.{IsLawful, IsLawfulIn, answers, answers_in};
+ghost use Rattle.register_core.specs.Fold.{history, history_in, items};
 ghost use Rattle.register_core.specs.History.{latest, count, type, dates, dated_by, owner, period, set_period};
 ghost use Rattle.register_core.specs.Laws.{IsAccepted, HasKey, MovesOnly, AreDifferent};
 ghost use Rattle.register_core.specs.KeptReply.{kept, reply};
 ghost use Rattle.register_core.specs.Laws.{IsKeptIn, sent_under, state_of_key};
 ghost use Rattle.register_core.specs.Name.{is_among};
 ghost use Rattle.register_core.specs.Custody.{custodians, approvals};
-ghost use Rattle.register_core.specs.Request.{IsDate, IsLineOf};
+ghost use Rattle.register_core.specs.Request.{IsDate, IsLineOf, IsRequest};
 ghost use Rattle.register_core.specs.Verdict.{max_keys, verdict, Repeats, Refuses};
 ghost use Rattle.register_core.specs.Verdict.{is_same_command};
-ghost use Rattle.register_core.specs.Version.{max_custodians};
+ghost use Rattle.register_core.specs.declared.version.Version.{Version};
+ghost use Rattle.register_core.specs.declared.version.Version.TheVariants.{First};
+ghost use Rattle.register_core.specs.Settings.{all_needs, all_periods};
+ghost use Rattle.register_core.specs.Version.{custodians_of, knows};
 ghost use Rattle.register_core.specs.CommandText.{IsCommandText};
 
 /// No bytes are the line of two requests.
@@ -115,16 +120,16 @@ pub fn custodians_approve()
         is_among name (approvals h k) ≡ true → is_among name (custodians h k) ≡ true }
 {}
 
-/// A key has no more custodians than it may have.
+/// A key has no more custodians than it may have in its version.
 pub fn custodians_are_few()
-    ensures { (h : List Request) → IsLawful h → (k : ℕ) →
-        length (custodians h k) ≤ max_custodians }
+    ensures { (version : Version) (h : List Request) → IsLawfulIn version h → (k : ℕ) →
+        length (custodians h k) ≤ custodians_of version }
 {}
 
 /// No more approve of a key's destruction than it may have custodians.
 pub fn approvals_are_few()
-    ensures { (h : List Request) → IsLawful h → (k : ℕ) →
-        length (approvals h k) ≤ max_custodians }
+    ensures { (version : Version) (h : List Request) → IsLawfulIn version h → (k : ℕ) →
+        length (approvals h k) ≤ custodians_of version }
 {}
 
 /// No custodian of a key is its owner.
@@ -162,4 +167,37 @@ pub fn occurrence_is_with_compromise()
         is_some (dates h k).compromise_occurrence ≡ is_some (dates h k).compromise }
     ensures no_later { (h : List Request) → IsLawful h → (k : ℕ) → HasKey h k →
         IsTrue (is_not_after (dates h k).compromise_occurrence (dates h k).compromise) }
+{}
+
+/// What is lawful in a version is lawful in this program's, and its requests are answered alike.
+pub fn lawful_histories_stay_lawful()
+    ensures lawful { (version : Version) (h : List Request) → IsLawfulIn version h → IsLawful h }
+    ensures answers { (version : Version) (h : List Request) → IsLawfulIn version h →
+        answers [] (items h) ≡ answers_in version [] (items h) }
+{}
+
+/// Items that were answered in a version, and then others in this program's, come to a lawful history.
+pub fn versions_follow()
+    ensures { (version : Version) (old new : List (Option Request)) →
+        AllByRecursion (λ item. IfSome item IsRequest) old →
+        AllByRecursion (λ item. IfSome item IsRequest) new →
+        IsLawful (history (history_in version [] old) new) }
+{}
+
+/// A version knows the commands of its lawful histories.
+pub fn commands_are_known()
+    ensures { (version : Version) (h : List Request) → IsLawfulIn version h →
+        AllByRecursion (λ q. knows version q.command ≡ true) h }
+{}
+
+/// In the first version no period and no need is set.
+pub fn nothing_is_set_in_the_first_version()
+    ensures periods { (h : List Request) → IsLawfulIn First h → all_periods h ≡ [] }
+    ensures needs { (h : List Request) → IsLawfulIn First h → all_needs h ≡ [] }
+{}
+
+/// In the first version the dates of each key fit the period that its type has at first.
+pub fn dates_fit_in_the_first_version()
+    ensures { (h : List Request) → IsLawfulIn First h → (k : ℕ) → HasKey h k →
+        Fits (periods (type h k)) (dates h k) }
 {}

@@ -1,5 +1,8 @@
 //! What the versions of the register differ in, beside their tables.
-ghost use Rattle.std.specs.Prelude.{◌≡◌};
+ghost use Rattle.std.specs.Prelude.{◌≡◌, ◌≢◌, MatchOption};
+ghost use Rattle.register_core.specs.declared.version.Version.{Version};
+
+use crate::request::Command;
 
 /// A version of the register. Whatever a version differs in is read off here.
 #[derive(Clone, Copy, Debug, PartialEq, Eq)]
@@ -10,7 +13,7 @@ pub enum Version {
 }
 
 impl Version {
-    ghost use Rattle.register_core.specs.Version.{version_number, custodians_of};
+    ghost use Rattle.register_core.specs.Version.{custodians_of, knows, version_number};
 
     /// The version of this program.
     pub const CURRENT: Version = Version::Second;
@@ -30,7 +33,30 @@ impl Version {
         ensures { result ≡ custodians_of self }
     {
         match self {
-            Version::First | Version::Second => 8,
+            Version::First => 8,
+            Version::Second => 16,
+        }
+    }
+
+    /// The version with this number, if there is one.
+    pub fn of_number(number: u64) -> Option<Self>
+        ensures { MatchOption result ((version : Version) → number ≢ version_number version)
+            (λ version. number ≡ version_number version) }
+    {
+        match number {
+            1 => Some(Version::First),
+            2 => Some(Version::Second),
+            _ => None,
+        }
+    }
+
+    /// Whether the version knows the command (this register's own).
+    pub fn knows(self, command: &Command) -> bool
+        ensures { result ≡ knows self command.now }
+    {
+        match (self, command) {
+            (Version::First, Command::SetPeriod { .. } | Command::SetQuorum { .. }) => false,
+            _ => true,
         }
     }
 }

@@ -1,5 +1,5 @@
 -- Files that were refused are left as they were found.
-use Rattle.std.proofs.Common.{◌≡◌, ◌⊎◌, List, Option, None, Some, Result, Ok, Err, IsTrue, inl, sym, subst, ◌∙◌}
+use Rattle.std.proofs.Common.{◌≡◌, ◌⊎◌, List, Option, None, Some, Result, Ok, Err, IsTrue, inl, inr, sym, subst, ◌∙◌}
 use Rattle.std.specs.Prelude.{IfErr, IfSome, IsErrAnd}
 use Rattle.std.proofs.Math.Logic.{∥∥₁_map}
 use Rattle.sqlite_trees.specs.declared.store.Store.{Ghosts}
@@ -10,17 +10,21 @@ use Rattle.sqlite.specs.Recovery.{Image}
 use Rattle.sqlite.specs.State.{HasCleanDisk}
 use Rattle.sqlite.specs.Tree.{Trees}
 use Rattle.register_core.specs.declared.request.Request.{Request}
-use Rattle.register_core.specs.Fold.{IsLawful}
+use Rattle.register_core.specs.declared.version.Version.{Version}
+use Rattle.register_core.specs.Fold.{IsLawful, IsLawfulIn}
 use Rattle.register_desk.specs.declared.opening.OpenRefusal.{OpenRefusal}
-use Rattle.register_desk.specs.declared.opening.OpenRefusal.TheVariants.{NotARegister, Store}
+use Rattle.register_desk.specs.declared.opening.OpenRefusal.TheVariants.{Memory, NewerVersion, NotARegister, Store}
 use Rattle.register_desk.specs.declared.opening.Unopened.{Unopened}
 use Rattle.register_desk.specs.Files.{HoldsRegister, ShowsFiles}
-use Rattle.register_desk.specs.Opening.{IsMadeIn, IsReasonOf, LeavesCommitted, LeavesMade, RefusesNoTable, ShowsTable}
-use Rattle.register_desk.specs.Register.{HasCommitted, tables}
-use Rattle.register_desk.proofs.Found.{finds_register}
+use Rattle.register_desk.specs.Opening.{IsMadeIn, IsReasonOf, IsTakenIn, LeavesBehind, LeavesCommitted, LeavesMade}
+use Rattle.register_desk.specs.Opening.{LeavesStored, RefusesNoTable, ShowsTable}
+use Rattle.register_desk.specs.Register.{HasHistoryIn}
+use Rattle.register_desk.proofs.Found.{finds_register, lawful_there, registered_left}
+use Rattle.register_desk.proofs.Opened.{stored_in}
 use Rattle.register_files.specs.declared.register_file.Refused.{Refused}
 use Rattle.register_files.specs.Calls.{MakesRegister}
-use Rattle.register_files.specs.Life.{ClosesAs, GivesBack, LeavesFound, LeavesInFiles, RefusesFiles, Refuses, RefusesMaking, RefusesToMake, SparesRegister}
+use Rattle.register_files.specs.Life.{ClosesAs, GivesBack, IsFoundIn, LeavesBehindIn, LeavesFound, LeavesInFiles}
+use Rattle.register_files.specs.Life.{RefusesFiles, Refuses, RefusesMaking, RefusesToMake, SparesRegister}
 
 -- what is said of a value that may be there, of the one that is there
 of_some : {X : Type 0} (P : X → Type 0) (o : Option X) (x : X) → o ≡ Some x → P x → IfSome o P
@@ -28,16 +32,6 @@ of_some P o x is said = subst (λ o. IfSome o P) (sym is) said
 
 not_none : {X A : Type 0} (o : Option X) (x : X) → o ≡ Some x → o ≡ None → A
 not_none o x is none = let both = sym is ∙ none in absurd (cc)
-
--- the register of a history is left, and nothing else
-left_as_registered : (found : Image) (may_leave : Image → Type 0) (h : List Request) → HoldsRegister h found
-    → LeavesFound found may_leave → LeavesInFiles h h may_leave
-left_as_registered found may_leave h holds leaves left may = ∥∥₁_map (leaves left may) (λ one.
-    inl (record {
-      db = holds.db;
-      tables_are = holds.tables_are;
-      found = subst (HoldsDatabase left) (one.1.holds holds.db.trees holds.found) one.2;
-    }))
 
 module _ {S : Type 0} (g : Ghosts S) (may_leave : S → Image → Type 0) (found : Image) where
   -- no register was made
@@ -77,18 +71,17 @@ module _ {S : Type 0} (g : Ghosts S) (may_leave : S → Image → Type 0) (found
       reopens : (left : Image) → may_leave it left → ∥ ((db : Trees) × (g.recovers it db) × HoldsDatabase left db) ∥₁
       reopens = opens_again it (closes.numbered clean) (closes.sound clean)
 
+      -- what was committed was found
+      found_so : (db : Trees) → db ≡ (state g old).committed.trees → IsFoundIn found db
+      found_so db same = record {
+        reads = subst (AreFoundIn found) (sym same) shown.finds.reads;
+        holds = λ other holds. same ∙ shown.finds.holds other holds;
+      }
+
       left_as_found : LeavesCommitted (state g old) (state g new) → LeavesFound found (may_leave it)
       left_as_found committed left may = ∥∥₁_map (reopens left may) (λ one.
-          let same : one.0 ≡ (state g old).committed.trees =
-          committed shown.opens.is_open (closes.clean clean) one.0 (closes.outcomes one.0 one.1) in (
-            one.0,
-            record {
-              reads = subst (AreFoundIn found) (sym same) shown.finds.reads;
-              holds = λ other holds. same
-                  ∙ shown.finds.holds other holds;
-            },
-            one.2,
-          ))
+          let same = committed shown.opens.is_open (closes.clean clean) one.0 (closes.outcomes one.0 one.1) in
+          (one.0, found_so one.0 same, one.2))
 
       left_as_made : LeavesMade (state g old) (state g new)
           → (left : Image) → may_leave it left → ∥ ((db : Trees) × HoldsDatabase left db
@@ -99,9 +92,36 @@ module _ {S : Type 0} (g : Ghosts S) (may_leave : S → Image → Type 0) (found
     -- an opening that was refused
     module _ (refusal : OpenRefusal) (reason : HasCleanDisk (state g new)
         → IsReasonOf (state g old) (state g new) refusal)
-        (spared : (h : List Request) → IsLawful h → HasCommitted (tables h) (state g old) → HasCleanDisk (state g new)
-        → RefusesNoTable refusal)
-        (committed : LeavesCommitted (state g old) (state g new)) where
+        (spared : (version : Version) (h : List Request) → IsLawfulIn version h
+        → HasHistoryIn version h (state g old) → HasCleanDisk (state g new) → RefusesNoTable refusal)
+        (behind : LeavesBehind refusal (state g old) (state g new))
+        (stored : (version : Version) (h : List Request) → IsLawfulIn version h → HasHistoryIn version h (state g old)
+        → LeavesStored (stored_in version h) (state g old) (state g new)) where
+      module _ (it : S) (closes : ClosesAs g new it) (clean : IsCleanStore (g.view it)) where
+        left_behind : (r : OpenRefusal) → LeavesBehind r (state g old) (state g new)
+            → LeavesBehindIn r found (state g old) (may_leave it)
+        left_behind Store leaves = λ left may. ∥∥₁_map (reopens it closes clean left may) (λ one.
+            let left_so = leaves (shown it closes clean).opens.is_open (closes.clean clean) one.0
+            (closes.outcomes one.0 one.1) in
+            (one.0, taken one.0 left_so, one.2))
+          where
+            taken : (db : Trees) → (db ≡ (state g old).committed.trees) ⊎ IsTakenIn (state g old) db
+                → IsFoundIn found db ⊎ IsTakenIn (state g old) db
+            taken db (inl same) = inl (found_so it closes clean db same)
+            taken db (inr made) = inr made
+        left_behind NotARegister leaves = left_as_found it closes clean leaves
+        left_behind (NewerVersion later) leaves = left_as_found it closes clean leaves
+        left_behind Memory leaves = left_as_found it closes clean leaves
+
+        -- the register of a history is left, in its version or in this program's
+        left_as_registered : (h : List Request) → IsLawful h → HoldsRegister h found → LeavesInFiles h h (may_leave it)
+        left_as_registered h lawful holds left may = ∥∥₁_map (reopens it closes clean left may) (λ one.
+            let shows = shown it closes clean in
+            let had = finds_register h found (state g old) holds shows in
+            let leaves = stored holds.version h (lawful_there h found holds lawful) had in
+            inl (registered_left h found holds (state g old) (state g new) leaves shows.opens.is_open
+            (closes.clean clean) shows left one.0 (closes.outcomes one.0 one.1) one.2))
+
       refuses_files : (it : S) → ClosesAs g new it → (given : OpenRefusal) → given ≡ refusal
           → IsCleanStore (g.view it) → RefusesFiles g found given (may_leave it)
       refuses_files it closes given same clean = record {
@@ -110,15 +130,16 @@ module _ {S : Type 0} (g : Ghosts S) (may_leave : S → Image → Type 0) (found
         shows = shown it closes clean;
         reason = subst (λ (r : OpenRefusal). IsReasonOf (state g old) (state g new) r) (sym same)
             (reason (closes.clean clean));
-        leaves = left_as_found it closes clean committed;
+        leaves = subst (λ (r : OpenRefusal). LeavesBehindIn r found (state g old) (may_leave it)) (sym same)
+            (left_behind it closes clean refusal behind);
       }
 
       spares_register : (it : S) → ClosesAs g new it → (given : OpenRefusal) → given ≡ refusal → (h : List Request)
           → IsLawful h → HoldsRegister h found → IsCleanStore (g.view it) → SparesRegister h given (may_leave it)
       spares_register it closes given same h lawful holds clean = (
-        subst RefusesNoTable (sym same) (spared h lawful
+        subst RefusesNoTable (sym same) (spared holds.version h (lawful_there h found holds lawful)
             (finds_register h found (state g old) holds (shown it closes clean)) (closes.clean clean)),
-        left_as_registered found (may_leave it) h holds (left_as_found it closes clean committed),
+        left_as_registered it closes clean h lawful holds,
       )
 
       pub refuses_opened : {X : Type 0} (unopened : Unopened S) (result : Result X (Refused S))

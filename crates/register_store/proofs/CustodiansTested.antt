@@ -20,22 +20,23 @@ use Rattle.row_tests.specs.Each.{ShowEach}
 use Rattle.row_tests.specs.Showing.{HasNoMeaning, ShowsAll, ShowsFirst}
 use Rattle.row_tests.proofs.Each.{all_front, all_last, all_more, show_front, show_less, show_more, show_same}
 use Rattle.sql_steps.proofs.Members.{filter_permutation}
-use Rattle.register_core.specs.Version.{max_custodians}
+use Rattle.register_core.specs.declared.version.Version.{Version}
+use Rattle.register_core.specs.Version.{custodians_of}
 use Rattle.register_core.specs.KeyName.{KeyName, is_at, names_at}
 use Rattle.register_core.specs.Name.{is_among}
 use Rattle.register_store.specs.declared.error.CheckError.{CheckError}
 use Rattle.register_store.specs.declared.error.CheckError.TheVariants.{Memory as Ran_out}
 use Rattle.register_store.specs.declared.table.TableName.TheVariants.{Custodian}
 use Rattle.register_store.specs.Checking.{IsOdd, IsReasonAt, ShowsName, TestsBy, check_error, check_text}
-use Rattle.register_store.specs.Schema.{Holds}
-use Rattle.register_store.specs.Tables.{IsNamed, Tables, name_cells}
+use Rattle.register_store.specs.Stored.{HoldsStored, Stored}
+use Rattle.register_store.specs.Tables.{IsNamed, name_cells}
 use Rattle.register_store.specs.Taking.{AreEmpty, AreKept, HasCustodians, IsListed, KnowsCustodians, RefusesCustodians}
 use Rattle.register_store.specs.Tests.{AreCustodians, IsCustodian, MayBeCustodian, owner_at, owners_of}
 use Rattle.register_store.proofs.Actions.{shows_all}
-use Rattle.register_store.proofs.Asked.{AnswersTo, ShowsOwn, shown_of_table, tests_by}
+use Rattle.register_store.proofs.Asked.{AnswersTo, IsWithin, ShowsOwn, in_both, shown_of_table, tests_by}
 use Rattle.register_store.proofs.Decoding.{same_number, same_words}
 use Rattle.register_store.proofs.EntriesShown.{all_permuted, own_entries}
-use Rattle.register_store.proofs.MetaTested.{other_not}
+use Rattle.register_store.proofs.MetaTested.{newer_not}
 use Rattle.register_store.proofs.NameLists.{get_below, get_some}
 use Rattle.register_store.proofs.RowsFailed.{reason_of}
 
@@ -110,8 +111,8 @@ kept_at entries lists key at seen e low kept is =
 
 -- ---- one row after the other
 
-pub begin_custodians : (owners : List (List ℕ)) (lists : List (Vec (List ℕ))) → AreEmpty lists → length lists ≡ length owners → HasCustodians owners lists []
-begin_custodians owners lists none counted = record {
+pub begin_custodians : (most : ℕ) (owners : List (List ℕ)) (lists : List (Vec (List ℕ))) → AreEmpty lists → length lists ≡ length owners → HasCustodians most owners lists []
+begin_custodians most owners lists none counted = record {
   entries = [];
   shown = tt;
   are = record { each = tt; few = λ key. omega arith };
@@ -119,10 +120,10 @@ begin_custodians owners lists none counted = record {
   kept = λ k names is. none k names is;
 }
 
-module _ (owners : List (List ℕ)) (lists : List (Vec (List ℕ))) (rows : List Row) (row : Row) (taken : HasCustodians owners lists rows) where
-  pub custodians_more : (entry : KeyName) → ShowsName row entry → MayBeCustodian owners entry → length (names_at entry.key taken.entries) < max_custodians → (at : ℕ) → entry.key ≡ suc at → (new : List (Vec (List ℕ))) → length new ≡ length lists
+module _ (most : ℕ) (owners : List (List ℕ)) (lists : List (Vec (List ℕ))) (rows : List Row) (row : Row) (taken : HasCustodians most owners lists rows) where
+  pub custodians_more : (entry : KeyName) → ShowsName row entry → MayBeCustodian owners entry → length (names_at entry.key taken.entries) < most → (at : ℕ) → entry.key ≡ suc at → (new : List (Vec (List ℕ))) → length new ≡ length lists
       → ((names : Vec (List ℕ)) → slice_get new at ≡ Some names → (before : Vec (List ℕ)) × (slice_get lists at ≡ Some before) × (names.items ≡ before.items ++ entry.name ∷ []))
-      → ((k : ℕ) → k ≢ at → slice_get new k ≡ slice_get lists k) → HasCustodians owners new (rows ++ row ∷ [])
+      → ((k : ℕ) → k ≢ at → slice_get new k ≡ slice_get lists k) → HasCustodians most owners new (rows ++ row ∷ [])
   custodians_more entry shows may room at key new counted added others = record {
     entries = taken.entries ++ entry ∷ [];
     shown = show_more ShowsName rows taken.entries row entry taken.shown shows;
@@ -149,7 +150,7 @@ module _ (owners : List (List ℕ)) (lists : List (Vec (List ℕ))) (rows : List
   }
 
   -- what the row would have to show
-  would : (entries : List KeyName) → ShowEach ShowsName (rows ++ row ∷ []) entries → AreCustodians owners entries → (entry : KeyName) × ShowsName row entry × MayBeCustodian owners entry × (length (names_at entry.key taken.entries) < max_custodians)
+  would : (entries : List KeyName) → ShowEach ShowsName (rows ++ row ∷ []) entries → AreCustodians most owners entries → (entry : KeyName) × ShowsName row entry × MayBeCustodian owners entry × (length (names_at entry.key taken.entries) < most)
   would entries shown are =
       let it = show_less ShowsName rows row entries shown in
       let same : it.0 ≡ taken.entries = one_list rows it.0 taken.entries it.3 taken.shown in
@@ -161,24 +162,24 @@ module _ (owners : List (List ℕ)) (lists : List (Vec (List ℕ))) (rows : List
         omega (arith, ap length grown, length-append (names_at it.1.key it.0) (it.1.name ∷ []), few, ap length (ap (names_at it.1.key) same)),
       )
 
-  pub not_shown : ((entry : KeyName) → ¬ ShowsName row entry) → RefusesCustodians owners (rows ++ row ∷ [])
+  pub not_shown : ((entry : KeyName) → ¬ ShowsName row entry) → RefusesCustodians most owners (rows ++ row ∷ [])
   not_shown none entries shown are = let it = would entries shown are in none it.0 it.1
 
   module _ (key : ℕ) (key_is : column row 0 ≡ Int (Rattle.std.proofs.Common.pos key)) where
-    pub not_there : ((1 ≤ key) × (key ≤ length owners) → ⊥) → RefusesCustodians owners (rows ++ row ∷ [])
+    pub not_there : ((1 ≤ key) × (key ≤ length owners) → ⊥) → RefusesCustodians most owners (rows ++ row ∷ [])
     not_there off entries shown are =
         let it = would entries shown are in
         let same = same_number (column row 0) it.0.key key it.1.key key_is in
         let r = owner_range owners it.0.key it.2.owner it.2.there in off (omega (arith, r.0, same), omega (arith, r.1, same))
 
-    pub is_full : max_custodians ≤ length (names_at key taken.entries) → RefusesCustodians owners (rows ++ row ∷ [])
+    pub is_full : most ≤ length (names_at key taken.entries) → RefusesCustodians most owners (rows ++ row ∷ [])
     is_full full entries shown are =
         let it = would entries shown are in
         let same = same_number (column row 0) it.0.key key it.1.key key_is in
         let room = it.3 in
         omega (arith, room, full, ap length (ap (λ n. names_at n taken.entries) same))
 
-    pub is_owner : (name : List ℕ) → column row 1 ≡ Words name → owner_at owners key ≡ Some name → RefusesCustodians owners (rows ++ row ∷ [])
+    pub is_owner : (name : List ℕ) → column row 1 ≡ Words name → owner_at owners key ≡ Some name → RefusesCustodians most owners (rows ++ row ∷ [])
     is_owner name name_is owns entries shown are =
         let it = would entries shown are in
         let same = same_number (column row 0) it.0.key key it.1.key key_is in
@@ -195,19 +196,19 @@ names_past (v ∷ vs) = refl
 pub own_row : (entry : KeyName) → IsNamed entry → ShowsName (eval_all (shown_of_table Custodian) ([] ∷ (Null ∷ name_cells entry) ∷ [])) entry
 own_row entry is = record { key = refl; name = refl; in_range = is }
 
-are_permuted : (owners : List (List ℕ)) (c d : List KeyName) → IsPermutation c d → AreCustodians owners c → AreCustodians owners d
-are_permuted owners c d same are = record {
+are_permuted : (most : ℕ) (owners : List (List ℕ)) (c d : List KeyName) → IsPermutation c d → AreCustodians most owners c → AreCustodians most owners d
+are_permuted most owners c d same are = record {
   each = all_permuted (MayBeCustodian owners) c d same are.each;
   few = λ key. let few = are.few key in omega (arith, few, length_permutation _ _ (names_permuted key c d same));
 }
 
-pub own_custodians : (t : Tables) (db : Db) (rows : List Row) (holds : Holds t db)
+pub own_custodians : (t : Stored) (db : Db) (rows : List Row) (holds : HoldsStored t db)
     → AnswersTo holds.schema.layout Custodian db rows → ShowsOwn Custodian t rows
 own_custodians t db rows holds sure =
     let it = own_entries name_cells ShowsName IsNamed (holds.schema.layout.tree Custodian) (shown_of_table Custodian)
-    names_past own_row db t.custodians rows (holds.in_range Custodian) (holds.shown Custodian)
+    names_past own_row db t.tables.custodians rows (holds.in_range Custodian) (holds.shown Custodian)
     (shows_all db.trees (holds.schema.layout.tree Custodian)) sure in
-    record { c = it.0; shows = it.2; like = it.1; meets = are_permuted (owners_of t.keys) t.custodians it.0 it.1 }
+    record { c = it.0; shows = it.2; like = it.1; meets = are_permuted (custodians_of t.version) (owners_of t.tables.keys) t.tables.custodians it.0 it.1 }
 
 knows_like : (c d : List KeyName) (lists : Vec (Vec (List ℕ))) → IsPermutation d c → KnowsCustodians c lists → KnowsCustodians d lists
 knows_like c d lists same knows entry =
@@ -216,8 +217,11 @@ knows_like c d lists same knows entry =
 
 -- ---- what was read
 
-knows_so : (owners : List (List ℕ)) (lists : Vec (Vec (List ℕ))) (rows : List Row) → (taken : HasCustodians owners lists.items rows) → KnowsCustodians taken.entries lists
-knows_so owners lists rows taken entry = ((λ listed. forth entry.key refl listed), (λ is. back entry.key refl is))
+custodians_within : (t : Stored) → IsWithin Custodian t.version
+custodians_within t = in_both Custodian (omega arith) t.version
+
+knows_so : (most : ℕ) (owners : List (List ℕ)) (lists : Vec (Vec (List ℕ))) (rows : List Row) → (taken : HasCustodians most owners lists.items rows) → KnowsCustodians taken.entries lists
+knows_so most owners lists rows taken entry = ((λ listed. forth entry.key refl listed), (λ is. back entry.key refl is))
   where
     forth : (key : ℕ) → entry.key ≡ key → IsListed lists.items entry → IsCustodian taken.entries entry
     forth zero at listed = absurd (let e = sym (ap (Rattle.register_store.specs.Taking.list_at lists.items) at) ∙ listed.there in cc)
@@ -242,23 +246,24 @@ knows_so owners lists rows taken entry = ((λ listed. forth entry.key refl liste
               among = ap (is_among entry.name) (taken.kept k here.0 here.1 ∙ ap (λ n. names_at n taken.entries) (sym at)) ∙ is;
             }
 
-module _ (t : Tables) (owners : List (List ℕ)) (are : owners ≡ owners_of t.keys) (old new : State) (survives : Survives old new (λ _. ⊥)) where
+module _ (t : Stored) (most : ℕ) (most_is : most ≡ custodians_of t.version) (owners : List (List ℕ)) (are : owners ≡ owners_of t.tables.keys) (old new : State) (survives : Survives old new (λ _. ⊥)) where
   abbrev Tested : Result (Vec (Vec (List ℕ))) CheckError → Type 0
   Tested q = TestsBy Custodian t KnowsCustodians old new q
 
-  pub custodians_read : (lists : Vec (Vec (List ℕ))) → (HasCleanDisk new → ShowsAll (check_text Custodian) (HasCustodians owners lists.items) old new) → Tested (Ok lists)
-  custodians_read lists all = tests_by Custodian t (own_custodians t) (other_not t) KnowsCustodians (λ c d x like says. knows_like c d x like says) one_list old new (Ok lists)
+  pub custodians_read : (lists : Vec (Vec (List ℕ))) → (HasCleanDisk new → ShowsAll (check_text Custodian) (HasCustodians most owners lists.items) old new) → Tested (Ok lists)
+  custodians_read lists all = tests_by Custodian t (custodians_within t) (own_custodians t) (newer_not t) KnowsCustodians (λ c d x like says. knows_like c d x like says) one_list old new (Ok lists)
       (λ clean.
       let it = all clean in
-      (it.holds.entries, record { rows = it.rows; shown = it.shown; holds = it.holds.shown; same = it.same }, subst (λ o. AreCustodians o it.holds.entries) are it.holds.are, knows_so owners lists it.rows it.holds))
+      (it.holds.entries, record { rows = it.rows; shown = it.shown; holds = it.holds.shown; same = it.same }, subst (λ m. AreCustodians m (owners_of t.tables.keys) it.holds.entries) most_is (subst (λ o. AreCustodians most o it.holds.entries) are it.holds.are), knows_so most owners lists it.rows it.holds))
       (λ clean. tt) survives
 
-  odd : (rows : List Row) → RefusesCustodians owners rows → (tail : List Row) → IsOdd Custodian t (rows ++ tail)
+  odd : (rows : List Row) → RefusesCustodians most owners rows → (tail : List Row) → IsOdd Custodian t (rows ++ tail)
   odd rows refuses tail = record {
     fails = λ c shows meets.
         let it = show_front ShowsName rows tail c shows in
-        let whole = subst (λ o. AreCustodians o (it.0 ++ it.1)) (sym are)
-        (subst (AreCustodians (owners_of t.keys)) it.2 meets) in
+        let whole = subst (λ o. AreCustodians most o (it.0 ++ it.1)) (sym are)
+        (subst (λ m. AreCustodians m (owners_of t.tables.keys) (it.0 ++ it.1)) (sym most_is)
+        (subst (AreCustodians (custodians_of t.version) (owners_of t.tables.keys)) it.2 meets)) in
         refuses it.0 it.3 (record {
           each = all_front (MayBeCustodian owners) it.0 it.1 whole.each;
           few = λ key.
@@ -270,13 +275,13 @@ module _ (t : Tables) (owners : List (List ℕ)) (are : owners ≡ owners_of t.k
                 length-append (names_at key it.0) (names_at key it.1),
               );
         });
-    no_other = λ none. none;
+    no_newer = λ none. none;
   }
 
   pub custodians_fail : (error : RowsError) (e : CheckError) → e ≡ check_error error → (HasCleanDisk new → error ≡ NoMeaning → HasNoMeaning (check_text Custodian) old new)
-      → (HasCleanDisk new → error ≡ Refused → ShowsFirst (check_text Custodian) (RefusesCustodians owners) old new) → (HasCleanDisk new → error ≡ Memory → IsUnchanged old new) → Tested (Err e)
-  custodians_fail error e is meaning refused memory = tests_by Custodian t (own_custodians t) (other_not t) KnowsCustodians (λ c d x like says. knows_like c d x like says) one_list old new (Err e) (λ clean. tt)
-      (λ clean. subst (IsReasonAt Custodian t old new) (sym is) (reason_of Custodian t old new (RefusesCustodians owners) error (meaning clean) (refused clean) (memory clean) (λ _. odd))) survives
+      → (HasCleanDisk new → error ≡ Refused → ShowsFirst (check_text Custodian) (RefusesCustodians most owners) old new) → (HasCleanDisk new → error ≡ Memory → IsUnchanged old new) → Tested (Err e)
+  custodians_fail error e is meaning refused memory = tests_by Custodian t (custodians_within t) (own_custodians t) (newer_not t) KnowsCustodians (λ c d x like says. knows_like c d x like says) one_list old new (Err e) (λ clean. tt)
+      (λ clean. subst (IsReasonAt Custodian t old new) (sym is) (reason_of Custodian t old new (RefusesCustodians most owners) error (meaning clean) (refused clean) (memory clean) (λ _. odd))) survives
 
 -- ---- approvals
 
@@ -297,9 +302,9 @@ not_listed lists entry off listed = by entry.key refl
         off (omega (arith, at), omega (arith, at, below))
 
 -- nothing was read: want of memory
-pub custodians_none : (t : Tables) (old : State) → (HasCleanDisk old → IsTrue old.is_open) → (e : CheckError) → e ≡ Ran_out → TestsBy {T = Vec (Vec (List ℕ))} Custodian t KnowsCustodians old old (Err e)
+pub custodians_none : (t : Stored) (old : State) → (HasCleanDisk old → IsTrue old.is_open) → (e : CheckError) → e ≡ Ran_out → TestsBy {T = Vec (Vec (List ℕ))} Custodian t KnowsCustodians old old (Err e)
 custodians_none t old is_open e is = subst (λ e. TestsBy {T = Vec (Vec (List ℕ))} Custodian t KnowsCustodians old old (Err e)) (sym is)
-    (tests_by Custodian t (own_custodians t) (other_not t) KnowsCustodians (λ c d x like says. knows_like c d x like says) one_list old old (Err Ran_out) (λ clean. tt)
+    (tests_by Custodian t (custodians_within t) (own_custodians t) (newer_not t) KnowsCustodians (λ c d x like says. knows_like c d x like says) one_list old old (Err Ran_out) (λ clean. tt)
     (λ clean. (record { was_open = is_open clean; is_open = is_open clean; now_is = refl; committed_is = refl; mode = refl }, record { changes = refl; last_rowid = refl }, refl)) (survives_none old))
   where
     survives_none : (s : State) → Survives s s (λ _. ⊥)

@@ -8,41 +8,42 @@ use Rattle.row_tests.specs.declared.error.RowsError.TheVariants.{NoMeaning, Refu
 use Rattle.row_tests.specs.Showing.{HasNoMeaning, ShowsAll, ShowsFirst}
 use Rattle.register_store.specs.declared.error.CheckError.{CheckError}
 use Rattle.register_store.specs.declared.table.TableName.{TableName}
-use Rattle.register_store.specs.Checking.{AreOther, IsOdd, IsReasonAt, ShowsRows, TestsBy, check_error, check_text}
-use Rattle.register_store.specs.Schema.{Holds}
-use Rattle.register_store.specs.Tables.{Content, Tables, with_content}
+use Rattle.register_store.specs.Checking.{AreNewer, IsOdd, IsReasonAt, ShowsRows, TestsBy, check_error, check_text}
+use Rattle.register_store.specs.Stored.{HoldsStored, Part, Stored, with_part}
 use Rattle.register_store.specs.Taking.{HasShown, IsAny, RefusesEach}
 use Rattle.register_store.specs.Tests.{MeetsTest}
-use Rattle.register_store.proofs.Asked.{AnswersTo, ShowsOwn, tests_by}
+use Rattle.register_store.proofs.Asked.{AnswersTo, IsWithin, ShowsOwn, tests_by}
 use Rattle.register_store.proofs.EachTested.{odd_on}
-use Rattle.register_store.proofs.MetaTested.{other_not}
+use Rattle.register_store.proofs.MetaTested.{newer_not}
 use Rattle.register_store.proofs.RowsFailed.{reason_of}
 
--- the rows show a content of the table that meets its test, where the tables before it are those of t
-abbrev pub Meets : TableName → Tables → List Row → Type 0
-Meets name t rows = (c : Content name) × ShowsRows name rows c × MeetsTest name (with_content name c t)
+-- the rows show what meets the table's test, where the tables before it are those of t
+abbrev pub Meets : TableName → Stored → List Row → Type 0
+Meets name t rows = (c : Part name) × ShowsRows name rows c × MeetsTest name (with_part name c t)
 
 -- What is proved of such a table: `Shows` says which entry a row shows, and P which entries pass.
-pub record AreTested (name : TableName) {A : Type 0} (Shows : Row → A → Type 0) (P : A → Type 0) (t : Tables) : Type
+pub record AreTested (name : TableName) {A : Type 0} (Shows : Row → A → Type 0) (P : A → Type 0) (t : Stored) : Type
     0 where
+  -- the version has it
+  pub within : IsWithin name t.version
   -- what its query shows where the database is a register's
-  pub own : (db : Db) (rows : List Row) (holds : Holds t db) → AnswersTo holds.schema.layout name db rows
+  pub own : (db : Db) (rows : List Row) (holds : HoldsStored t db) → AnswersTo holds.schema.layout name db rows
       → ShowsOwn name t rows
-  -- rows show one content
-  pub one : (rows : List Row) (c d : Content name) → ShowsRows name rows c → ShowsRows name rows d → c ≡ d
+  -- rows show one
+  pub one : (rows : List Row) (c d : Part name) → ShowsRows name rows c → ShowsRows name rows d → c ≡ d
   -- it meets its test exactly where each entry passes
   pub taken : (rows : List Row) → HasShown Shows P rows → Meets name t rows
   pub given : (rows : List Row) → Meets name t rows → HasShown Shows P rows
-  pub no_other : (rows : List Row) → AreOther name rows → ⊥
+  pub no_newer : (rows : List Row) → AreNewer name rows → ⊥
 
 module _ (name : TableName) {A : Type 0} (Shows : Row → A → Type 0) (P : A
-    → Type 0) (t : Tables) (are : AreTested name Shows P t)
+    → Type 0) (t : Stored) (are : AreTested name Shows P t)
     (old new : State) (survives : Survives old new (λ _. ⊥)) where
   abbrev Tested : Result (Unit {0}) CheckError → Type 0
   Tested q = TestsBy name t IsAny old new q
 
   pub entries_read : (HasCleanDisk new → ShowsAll (check_text name) (HasShown Shows P) old new) → Tested (Ok tt)
-  entries_read all = tests_by name t are.own (other_not t) IsAny (λ c d x like says. tt) are.one old new (Ok tt)
+  entries_read all = tests_by name t are.within are.own (newer_not t) IsAny (λ c d x like says. tt) are.one old new (Ok tt)
       (λ clean.
       let it = all clean in
       let met = are.taken it.rows it.holds in
@@ -54,7 +55,7 @@ module _ (name : TableName) {A : Type 0} (Shows : Row → A → Type 0) (P : A
     fails = λ c shows meets.
         let it = are.given (rows ++ tail) (c, shows, meets) in
         odd_on Shows P rows refuses tail it.values it.shown it.each;
-    no_other = are.no_other (rows ++ tail);
+    no_newer = are.no_newer (rows ++ tail);
   }
 
   pub entries_fail : (error : RowsError) (e : CheckError) → e ≡ check_error error
@@ -62,7 +63,7 @@ module _ (name : TableName) {A : Type 0} (Shows : Row → A → Type 0) (P : A
       → (HasCleanDisk new → error ≡ Refused → ShowsFirst (check_text name) (RefusesEach Shows P) old new)
       → (HasCleanDisk new → error ≡ Memory → IsUnchanged old new) → Tested (Err e)
   entries_fail error e is meaning refused memory =
-      tests_by name t are.own (other_not t) IsAny (λ c d x like says. tt) are.one old new (Err e) (λ clean. tt)
+      tests_by name t are.within are.own (newer_not t) IsAny (λ c d x like says. tt) are.one old new (Err e) (λ clean. tt)
       (λ clean. subst (IsReasonAt name t old new) (sym is)
       (reason_of name t old new (RefusesEach Shows P) error (meaning clean) (refused clean) (memory clean) (λ _. odd)))
       survives

@@ -19,15 +19,18 @@ use Rattle.register_store.specs.declared.found.Found.{Found}
 use Rattle.register_store.specs.declared.error.CheckError.{CheckError}
 use Rattle.register_store.specs.declared.error.CheckError.TheVariants.{NotARegister}
 use Rattle.register_store.specs.declared.table.TableName.TheVariants.{Keys}
-use Rattle.register_store.specs.Checking.{IsOdd, IsReasonAt, ShowsNumbered, ShowsRows, TestsBy, check_error, check_text, counts_of}
-use Rattle.register_store.specs.Schema.{Holds, rows_of}
-use Rattle.register_store.specs.Tables.{Counts, IsKey, Tables, key_row, numbered}
+use Rattle.register_core.specs.declared.version.Version.{Version}
+use Rattle.register_store.specs.Checking.{IsOdd, IsReasonAt, ShowsNumbered, ShowsRows, TestsBy, check_error, check_text}
+use Rattle.register_store.specs.Checking.{mark_of}
+use Rattle.register_store.specs.Schema.{rows_of}
+use Rattle.register_store.specs.Stored.{HoldsStored, Stored, mark}
+use Rattle.register_store.specs.Tables.{Counts, IsKey, key_row, numbered}
 use Rattle.register_store.specs.Taking.{AreCounted, AreOwners, HasKeys, RefusesKeys, owners_where}
 use Rattle.register_store.specs.Tests.{IsSoundAt, owners_of}
 use Rattle.register_store.proofs.Actions.{shows_all}
-use Rattle.register_store.proofs.Asked.{AnswersTo, ShowsOwn, shown_of_table, tests_by}
+use Rattle.register_store.proofs.Asked.{AnswersTo, IsWithin, ShowsOwn, in_both, shown_of_table, tests_by}
 use Rattle.register_store.proofs.Decoding.{one_key, same_number}
-use Rattle.register_store.proofs.MetaTested.{other_not}
+use Rattle.register_store.proofs.MetaTested.{newer_not}
 use Rattle.register_store.proofs.Numbers.{enumerate_append, is_table}
 use Rattle.register_store.proofs.Ordered.{in_order, shown_of}
 use Rattle.register_store.proofs.RowsFailed.{reason_of}
@@ -73,16 +76,16 @@ module _ (found : Found) (count : ℕ) (owners : List (List ℕ)) (rows : List R
   keys_full full keys are = let within = are.within in omega (arith, more_are keys are, within, full)
 
   -- a row that is not that of the next key
-  pub keys_odd : ((k : Key) → ShowsNumbered row (count + 1, k) → ¬ IsSoundAt found.latest k) → RefusesKeys found (rows ++ row ∷ [])
+  pub keys_odd : ((k : Key) → ShowsNumbered row (count + 1, k) → ¬ IsSoundAt found.version found.latest k) → RefusesKeys found (rows ++ row ∷ [])
   keys_odd odd keys are =
       let it = ends count keys (more_are keys are) in
       let all : numbered keys ≡ numbered it.0 ++ (1 + length it.0, it.1) ∷ [] = ap numbered it.2 ∙ enumerate_append 1 it.0 it.1 in
       let last = (show_split ShowsNumbered rows row (numbered it.0) (1 + length it.0, it.1) (subst (ShowEach ShowsNumbered (rows ++ row ∷ [])) all are.shown)).1 in
       let next : 1 + length it.0 ≡ count + 1 = omega (arith, it.3) in
-      odd it.1 (subst (λ n. ShowsNumbered row (n, it.1)) next last) (all_last (IsSoundAt found.latest) it.0 it.1 (subst (AllByRecursion (IsSoundAt found.latest)) it.2 are.sound))
+      odd it.1 (subst (λ n. ShowsNumbered row (n, it.1)) next last) (all_last (IsSoundAt found.version found.latest) it.0 it.1 (subst (AllByRecursion (IsSoundAt found.version found.latest)) it.2 are.sound))
 
   -- the row of the next key
-  pub keys_more : count < found.keys → (k : Key) → ShowsNumbered row (count + 1, k) → IsSoundAt found.latest k → (more : List (List ℕ)) → more ≡ owners ++ k.owner ∷ [] → HasKeys found (count + 1) more (rows ++ row ∷ [])
+  pub keys_more : count < found.keys → (k : Key) → ShowsNumbered row (count + 1, k) → IsSoundAt found.version found.latest k → (more : List (List ℕ)) → more ≡ owners ++ k.owner ∷ [] → HasKeys found (count + 1) more (rows ++ row ∷ [])
   keys_more room k shows sound more is =
       let counted = taken.counted in
       let next : count + 1 ≡ 1 + length taken.keys = omega (arith, counted) in
@@ -92,7 +95,7 @@ module _ (found : Found) (count : ℕ) (owners : List (List ℕ)) (rows : List R
         are = record {
           shown = subst (ShowEach ShowsNumbered (rows ++ row ∷ [])) (sym (enumerate_append 1 taken.keys k))
               (show_more ShowsNumbered rows (numbered taken.keys) row (1 + length taken.keys, k) taken.are.shown (subst (λ n. ShowsNumbered row (n, k)) next shows));
-          sound = all_more (IsSoundAt found.latest) taken.keys k taken.are.sound sound;
+          sound = all_more (IsSoundAt found.version found.latest) taken.keys k taken.are.sound sound;
           within = omega (arith, long, counted, room);
         };
         counted = omega (arith, long, counted);
@@ -125,18 +128,18 @@ own_shown n (k ∷ keys) all = (record { cells = own k all.0; number = refl; in_
       };
     }
 
-pub own_keys : (t : Tables) (db : Db) (rows : List Row) (holds : Holds t db)
+pub own_keys : (t : Stored) (db : Db) (rows : List Row) (holds : HoldsStored t db)
     → AnswersTo holds.schema.layout Keys db rows → ShowsOwn Keys t rows
 own_keys t db rows holds sure =
     let table : IsTable (rows_of holds.schema.layout Keys db) =
-    subst IsTable (sym (holds.shown Keys)) (is_table t.keys) in
+    subst IsTable (sym (holds.shown Keys)) (is_table t.tables.keys) in
     let is = in_order (holds.schema.layout.tree Keys) (shown_of_table Keys) (overlay db.trees []) rows
     (subst IsTable (sym (shows_all db.trees (holds.schema.layout.tree Keys))) table) sure
     ∙ ap (map (shown_of 0 (shown_of_table Keys))) (shows_all db.trees (holds.schema.layout.tree Keys)
     ∙ holds.shown Keys) in
     record {
-      c = t.keys;
-      shows = subst (λ rs. ShowEach ShowsNumbered rs (numbered t.keys)) (sym is) (own_shown 1 t.keys (holds.in_range Keys));
+      c = t.tables.keys;
+      shows = subst (λ rs. ShowEach ShowsNumbered rs (numbered t.tables.keys)) (sym is) (own_shown 1 t.tables.keys (holds.in_range Keys));
       like = refl;
       meets = λ meets. meets;
     }
@@ -153,12 +156,18 @@ one_keys rows c d x y = sym (keys_back 1 c) ∙ ap (map (λ (x : ℕ × Key). x.
 pub keys_begin : (found : Found) (owners : List (List ℕ)) → owners ≡ [] → HasKeys found 0 owners []
 keys_begin found owners none = record { keys = []; are = record { shown = tt; sound = tt; within = omega arith }; counted = refl; owners_are = none }
 
-module _ (t : Tables) (found : Found) (counts : counts_of found ≡ t.counts) (old new : State) (survives : Survives old new (λ _. ⊥)) where
-  latest_is : found.latest ≡ t.counts.latest
-  latest_is = ap (λ (c : Counts). c.latest) counts
+module _ (t : Stored) (found : Found) (told : mark_of found ≡ mark t) (old new : State) (survives : Survives old new (λ _. ⊥)) where
+  latest_is : found.latest ≡ t.tables.counts.latest
+  latest_is = ap (λ (m : Version × Counts). m.1.latest) told
 
-  key_count_is : found.keys ≡ t.counts.key_count
-  key_count_is = ap (λ (c : Counts). c.key_count) counts
+  version_is : found.version ≡ t.version
+  version_is = ap (λ (m : Version × Counts). m.0) told
+
+  keys_within : IsWithin Keys t.version
+  keys_within = in_both Keys (omega arith) t.version
+
+  key_count_is : found.keys ≡ t.tables.counts.key_count
+  key_count_is = ap (λ (m : Version × Counts). m.1.key_count) told
 
   -- rows that do not pass do not begin rows that do
   odd_on : (rows : List Row) → RefusesKeys found rows → (tail : List Row) → IsOdd Keys t (rows ++ tail)
@@ -167,14 +176,15 @@ module _ (t : Tables) (found : Found) (counts : counts_of found ≡ t.counts) (o
         let front = show_front ShowsNumbered rows tail (numbered keys) shows in
         let it = numbered_front 1 keys front.0 front.1 front.2 in
         let counted = meets.counted in
-        let sound = subst (λ l. AllByRecursion (IsSoundAt l) keys) (sym latest_is) meets.sound in
+        let sound = subst (λ v. AllByRecursion (IsSoundAt v found.latest) keys) (sym version_is)
+        (subst (λ l. AllByRecursion (IsSoundAt t.version l) keys) (sym latest_is) meets.sound) in
         refuses it.0 (record {
           shown = subst (ShowEach ShowsNumbered rows) it.3 front.3;
-          sound = all_front (IsSoundAt found.latest) it.0 it.1
-              (subst (AllByRecursion (IsSoundAt found.latest)) it.2 sound);
+          sound = all_front (IsSoundAt found.version found.latest) it.0 it.1
+              (subst (AllByRecursion (IsSoundAt found.version found.latest)) it.2 sound);
           within = omega (arith, ap length it.2, length-append it.0 it.1, counted, key_count_is);
         });
-    no_other = λ none. none;
+    no_newer = λ none. none;
   }
 
   abbrev Tested : Result (Vec (List ℕ)) CheckError → Type 0
@@ -182,21 +192,21 @@ module _ (t : Tables) (found : Found) (counts : counts_of found ≡ t.counts) (o
 
   -- all of them
   pub keys_read : (count : ℕ) (owners : Vec (List ℕ)) → (HasCleanDisk new → ShowsAll (check_text Keys) (HasKeys found count owners.items) old new) → (HasCleanDisk new → count ≡ found.keys) → Tested (Ok owners)
-  keys_read count owners all is = tests_by Keys t (own_keys t) (other_not t) AreOwners (λ c d x like says. says ∙ ap owners_of like) one_keys old new (Ok owners)
+  keys_read count owners all is = tests_by Keys t keys_within (own_keys t) (newer_not t) AreOwners (λ c d x like says. says ∙ ap owners_of like) one_keys old new (Ok owners)
       (λ clean.
       let it = all clean in
       let keys = it.holds.keys in
       let counted = it.holds.counted in (
         keys,
         record { rows = it.rows; shown = it.shown; holds = it.holds.are.shown; same = it.same },
-        record { counted = sym counted ∙ is clean ∙ key_count_is; sound = subst (λ l. AllByRecursion (IsSoundAt l) keys) latest_is it.holds.are.sound },
+        record { counted = sym counted ∙ is clean ∙ key_count_is; sound = subst (λ l. AllByRecursion (IsSoundAt t.version l) keys) latest_is (subst (λ v. AllByRecursion (IsSoundAt v found.latest) keys) version_is it.holds.are.sound) },
         it.holds.owners_are,
       ))
       (λ clean. tt) survives
 
   -- fewer than are counted
   pub keys_fewer : (count : ℕ) (owners : List (List ℕ)) → (HasCleanDisk new → ShowsAll (check_text Keys) (HasKeys found count owners) old new) → (HasCleanDisk new → count ≢ found.keys) → Tested (Err NotARegister)
-  keys_fewer count owners all off = tests_by Keys t (own_keys t) (other_not t) AreOwners (λ c d x like says. says ∙ ap owners_of like) one_keys old new (Err NotARegister) (λ clean. tt)
+  keys_fewer count owners all off = tests_by Keys t keys_within (own_keys t) (newer_not t) AreOwners (λ c d x like says. says ∙ ap owners_of like) one_keys old new (Err NotARegister) (λ clean. tt)
       (λ clean.
       let it = all clean in (
         inr (inr (record {
@@ -206,7 +216,7 @@ module _ (t : Tables) (found : Found) (counts : counts_of found ≡ t.counts) (o
             fails = λ keys shows meets.
                 let same = one_keys it.rows it.holds.keys keys it.holds.are.shown shows in
                 off clean (it.holds.counted ∙ ap length same ∙ meets.counted ∙ sym key_count_is);
-            no_other = λ none. none;
+            no_newer = λ none. none;
           };
           same = it.same;
         })),
@@ -218,7 +228,7 @@ module _ (t : Tables) (found : Found) (counts : counts_of found ≡ t.counts) (o
   pub keys_fail : (error : RowsError) (q : Result (Vec (List ℕ)) CheckError) → Rattle.std.specs.Prelude.IsErrAnd q (λ e. e ≡ check_error error) → (HasCleanDisk new → error ≡ NoMeaning → HasNoMeaning (check_text Keys) old new)
       → (HasCleanDisk new → error ≡ Refused → ShowsFirst (check_text Keys) (RefusesKeys found) old new) → (HasCleanDisk new → error ≡ Memory → IsUnchanged old new) → Tested q
   keys_fail error (Ok x) is meaning refused memory = absurd is
-  keys_fail error (Err e) is meaning refused memory = tests_by Keys t (own_keys t) (other_not t) AreOwners (λ c d x like says. says ∙ ap owners_of like) one_keys old new (Err e) (λ clean. tt)
+  keys_fail error (Err e) is meaning refused memory = tests_by Keys t keys_within (own_keys t) (newer_not t) AreOwners (λ c d x like says. says ∙ ap owners_of like) one_keys old new (Err e) (λ clean. tt)
       (λ clean. subst (IsReasonAt Keys t old new) (sym is) (reason_of Keys t old new (RefusesKeys found) error (meaning clean) (refused clean) (memory clean) (λ _. odd_on))) survives
 
   -- what is given of them

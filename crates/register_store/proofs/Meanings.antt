@@ -1,7 +1,7 @@
 -- What a text means that asks or writes one table, in a schema of which not every tree is known. The resolver looks a
 -- table up by its name, which computes; but whether it accepts the query it asks by the table's tree, and that has to
 -- be shown.
-use Rattle.std.proofs.Common.{◌≡◌, ◌<◌, ◌==◌, ◌^◌, inl, inr, ℕ, ◌&&◌, Bool, true, false, cond, List, [], ◌∷◌, map}
+use Rattle.std.proofs.Common.{◌≡◌, ◌<◌, ◌==◌, ◌^◌, inl, inr, ℕ, ◌&&◌, Bool, true, false, cond, List, [], ◌∷◌, map, take}
 use Rattle.std.proofs.Common.{Option, None, Some, Ok, Err, refl, sym, ap, subst, ◌∙◌, arith}
 use Rattle.std.specs.Prelude.{option_map, find, filter, nat_le}
 use Rattle.std.specs.List.{AllZip}
@@ -9,7 +9,7 @@ use Rattle.std.specs.Option.{option_and_then}
 use Rattle.std.proofs.lemmas.Bool.{cases_Bool, eq-eqb, eqb-true, lt-leb}
 use Rattle.sqlite.specs.Command.{Command}
 use Rattle.sqlite.specs.Command.TheVariants.{Select, Update, Delete}
-use Rattle.sqlite.specs.Effect.{Database}
+use Rattle.sqlite.specs.Effect.{Database, IsDatabase}
 use Rattle.sqlite.specs.Listing.{understood, reads_listing}
 use Rattle.sqlite.specs.Order.{Row}
 use Rattle.sqlite.specs.Schema.{Schema}
@@ -36,9 +36,13 @@ use Rattle.sqlite_typing.specs.declared.class.Class.{Class}
 use Rattle.sqlite_typing.specs.Types.{accepts_over, accepts_after, filled, is_count, table_classes, row_classes}
 use Rattle.sqlite_value.specs.declared.keys.Collation.{Collation}
 use Rattle.register_store.specs.declared.table.TableName.{TableName}
-use Rattle.register_store.specs.Tables.{Layout, AreApart, Tables, all_tables, table_of}
-use Rattle.register_store.specs.Schema.{Holds, schema_with}
-use Rattle.register_store.proofs.EachTable.{each, in_all, same_place}
+use Rattle.register_core.specs.declared.version.Version.{Version}
+use Rattle.register_core.specs.declared.version.Version.TheVariants.{First, Second}
+use Rattle.register_core.specs.Version.{current}
+use Rattle.register_store.specs.Tables.{Layout, AreApart, AreApartBelow, AreApartIn, Tables, all_tables, place_of, table_count}
+use Rattle.register_store.specs.Tables.{table_of}
+use Rattle.register_store.specs.Schema.{Holds, HoldsIn, schema_in, schema_with}
+use Rattle.register_store.proofs.EachTable.{each, in_version, low_in_version, placed_low, same_place}
 
 -- ---- one table
 
@@ -166,10 +170,13 @@ module _ (s : Schema) (table : Table) (has : table_classes s [] table.tree ≡ S
 
 -- ---- the register's tables
 
--- two tables have two trees, and each is one that a file can have
-pub record IsPlaced (l : Layout) : Type 0 where
-  pub apart : AreApart l
-  pub low : (name : TableName) → l.tree name < 65536
+-- two tables of a version have two trees, and each is one that a file can have
+pub record IsPlacedIn (version : Version) (l : Layout) : Type 0 where
+  pub apart : AreApartBelow (table_count version) l
+  pub low : (name : TableName) → place_of name < table_count version → l.tree name < 65536
+
+abbrev pub IsPlaced : Layout → Type 0
+IsPlaced = IsPlacedIn current
 
 low_in : (rows : List Row) (tables : List Table) → AllZip IsTableRow rows tables → (t : Table) → Has tables t
     → t.tree < 65536
@@ -179,30 +186,45 @@ low_in (r ∷ rows) [] all t h = absurd all
 low_in (r ∷ rows) (s ∷ tables) all t (inl same) = subst (λ (x : Table). x.tree < 65536) (sym same) all.0.described.low
 low_in (r ∷ rows) (s ∷ tables) all t (inr later) = low_in rows tables all.1 t later
 
+apart_below : (version : Version) (l : Layout) → AreApartIn version l → AreApartBelow (table_count version) l
+apart_below First l apart = apart
+apart_below Second l apart = λ a b low_a low_b same. apart a b same
+
+module _ (version : Version) where
+  pub placed_of : (l : Layout) (db : Database) → db.schema ≡ schema_in version l → AreApartIn version l
+      → IsDatabase db → IsPlacedIn version l
+  placed_of l db is apart sound =
+      let rows = filter is_table_row (db.trees catalog_tree) in
+      let listed = subst (λ (s : Schema). AllZip IsTableRow rows s.tables) is sound.lists.listed.tables in
+      record {
+        apart = apart_below version l apart;
+        low = λ name within. subst (λ n. n < 65536) ((each name).tree_is l)
+            (low_in rows (schema_in version l).tables listed (table_of l name) ((each name).listed_in version l within));
+      }
+
+  pub placed_as : (t : Tables) (db : Database) (holds : HoldsIn version t db) → IsPlacedIn version holds.schema.layout
+  placed_as t db holds = placed_of holds.schema.layout db holds.schema.is holds.schema.apart holds.sound
+
+pub placed_in : (l : Layout) (db : Database) → db.schema ≡ schema_with l → AreApart l → IsDatabase db → IsPlaced l
+placed_in = placed_of current
+
 pub placed : (t : Tables) (db : Database) (holds : Holds t db) → IsPlaced holds.schema.layout
-placed t db holds =
-    let l = holds.schema.layout in
-    let rows = filter is_table_row (db.trees catalog_tree) in
-    let listed = subst (λ (s : Schema). AllZip IsTableRow rows s.tables) holds.schema.is
-    holds.sound.lists.listed.tables in
-    record {
-      apart = holds.schema.apart;
-      low = λ name. subst (λ n. n < 65536) ((each name).tree_is l)
-          (low_in rows (schema_with l).tables listed (table_of l name) ((each name).listed l));
-    }
+placed = placed_as current
 
 -- the tables are told by their trees
-found_in : (l : Layout) → AreApart l → (name : TableName) (names : List TableName) → Has names name
+found_in : (l : Layout) (name : TableName) (names : List TableName)
+    → ((n : TableName) → Has names n → l.tree n ≡ l.tree name → place_of n ≡ place_of name) → Has names name
     → find (λ (t : Table). t.tree == l.tree name) (map (table_of l) names) ≡ Some (table_of l name)
-found_in l apart name [] h = absurd h
-found_in l apart name (n ∷ names) h = elim (cases_Bool ((table_of l n).tree == l.tree name)) [
+found_in l name [] apart h = absurd h
+found_in l name (n ∷ names) apart h = elim (cases_Bool ((table_of l n).tree == l.tree name)) [
   | inl same ↦
-      let is : n ≡ name = same_place name n (apart n name (sym ((each n).tree_is l) ∙ eqb-true _ _ same)) in
+      let is : n ≡ name =
+      same_place name n (apart n (inl refl) (sym ((each n).tree_is l) ∙ eqb-true _ _ same)) in
       ap (λ b. cond b (Some (table_of l n)) (find (λ (t : Table). t.tree == l.tree name) (map (table_of l) names)))
       same ∙ ap (λ m. Some (table_of l m)) is
   | inr other ↦
       ap (λ b. cond b (Some (table_of l n)) (find (λ (t : Table). t.tree == l.tree name) (map (table_of l) names)))
-      other ∙ found_in l apart name names (later other h)
+      other ∙ found_in l name names (λ m has. apart m (inr has)) (later other h)
 ]
   where
     later : ((table_of l n).tree == l.tree name) ≡ false → Has (n ∷ names) name → Has names name
@@ -211,11 +233,19 @@ found_in l apart name (n ∷ names) h = elim (cases_Bool ((table_of l n).tree ==
         ≡ true = eq-eqb _ _ ((each n).tree_is l ∙ ap l.tree (sym e)) in cc)
     later other (inr h) = h
 
+pub classes_in : (version : Version) (l : Layout) → IsPlacedIn version l → (name : TableName)
+    → place_of name < table_count version → table_classes (schema_in version l) [] (table_of l name).tree
+    ≡ Some (row_classes (table_of l name))
+classes_in version l is name within =
+    let tree : ℕ = l.tree name in
+    let names : List TableName = take (table_count version) all_tables in
+    let low : nat_le (2 ^ 31) tree ≡ false = lt-leb 2147483648 tree (omega (arith, is.low name within)) in
+    subst (λ n. table_classes (schema_in version l) [] n ≡ Some (row_classes (table_of l name)))
+    (sym ((each name).tree_is l))
+    (ap (λ b. cond b None (option_map row_classes (find (λ (t : Table). t.tree == tree) (schema_in version l).tables))) low
+    ∙ ap (option_map row_classes) (found_in l name names
+    (λ n has. is.apart n name (low_in_version version n has) within) (in_version version name within)))
+
 pub classes : (l : Layout) → IsPlaced l → (name : TableName) → table_classes (schema_with l) [] (table_of l name).tree
     ≡ Some (row_classes (table_of l name))
-classes l is name =
-    let tree : ℕ = l.tree name in
-    let low : nat_le (2 ^ 31) tree ≡ false = lt-leb 2147483648 tree (omega (arith, is.low name)) in
-    subst (λ n. table_classes (schema_with l) [] n ≡ Some (row_classes (table_of l name))) (sym ((each name).tree_is l))
-    (ap (λ b. cond b None (option_map row_classes (find (λ (t : Table). t.tree == tree) (schema_with l).tables))) low
-    ∙ ap (option_map row_classes) (found_in l is.apart name all_tables (in_all name)))
+classes l is name = classes_in current l is name (placed_low name)

@@ -1,5 +1,5 @@
 -- The test of the table of requests.
-use Rattle.std.proofs.Common.{◌≡◌, List, [], ◌∷◌, sym, subst, refl}
+use Rattle.std.proofs.Common.{◌≡◌, List, [], ◌∷◌, sym, subst, refl, arith}
 use Rattle.std.specs.List.{AllByRecursion}
 use Rattle.sqlite.specs.Effect.{Database as Db}
 use Rattle.sqlite.specs.Order.{Row}
@@ -10,12 +10,12 @@ use Rattle.register_core.specs.declared.kept_reply.KeptReply.{KeptReply}
 use Rattle.register_core.specs.KeptReply.{IsKeptReply}
 use Rattle.register_store.specs.declared.found.Found.{Found}
 use Rattle.register_store.specs.declared.table.TableName.TheVariants.{Request}
-use Rattle.register_store.specs.Checking.{ShowsKept, counts_of}
-use Rattle.register_store.specs.Schema.{Holds}
-use Rattle.register_store.specs.Tables.{Tables, request_cells}
+use Rattle.register_store.specs.Checking.{ShowsKept, mark_of}
+use Rattle.register_store.specs.Stored.{HoldsStored, Stored, mark}
+use Rattle.register_store.specs.Tables.{request_cells}
 use Rattle.register_store.specs.Tests.{IsReplyOf}
 use Rattle.register_store.proofs.Actions.{shows_all}
-use Rattle.register_store.proofs.Asked.{AnswersTo, ShowsOwn, shown_of_table}
+use Rattle.register_store.proofs.Asked.{AnswersTo, ShowsOwn, in_both, shown_of_table}
 use Rattle.register_store.proofs.Decoding.{same_number, same_request, same_words}
 use Rattle.register_store.proofs.EntriesShown.{all_permuted, own_entries}
 use Rattle.register_store.proofs.EntriesTested.{AreTested}
@@ -35,13 +35,13 @@ own_row k is = record {
   in_range = is;
 }
 
-own_requests : (t : Tables) (db : Db) (rows : List Row) (holds : Holds t db)
+own_requests : (t : Stored) (db : Db) (rows : List Row) (holds : HoldsStored t db)
     → AnswersTo holds.schema.layout Request db rows → ShowsOwn Request t rows
 own_requests t db rows holds sure =
     let it = own_entries request_cells ShowsKept IsKeptReply (holds.schema.layout.tree Request)
-    (shown_of_table Request) shown_past own_row db t.requests rows (holds.in_range Request) (holds.shown Request)
+    (shown_of_table Request) shown_past own_row db t.tables.requests rows (holds.in_range Request) (holds.shown Request)
     (shows_all db.trees (holds.schema.layout.tree Request)) sure in
-    record { c = it.0; shows = it.2; like = it.1; meets = all_permuted (IsReplyOf t.counts) t.requests it.0 it.1 }
+    record { c = it.0; shows = it.2; like = it.1; meets = all_permuted (IsReplyOf (mark t)) t.tables.requests it.0 it.1 }
 
 -- a row shows one request
 pub one_kept : (row : Row) (a b : KeptReply) → ShowsKept row a → ShowsKept row b → a ≡ b
@@ -51,10 +51,11 @@ one_kept row a b x y =
     let own = x.cells.cells in
     same_request b.caller b.number row a b (record { caller = caller; number = number; command = own.command; key = own.key; state = own.state; moment = own.moment }) y.cells.cells
 
--- the test asks of each that the register with these counts may have given its reply
-pub are_tested : (t : Tables) (found : Found) → counts_of found ≡ t.counts
-    → AreTested Request ShowsKept (IsReplyOf (counts_of found)) t
+-- the test asks of each that the register of this version, with these counts, may have given its reply
+pub are_tested : (t : Stored) (found : Found) → mark_of found ≡ mark t
+    → AreTested Request ShowsKept (IsReplyOf (mark_of found)) t
 are_tested t found counts = record {
+  within = in_both Request (omega arith) t.version;
   own = own_requests t;
   one = show_same ShowsKept one_kept;
   taken = λ rows it. (it.values, it.shown, subst (λ n. AllByRecursion (IsReplyOf n) it.values) counts it.each);
@@ -63,5 +64,5 @@ are_tested t found counts = record {
     shown = met.1;
     each = subst (λ n. AllByRecursion (IsReplyOf n) met.0) (sym counts) met.2;
   };
-  no_other = λ rows none. none;
+  no_newer = λ rows none. none;
 }

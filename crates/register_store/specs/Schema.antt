@@ -10,8 +10,10 @@ use Rattle.register_store.specs.declared.key_index.KeyIndex.{KeyIndex}
 use Rattle.register_store.specs.declared.key_index.KeyIndex.TheVariants.{Activation, Deactivation, ProtectStop}
 use Rattle.register_store.specs.declared.table.TableName.{TableName}
 use Rattle.register_store.specs.declared.table.TableName.TheVariants.{Keys}
-use Rattle.register_store.specs.Tables.{Layout, AreApart, fresh, Tables, content, IsInRange, Shows, all_tables}
-use Rattle.register_store.specs.Tables.{table_of, key_indexes, trees_of}
+use Rattle.register_core.specs.declared.version.Version.{Version}
+use Rattle.register_core.specs.Version.{current}
+use Rattle.register_store.specs.Tables.{Layout, AreApartIn, fresh, Tables, content, IsInRange, ShowsIn, all_tables}
+use Rattle.register_store.specs.Tables.{table_of, table_count, key_indexes, trees_of}
 
 -- ---- schemas
 
@@ -23,20 +25,30 @@ no_schema = record { tables = []; indexes = []; views = [] }
 abbrev pub schema_after : ℕ → Schema
 schema_after n = fold (λ schema name. created schema (table_of (fresh []) name)) no_schema (take n all_tables)
 
--- The schema of a register whose tables stand so. Indexes are free, since they change no row: it may have any beside
--- those of the primary keys.
-abbrev pub schema_with : Layout → Schema
-schema_with l = record {
-  tables = map (table_of l) all_tables;
+-- The schema with the first n of a register's tables, which stand so. Indexes are free, since they change no row: it may
+-- have any beside those of the primary keys.
+abbrev pub schema_below : ℕ → Layout → Schema
+schema_below n l = record {
+  tables = map (table_of l) (take n all_tables);
   indexes = key_indexes l ++ l.more;
   views = [];
 }
 
--- it has the tables of a register, whatever trees they stand in
-pub record IsRegister (schema : Schema) : Type 0 where
+abbrev pub schema_in : Version → Layout → Schema
+schema_in version l = schema_below (table_count version) l
+
+-- that of this program's version
+abbrev pub schema_with : Layout → Schema
+schema_with = schema_in current
+
+-- it has the tables of a register of this version, whatever trees they stand in
+pub record IsRegisterIn (version : Version) (schema : Schema) : Type 0 where
   pub layout : Layout
-  pub apart : AreApart layout
-  pub is : schema ≡ schema_with layout
+  pub apart : AreApartIn version layout
+  pub is : schema ≡ schema_in version layout
+
+abbrev pub IsRegister : Schema → Type 0
+IsRegister = IsRegisterIn current
 
 -- ---- the indexes of keys that a new register has
 
@@ -80,10 +92,14 @@ index_text ProtectStop = codes "CREATE INDEX keys_by_protect_stop ON keys (state
 abbrev pub rows_of : Layout → TableName → Database → List Cells
 rows_of l name db = db.trees (l.tree name)
 
--- The database holds the tables: its schema is a register's, which its trees list and obey, and each table's rows are
--- those of its content, which is in range.
-pub record Holds (t : Tables) (db : Database) : Type 0 where
-  pub schema : IsRegister db.schema
+-- The database holds the tables in this version: its schema is a register's, which its trees list and obey, and each
+-- table's rows are those of its content, which is in range.
+pub record HoldsIn (version : Version) (t : Tables) (db : Database) : Type 0 where
+  pub schema : IsRegisterIn version db.schema
   pub sound : IsDatabase db
   pub in_range : (name : TableName) → IsInRange name (content name t)
-  pub shown : (name : TableName) → Shows name (content name t) (rows_of schema.layout name db)
+  pub shown : (name : TableName) → ShowsIn version name (content name t) (rows_of schema.layout name db)
+
+-- in this program's
+abbrev pub Holds : Tables → Database → Type 0
+Holds = HoldsIn current

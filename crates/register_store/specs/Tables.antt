@@ -1,5 +1,5 @@
 -- The tables of a register, one by one: what each holds, how it is made, and how its content stands in its rows.
-use Rattle.std.specs.Prelude.{◌≡◌, ◌≤◌, ℕ, ◌+◌, pos, Bool, cond, false, not, List, [], ◌∷◌, ◌++◌, map, drop, filter}
+use Rattle.std.specs.Prelude.{◌≡◌, ◌≤◌, ◌<◌, ℕ, ◌+◌, pos, Bool, cond, false, not, List, [], ◌∷◌, ◌++◌, map, drop, filter}
 use Rattle.std.specs.Prelude.{take, Option, None, Some, is_some, IsTrue, IsPermutation, codes}
 use Rattle.std.specs.List.{AllByRecursion, enumerate_from}
 use Rattle.sqlite.specs.declared.types.Value.TheVariants.{Null, Int, Text as Words}
@@ -26,6 +26,8 @@ use Rattle.register_core.specs.Purpose.{IsPurpose}
 use Rattle.register_core.specs.Request.{IsDate, command_text}
 use Rattle.register_core.specs.Quorum.{IsQuorum}
 use Rattle.register_core.specs.Settings.{KeyNeed, TypePeriod}
+use Rattle.register_core.specs.declared.version.Version.{Version}
+use Rattle.register_core.specs.declared.version.Version.TheVariants.{First, Second}
 use Rattle.register_core.specs.Version.{current, version_number}
 use Rattle.register_store.specs.declared.table.TableName.{TableName}
 use Rattle.register_store.specs.declared.table.TableName.TheVariants.{Meta, Keys, Custodian, Approval, Request, Period}
@@ -76,8 +78,12 @@ date_cell (Some date) = date
 abbrev pub version : ℕ
 version = version_number current
 
+abbrev pub counts_row_in : Version → Counts → Cells
+counts_row_in v counts =
+    Int (pos 1) ∷ Null ∷ Int (pos (version_number v)) ∷ Int (pos counts.latest) ∷ Int (pos counts.key_count) ∷ []
+
 abbrev pub counts_row : Counts → Cells
-counts_row counts = Int (pos 1) ∷ Null ∷ Int (pos version) ∷ Int (pos counts.latest) ∷ Int (pos counts.key_count) ∷ []
+counts_row = counts_row_in current
 
 -- the cells of a key past its number
 abbrev pub key_cells : Key → Cells
@@ -130,6 +136,11 @@ pub record ShowsEntries {A : Type 0} (cells_of : A → Cells) (entries : List A)
 pub record ShowsKeyed {A : Type 0} (row_of : A → Cells) (entries : List A) (rows : List Cells) : Type 0 where
   pub rows_are : IsPermutation rows (map row_of entries)
   pub ordered : IsTable rows
+
+-- The second version has the table, whose rows are those of the entries; the first has none, and nothing is set in it.
+abbrev pub ShowsSinceSecond : {A : Type 0} → (A → Cells) → Version → List A → List Cells → Type 0
+ShowsSinceSecond row_of First entries rows = entries ≡ []
+ShowsSinceSecond row_of Second entries rows = ShowsKeyed row_of entries rows
 
 -- ---- ranges
 
@@ -201,8 +212,8 @@ pub record Form : Type 1 where
   -- its columns and what they refer to, where its rows stand in this tree; and the text that makes it
   pub table : ℕ → Table
   pub create_text : List ℕ
-  -- which rows are those of a content, and which contents are in range
-  pub Shows : Content → List Cells → Type 0
+  -- which rows are those of a content in a version, and which contents are in range
+  pub Shows : Version → Content → List Cells → Type 0
   pub IsInRange : Content → Type 0
 
 -- A table with an INTEGER PRIMARY KEY keeps its rows in order of that, whatever the order in which they came.
@@ -216,7 +227,7 @@ form Meta = record {
       ∷ number_column (codes "latest") ∷ number_column (codes "key_count") ∷ []) [];
   create_text = codes
       "CREATE TABLE meta (id INTEGER PRIMARY KEY, version INTEGER NOT NULL, latest INTEGER NOT NULL, key_count INTEGER NOT NULL) STRICT";
-  Shows = λ counts rows. rows ≡ counts_row counts ∷ [];
+  Shows = λ v counts rows. rows ≡ counts_row_in v counts ∷ [];
   IsInRange = λ counts. IsMoment counts.latest;
 }
 form Keys = record {
@@ -231,7 +242,7 @@ form Keys = record {
       ∷ number_column (codes "compromised") ∷ number_column (codes "occurrence") ∷ []) [];
   create_text = codes
       "CREATE TABLE keys (number INTEGER PRIMARY KEY, kind INTEGER NOT NULL, owner TEXT NOT NULL, purpose TEXT NOT NULL, state INTEGER NOT NULL, initial INTEGER NOT NULL, activation INTEGER NOT NULL, protect_stop INTEGER NOT NULL, deactivation INTEGER NOT NULL, destroyed INTEGER NOT NULL, compromised INTEGER NOT NULL, occurrence INTEGER NOT NULL) STRICT";
-  Shows = λ keys rows. rows ≡ map key_row (numbered keys);
+  Shows = λ v keys rows. rows ≡ map key_row (numbered keys);
   IsInRange = AllByRecursion IsKey;
 }
 form Custodian = record {
@@ -242,7 +253,7 @@ form Custodian = record {
   table = paired (codes "custodian") to_keys;
   create_text = codes
       "CREATE TABLE custodian (key_no INTEGER NOT NULL REFERENCES keys(number), name TEXT NOT NULL, PRIMARY KEY (key_no, name)) STRICT";
-  Shows = ShowsEntries name_cells;
+  Shows = λ v. ShowsEntries name_cells;
   IsInRange = AreNames;
 }
 form Approval = record {
@@ -253,7 +264,7 @@ form Approval = record {
   table = paired (codes "approval") to_custodian;
   create_text = codes
       "CREATE TABLE approval (key_no INTEGER NOT NULL, name TEXT NOT NULL, PRIMARY KEY (key_no, name), FOREIGN KEY (key_no, name) REFERENCES custodian(key_no, name) ON DELETE CASCADE) STRICT";
-  Shows = ShowsEntries name_cells;
+  Shows = λ v. ShowsEntries name_cells;
   IsInRange = AreNames;
 }
 -- a caller's number stands once, and refers to nothing
@@ -267,7 +278,7 @@ form Request = record {
       ∷ number_column (codes "moment") ∷ []) [];
   create_text = codes
       "CREATE TABLE request (caller TEXT NOT NULL, number INTEGER NOT NULL, command TEXT NOT NULL, key_no INTEGER NOT NULL, state INTEGER NOT NULL, moment INTEGER NOT NULL, PRIMARY KEY (caller, number)) STRICT";
-  Shows = ShowsEntries request_cells;
+  Shows = λ v. ShowsEntries request_cells;
   IsInRange = AllByRecursion IsKeptReply;
 }
 -- a type has one period at most
@@ -280,7 +291,7 @@ form Period = record {
       ∷ number_column (codes "recipient") ∷ []) [];
   create_text = codes
       "CREATE TABLE period (kind INTEGER PRIMARY KEY, originator INTEGER NOT NULL, recipient INTEGER NOT NULL) STRICT";
-  Shows = ShowsKeyed period_row;
+  Shows = ShowsSinceSecond period_row;
   IsInRange = AllByRecursion IsSetPeriod;
 }
 -- and a key one need
@@ -293,13 +304,21 @@ form Quorum = record {
       (rowid_to_keys ∷ []);
   create_text = codes
       "CREATE TABLE quorum (key_no INTEGER PRIMARY KEY REFERENCES keys(number), need INTEGER NOT NULL) STRICT";
-  Shows = ShowsKeyed need_row;
+  Shows = ShowsSinceSecond need_row;
   IsInRange = AllByRecursion IsSetNeed;
 }
 
 -- the tables in the order in which they are made
 abbrev pub all_tables : List TableName
 all_tables = Meta ∷ Keys ∷ Custodian ∷ Approval ∷ Request ∷ Period ∷ Quorum ∷ []
+
+-- how many of them a version has: the first ones
+abbrev pub table_count : Version → ℕ
+table_count First = 5
+table_count Second = 7
+
+abbrev pub tables_in : Version → List TableName
+tables_in v = take (table_count v) all_tables
 
 -- ---- one table by its name
 
@@ -318,8 +337,11 @@ with_content name = (form name).with_content
 abbrev pub create_text : TableName → List ℕ
 create_text name = (form name).create_text
 
+abbrev pub ShowsIn : Version → (name : TableName) → Content name → List Cells → Type 0
+ShowsIn v name = (form name).Shows v
+
 abbrev pub Shows : (name : TableName) → Content name → List Cells → Type 0
-Shows name = (form name).Shows
+Shows = ShowsIn current
 
 abbrev pub IsInRange : (name : TableName) → Content name → Type 0
 IsInRange name = (form name).IsInRange
@@ -346,6 +368,16 @@ pub record Layout : Type 0 where
 -- two tables have two trees
 abbrev pub AreApart : Layout → Type 0
 AreApart l = (a b : TableName) → l.tree a ≡ l.tree b → place_of a ≡ place_of b
+
+-- two of the first n
+abbrev pub AreApartBelow : ℕ → Layout → Type 0
+AreApartBelow n l =
+    (a b : TableName) → place_of a < n → place_of b < n → l.tree a ≡ l.tree b → place_of a ≡ place_of b
+
+-- two that a version has
+abbrev pub AreApartIn : Version → Layout → Type 0
+AreApartIn First l = AreApartBelow (table_count First) l
+AreApartIn Second l = AreApart l
 
 -- how many trees these tables take: one for the rows of each, and one for the index of its primary key
 abbrev pub trees_of : List TableName → ℕ

@@ -4,9 +4,11 @@ ghost use Rattle.sqlite.specs.Held.{state};
 ghost use Rattle.sqlite.specs.State.{Survives};
 ghost use Rattle.register_core.specs.Settings.{KeyNeed, TypePeriod};
 ghost use Rattle.register_store.specs.declared.table.TableName.TheVariants as table;
-ghost use Rattle.register_store.specs.Tables.{Tables};
+ghost use Rattle.register_core.specs.declared.version.Version.TheVariants.{Second};
+ghost use Rattle.register_store.specs.Stored.{Stored, mark};
 ghost use Rattle.register_store.specs.Tests.{IsNeedOf};
-ghost use Rattle.register_store.specs.Checking.{ShowsKeyNeed, ShowsTypePeriod, TestsBy, counts_of};
+ghost use Rattle.register_store.specs.Checking.{ShowsKeyNeed, ShowsTypePeriod, TestsBy};
+ghost use Rattle.register_store.specs.Checking.{counts_of, mark_of};
 ghost use Rattle.register_store.specs.Taking.{IsAny, key_need, type_period};
 
 use crate::cell::{kind_in, months_in, need_in, number_in};
@@ -76,14 +78,14 @@ impl RowTest for PeriodTest {
     }
 }
 
-/// Puts the table of periods to its test. It changes nothing.
+/// Puts the table of periods of the second version to its test. It changes nothing.
 ///
 /// # Errors
 /// As the check of all tables.
 pub(crate) fn check_periods<S: Alter>(connection: &mut Connection<S>) -> Result<(), CheckError>
     requires { connection.old.in_transaction ≡ false }
     ensures idle { connection.new.in_transaction ≡ false }
-    ensures tests { (t : Tables) → TestsBy table.Period t IsAny
+    ensures tests { (t : Stored) → t.version ≡ Second → TestsBy table.Period t IsAny
         (state S.Store connection.old) (state S.Store connection.new) result }
     ensures survives { Survives (state S.Store connection.old)
         (state S.Store connection.new) (λ _. ⊥) }
@@ -133,7 +135,7 @@ impl RowTest for NeedTest {
     }
 }
 
-/// Puts the table of needs to its test, with what meta counts. It changes nothing.
+/// Puts the table of needs of the second version to its test, with what meta counts. It changes nothing.
 ///
 /// # Errors
 /// As the check of all tables.
@@ -143,7 +145,8 @@ pub(crate) fn check_needs<S: Alter>(
 ) -> Result<(), CheckError>
     requires { connection.old.in_transaction ≡ false }
     ensures idle { connection.new.in_transaction ≡ false }
-    ensures tests { (t : Tables) → counts_of found ≡ t.counts → TestsBy table.Quorum t IsAny
+    ensures tests { (t : Stored) → t.version ≡ Second → mark_of found ≡ mark t →
+        TestsBy table.Quorum t IsAny
         (state S.Store connection.old) (state S.Store connection.new) result }
     ensures survives { Survives (state S.Store connection.old)
         (state S.Store connection.new) (λ _. ⊥) }

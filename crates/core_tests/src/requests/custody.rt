@@ -24,10 +24,18 @@ const COMPROMISED: State = State::Compromised;
 const DESTROYED: State = State::Destroyed;
 
 /// As many custodians as a key may have.
-const EIGHT: [&str; 8] = ["c1", "c2", "c3", "c4", "c5", "c6", "c7", "c8"];
+#[rattlefmt::skip]
+const SIXTEEN: [&str; 16] = [
+    "c1", "c2", "c3", "c4", "c5", "c6", "c7", "c8",
+    "c9", "c10", "c11", "c12", "c13", "c14", "c15", "c16",
+];
 
 /// One fewer.
-const SEVEN: [&str; 7] = ["c1", "c2", "c3", "c4", "c5", "c6", "c7"];
+#[rattlefmt::skip]
+const FIFTEEN: [&str; 15] = [
+    "c1", "c2", "c3", "c4", "c5", "c6", "c7", "c8",
+    "c9", "c10", "c11", "c12", "c13", "c14", "c15",
+];
 
 const TOO_MANY: Refusal = Refusal::TooManyCustodians;
 
@@ -56,9 +64,9 @@ const OF_THREE: [Asked; 17] = [
     (DESTROYED, "1000 zed 1 revoke 1 3 1000", Ok(State::DestroyedCompromised)),
 ];
 
-/// The same where there are eight custodians, and no approvals.
+/// The same where there are sixteen custodians, and no approvals.
 #[rattlefmt::skip]
-const OF_EIGHT: [Asked; 5] = [
+const OF_SIXTEEN: [Asked; 5] = [
     (PRE, "1000 bob 1 add-custodian 1 fay", Err(TOO_MANY)),
     (PRE, "1000 bob 1 add-custodian 1 bob", Err(TOO_MANY)),
     (PRE, "1000 bob 1 add-custodian 1 c8", Err(Refusal::AlreadyCustodian)),
@@ -66,9 +74,9 @@ const OF_EIGHT: [Asked; 5] = [
     (PRE, "1000 bob 1 destroy 1", Err(Refusal::ApprovalsMissing { have: 0, need: 2 })),
 ];
 
-/// The same where there are seven, and the first has approved.
+/// The same where there are fifteen, and the first has approved.
 #[rattlefmt::skip]
-const OF_SEVEN: [Asked; 6] = [
+const OF_FIFTEEN: [Asked; 6] = [
     (PRE, "1000 bob 1 add-custodian 1 fay", Ok(PRE)),
     (PRE, "1000 bob 1 add-custodian 1 bob", Err(BOTH)),
     (PRE, "1000 bob 1 destroy 1", Err(Refusal::ApprovalsMissing { have: 1, need: 2 })),
@@ -115,8 +123,11 @@ fn refusals_of_custody(rt: HostRuntime) -> Result<(), Fail> {
         &OF_THREE,
     )?;
     assert_eq!(rt; of_three, None);
-    assert_eq!(rt; first_wrong(rt.alloc(), &EIGHT, &[], &OF_EIGHT)?, None);
-    assert_eq!(rt; first_wrong(rt.alloc(), &SEVEN, &["c1"], &OF_SEVEN)?, None);
+    assert_eq!(rt; first_wrong(rt.alloc(), &SIXTEEN, &[], &OF_SIXTEEN)?, None);
+    assert_eq!(rt;
+        first_wrong(rt.alloc(), &FIFTEEN, &["c1"], &OF_FIFTEEN)?,
+        None
+    );
     Ok(())
 }
 

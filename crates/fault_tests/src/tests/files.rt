@@ -91,6 +91,8 @@ pub enum Entry {
     Creation,
     /// The register is opened.
     Opening,
+    /// The register of the first version is opened, and so taken to this program's.
+    Migration,
 }
 
 /// Why there is no desk.
@@ -119,7 +121,7 @@ impl<T: DeskTask> Task for OverDesk<'_, T> {
     ) -> Result<(Connection<S>, Result<T::Outcome, OpenRefusal>), Fail> {
         let entered = match self.entry {
             Entry::Creation => Desk::create(alloc, connection),
-            Entry::Opening => Desk::open(alloc, connection),
+            Entry::Opening | Entry::Migration => Desk::open(alloc, connection),
         };
         match entered {
             Ok(mut desk) => {

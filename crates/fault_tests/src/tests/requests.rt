@@ -104,12 +104,13 @@ const POST: &str =
 const POSTED: &str = "HTTP/1.1 200 OK\r\nContent-Type: application/json\r\nContent-Length: 43\r\n\
     Connection: close\r\n\r\n{\"key\":2,\"moment\":100,\"state\":\"Pre-Active\"}";
 
-/// The beginnings: a register is made; one with the whole day is opened; and the worked row of stops, which is the
-/// request of *defaults* over a disk that stops.
+/// The beginnings: a register is made; one with the whole day is opened, and that of *defaults* in a file of the first
+/// version; and the worked row of stops, which is the request of *defaults* over a disk that stops.
 #[rattlefmt::skip]
-pub const BEGINNINGS: [Trial; 3] = [
+pub const BEGINNINGS: [Trial; 4] = [
     Trial { name: "creation", before: &[], sent: &[], way: Way::Entry(Entry::Creation), commits: 1 },
     Trial { name: "opening", before: DAY, sent: &[], way: Way::Entry(Entry::Opening), commits: 0 },
+    Trial { name: "migration", before: &[DEFAULTS], sent: &[], way: Way::Entry(Entry::Migration), commits: 1 },
     Trial { name: "worked row of stops", before: &[], sent: &[DEFAULTS], way: Way::Lines, commits: 1 },
 ];
 

@@ -40,7 +40,10 @@ const CALLS_OF_COMMIT: u64 = 4;
 /// many. An opening reads both files; else a read may be answered from memory.
 fn least(trial: &Trial, fault: Fault) -> u64 {
     let writes = trial.commits.saturating_mul(CALLS_OF_COMMIT);
-    let reads = (trial.way == Way::Entry(Entry::Opening)) as u64;
+    let reads = match trial.way {
+        Way::Entry(Entry::Opening | Entry::Migration) => 1,
+        Way::Entry(Entry::Creation) | Way::Lines | Way::Rows(_) | Way::Post(..) => 0,
+    };
     let of_file = match fault.plan {
         Plan::Honest => 0,
         Plan::FailRead(_) => reads,

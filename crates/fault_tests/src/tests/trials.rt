@@ -3,6 +3,7 @@ use super::files::{DeskTask, Entry, Fault, HONEST, Lab, Left, NoDesk, Nothing, n
 use super::leaving::{LEAVINGS, Leaving, Stopped, are_same};
 use super::sending::{Came, Way, is_broken, send};
 use super::texts::Exchange;
+use desk_trials::first_version;
 use register_desk::{Desk, OpenRefusal};
 use sqlite::{Alter, Files};
 use sqlite_disk::Memory;
@@ -28,9 +29,17 @@ impl Trial {
     /// How many steps it takes from the register that it finds to the one that it leaves.
     fn steps(&self) -> usize {
         match self.way {
-            Way::Entry(Entry::Creation) => 1,
+            Way::Entry(Entry::Creation | Entry::Migration) => 1,
             Way::Entry(Entry::Opening) => 0,
             Way::Lines | Way::Rows(_) | Way::Post(..) => self.sent.len(),
+        }
+    }
+
+    /// Whether it looks for tables that are not there. The count of one of these may be refused, and is passed over.
+    fn looks_for_tables(&self) -> bool {
+        match self.way {
+            Way::Entry(Entry::Creation | Entry::Migration) => true,
+            Way::Entry(Entry::Opening) | Way::Lines | Way::Rows(_) | Way::Post(..) => false,
         }
     }
 }
@@ -126,17 +135,44 @@ fn rows_of_creation(lab: Lab) -> Result<Vec<String>, Fail> {
     Ok(rows)
 }
 
+/// The files of the worked register of the first version.
+fn files_of_first_version(lab: Lab) -> Result<Files<Memory>, Fail> {
+    let mut statements = String::new(lab.alloc);
+    for sql in first_version() {
+        statements.push_str(sql)?;
+        statements.push_str(";\n")?;
+    }
+    lab.files_by(statements.as_str())
+}
+
+/// The rows of that register, and of the one that this program makes of its requests.
+fn rows_of_migration(
+    lab: Lab,
+    files: &Files<Memory>,
+    before: &[Exchange],
+) -> Result<Vec<String>, Fail> {
+    let mut rows = Vec::new(lab.alloc);
+    rows.push(lab.rows_in(files)?)?;
+    rows.push(lab.rows_in(&files_with(lab, before)?)?)?;
+    Ok(rows)
+}
+
 fn make(lab: Lab, trial: &Trial) -> Result<Made, Fail> {
-    if trial.way == Way::Entry(Entry::Creation) {
-        return Ok(Made {
+    match trial.way {
+        Way::Entry(Entry::Creation) => Ok(Made {
             files: no_files(lab.alloc),
             rows: rows_of_creation(lab)?,
-        });
+        }),
+        Way::Entry(Entry::Migration) => {
+            let files = files_of_first_version(lab)?;
+            let rows = rows_of_migration(lab, &files, trial.before)?;
+            Ok(Made { files, rows })
+        }
+        Way::Entry(Entry::Opening) | Way::Lines | Way::Rows(_) | Way::Post(..) => Ok(Made {
+            files: files_with(lab, trial.before)?,
+            rows: rows_by_step(lab, trial.before, trial.sent)?,
+        }),
     }
-    Ok(Made {
-        files: files_with(lab, trial.before)?,
-        rows: rows_by_step(lab, trial.before, trial.sent)?,
-    })
 }
 
 /// How many calls that the fault counts an opening takes.
@@ -300,8 +336,7 @@ fn leave_behind(
     let (came, left) = attempt(lab, trial, &made.files, fault)?;
     let is_over = !left.has_failed;
     let steps = match came {
-        // A count of a table that is not there may be refused.
-        Came::Whole if is_over || trial.way == Way::Entry(Entry::Creation) => trial.steps(),
+        Came::Whole if is_over || trial.looks_for_tables() => trial.steps(),
         Came::Refused(steps) if !is_over => steps,
         _ => return Ok(Err(came)),
     };

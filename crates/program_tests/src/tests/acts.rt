@@ -17,17 +17,13 @@ static ENDS: [(End, u8, &str); 6] = [
     (End::BadHeader, 4, "keyreg: BadHeader\n"),
 ];
 
-static REFUSALS: [(OpenRefusal, &str); 5] = [
+static REFUSALS: [(OpenRefusal, &str); 4] = [
     (OpenRefusal::Memory, "keyreg: Memory\n"),
     (OpenRefusal::Store, "keyreg: Store\n"),
     (OpenRefusal::NotARegister, "keyreg: NotARegister\n"),
     (
         OpenRefusal::NewerVersion { found: 3 },
         "keyreg: NewerVersion\n",
-    ),
-    (
-        OpenRefusal::OlderVersion { found: 1 },
-        "keyreg: OlderVersion\n",
     ),
 ];
 

@@ -1,6 +1,6 @@
 //! Registers in files: what the program makes of good ones, of wrong ones, and of what is none.
 use super::acting::{does, edit};
-use desk_trials::{first_wrong, hundred_lines, wrong_edits};
+use desk_trials::{first_version, first_wrong, hundred_lines, wrong_edits, wrong_of_first_version};
 use std::fs;
 use std::test::Fail;
 use worked_rows::{defaults, input_of, output_of};
@@ -127,18 +127,52 @@ fn wrong_files_are_left_as_they_are(rt: HostRuntime) -> Result<(), Fail> {
 }
 
 #[test]
-fn files_of_other_versions_are_left_as_they_are(rt: HostRuntime) -> Result<(), Fail> {
+fn files_of_newer_versions_are_left_as_they_are(rt: HostRuntime) -> Result<(), Fail> {
     let file = "versions.keyreg";
     assert!(rt; is_defaults(&rt, file)?);
     let register = fs::read(&rt, file)?;
     let newer = "UPDATE meta SET version = 3";
-    let older = "UPDATE meta SET version = 1";
     assert!(rt; is_left_behind(&rt, file, &register, newer, "keyreg: NewerVersion\n")?);
-    assert!(rt; is_left_behind(&rt, file, &register, older, "keyreg: OlderVersion\n")?);
     // Two rows are looked at before the version of the first.
     put_edited(&rt, file, &register, newer)?;
     edit(&rt, file, "INSERT INTO meta VALUES (2, 2, 0, 0)")?;
     assert!(rt; is_left(&rt, file, "keyreg: NotARegister\n")?);
+    remove(&rt, file)
+}
+
+/// Makes the register of *defaults* in the file, as the first version has it.
+fn put_first_version(rt: &HostRuntime, file: &str) -> Result<(), Fail> {
+    remove(rt, file)?;
+    for statement in first_version() {
+        edit(rt, file, statement)?;
+    }
+    Ok(())
+}
+
+#[test]
+fn a_file_of_the_first_version_is_taken_on(rt: HostRuntime) -> Result<(), Fail> {
+    let file = "first_version.keyreg";
+    put_first_version(&rt, file)?;
+    let run = ["run", "--file", file];
+    let again = b"50 ann 1 register data-encryption bob 0 - - payroll disks\n";
+    assert!(rt; does(&rt, &run, again.as_slice(), 0, b"ok 1 Active 100\n", "")?);
+    let more = b"200 bob 1 set-quorum 1 3\n";
+    assert!(rt; does(&rt, &run, more.as_slice(), 0, b"ok 1 Active 200\n", "")?);
+    // Tables of the second version under the number of the first.
+    edit(&rt, file, "UPDATE meta SET version = 1")?;
+    assert!(rt; is_left(&rt, file, "keyreg: NotARegister\n")?);
+    remove(&rt, file)
+}
+
+#[test]
+fn wrong_files_of_the_first_version_are_left_as_they_are(rt: HostRuntime) -> Result<(), Fail> {
+    let file = "wrong_first.keyreg";
+    put_first_version(&rt, file)?;
+    let register = fs::read(&rt, file)?;
+    let wrong = first_wrong(wrong_of_first_version(), |statement| {
+        is_left_behind(&rt, file, &register, statement, "keyreg: NotARegister\n")
+    })?;
+    assert!(rt; wrong.is_none());
     remove(&rt, file)
 }
 

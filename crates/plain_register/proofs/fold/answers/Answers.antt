@@ -1,5 +1,6 @@
 use Rattle.std.proofs.Common.{[], ◌∷◌, ◌++◌, length, take, sym, ap, ◌∙◌, arith}
 use Rattle.register_core.specs.Fold.{history_after, answers, answer_to}
+use Rattle.register_core.specs.Version.{current}
 use Rattle.register_core.proofs.Folds.{history_next, answers_next, history_within}
 use Rattle.plain_register.proofs.fold.answers.Goals as goal
 
@@ -18,6 +19,6 @@ loop-item-preserved c =
           ∙ sym (answers_next [] items i item c.loop-item-test.true c.item-item.is);
       within =
           let same = ap length c.in_ok-answer_to.ensures.after in
-          let grown = history_within kept item in
+          let grown = history_within current kept item in
           omega (arith, same, grown, c.loop-item.invariant.within);
     }

@@ -13,11 +13,11 @@ pub test_rows-read-requires-clause-query : goal.test_rows-read-requires-clause-q
 test_rows-read-requires-clause-query g c = query_of Quorum
 
 pub returns-in-Ok-clause-tests : goal.returns-in-Ok-clause-tests
-returns-in-Ok-clause-tests g c t counts =
+returns-in-Ok-clause-tests g c t second told =
     let old = state g.S.Store c.args.connection.now in
     let new = state g.S.Store c.test_rows-read.new.connection in
     let Passes = IsNeedOf (counts_of c.args.found) in
-    let are = needs_tested t c.args.found counts in
+    let are = needs_tested t c.args.found second told in
     let begun = none_shown ShowsKeyNeed Passes in
     entries_read Quorum ShowsKeyNeed Passes t are old new c.test_rows-read.ensures.survives
     (λ clean.
@@ -25,12 +25,12 @@ returns-in-Ok-clause-tests g c t counts =
     record { rows = it.rows; shown = it.shown; holds = it.holds.1; same = it.same })
 
 pub returns-in-Err-clause-tests : goal.returns-in-Err-clause-tests
-returns-in-Err-clause-tests g c t counts =
+returns-in-Err-clause-tests g c t second told =
     let old = state g.S.Store c.args.connection.now in
     let new = state g.S.Store c.test_rows-read.new.connection in
     let read = c.test_rows-read.ensures in
     let Passes = IsNeedOf (counts_of c.args.found) in
-    let are = needs_tested t c.args.found counts in
+    let are = needs_tested t c.args.found second told in
     let begun = none_shown ShowsKeyNeed Passes in
     entries_fail Quorum ShowsKeyNeed Passes t are old new read.survives c.in-Err.error c.from.result c.from.ensures
     (λ clean is. read.meaning clean (c.in-Err.is ∙ ap Err is))

@@ -1,0 +1,59 @@
+-- Taking a register of the first version to the second.
+use Rattle.std.specs.Prelude.{◌≡◌, ◌⊎◌, ◌<◌, ◌≤◌, ◌+◌, ℕ, [], IsTrue}
+use Rattle.sqlite.specs.Effect.{Database, IsDatabase}
+use Rattle.sqlite.specs.Held.{Held as Connection, state}
+use Rattle.sqlite.specs.Schema.{Schema}
+use Rattle.sqlite.specs.State.{State, HasCleanDisk, Survives}
+use Rattle.sqlite_trees.specs.declared.store.Store.{Ghosts}
+use Rattle.register_core.specs.declared.version.Version.TheVariants.{First, Second}
+use Rattle.register_store.specs.declared.table.TableName.{TableName}
+use Rattle.register_store.specs.declared.table.TableName.TheVariants.{Period, Quorum}
+use Rattle.register_store.specs.Creation.{HasMeaning}
+use Rattle.register_store.specs.Schema.{Holds, HoldsIn, rows_of, schema_below}
+use Rattle.register_store.specs.Tables.{AreApartBelow, IsInRange, Layout, ShowsIn, Tables, content, count_text, place_of}
+use Rattle.register_store.specs.Tables.{table_count}
+
+-- a database that holds tables in the first version, whatever history they are of if any, comes to hold the same tables
+-- in the second
+abbrev pub Migrates : Database → Database → Type 0
+Migrates old new = (t : Tables) → HoldsIn First t old → Holds t new
+
+-- ---- the steps
+
+-- the first n tables are there: those of the first version with their rows, and the others empty
+pub record HasTablesBelow (n : ℕ) (t : Tables) (db : Database) : Type 0 where
+  pub layout : Layout
+  pub apart : AreApartBelow n layout
+  pub schema : db.schema ≡ schema_below n layout
+  pub sound : IsDatabase db
+  pub in_range : (name : TableName) → IsInRange name (content name t)
+  pub shown : (name : TableName) → place_of name < table_count First
+      → ShowsIn First name (content name t) (rows_of layout name db)
+  pub no_periods : t.periods ≡ []
+  pub no_needs : t.needs ≡ []
+  pub empty : (name : TableName) → table_count First ≤ place_of name → place_of name < n → rows_of layout name db ≡ []
+
+-- one table more
+abbrev pub MakesNext : TableName → Database → Database → Type 0
+MakesNext name old new = (t : Tables) → HasTablesBelow (place_of name) t old → HasTablesBelow (place_of name + 1) t new
+
+abbrev pub SetsVersion : Database → Database → Type 0
+SetsVersion old new = (t : Tables) → HasTablesBelow (table_count Second) t old → Holds t new
+
+-- ---- whether they are there
+
+-- one of the tables that the second version has beside those of the first is there: the count of its rows has a meaning
+abbrev pub HasNewTable : Schema → Type 0
+HasNewTable schema = HasMeaning schema (count_text Period) ⊎ HasMeaning schema (count_text Quorum)
+
+-- inside a transaction: one of the two is there
+abbrev pub FindsNewTable : State → State → Type 0
+FindsNewTable old new = HasCleanDisk new → IsTrue old.in_transaction → HasNewTable old.now.schema
+
+-- outside one: one of them is there, and a stop leaves what it left before
+pub record FindsNewBy (old new : State) : Type 0 where
+  pub there : HasCleanDisk new → HasNewTable old.now.schema
+  pub survives : Survives old new (λ _. ⊥)
+
+abbrev pub FindsNew : {S : Type 0} → (g : Ghosts S) → Connection S → Connection S → Type 0
+FindsNew g old new = FindsNewBy (state g old) (state g new)

@@ -1,0 +1,34 @@
+-- Tables with the version in which they are stored.
+use Rattle.std.specs.Prelude.{ℕ}
+use Rattle.sqlite.specs.Effect.{Database}
+use Rattle.register_core.specs.declared.version.Version.{Version}
+use Rattle.register_store.specs.declared.table.TableName.{TableName}
+use Rattle.register_store.specs.declared.table.TableName.TheVariants.{Meta}
+use Rattle.register_store.specs.Schema.{HoldsIn}
+use Rattle.register_store.specs.Tables.{Content, Counts, Tables, content, with_content}
+
+pub record Stored : Type 0 where
+  pub version : Version
+  pub tables : Tables
+
+-- the database holds these tables in that version
+abbrev pub HoldsStored : Stored → Database → Type 0
+HoldsStored stored db = HoldsIn stored.version stored.tables db
+
+-- what the row of meta tells: the version, and what it counts
+abbrev pub mark : Stored → Version × Counts
+mark stored = (stored.version, stored.tables.counts)
+
+-- what the query of a table shows: what that of meta tells, and the content of each other table
+abbrev pub Part : TableName → Type 0
+Part Meta = Version × Counts
+Part name = Content name
+
+abbrev pub part : (name : TableName) → Stored → Part name
+part Meta stored = mark stored
+part name stored = content name stored.tables
+
+-- with another part in its place
+abbrev pub with_part : (name : TableName) → Part name → Stored → Stored
+with_part Meta told stored = record { version = told.0; tables = with_content Meta told.1 stored.tables }
+with_part name c stored = record { version = stored.version; tables = with_content name c stored.tables }
