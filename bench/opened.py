@@ -11,7 +11,7 @@ import sys
 sys.path.insert(0, os.path.join(os.path.dirname(os.path.abspath(__file__)), "..", "checks"))
 from registers import STATES, TYPES, UNSET, VERSION, expect  # noqa: E402
 
-MAX_KEYS, MAX_CUSTODIANS, MAX_REQUEST, MAX_MONTHS = 1_000_000, 8, 2**53 - 1, 1200
+MAX_KEYS, MAX_CUSTODIANS, MAX_REQUEST, MAX_MONTHS = 1_000_000, 16, 2**53 - 1, 1200
 NEEDS = range(2, 6)
 COMPROMISES = ("2", "3")
 

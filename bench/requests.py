@@ -64,6 +64,7 @@ STATEMENTS = {
     "FIND_REQUEST": "SELECT command, key_no, state, moment FROM request WHERE caller = ?1 AND number = ?2",
     "FIND_KEY": "SELECT kind, owner, purpose, state, initial, activation, protect_stop, deactivation, destroyed, "
     "compromised, occurrence FROM keys WHERE number = ?1",
+    "FIND_PERIOD": "SELECT originator, recipient FROM period WHERE kind = ?1",
     "FIND_CUSTODIANS": "SELECT name FROM custodian WHERE key_no = ?1",
     "FIND_APPROVALS": "SELECT name FROM approval WHERE key_no = ?1",
     "ACTIVATE_DUE": "UPDATE keys SET state = 2 WHERE state = 1 AND activation <= ?1",
@@ -284,6 +285,7 @@ class Register:
     def registration(self, moment, kind, owner, activation, protect_stop, deactivation, text):
         """The key's number, its state and the statement that adds it; or no state and the refusal."""
         code, originator, recipient = KINDS[kind]
+        originator, recipient = self.run(STATEMENTS["FIND_PERIOD"], (code,)).fetchone() or (originator, recipient)
         given = [None if date == "-" else int(date) for date in (activation, protect_stop, deactivation)]
         dates = filled(originator, recipient, *given)
         if dates is None:
@@ -454,6 +456,10 @@ fn is_new<S: Alter>(connection: &mut Connection<S>, caller: &str, number: i64) -
     }
 }
 
+fn has_no_period<S: Alter>(connection: &mut Connection<S>) -> bool {
+    matches!(connection.query_row(FIND_PERIOD, params![DATA_ENCRYPTION]), Err(Error::QueryReturnedNoRows))
+}
+
 fn find_key<S: Alter>(connection: &mut Connection<S>, key: i64) -> Option<Row> {
     let row = connection.query_row(FIND_KEY, params![key]).ok()?;
     Some(Row {
@@ -523,7 +529,7 @@ fn register<S: Alter>(
     let state = if activation == 0 { ACTIVE } else { PRE_ACTIVE };
     let purpose = format!(in alloc; "backup volume {number}").ok()?;
     let command = format!(in alloc; "register data-encryption office {activation} {STOP} {END} {purpose}").ok()?;
-    if !is_new(connection, "ann", number) || !connection.is_autocommit() {
+    if !is_new(connection, "ann", number) || !has_no_period(connection) || !connection.is_autocommit() {
         return None;
     }
     let mut tx = connection.transaction();

@@ -16,7 +16,7 @@ import subprocess
 import sys
 import tempfile
 
-from registers import PROGRAM, VERSION, expect, keyreg
+from registers import PROGRAM, VERSION, are_sound, expect, keyreg
 
 # So many requests are given to a run, more than it serves before it is killed.
 AHEAD = 3000
@@ -62,7 +62,7 @@ def kept(file, folder):
         if os.path.exists(file + end):
             shutil.copy(file + end, copy + end)
     connection = sqlite3.connect(copy)
-    expect(connection.execute("PRAGMA integrity_check").fetchall() == [("ok",)], "integrity_check")
+    expect(are_sound(connection), "SQLite finds the file unsound")
     texts = connection.execute("SELECT number, command, moment FROM request ORDER BY number").fetchall()
     meta = connection.execute("SELECT * FROM meta").fetchall()
     connection.close()
@@ -95,4 +95,5 @@ def main():
     print(f"seed {seed}: {runs} runs killed, {stood} requests accepted, {ahead} of them not answered; each file held")
 
 
-main()
+if __name__ == "__main__":
+    main()

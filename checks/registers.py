@@ -18,7 +18,8 @@ UNSET = 253402300800
 # The version of the tables.
 VERSION = 2
 
-TABLES = """
+# Those that version 1 had, and those that version 2 added.
+FIRST_TABLES = """
 CREATE TABLE meta (id INTEGER PRIMARY KEY, version INTEGER NOT NULL, latest INTEGER NOT NULL,
     key_count INTEGER NOT NULL) STRICT;
 CREATE TABLE keys (number INTEGER PRIMARY KEY, kind INTEGER NOT NULL, owner TEXT NOT NULL, purpose TEXT NOT NULL,
@@ -32,6 +33,8 @@ CREATE TABLE approval (key_no INTEGER NOT NULL, name TEXT NOT NULL, PRIMARY KEY 
 CREATE TABLE request (caller TEXT NOT NULL, number INTEGER NOT NULL, command TEXT NOT NULL,
     key_no INTEGER NOT NULL, state INTEGER NOT NULL, moment INTEGER NOT NULL,
     PRIMARY KEY (caller, number)) STRICT;
+"""
+TABLES = FIRST_TABLES + """
 CREATE TABLE period (kind INTEGER PRIMARY KEY, originator INTEGER NOT NULL, recipient INTEGER NOT NULL) STRICT;
 CREATE TABLE quorum (key_no INTEGER PRIMARY KEY REFERENCES keys(number), need INTEGER NOT NULL) STRICT;
 """
@@ -98,6 +101,12 @@ def keyreg(words, lines=()):
 def all_rows(connection):
     """The rows of each table, in order."""
     return {name: sorted(connection.execute(f"SELECT * FROM {name}")) for name in APPROVED_ANEW_ROWS}
+
+
+def are_sound(connection):
+    """Whether SQLite's own library finds nothing wrong in the file."""
+    return (connection.execute("PRAGMA integrity_check").fetchall() == [("ok",)]
+            and not connection.execute("PRAGMA foreign_key_check").fetchall())
 
 
 def put_rows(connection, name, rows):

@@ -10,7 +10,7 @@ from datetime import datetime, timedelta, timezone
 
 LAST = 253402300799
 GREATEST_NUMBER = 9007199254740991
-MOST_KEYS, MOST_CUSTODIANS = 1_000_000, 8
+MOST_KEYS, MOST_CUSTODIANS = 1_000_000, 16
 # The approvals that the destruction of a key needs where its owner has set nothing.
 LEAST_NEED = 2
 # The usage periods of the types where the office has set nothing.
