@@ -160,7 +160,8 @@ def test_approvals(connection, custodians):
 
 def is_kept(latest, keys, row):
     command, key, state, moment, caller, number = row
-    is_reply = key == state == 0 if command == "advance" else 0 < key <= keys and state in STATES and state != 0
+    is_of_no_key = command == "advance" or command.startswith("set-period ")
+    is_reply = key == state == 0 if is_of_no_key else 0 < key <= keys and state in STATES and state != 0
     return is_reply and is_command(command) and 0 <= moment <= latest and is_name(caller) and 0 < number <= MAX_REQUEST
 
 
