@@ -132,8 +132,10 @@ def main():
             write(file, more)
             is_taken(file)
             go_on(file)
-        write_dump(os.path.join(folder, "dump.keyreg"))
-        is_taken(os.path.join(folder, "dump.keyreg"))
+        dump = os.path.join(folder, "dump.keyreg")
+        write_dump(dump)
+        is_taken(dump)
+        expect(keyreg(["run", "--file", dump], ["4000 zed 100 advance"]) == ["ok 0 - 4000"], "the older program's file goes on")
         for place, (more, name) in enumerate(REFUSED.items()):
             file = os.path.join(folder, f"refused_{place}.keyreg")
             write(file, more)
