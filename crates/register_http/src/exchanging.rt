@@ -1,9 +1,9 @@
 //! One exchange: a request is read, the register asked once, and a reply written.
 ghost use Rattle.std.specs.Prelude.{◌≡◌, List, false, Err, IfOk, IfSome};
 ghost use Rattle.register_core.specs.declared.request.Request.{Request};
+ghost use Rattle.http_messages.specs.Body.{IsInRange};
 ghost use Rattle.register_desk.specs.Leaving.{IsClean, IsWhole};
 ghost use Rattle.register_desk.specs.Register.{StandsFor};
-ghost use Rattle.http_messages.specs.Body.{IsInRange};
 ghost use Rattle.register_http.specs.Exchange.{Exchanges, LeavesReader, LeavesWriter, Serves};
 ghost use Rattle.register_http.specs.Exchange.{KeepsWriter, ServesAsked};
 ghost use Rattle.register_http.specs.Items.{LeavesOne};

@@ -1,11 +1,11 @@
 -- The text of a report is that of the table of the rows which the desk gives.
-use Rattle.std.proofs.Common.{◌≡◌, ◌⊎◌, inl, inr, ℕ, ◌≤◌, Bool, true, false, cond, List, [], ◌∷◌, ◌++◌, length, filter, Option, None, Some, refl, sym, ap, ap₂, subst, ◌∙◌, append_assoc}
+use Rattle.std.proofs.Common.{◌≡◌, ◌⊎◌, inl, inr, ℕ, ◌≤◌, Bool, true, false, cond, List, [], ◌∷◌, ◌++◌, length, filter, Option, None, refl, sym, ap, ap₂, subst, ◌∙◌, append_assoc}
 use Rattle.std.specs.Prelude.{flat_map, unwrap_or}
 use Rattle.std.specs.List.{Contains}
 use Rattle.moment_core.specs.Moment.{last_second}
 use Rattle.period_core.specs.declared.key_type.KeyType.{KeyType}
 use Rattle.period_core.specs.declared.office.OfficePeriods.{OfficePeriods}
-use Rattle.period_core.specs.Office.{period_in, set_in}
+use Rattle.period_core.specs.Office.{set_in}
 use Rattle.period_core.specs.Period.{Period, periods}
 use Rattle.key_rows.specs.declared.key_row.KeyRow.{KeyRow}
 use Rattle.key_rows.specs.DueRows.{AreDue, AreListed, is_due, is_listed}
@@ -18,7 +18,7 @@ use Rattle.register_desk.specs.Rows.{all_rows}
 use Rattle.register_desk.proofs.KeyRowsOf.{listed_if_due, listed_is_due, own_numbers}
 use Rattle.register_report.specs.declared.table.Table.{Table}
 use Rattle.register_report.specs.declared.table.Table.TheVariants.{Report}
-use Rattle.register_report.specs.Table.{head_text, lines_text, lists, row_text, table_text}
+use Rattle.register_report.specs.Table.{head_text, lines_text, lists, table_text}
 
 same_filter : (p q : KeyRow → Bool) → ((r : KeyRow) → p r ≡ q r) → (rows : List KeyRow) → filter p rows ≡ filter q rows
 same_filter p q same [] = refl

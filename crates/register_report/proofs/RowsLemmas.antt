@@ -35,12 +35,12 @@ one_row moment caller number fields p q a b =
     let same = sym a.fields_are ∙ b.fields_are in
     let ra = (subst IsRequest a.is a.in_range).command in
     let rb = (subst IsRequest b.is b.in_range).command in
-    let kind = one_key_type a.kind b.kind cc in
-    let owner : a.owner ≡ b.owner = cc in
-    let activation = one_date a.activation b.activation ra.1 rb.1 cc in
-    let protect_stop = one_date a.protect_stop b.protect_stop ra.2 rb.2 cc in
-    let deactivation = one_date a.deactivation b.deactivation ra.3 rb.3 cc in
-    let purpose : a.purpose ≡ b.purpose = cc in
+    let kind = one_key_type a.given.kind b.given.kind cc in
+    let owner : a.given.owner ≡ b.given.owner = cc in
+    let activation = one_date a.given.activation b.given.activation ra.1 rb.1 cc in
+    let protect_stop = one_date a.given.protect_stop b.given.protect_stop ra.2 rb.2 cc in
+    let deactivation = one_date a.given.deactivation b.given.deactivation ra.3 rb.3 cc in
+    let purpose : a.given.purpose ≡ b.given.purpose = cc in
     cc
 
 pub one_item : (moment : ℕ) (caller : List ℕ) (number : ℕ) (fields : Row) (a b : Item)

@@ -20,7 +20,7 @@ use Rattle.register_desk.proofs.Readings.{nothing_done, nothing_then, stands_sti
 use Rattle.register_report.specs.declared.table.Table.{Table}
 use Rattle.register_report.specs.Table.{count_in, lines_text, lists, row_text}
 use Rattle.register_report.specs.Writing.{Puts, PutsRows, PutsText}
-use Rattle.register_report.proofs.TextLemmas.{front_whole, no_fault, puts_nothing, puts_well, text_failed, text_same, text_then}
+use Rattle.register_report.proofs.TextLemmas.{front_whole, no_fault, passed_on, puts_nothing, puts_well, text_failed, text_same, text_then}
 
 -- the lines of one row more, and their number
 one_line : (table : Table) (given : List KeyRow) (row : KeyRow)
@@ -192,7 +192,4 @@ module _ {W S : Type 0} {contents : W → Option (List ℕ)} {g : Ghosts S} {old
   pub rows_passed_on : (r : Result ℕ End) → IsErrAnd r (λ x. x ≡ e)
       → PutsRows contents g old new before after rows_old rows_new table (Err e)
       → PutsRows contents g old new before after rows_old rows_new table r
-  rows_passed_on (Ok x) failed puts = absurd failed
-  rows_passed_on (Err f) same puts =
-      subst (λ (x : End). PutsRows contents g old new before after rows_old rows_new table (Err x))
-      (sym same) puts
+  rows_passed_on = passed_on (PutsRows contents g old new before after rows_old rows_new table) e

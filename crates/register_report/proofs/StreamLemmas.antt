@@ -30,19 +30,12 @@ module _ {R : Type 0} (remaining : R → Option (List ℕ)) (reader next : Reade
       → Ended end ≡ Ended WriteFault → ⊥
   unread_sound Memory why is = cc
   unread_sound ReadFault why is = cc
-  unread_sound Store why is = why
-  unread_sound Broken why is = why
-  unread_sound WriteFault why is = why
-  unread_sound BadHeader why is = why
+  unread_sound _ why is = why
 
   pub no_header_sound : (end : End) → ExplainsNoHeader remaining reader next end
       → Ended end ≡ Ended WriteFault → ⊥
-  no_header_sound Memory why is = cc
-  no_header_sound ReadFault why is = cc
-  no_header_sound Store why is = why
-  no_header_sound Broken why is = why
-  no_header_sound WriteFault why is = why
   no_header_sound BadHeader why is = cc
+  no_header_sound end why is = unread_sound end why is
 
   module _ {S : Type 0} (g : Ghosts S) (old new : Desk S g) (goes : GoesOn old new) where
     pub unread_leaves : (end : End) → ExplainsEnd remaining reader next end

@@ -188,12 +188,12 @@ module _ (moment : ℕ) (caller : List ℕ) (number : ℕ) where
             caller_is = ranges.caller;
             number_is = ranges.number;
           };
-          kind = (of.kind, tt, cc);
-          owner = (of.owner, ranges.command.0, cc);
-          activation = (of.activation, ranges.command.1, cc);
-          protect_stop = (of.protect_stop, ranges.command.2, cc);
-          deactivation = (of.deactivation, ranges.command.3, cc);
-          purpose = (of.purpose, ranges.command.4, cc);
+          kind = (of.given.kind, tt, cc);
+          owner = (of.given.owner, ranges.command.0, cc);
+          activation = (of.given.activation, ranges.command.1, cc);
+          protect_stop = (of.given.protect_stop, ranges.command.2, cc);
+          deactivation = (of.given.deactivation, ranges.command.3, cc);
+          purpose = (of.given.purpose, ranges.command.4, cc);
         }
 
     of_parts : RowParts moment caller number u v w x y z → HasItem the_row
@@ -207,12 +207,14 @@ module _ (moment : ℕ) (caller : List ℕ) (number : ℕ) where
             parts.deactivation.0 parts.purpose.0;
       }),
       record {
-        kind = parts.kind.0;
-        owner = parts.owner.0;
-        activation = parts.activation.0;
-        protect_stop = parts.protect_stop.0;
-        deactivation = parts.deactivation.0;
-        purpose = parts.purpose.0;
+        given = record {
+          kind = parts.kind.0;
+          owner = parts.owner.0;
+          activation = parts.activation.0;
+          protect_stop = parts.protect_stop.0;
+          deactivation = parts.deactivation.0;
+          purpose = parts.purpose.0;
+        };
         is = refl;
         in_range = record {
           moment = parts.may.moment_is;

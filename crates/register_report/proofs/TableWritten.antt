@@ -1,6 +1,6 @@
 -- A table that was written, or a front of it: its head, its lines, its foot.
 use Rattle.std.proofs.Common.{◌≡◌, ◌≢◌, ℕ, List, [], ◌++◌, true, false, Option}
-use Rattle.std.proofs.Common.{Result, Ok, Err, OnOk, refl, sym, ap, subst}
+use Rattle.std.proofs.Common.{Result, Ok, Err, OnOk, refl, ap}
 use Rattle.std.specs.Prelude.{IsErrAnd}
 use Rattle.sqlite_trees.specs.declared.store.Store.{Ghosts}
 use Rattle.streams.specs.declared.watched.Watched.{Watched}
@@ -11,7 +11,7 @@ use Rattle.register_desk.specs.Rows.{all_rows}
 use Rattle.register_report.specs.declared.table.Table.{Table}
 use Rattle.register_report.specs.Table.{foot_text, head_text, lines_text}
 use Rattle.register_report.specs.Writing.{PutsRows, PutsTable, PutsText}
-use Rattle.register_report.proofs.TextLemmas.{text_failed, text_longer, text_nothing, text_same, text_then}
+use Rattle.register_report.proofs.TextLemmas.{passed_on, text_failed, text_longer, text_nothing, text_same, text_then}
 
 -- a fault that is not the writer's
 other_fault : {T : Type 0} (e : End) → e ≢ WriteFault
@@ -85,7 +85,4 @@ module _ {W S : Type 0} {contents : W → Option (List ℕ)} {g : Ghosts S} {old
   pub table_passed_on : (r : Result (Unit {0}) End) → IsErrAnd r (λ x. x ≡ e)
       → PutsTable contents g old new before after rows_old rows_new table (Err e)
       → PutsTable contents g old new before after rows_old rows_new table r
-  table_passed_on (Ok x) failed puts = absurd failed
-  table_passed_on (Err f) same puts =
-      subst (λ (x : End). PutsTable contents g old new before after rows_old rows_new table (Err x))
-      (sym same) puts
+  table_passed_on = passed_on (PutsTable contents g old new before after rows_old rows_new table) e

@@ -2,6 +2,7 @@
 use Rattle.std.proofs.Common.{◌≡◌, ◌≢◌, ℕ, List, [], ◌++◌}
 use Rattle.std.proofs.Common.{Option, Result, Ok, Err, IfOk, OnOk, refl, sym, ap}
 use Rattle.std.proofs.Common.{subst, ◌∙◌, append_assoc, length-append, arith}
+use Rattle.std.specs.Prelude.{IsErrAnd}
 use Rattle.std.proofs.lemmas.List.{append-nil}
 use Rattle.streams.specs.declared.watched.Watched.{Watched}
 use Rattle.register_desk.specs.declared.end.End.{End}
@@ -29,6 +30,12 @@ front_whole text = ([], append-nil text)
 -- a call that went well met no fault
 pub no_fault : {T : Type 0} (x : T) → ◌≢◌ {A = Result T End} (Ok x) (Err WriteFault)
 no_fault x is = cc
+
+-- a failure that was passed on is the same
+pub passed_on : {A : Type 0} (P : Result A End → Type 0) (e : End) (r : Result A End) → IsErrAnd r (λ x. x ≡ e)
+    → P (Err e) → P r
+passed_on P e (Ok x) failed fails = absurd failed
+passed_on P e (Err f) same fails = subst (λ (x : End). P (Err x)) (sym same) fails
 
 module _ {W : Type 0} (contents : W → Option (List ℕ)) where
   -- nothing was written

@@ -10,8 +10,8 @@ use Rattle.csv.specs.Records.{AllText}
 use Rattle.csv.specs.declared.parser.State.{State}
 use Rattle.csv.specs.declared.parser.State.TheVariants as states
 use Rattle.moment_core.specs.Text.{moment_text}
-use Rattle.period_core.specs.declared.key_type.KeyType.{KeyType}
 use Rattle.period_core.specs.KeyType.{key_type_text}
+use Rattle.register_core.specs.Subject.{Registration}
 use Rattle.register_core.specs.declared.request.Request.{Request}
 use Rattle.register_core.specs.declared.request.Command.TheVariants.{Register}
 use Rattle.register_core.specs.Request.{IsRequest}
@@ -45,24 +45,20 @@ date_field (Some date) = moment_text date
 -- the row asks for this registration, at this moment, of this caller and under this number
 pub record IsRowOf (moment : ℕ) (caller : List ℕ) (number : ℕ) (fields : Row)
     (q : Request) : Type 0 where
-  pub kind : KeyType
-  pub owner : List ℕ
-  pub activation : Option ℕ
-  pub protect_stop : Option ℕ
-  pub deactivation : Option ℕ
-  pub purpose : List ℕ
+  pub given : Registration
   pub is :
       q ≡ record {
         moment = moment;
         caller = caller;
         number = number;
         command =
-            Register kind owner activation protect_stop deactivation purpose;
+            Register given.kind given.owner given.activation given.protect_stop
+            given.deactivation given.purpose;
       }
   pub in_range : IsRequest q
   pub fields_are :
-      fields ≡ key_type_text kind ∷ owner ∷ date_field activation ∷ date_field
-      protect_stop ∷ date_field deactivation ∷ purpose ∷ []
+      fields ≡ key_type_text given.kind ∷ given.owner ∷ date_field given.activation
+      ∷ date_field given.protect_stop ∷ date_field given.deactivation ∷ given.purpose ∷ []
 
 -- what the row stands for: the registration that it asks for, or none where it asks for no
 -- registration

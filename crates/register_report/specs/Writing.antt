@@ -1,6 +1,6 @@
 -- What is written of a text, and what of a table whose rows are given one at a time.
 use Rattle.std.specs.Prelude.{◌≡◌, ◌≢◌, ℕ, ◌+◌, ◌≤◌, Bool, true, false, List, [], ◌++◌, length}
-use Rattle.std.specs.Prelude.{Option, None, Some, Result, Ok, Err, IfOk, OnOk, is_ok}
+use Rattle.std.specs.Prelude.{Option, Result, Ok, Err, IfOk, OnOk, is_ok}
 use Rattle.std.specs.Io.KnownBytes.{Appends}
 use Rattle.sqlite_trees.specs.declared.store.Store.{Ghosts}
 use Rattle.streams.specs.declared.watched.Watched.{Watched}

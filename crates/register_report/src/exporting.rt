@@ -1,11 +1,11 @@
 //! The export of all keys, and the report on those that are due for rotation.
 ghost use Rattle.std.specs.Prelude.{◌≡◌, false, List, IfErr};
-ghost use Rattle.key_rows.specs.declared.key_row.KeyRow.{KeyRow};
+ghost use Rattle.register_core.specs.History.{latest, period};
+ghost use Rattle.register_core.specs.declared.request.Request.{Request};
 ghost use Rattle.key_rows.specs.DueRows.{AreListed};
 ghost use Rattle.key_rows.specs.Export.{export_text};
 ghost use Rattle.key_rows.specs.Report.{horizon, report_text};
-ghost use Rattle.register_core.specs.declared.request.Request.{Request};
-ghost use Rattle.register_core.specs.History.{latest, period};
+ghost use Rattle.key_rows.specs.declared.key_row.KeyRow.{KeyRow};
 ghost use Rattle.register_desk.specs.Leaving.{IsClean, IsWhole};
 ghost use Rattle.register_desk.specs.Register.{StandsFor};
 ghost use Rattle.register_desk.specs.Rows.{all_rows};

@@ -66,70 +66,10 @@ pub asks_for : (version : Version) (name : TableName) → IsWithin name version 
 unfolding everything first
 asks_for First Period low l = absurd (omega (arith, low))
 asks_for First Quorum low l = absurd (omega (arith, low))
-asks_for First Meta low l = (
-  _,
-  record {
-    p = _;
-    select = _;
-    d = _;
-    by = _;
-    parsed = refl;
-    untimed = refl;
-    is = refl;
-    drafted = refl;
-    same = refl;
-    from = refl;
-    accepted = refl;
-  },
-)
-asks_for First name low l = (
-  _,
-  record {
-    p = _;
-    select = _;
-    d = _;
-    by = _;
-    parsed = refl;
-    untimed = refl;
-    is = refl;
-    drafted = refl;
-    same = refl;
-    from = refl;
-    accepted = refl;
-  },
-)
-asks_for Second Meta low l = (
-  _,
-  record {
-    p = _;
-    select = _;
-    d = _;
-    by = _;
-    parsed = refl;
-    untimed = refl;
-    is = refl;
-    drafted = refl;
-    same = refl;
-    from = refl;
-    accepted = refl;
-  },
-)
-asks_for Second name low l = (
-  _,
-  record {
-    p = _;
-    select = _;
-    d = _;
-    by = _;
-    parsed = refl;
-    untimed = refl;
-    is = refl;
-    drafted = refl;
-    same = refl;
-    from = refl;
-    accepted = refl;
-  },
-)
+asks_for First Meta low l = (_, record { p = _; select = _; d = _; by = _; parsed = refl; untimed = refl; is = refl; drafted = refl; same = refl; from = refl; accepted = refl })
+asks_for First name low l = (_, record { p = _; select = _; d = _; by = _; parsed = refl; untimed = refl; is = refl; drafted = refl; same = refl; from = refl; accepted = refl })
+asks_for Second Meta low l = (_, record { p = _; select = _; d = _; by = _; parsed = refl; untimed = refl; is = refl; drafted = refl; same = refl; from = refl; accepted = refl })
+asks_for Second name low l = (_, record { p = _; select = _; d = _; by = _; parsed = refl; untimed = refl; is = refl; drafted = refl; same = refl; from = refl; accepted = refl })
 
 pub asked_is : (version : Version) (name : TableName) (within : IsWithin name version) (l : Layout) → IsPlacedIn version l
     → Meant (schema_in version l) (check_text name)

@@ -20,7 +20,6 @@ use Rattle.row_tests.specs.Each.{ShowEach}
 use Rattle.row_tests.specs.Showing.{HasNoMeaning, ShowsAll, ShowsFirst}
 use Rattle.row_tests.proofs.Each.{all_front, all_last, all_more, show_front, show_less, show_more, show_same}
 use Rattle.sql_steps.proofs.Members.{filter_permutation}
-use Rattle.register_core.specs.declared.version.Version.{Version}
 use Rattle.register_core.specs.Version.{custodians_of}
 use Rattle.register_core.specs.KeyName.{KeyName, is_at, names_at}
 use Rattle.register_core.specs.Name.{is_among}
@@ -38,6 +37,7 @@ use Rattle.register_store.proofs.Decoding.{same_number, same_words}
 use Rattle.register_store.proofs.EntriesShown.{all_permuted, own_entries}
 use Rattle.register_store.proofs.MetaTested.{newer_not}
 use Rattle.register_store.proofs.NameLists.{get_below, get_some}
+use Rattle.register_store.proofs.Readings.{survives_none}
 use Rattle.register_store.proofs.RowsFailed.{reason_of}
 
 -- ---- rows of names at keys
@@ -306,13 +306,3 @@ pub custodians_none : (t : Stored) (old : State) → (HasCleanDisk old → IsTru
 custodians_none t old is_open e is = subst (λ e. TestsBy {T = Vec (Vec (List ℕ))} Custodian t KnowsCustodians old old (Err e)) (sym is)
     (tests_by Custodian t (custodians_within t) (own_custodians t) (newer_not t) KnowsCustodians (λ c d x like says. knows_like c d x like says) one_list old old (Err Ran_out) (λ clean. tt)
     (λ clean. (record { was_open = is_open clean; is_open = is_open clean; now_is = refl; committed_is = refl; mode = refl }, record { changes = refl; last_rowid = refl }, refl)) (survives_none old))
-  where
-    survives_none : (s : State) → Survives s s (λ _. ⊥)
-    survives_none s = record {
-      clean = omega arith;
-      shield = λ h. h;
-      counts = omega arith;
-      limit = refl;
-      closes = λ clean is. inl is;
-      crash = λ clean db may. inl may;
-    }

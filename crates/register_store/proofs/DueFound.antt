@@ -43,7 +43,7 @@ use Rattle.register_store.proofs.Asked.{shown_of_table}
 use Rattle.register_store.proofs.Decoding.{same_number, one_key}
 use Rattle.register_store.proofs.Actions.{shows_all}
 use Rattle.register_store.proofs.Meanings.{Asks, IsPlaced, Meant, asks, classes, placed}
-use Rattle.register_store.proofs.KeyFound.{at_number, in_range_at}
+use Rattle.register_store.proofs.KeyFound.{at_number, in_range_at, shows_key}
 use Rattle.register_store.proofs.RowFound.{answer_read}
 use Rattle.register_store.proofs.Texts.{find_names}
 
@@ -223,27 +223,7 @@ module _ (sql : List ℕ) (query : IsQuery sql) (passes : List Term) (search : I
     each t old holds x is =
         let at = at_number 1 t.keys x is.there in
         let own = in_range_at t.keys at.0 x.1 at.2 (holds.in_range Keys) in
-        let dates = own.dates in (
-          own,
-          record {
-            cells = record {
-              kind = refl;
-              owner = refl;
-              purpose = refl;
-              state = refl;
-              dates = record {
-                initial = refl;
-                activation = (refl, dates.activation);
-                protect_stop = (refl, dates.protect_stop);
-                deactivation = (refl, dates.deactivation);
-                destroy = (refl, dates.destroy);
-                compromise = (refl, dates.compromise);
-                compromise_occurrence = (refl, dates.compromise_occurrence);
-              };
-            };
-            number = refl;
-          },
-        )
+        (own, record { cells = shows_key x.1 (Int (pos x.0) ∷ []) own; number = refl })
 
     same : (x y : ℕ × Key) → IsNumbered x → ShowsAt (cells_of x) x → ShowsAt (cells_of x) y → y ≡ x
     same x y own mine theirs =

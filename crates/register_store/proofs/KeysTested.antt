@@ -1,9 +1,10 @@
 -- The test of the table of keys.
-use Rattle.std.proofs.Common.{◌≡◌, ◌≢◌, ◌==◌, ◌≤◌, ◌<◌, ◌+◌, Bool, true, false, inr, ℕ, suc, Result, Ok, Err, List, [], ◌∷◌, ◌++◌, length, length-append, map, sym, ap, subst, ◌∙◌, refl, arith}
+use Rattle.std.proofs.Common.{◌≡◌, ◌≢◌, ◌==◌, ◌≤◌, ◌<◌, ◌+◌, Bool, true, false, inr, ℕ, suc, pos, Result, Ok, Err, List, [], ◌∷◌, ◌++◌, length, length-append, map, sym, ap, subst, ◌∙◌, refl, arith}
 use Rattle.std.proofs.lemmas.Bool.{eq-eqb, eqb-true}
 use Rattle.std.proofs.lemmas.List.{map-append}
 use Rattle.std.specs.List.{AllByRecursion, enumerate_from}
 use Rattle.std.specs.Global.{Vec}
+use Rattle.sqlite.specs.declared.types.Value.TheVariants.{Int}
 use Rattle.sqlite.specs.Effect.{Database as Db}
 use Rattle.sqlite.specs.Order.{Row}
 use Rattle.sqlite.specs.Program.{overlay}
@@ -30,6 +31,7 @@ use Rattle.register_store.specs.Tests.{IsSoundAt, owners_of}
 use Rattle.register_store.proofs.Actions.{shows_all}
 use Rattle.register_store.proofs.Asked.{AnswersTo, IsWithin, ShowsOwn, in_both, shown_of_table, tests_by}
 use Rattle.register_store.proofs.Decoding.{one_key, same_number}
+use Rattle.register_store.proofs.KeyFound.{shows_key}
 use Rattle.register_store.proofs.MetaTested.{newer_not}
 use Rattle.register_store.proofs.Numbers.{enumerate_append, is_table}
 use Rattle.register_store.proofs.Ordered.{in_order, shown_of}
@@ -108,25 +110,10 @@ own_shown : (n : ℕ) (keys : List Key) → AllByRecursion IsKey keys
     → ShowEach ShowsNumbered (map (shown_of 0 (shown_of_table Keys)) (map key_row (enumerate_from n keys)))
     (enumerate_from n keys)
 own_shown n [] all = tt
-own_shown n (k ∷ keys) all = (record { cells = own k all.0; number = refl; in_range = all.0 }, own_shown (n + 1) keys all.1)
-  where
-    own : (k : Key) → IsKey k → Rattle.register_store.specs.Reading.ShowsKey
-        (shown_of 0 (shown_of_table Keys) (key_row (n, k))) k
-    own k is = record {
-      kind = refl;
-      owner = refl;
-      purpose = refl;
-      state = refl;
-      dates = record {
-        initial = refl;
-        activation = (refl, is.dates.activation);
-        protect_stop = (refl, is.dates.protect_stop);
-        deactivation = (refl, is.dates.deactivation);
-        destroy = (refl, is.dates.destroy);
-        compromise = (refl, is.dates.compromise);
-        compromise_occurrence = (refl, is.dates.compromise_occurrence);
-      };
-    }
+own_shown n (k ∷ keys) all = (
+  record { cells = shows_key k (Int (pos n) ∷ []) all.0; number = refl; in_range = all.0 },
+  own_shown (n + 1) keys all.1,
+)
 
 pub own_keys : (t : Stored) (db : Db) (rows : List Row) (holds : HoldsStored t db)
     → AnswersTo holds.schema.layout Keys db rows → ShowsOwn Keys t rows

@@ -7,17 +7,16 @@ use Rattle.sqlite.specs.Term.{Term, col}
 use Rattle.sqlite_resolve.specs.Compile.{first}
 use Rattle.sqlite_tied.specs.Compute.{everything}
 use Rattle.sql_steps.proofs.Comparing.{equal_numbers}
-use Rattle.sql_steps.proofs.Statements.{plain_query}
-use Rattle.row_tests.proofs.Selects.{IsSelect, select_plain}
 use Rattle.register_core.specs.Quorum.{IsQuorum}
 use Rattle.register_core.specs.Settings.{KeyNeed}
+use Rattle.sql_steps.proofs.Statements.{plain_query}
 use Rattle.register_store.specs.declared.table.TableName.TheVariants.{Quorum}
 use Rattle.register_store.specs.Tables.{Layout, Tables, need_row, table_of}
-use Rattle.register_store.specs.Schema.{schema_with}
 use Rattle.register_store.specs.Reading.{ShowsNeed}
 use Rattle.register_store.proofs.KeyedFound.{IsKeyed}
-use Rattle.register_store.proofs.Meanings.{Asks, asks, classes}
-use Rattle.register_store.proofs.Readings.{IsSearch}
+use Rattle.register_store.specs.Schema.{schema_with}
+use Rattle.register_store.proofs.Meanings.{Asks}
+use Rattle.register_store.proofs.Readings.{IsSearch, search_by}
 use Rattle.register_store.proofs.Texts.{has_number}
 
 abbrev pub need_text : List ℕ
@@ -29,32 +28,12 @@ need_shown = col 1 2 ∷ []
 abbrev need_names : List (List ℕ)
 need_names = codes "need" ∷ []
 
-need_select : IsSelect need_text
+asks_need : (l : Layout) → Asks (schema_with l) (table_of l Quorum) need_text (plain_query (l.tree Quorum) has_number need_shown) need_names
 unfolding everything first
-need_select = (_, _, refl, refl, refl)
-
-asks_need : (l : Layout) → Asks (schema_with l) (table_of l Quorum) need_text
-    (plain_query (l.tree Quorum) has_number need_shown) need_names
-unfolding everything first
-asks_need l = record {
-  p = _;
-  select = _;
-  d = _;
-  by = _;
-  parsed = refl;
-  untimed = refl;
-  is = refl;
-  drafted = refl;
-  same = refl;
-  from = refl;
-  accepted = refl;
-}
+asks_need l = record { p = _; select = _; d = _; by = _; parsed = refl; untimed = refl; is = refl; drafted = refl; same = refl; from = refl; accepted = refl }
 
 pub need_search : IsSearch need_text Quorum has_number need_shown need_names
-need_search = record {
-  meant = λ l at. asks (schema_with l) (table_of l Quorum) (classes l at Quorum) _ _ _ (asks_need l);
-  query = select_plain need_text need_select;
-}
+need_search = search_by need_text Quorum has_number need_shown need_names asks_need
 
 abbrev need_cells : ℕ → Cells
 need_cells need = Int (pos need) ∷ []

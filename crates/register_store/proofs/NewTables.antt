@@ -1,5 +1,5 @@
 -- What the statements that make the two tables of the second version do, whatever trees the file has.
-use Rattle.std.proofs.Common.{◌≡◌, ◌⊎◌, ◌<◌, ◌≤◌, ◌==◌, ℕ, ◌+◌, max, Bool, true, false, Option, None, Some, List, inl, inr, [], ◌∷◌, ◌++◌, map, fold, Result, Ok, Err, refl, sym, ap, subst, ◌∙◌, arith}
+use Rattle.std.proofs.Common.{◌≡◌, ◌⊎◌, ◌<◌, ◌≤◌, ◌==◌, ℕ, ◌+◌, max, true, false, Option, None, Some, List, inl, inr, [], ◌∷◌, ◌++◌, fold, Result, Ok, Err, refl, sym, ap, subst, ◌∙◌, arith}
 use Rattle.std.proofs.lemmas.Bool.{cases_Bool, cases_lt, eq-eqb, eqb-true}
 use Rattle.sqlite.specs.Change.{created, next_tree, past_views, KeepsRows}
 use Rattle.sqlite.specs.Command.TheVariants.{CreateTable as MakeTable}

@@ -1,5 +1,5 @@
 -- A file of the first version has neither of the tables that the second adds.
-use Rattle.std.proofs.Common.{◌≡◌, ◌⊎◌, inl, inr, Ok, Err, refl, sym, ◌∙◌}
+use Rattle.std.proofs.Common.{◌≡◌, inl, inr, Err, refl, sym, ◌∙◌}
 use Rattle.sqlite.specs.Listing.{understood, listing_schema}
 use Rattle.sqlite_resolve.specs.declared.error.CompileError.{CompileError}
 use Rattle.sqlite_tied.specs.Compute.{everything}

@@ -1,5 +1,5 @@
 -- From the tests and the migration to what an opening does.
-use Rattle.std.proofs.Common.{◌≡◌, inl, inr, Result, Ok, Err, IfErr, sym, ap, subst, ◌∙◌, refl, arith}
+use Rattle.std.proofs.Common.{◌≡◌, inl, inr, Result, Ok, Err, sym, ap, subst, ◌∙◌, refl, arith}
 use Rattle.std.specs.Prelude.{IsErrAnd}
 use Rattle.sqlite.specs.Effect.{Database as Db}
 use Rattle.sqlite.specs.State.{State, HasCleanDisk, IsUnchanged, Survives}
@@ -14,7 +14,7 @@ use Rattle.register_store.specs.declared.error.CheckError.TheVariants.{NotARegis
 use Rattle.register_store.specs.declared.error.CreateError.{CreateError}
 use Rattle.register_store.specs.declared.error.CreateError.TheVariants.{HasTables, Database as Refused}
 use Rattle.register_store.specs.declared.found.Found.{Found}
-use Rattle.register_store.specs.Checking.{BlamesNone, ChecksBy, IsReason, Passes, mark_of}
+use Rattle.register_store.specs.Checking.{BlamesNone, ChecksBy, IsReason, Passes}
 use Rattle.register_store.specs.Migration.{FindsNewBy, HasNewTable, Migrates}
 use Rattle.register_store.specs.Opening.{ChangesNothing, HasCommittedIn, IsRefusal, MigratesTo, OpensBy, migration_error}
 use Rattle.register_store.specs.Schema.{HoldsIn}

@@ -7,18 +7,17 @@ use Rattle.sqlite.specs.Term.{Term, col}
 use Rattle.sqlite_resolve.specs.Compile.{first}
 use Rattle.sqlite_tied.specs.Compute.{everything}
 use Rattle.sql_steps.proofs.Comparing.{equal_numbers}
-use Rattle.sql_steps.proofs.Statements.{plain_query}
-use Rattle.row_tests.proofs.Selects.{IsSelect, select_plain}
 use Rattle.period_core.specs.KeyType.{key_type_code}
 use Rattle.period_core.specs.Period.{IsPeriod, Period as UsagePeriod}
 use Rattle.register_core.specs.Settings.{TypePeriod}
+use Rattle.sql_steps.proofs.Statements.{plain_query}
 use Rattle.register_store.specs.declared.table.TableName.TheVariants.{Period}
 use Rattle.register_store.specs.Tables.{Layout, Tables, period_row, table_of}
-use Rattle.register_store.specs.Schema.{schema_with}
 use Rattle.register_store.specs.Reading.{ShowsPeriod}
 use Rattle.register_store.proofs.KeyedFound.{IsKeyed}
-use Rattle.register_store.proofs.Meanings.{Asks, asks, classes}
-use Rattle.register_store.proofs.Readings.{IsSearch}
+use Rattle.register_store.specs.Schema.{schema_with}
+use Rattle.register_store.proofs.Meanings.{Asks}
+use Rattle.register_store.proofs.Readings.{IsSearch, search_by}
 use Rattle.register_store.proofs.Texts.{has_number}
 
 abbrev pub period_text : List ℕ
@@ -30,32 +29,12 @@ period_shown = col 1 2 ∷ col 1 3 ∷ []
 abbrev period_names : List (List ℕ)
 period_names = codes "originator" ∷ codes "recipient" ∷ []
 
-period_select : IsSelect period_text
+asks_period : (l : Layout) → Asks (schema_with l) (table_of l Period) period_text (plain_query (l.tree Period) has_number period_shown) period_names
 unfolding everything first
-period_select = (_, _, refl, refl, refl)
-
-asks_period : (l : Layout) → Asks (schema_with l) (table_of l Period) period_text
-    (plain_query (l.tree Period) has_number period_shown) period_names
-unfolding everything first
-asks_period l = record {
-  p = _;
-  select = _;
-  d = _;
-  by = _;
-  parsed = refl;
-  untimed = refl;
-  is = refl;
-  drafted = refl;
-  same = refl;
-  from = refl;
-  accepted = refl;
-}
+asks_period l = record { p = _; select = _; d = _; by = _; parsed = refl; untimed = refl; is = refl; drafted = refl; same = refl; from = refl; accepted = refl }
 
 pub period_search : IsSearch period_text Period has_number period_shown period_names
-period_search = record {
-  meant = λ l at. asks (schema_with l) (table_of l Period) (classes l at Period) _ _ _ (asks_period l);
-  query = select_plain period_text period_select;
-}
+period_search = search_by period_text Period has_number period_shown period_names asks_period
 
 abbrev period_cells : UsagePeriod → Cells
 period_cells p = Int (pos p.originator) ∷ Int (pos p.recipient) ∷ []

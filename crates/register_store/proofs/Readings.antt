@@ -1,5 +1,5 @@
 -- What calls that only read do, one by one and one after the other.
-use Rattle.std.proofs.Common.{◌≡◌, ◌≢◌, ◌≤◌, ◌+◌, ℕ, List, [], Result, Ok, Err, IfOk, IfErr, OnOk, refl, sym, subst, ◌∙◌, arith}
+use Rattle.std.proofs.Common.{◌≡◌, ◌≢◌, ◌≤◌, ◌+◌, ℕ, List, [], inl, Result, Ok, Err, IfOk, IfErr, OnOk, refl, sym, subst, ◌∙◌, arith}
 use Rattle.std.specs.Prelude.{IsErrAnd}
 use Rattle.sqlite.specs.Command.TheVariants.{Select}
 use Rattle.sqlite.specs.Order.{Row as Cells}
@@ -10,13 +10,14 @@ use Rattle.sqlite.proofs.StateLemmas.{survives_then}
 use Rattle.sql_steps.proofs.Statements.{plain_query}
 use Rattle.row_tests.specs.Showing.{IsQuery}
 use Rattle.row_tests.proofs.RowByRow.{commits_none}
+use Rattle.row_tests.proofs.Selects.{select_plain}
 use Rattle.register_store.specs.declared.error.StoreError.{StoreError}
 use Rattle.register_store.specs.declared.error.StoreError.TheVariants.{Memory, NoRegister}
 use Rattle.sqlite_trees.specs.declared.store.Store.{Ghosts}
 use Rattle.register_store.specs.declared.counted.Counted.{Counted}
-use Rattle.register_store.proofs.Meanings.{IsPlaced, Meant}
+use Rattle.register_store.proofs.Meanings.{Asks, IsPlaced, Meant, asks, classes}
 use Rattle.register_store.specs.Reading.{seen, CallsOver, HoldsWhereOpen, IsOpenStill, KeepsSight, ReadFails, ReadsBy}
-use Rattle.register_store.specs.Tables.{Layout, Tables}
+use Rattle.register_store.specs.Tables.{Layout, Tables, fresh, table_of}
 use Rattle.register_store.specs.declared.table.TableName.{TableName}
 use Rattle.register_store.specs.Schema.{schema_with, Holds}
 
@@ -25,6 +26,16 @@ pub record IsSearch (sql : List ℕ) (name : TableName) (passes shown : List Ter
   pub meant : (l : Layout) → IsPlaced l → Meant (schema_with l) sql
       (Select (record { lets = []; body = plain_query (l.tree name) passes shown }) names)
   pub query : IsQuery sql
+
+-- a text that asks the table so in every layout is a search
+pub search_by : (sql : List ℕ) (name : TableName) (passes shown : List Term) (names : List (List ℕ))
+    → ((l : Layout) → Asks (schema_with l) (table_of l name) sql (plain_query (l.tree name) passes shown) names)
+    → IsSearch sql name passes shown names
+search_by sql name passes shown names asked = record {
+  meant = λ l at. asks (schema_with l) (table_of l name) (classes l at name) _ _ _ (asked l);
+  query =
+      let one = asked (fresh []) in select_plain sql (one.p, one.select, one.parsed, one.is, one.untimed);
+}
 
 -- a failure where nothing is changed
 pub fails_unchanged : {A : Type 0} (r : Result A StoreError) (old new : State) → IsUnchanged old new → IfErr r (λ error. error ≢ NoRegister) → IfErr r (ReadFails old new)
@@ -35,6 +46,17 @@ fails_unchanged (Err error) old new same registered = record { unchanged = λ is
 pub fails_refused : {A : Type 0} (r : Result A StoreError) (old new : State) → IfErr r (λ error. error ≢ Memory) → IfErr r (λ error. error ≢ NoRegister) → IfErr r (ReadFails old new)
 fails_refused (Ok x) old new other registered = tt
 fails_refused (Err error) old new other registered = record { unchanged = λ is. absurd (other is); registered = registered }
+
+-- what changes nothing leaves nothing new behind a stop
+pub survives_none : (s : State) → Survives s s (λ _. ⊥)
+survives_none s = record {
+  clean = omega arith;
+  shield = λ h. h;
+  counts = omega arith;
+  limit = refl;
+  closes = λ clean is. inl is;
+  crash = λ clean db left. inl left;
+}
 
 -- ---- one query
 

@@ -8,7 +8,6 @@ use Rattle.sqlite.specs.declared.error.Error.{Error}
 use Rattle.sqlite.specs.declared.types.Value.TheVariants.{Null, Int, Text as Words}
 use Rattle.sqlite.specs.Collation.TheVariants.{Binary}
 use Rattle.sqlite_resolve.specs.Compile.{first}
-use Rattle.row_tests.proofs.Selects.{IsSelect, select_plain}
 use Rattle.sqlite.specs.Order.{Row as Cells}
 use Rattle.sqlite.specs.State.{State, HasCleanDisk, QueriesRow, Survives, CommitsShowing}
 use Rattle.sqlite.specs.Term.{Term, col, op2, eval_all}
@@ -25,13 +24,13 @@ use Rattle.register_core.specs.Request.{command_text}
 use Rattle.register_store.specs.declared.error.StoreError.{StoreError}
 use Rattle.register_store.specs.declared.error.StoreError.TheVariants.{Memory, NoRegister}
 use Rattle.register_store.specs.declared.table.TableName.TheVariants.{Request}
-use Rattle.register_store.specs.Tables.{Layout, Tables, request, request_cells, state_cell}
+use Rattle.register_store.specs.Tables.{Layout, Tables, request_cells, state_cell, table_of}
 use Rattle.register_store.specs.Schema.{schema_with, Holds, rows_of}
 use Rattle.register_store.specs.Reading.{HasRequest, IsRowOf, ReadsBy, ShowsNone, ShowsRequest}
 use Rattle.register_store.proofs.Decoding.{same_request}
 use Rattle.register_store.proofs.EntryRows.{picks_entries}
-use Rattle.register_store.proofs.Meanings.{Asks, asks, classes}
-use Rattle.register_store.proofs.Readings.{IsSearch}
+use Rattle.register_store.proofs.Meanings.{Asks}
+use Rattle.register_store.proofs.Readings.{IsSearch, search_by}
 use Rattle.register_store.proofs.RowFound.{row_read}
 
 -- ---- the text
@@ -49,32 +48,12 @@ answer_shown = col 1 3 ∷ col 1 4 ∷ col 1 5 ∷ col 1 6 ∷ []
 abbrev answer_names : List (List ℕ)
 answer_names = codes "command" ∷ codes "key_no" ∷ codes "state" ∷ codes "moment" ∷ []
 
-search_select : IsSelect search_text
+asks_request : (l : Layout) → Asks (schema_with l) (table_of l Request) search_text (plain_query (l.tree Request) under answer_shown) answer_names
 unfolding everything first
-search_select = (_, _, refl, refl, refl)
-
-asks_request : (l : Layout) → Asks (schema_with l) (request l) search_text
-    (plain_query (l.tree Request) under answer_shown) answer_names
-unfolding everything first
-asks_request l = record {
-  p = _;
-  select = _;
-  d = _;
-  by = _;
-  parsed = refl;
-  untimed = refl;
-  is = refl;
-  drafted = refl;
-  same = refl;
-  from = refl;
-  accepted = refl;
-}
+asks_request l = record { p = _; select = _; d = _; by = _; parsed = refl; untimed = refl; is = refl; drafted = refl; same = refl; from = refl; accepted = refl }
 
 search_is : IsSearch search_text Request under answer_shown answer_names
-search_is = record {
-  meant = λ l at. asks (schema_with l) (request l) (classes l at Request) _ _ _ (asks_request l);
-  query = select_plain search_text search_select;
-}
+search_is = search_by search_text Request under answer_shown answer_names asks_request
 
 -- ---- the request under a caller's number
 

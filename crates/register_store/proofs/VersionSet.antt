@@ -1,5 +1,5 @@
 -- What the UPDATE of the version does, where both new tables are there and empty.
-use Rattle.std.proofs.Common.{◌≡◌, ◌<◌, map, ◌∙◌, ℕ, pos, List, [], ◌∷◌, codes, Ok, refl, sym, ap, subst, arith}
+use Rattle.std.proofs.Common.{◌≡◌, map, ◌∙◌, ℕ, pos, List, [], ◌∷◌, codes, Ok, refl, sym, ap, subst, arith}
 use Rattle.sqlite.specs.declared.types.Value.TheVariants.{Null, Int}
 use Rattle.sqlite.specs.Collation.TheVariants.{Binary}
 use Rattle.sqlite.specs.Effect.{Database}

@@ -1,5 +1,4 @@
 -- Tables with the version in which they are stored.
-use Rattle.std.specs.Prelude.{ℕ}
 use Rattle.sqlite.specs.Effect.{Database}
 use Rattle.register_core.specs.declared.version.Version.{Version}
 use Rattle.register_store.specs.declared.table.TableName.{TableName}

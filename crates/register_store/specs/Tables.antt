@@ -1,5 +1,5 @@
 -- The tables of a register, one by one: what each holds, how it is made, and how its content stands in its rows.
-use Rattle.std.specs.Prelude.{◌≡◌, ◌≤◌, ◌<◌, ℕ, ◌+◌, pos, Bool, cond, false, not, List, [], ◌∷◌, ◌++◌, map, drop, filter}
+use Rattle.std.specs.Prelude.{◌≡◌, ◌<◌, ℕ, ◌+◌, pos, Bool, cond, false, not, List, [], ◌∷◌, ◌++◌, map, drop, filter}
 use Rattle.std.specs.Prelude.{take, Option, None, Some, is_some, IsTrue, IsPermutation, codes}
 use Rattle.std.specs.List.{AllByRecursion, enumerate_from}
 use Rattle.sqlite.specs.declared.types.Value.TheVariants.{Null, Int, Text as Words}

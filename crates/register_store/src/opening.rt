@@ -24,24 +24,12 @@ pub fn open_tables<S: Alter>(
     ensures idle { connection.new.in_transaction ≡ false }
     ensures opens { OpensTables S.Store connection.old connection.new result }
 {
-    let Found {
-        version,
-        latest,
-        keys,
-    } = check(alloc, connection)?;
-    match version {
-        Version::Second => Ok(Found {
-            version,
-            latest,
-            keys,
-        }),
+    let found = check(alloc, connection)?;
+    match found.version {
+        Version::Second => Ok(found),
         Version::First => {
             migrate(connection)?;
-            Ok(Found {
-                version,
-                latest,
-                keys,
-            })
+            Ok(found)
         }
     }
 }

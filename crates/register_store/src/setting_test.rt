@@ -3,13 +3,13 @@ ghost use Rattle.std.specs.Prelude.{◌≡◌, ◌↔◌, false, MatchOption, Is
 ghost use Rattle.sqlite.specs.Held.{state};
 ghost use Rattle.sqlite.specs.State.{Survives};
 ghost use Rattle.register_core.specs.Settings.{KeyNeed, TypePeriod};
-ghost use Rattle.register_store.specs.declared.table.TableName.TheVariants as table;
 ghost use Rattle.register_core.specs.declared.version.Version.TheVariants.{Second};
-ghost use Rattle.register_store.specs.Stored.{Stored, mark};
-ghost use Rattle.register_store.specs.Tests.{IsNeedOf};
 ghost use Rattle.register_store.specs.Checking.{ShowsKeyNeed, ShowsTypePeriod, TestsBy};
 ghost use Rattle.register_store.specs.Checking.{counts_of, mark_of};
+ghost use Rattle.register_store.specs.Stored.{Stored, mark};
 ghost use Rattle.register_store.specs.Taking.{IsAny, key_need, type_period};
+ghost use Rattle.register_store.specs.Tests.{IsNeedOf};
+ghost use Rattle.register_store.specs.declared.table.TableName.TheVariants as table;
 
 use crate::cell::{kind_in, months_in, need_in, number_in};
 use crate::error::CheckError;

@@ -2,7 +2,6 @@
 use Rattle.std.proofs.Common.{◌≡◌, inl, inr, ℕ, List, [], Option, Ok, Err, OnOk, Result, refl, sym, ap, subst, ◌∙◌, arith}
 use Rattle.sqlite_trees.specs.declared.store.Store as store
 use Rattle.sqlite_trees.specs.declared.error.StoreError.{StoreError}
-use Rattle.sqlite_trees.specs.declared.error.StoreError.TheVariants.{OutOfMemory, Io, Corrupt, Full, Broken, Unstorable}
 use Rattle.sqlite.specs.declared.error.Error.{Error}
 use Rattle.sqlite.specs.declared.error.Error.TheVariants.{SqlInputError}
 use Rattle.sqlite_resolve.specs.declared.error.CompileError.{CompileError}
@@ -18,17 +17,10 @@ use Rattle.sqlite.specs.State.{State, HasCleanDisk, IsUnchanged, IsNotRun, Fails
 use Rattle.sqlite.specs.Clock.{timed}
 use Rattle.sqlite.proofs.Callers.{never_commits, unchanged_then}
 use Rattle.sqlite.proofs.StateLemmas.{survives_weaker}
+use Rattle.sql_steps.proofs.Asking.{never_input}
 use Rattle.row_tests.specs.Showing.{IsQuery, HasNoMeaning, ShowsAll, ShowsFirst}
 
 -- ---- a text that has no meaning
-
-never_input : (fault : CompileError) (cause : StoreError) → ¬ ◌≡◌ {A = Error} (SqlInputError fault) (store_error cause)
-never_input fault OutOfMemory e = cc
-never_input fault Io e = cc
-never_input fault Corrupt e = cc
-never_input fault Full e = cc
-never_input fault Broken e = cc
-never_input fault Unstorable e = cc
 
 never_read : (limit : Option ℕ) (command : Command) (db : Database) (params : Row) (fault : CompileError) → ¬ RefusesToRead limit command db params (SqlInputError fault)
 never_read limit (Select q names) db params fault (inl h) = let e = h.0 in cc

@@ -11,7 +11,8 @@ use Rattle.sqlite.specs.State.{State, HasCleanDisk, QueriesRow, QueriesRowInside
 use Rattle.sqlite.proofs.InsideLemmas.{unchanged_keeps}
 use Rattle.sql_steps.specs.Steps.{Change, StepsBy, GoesOn}
 
-never_input : (fault : _) (cause : StoreError) → ¬ ◌≡◌ {A = Error} (SqlInputError fault) (store_error cause)
+-- no cause of the store is a text without a meaning
+pub never_input : (fault : _) (cause : StoreError) → ¬ ◌≡◌ {A = Error} (SqlInputError fault) (store_error cause)
 never_input fault OutOfMemory e = cc
 never_input fault Io e = cc
 never_input fault Corrupt e = cc

@@ -1,4 +1,4 @@
-use Rattle.std.proofs.Common.{rules, refl, subst, sym, ap}
+use Rattle.std.proofs.Common.{rules, subst, sym, ap}
 use Rattle.register_desk.specs.declared.desk.Desk.{Desk}
 use Rattle.register_desk.specs.Leaving.{ChangesNothing}
 use Rattle.register_desk.proofs.Readings.{nothing_done}

@@ -1,10 +1,9 @@
-use Rattle.std.proofs.Common.{◌≡◌, ◌≢◌, inl, inr, rules, ap, ap₂, sym, subst, ◌∙◌, arith}
+use Rattle.std.proofs.Common.{inl, inr, rules, ap, ap₂, sym, subst, ◌∙◌, arith}
 use Rattle.std.proofs.lemmas.Bool.{cases_Bool}
 use Rattle.key_rows.specs.DueRows.{AreListed}
 use Rattle.key_rows.specs.Report.{horizon, report_text}
 use Rattle.register_core.specs.History.{period}
 use Rattle.register_desk.specs.declared.desk.Desk.{Desk}
-use Rattle.register_desk.specs.declared.end.End.TheVariants.{Broken, Store, WriteFault}
 use Rattle.register_desk.specs.Leaving.{ChangesNothing, IsClean}
 use Rattle.register_desk.specs.Rows.{AreAll, all_rows}
 use Rattle.register_report.proofs.ListedRows.{EndsAt, report_rows}

@@ -1,5 +1,4 @@
-use Rattle.std.proofs.Common.{rules, ◌≡◌, List, [], ℕ, Option, ap, subst, sym}
-use Rattle.csv.specs.Reading.{default_config, reader_config}
+use Rattle.std.proofs.Common.{rules, List, [], ℕ, Option, ap, subst, sym}
 use Rattle.register_desk.specs.declared.runs.Finish.TheVariants.{Ended}
 use Rattle.register_desk.specs.Run.{RunsOver}
 use Rattle.register_desk.specs.Lives.{LivesSome}
@@ -13,12 +12,9 @@ use Rattle.register_report.proofs.importing.import.Goals as goal
 
 pub returns-in-Ok-clause-agrees : goal.returns-in-Ok-clause-agrees
 returns-in-Ok-clause-agrees g c h bytes items stands clean known has =
-    let made = c.from_reader-reader.ensures in
-    let config : reader_config c.from_reader-reader.result ≡ default_config = search rules in
-    let reads = reads_input g.R.Read.remaining c.from_reader-reader.result c.args.reader bytes
-    config made.state made.source known in
-    let behind = rows_behind reads c.skip_header.new.reader has.rows c.in-Ok.ensures.reads
-    has.has in
+    let reads = reads_input g.R.Read.remaining c.from_reader-reader.result c.args.reader bytes (search rules)
+    c.from_reader-reader.ensures.state c.from_reader-reader.ensures.source known in
+    let behind = rows_behind reads c.skip_header.new.reader has.rows c.in-Ok.ensures.reads has.has in
     let over = over_so g.S.Store g.R.Read.remaining c.args.moment c.args.caller.now c.args.first
     c.skip_header.new.reader (g.W.Write.contents c.begin.new.self.inner) _ c.args.desk.now
     c.serve_rows.new.desk c.serve_rows.result.replies behind items has.each h stands clean
@@ -47,12 +43,9 @@ returns-in-Ok-clause-lives g c h stands clean =
 
 pub returns-in-Ok-clause-uses : goal.returns-in-Ok-clause-uses
 returns-in-Ok-clause-uses g c bytes items known has is =
-    let made = c.from_reader-reader.ensures in
-    let config : reader_config c.from_reader-reader.result ≡ default_config = search rules in
-    let reads = reads_input g.R.Read.remaining c.from_reader-reader.result c.args.reader bytes
-    config made.state made.source known in
-    let behind = rows_behind reads c.skip_header.new.reader has.rows c.in-Ok.ensures.reads
-    has.has in
+    let reads = reads_input g.R.Read.remaining c.from_reader-reader.result c.args.reader bytes (search rules)
+    c.from_reader-reader.ensures.state c.from_reader-reader.ensures.source known in
+    let behind = rows_behind reads c.skip_header.new.reader has.rows c.in-Ok.ensures.reads has.has in
     uses_so g.S.Store g.R.Read.remaining c.args.moment c.args.caller.now c.args.first
     c.skip_header.new.reader (g.W.Write.contents c.begin.new.self.inner) _ c.args.desk.now
     c.serve_rows.new.desk c.serve_rows.result.replies behind items has.each
@@ -60,12 +53,9 @@ returns-in-Ok-clause-uses g c bytes items known has is =
 
 pub returns-in-Ok-clause-broken : goal.returns-in-Ok-clause-broken
 returns-in-Ok-clause-broken g c bytes items broken known has =
-    let made = c.from_reader-reader.ensures in
-    let config : reader_config c.from_reader-reader.result ≡ default_config = search rules in
-    let reads = reads_input g.R.Read.remaining c.from_reader-reader.result c.args.reader bytes
-    config made.state made.source known in
-    let behind = rows_behind reads c.skip_header.new.reader has.rows c.in-Ok.ensures.reads
-    has.has in
+    let reads = reads_input g.R.Read.remaining c.from_reader-reader.result c.args.reader bytes (search rules)
+    c.from_reader-reader.ensures.state c.from_reader-reader.ensures.source known in
+    let behind = rows_behind reads c.skip_header.new.reader has.rows c.in-Ok.ensures.reads has.has in
     let runs = broken_so g.S.Store g.R.Read.remaining c.args.moment c.args.caller.now c.args.first
     c.skip_header.new.reader (g.W.Write.contents c.begin.new.self.inner) _ c.args.desk.now
     c.serve_rows.new.desk c.serve_rows.result.replies behind items has.each broken
@@ -76,10 +66,8 @@ returns-in-Ok-clause-broken g c bytes items broken known has =
 
 pub returns-in-Ok-clause-texts : goal.returns-in-Ok-clause-texts
 returns-in-Ok-clause-texts g c bytes rows known has =
-    let made = c.from_reader-reader.ensures in
-    let config : reader_config c.from_reader-reader.result ≡ default_config = search rules in
-    let reads = reads_input g.R.Read.remaining c.from_reader-reader.result c.args.reader bytes
-    config made.state made.source known in
+    let reads = reads_input g.R.Read.remaining c.from_reader-reader.result c.args.reader bytes (search rules)
+    c.from_reader-reader.ensures.state c.from_reader-reader.ensures.source known in
     let behind = rows_behind reads c.skip_header.new.reader rows c.in-Ok.ensures.reads has in
     texts_so g.S.Store g.R.Read.remaining c.args.moment c.args.caller.now c.args.first
     c.skip_header.new.reader _ _ c.args.desk.now c.serve_rows.new.desk
@@ -87,10 +75,8 @@ returns-in-Ok-clause-texts g c bytes rows known has =
 
 pub returns-in-Ok-clause-without : goal.returns-in-Ok-clause-without
 returns-in-Ok-clause-without g c bytes known without =
-    let made = c.from_reader-reader.ensures in
-    let config : reader_config c.from_reader-reader.result ≡ default_config = search rules in
-    let reads = reads_input g.R.Read.remaining c.from_reader-reader.result c.args.reader bytes
-    config made.state made.source known in
+    let reads = reads_input g.R.Read.remaining c.from_reader-reader.result c.args.reader bytes (search rules)
+    c.from_reader-reader.ensures.state c.from_reader-reader.ensures.source known in
     absurd (without (begins_so reads c.skip_header.new.reader c.in-Ok.ensures.reads))
 
 pub returns-in-Ok-clause-uncounted : goal.returns-in-Ok-clause-uncounted
@@ -107,10 +93,8 @@ returns-in-Ok-clause-clean g c clean =
 
 pub returns-clause-agrees : goal.returns-clause-agrees
 returns-clause-agrees g c h bytes items stands clean known has =
-    let made = c.from_reader-reader.ensures in
-    let config : reader_config c.from_reader-reader.result ≡ default_config = search rules in
-    let reads = reads_input g.R.Read.remaining c.from_reader-reader.result c.args.reader bytes
-    config made.state made.source known in
+    let reads = reads_input g.R.Read.remaining c.from_reader-reader.result c.args.reader bytes (search rules)
+    c.from_reader-reader.ensures.state c.from_reader-reader.ensures.source known in
     let over = no_header_over reads c.skip_header.new.reader has.rows has.has g.S.Store
     c.args.desk.now items
     (g.W.Write.contents c.args.writer.now.inner) c.in-Err.end c.in-Err.ensures.end h stands clean in
@@ -120,10 +104,8 @@ returns-clause-agrees g c h bytes items stands clean known has =
 
 pub returns-clause-broken : goal.returns-clause-broken
 returns-clause-broken g c bytes items broken known has =
-    let made = c.from_reader-reader.ensures in
-    let config : reader_config c.from_reader-reader.result ≡ default_config = search rules in
-    let reads = reads_input g.R.Read.remaining c.from_reader-reader.result c.args.reader bytes
-    config made.state made.source known in
+    let reads = reads_input g.R.Read.remaining c.from_reader-reader.result c.args.reader bytes (search rules)
+    c.from_reader-reader.ensures.state c.from_reader-reader.ensures.source known in
     let runs = no_header_refused reads c.skip_header.new.reader has.rows has.has g.S.Store
     c.args.desk.now items
     (g.W.Write.contents c.args.writer.now.inner) c.in-Err.end c.in-Err.ensures.end broken in

@@ -19,12 +19,8 @@ lines-init g c = record {
 pub lines-preserved : goal.lines-preserved
 lines-preserved g c =
     let found = c.in_ok-row.ensures in
-    let next : Next c.lines.rows c.next_key.new.self c.in_ok-row.field-0 = record {
-      reads = found.reads;
-      mark = found.mark;
-      until = found.until;
-      gives = found.gives;
-    } in
+    let next : Next c.lines.rows c.next_key.new.self c.in_ok-row.field-0 =
+    record { reads = found.reads; mark = found.mark; until = found.until; gives = found.gives } in
     let one = subst (Next c.lines.rows c.next_key.new.self) c.in-Some.is next in
     let listed = c.in_ok-put_row.ensures.listed in
     let counted : c.if-branch.count ≡ c.lines.count + one_if (lists c.args.table.now c.in-Some.row) =
@@ -47,12 +43,8 @@ lines-preserved g c =
 pub returns-in_err-put_row-clause-rows : goal.returns-in_err-put_row-clause-rows
 returns-in_err-put_row-clause-rows g c =
     let found = c.in_ok-row.ensures in
-    let next : Next c.lines.rows c.next_key.new.self c.in_ok-row.field-0 = record {
-      reads = found.reads;
-      mark = found.mark;
-      until = found.until;
-      gives = found.gives;
-    } in
+    let next : Next c.lines.rows c.next_key.new.self c.in_ok-row.field-0 =
+    record { reads = found.reads; mark = found.mark; until = found.until; gives = found.gives } in
     let one = subst (Next c.lines.rows c.next_key.new.self) c.in-Some.is next in
     rows_passed_on c.from_residual-in_err-put_row.result c.from_residual-in_err-put_row.ensures.1
     (part_of_line c.lines.invariant.so_far one c.in_err-put_row.ensures.puts)

@@ -20,39 +20,32 @@ returns-in_err-head-clause-table g c =
 
 pub returns-in_err-put_text-clause-table : goal.returns-in_err-put_text-clause-table
 returns-in_err-put_text-clause-table g c =
-    let table = c.args.table.now in
-    let formed = value_so c.in_ok-head.ensures.text (λ text. text.items ≡ head_text table)
-    c.head.ensures in
-    let head = text_same (c.deref.ensures.value ∙ formed) c.in_err-put_text.ensures.puts in
+    let head = text_same (c.deref.ensures.value ∙ value_so c.in_ok-head.ensures.text
+    (λ text. text.items ≡ head_text c.args.table.now) c.head.ensures) c.in_err-put_text.ensures.puts in
     table_passed_on c.from_residual-in_err-put_text.result c.from_residual-in_err-put_text.ensures.1
-    (part_of_head table c.args.rows.now head)
+    (part_of_head c.args.table.now c.args.rows.now head)
 
 pub returns-in_err-count-clause-table : goal.returns-in_err-count-clause-table
 returns-in_err-count-clause-table g c =
-    let table = c.args.table.now in
-    let formed = value_so c.in_ok-head.ensures.text (λ text. text.items ≡ head_text table)
-    c.head.ensures in
-    let head = text_same (c.deref.ensures.value ∙ formed) c.in_ok-put_text.ensures.puts in
+    let head = text_same (c.deref.ensures.value ∙ value_so c.in_ok-head.ensures.text
+    (λ text. text.items ≡ head_text c.args.table.now) c.head.ensures) c.in_ok-put_text.ensures.puts in
     table_passed_on c.from_residual-in_err-count.result c.from_residual-in_err-count.ensures.1
-    (part_of_rows table c.args.rows.now head c.in_err-count.ensures.rows)
+    (part_of_rows c.args.table.now c.args.rows.now head c.in_err-count.ensures.rows)
 
 pub returns-in_err-foot-clause-table : goal.returns-in_err-foot-clause-table
 returns-in_err-foot-clause-table g c =
     let e = c.in_err-foot.field-0.0 in
-    let table = c.args.table.now in
-    let formed = value_so c.in_ok-head.ensures.text (λ text. text.items ≡ head_text table)
-    c.head.ensures in
-    let head = text_same (c.deref.ensures.value ∙ formed) c.in_ok-put_text.ensures.puts in
+    let head = text_same (c.deref.ensures.value ∙ value_so c.in_ok-head.ensures.text
+    (λ text. text.items ≡ head_text c.args.table.now) c.head.ensures) c.in_ok-put_text.ensures.puts in
     table_passed_on c.from_residual-in_err-foot.result c.from_residual-in_err-foot.ensures.1
-    (no_foot table c.args.rows.now head c.in_ok-count.ensures.rows e
+    (no_foot c.args.table.now c.args.rows.now head c.in_ok-count.ensures.rows e
     (no_writer e c.in_err-foot.ensures.end))
 
 pub returns-clause-table : goal.returns-clause-table
 returns-clause-table g c =
     let table = c.args.table.now in
-    let formed = value_so c.in_ok-head.ensures.text (λ text. text.items ≡ head_text table)
-    c.head.ensures in
-    let head = text_same (c.deref.ensures.value ∙ formed) c.in_ok-put_text.ensures.puts in
+    let head = text_same (c.deref.ensures.value ∙ value_so c.in_ok-head.ensures.text
+    (λ text. text.items ≡ head_text table) c.head.ensures) c.in_ok-put_text.ensures.puts in
     let formed_foot = value_so c.in_ok-foot.ensures.text
     (λ text. text.items ≡ foot_text table c.in_ok-count.count) c.foot.ensures in
     let foot = text_same (c.deref-2.ensures.value ∙ formed_foot) c.put_text-2.ensures.puts in

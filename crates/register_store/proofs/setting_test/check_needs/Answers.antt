@@ -14,12 +14,11 @@ test_rows-read-requires-clause-query g c = query_of Quorum
 
 pub returns-in-Ok-clause-tests : goal.returns-in-Ok-clause-tests
 returns-in-Ok-clause-tests g c t second told =
-    let old = state g.S.Store c.args.connection.now in
-    let new = state g.S.Store c.test_rows-read.new.connection in
     let Passes = IsNeedOf (counts_of c.args.found) in
     let are = needs_tested t c.args.found second told in
     let begun = none_shown ShowsKeyNeed Passes in
-    entries_read Quorum ShowsKeyNeed Passes t are old new c.test_rows-read.ensures.survives
+    entries_read Quorum ShowsKeyNeed Passes t are
+    (state g.S.Store c.args.connection.now) (state g.S.Store c.test_rows-read.new.connection) c.test_rows-read.ensures.survives
     (λ clean.
     let it = (rw (c.in-Ok.is) at c.test_rows-read.ensures.met) clean (refl, begun) in
     record { rows = it.rows; shown = it.shown; holds = it.holds.1; same = it.same })

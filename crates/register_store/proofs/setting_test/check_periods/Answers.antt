@@ -14,10 +14,9 @@ test_rows-read-requires-clause-query g c = query_of Period
 
 pub returns-in-Ok-clause-tests : goal.returns-in-Ok-clause-tests
 returns-in-Ok-clause-tests g c t second =
-    let old = state g.S.Store c.args.connection.now in
-    let new = state g.S.Store c.test_rows-read.new.connection in
     let begun = none_shown ShowsTypePeriod IsAnyPeriod in
-    entries_read Period ShowsTypePeriod IsAnyPeriod t (periods_tested t second) old new c.test_rows-read.ensures.survives
+    entries_read Period ShowsTypePeriod IsAnyPeriod t (periods_tested t second)
+    (state g.S.Store c.args.connection.now) (state g.S.Store c.test_rows-read.new.connection) c.test_rows-read.ensures.survives
     (λ clean. (rw (c.in-Ok.is) at c.test_rows-read.ensures.met) clean begun)
 
 pub returns-in-Err-clause-tests : goal.returns-in-Err-clause-tests
