@@ -3,12 +3,4 @@
 #![tactic(auto)]
 
 #[cfg(test)]
-mod commands;
-#[cfg(test)]
-mod heads;
-#[cfg(test)]
-mod inputs;
-#[cfg(test)]
-mod limits;
-#[cfg(test)]
-mod replies;
+mod tests;

@@ -1,6 +1,6 @@
 //! Requests that are sent over a register, and what it shows.
-use super::files::Entry;
-use super::texts::{Exchange, IMPORT_HEAD, joined};
+use crate::files::Entry;
+use crate::texts::{Exchange, IMPORT_HEAD, joined};
 use moment_core::Moment;
 use register_core::Name;
 use register_desk::{Desk, End, Finish, Outcome, Watched, run};

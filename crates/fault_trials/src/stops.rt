@@ -1,13 +1,14 @@
 //! Stops: from each call on, all calls of a file fail. Failures: one call of a file does.
-use super::files::{Entry, Fault, Lab, Place};
-use super::requests::{BEGINNINGS, DAY, FIRST_OF_DAY, LAST_OF_DAY, SEVERAL, SINGLE, of_day};
-use super::sending::Way;
-use super::trials::{Odd, Trial, try_all};
+use crate::files::{Entry, Fault, Lab, Place};
+use crate::requests::{BEGINNINGS, DAY, FIRST_OF_DAY, LAST_OF_DAY, SEVERAL, SINGLE, of_day};
+use crate::sending::Way;
+use crate::trials::{Odd, Trial, try_all};
 use register_faults::Plan;
+use std::alloc::Global;
 use std::test::Fail;
 
 /// A trial that went otherwise than it should: its name, its place among its like, the fault, and how.
-type Wrong = (&'static str, usize, Fault, Odd);
+pub type Wrong = (&'static str, usize, Fault, Odd);
 
 /// The machine stops, or one of its files does.
 #[rattlefmt::skip]
@@ -107,43 +108,36 @@ fn wrong_other(lab: Lab, faults: &[Fault]) -> Result<Option<Wrong>, Fail> {
     Ok(None)
 }
 
-#[test]
-fn a_stop_in_each_command(rt: HostRuntime) -> Result<(), Fail> {
-    assert_eq!(rt;
-        wrong_request(Lab::new(rt.alloc()), FIRST_OF_DAY, &STOPS)?,
-        None
-    );
-    Ok(())
+/// The first request of the day at which a stop goes otherwise than it should.
+pub fn stop_in_command_at_fault(alloc: Global) -> Result<Option<Wrong>, Fail> {
+    wrong_request(Lab::new(alloc), FIRST_OF_DAY, &STOPS)
 }
 
-#[test]
-fn a_stop_in_all_else(rt: HostRuntime) -> Result<(), Fail> {
-    assert_eq!(rt; wrong_other(Lab::new(rt.alloc()), &STOPS)?, None);
-    Ok(())
+/// The first other trial at which one does.
+pub fn stop_elsewhere_at_fault(alloc: Global) -> Result<Option<Wrong>, Fail> {
+    wrong_other(Lab::new(alloc), &STOPS)
 }
 
-/// Pages go to the log before the commit. The last request of the day ends an approval.
-#[test]
-fn a_stop_while_pages_spill(rt: HostRuntime) -> Result<(), Fail> {
-    let lab = Lab::spilling(rt.alloc());
-    assert_eq!(rt; wrong_trial(lab, &SEVERAL, &STOPS)?, None);
-    assert_eq!(rt; wrong_request(lab, LAST_OF_DAY, &STOPS)?, None);
-    Ok(())
+/// The same of several requests, and of the last one of the day, which ends an approval, where pages go to the log before the
+/// commit.
+pub fn stop_while_spilling_at_fault(alloc: Global) -> Result<Option<Wrong>, Fail> {
+    let lab = Lab::spilling(alloc);
+    match wrong_trial(lab, &SEVERAL, &STOPS)? {
+        None => wrong_request(lab, LAST_OF_DAY, &STOPS),
+        wrong => Ok(wrong),
+    }
 }
 
-#[test]
-fn a_failed_call(rt: HostRuntime) -> Result<(), Fail> {
-    let lab = Lab::new(rt.alloc());
-    assert_eq!(rt; wrong_request(lab, FIRST_OF_DAY, &FAILURES)?, None);
-    assert_eq!(rt; wrong_other(lab, &FAILURES)?, None);
-    Ok(())
+/// The first trial at which a failed call does.
+pub fn failure_at_fault(alloc: Global) -> Result<Option<Wrong>, Fail> {
+    let lab = Lab::new(alloc);
+    match wrong_request(lab, FIRST_OF_DAY, &FAILURES)? {
+        None => wrong_other(lab, &FAILURES),
+        wrong => Ok(wrong),
+    }
 }
 
-#[test]
-fn a_disk_that_wants_memory(rt: HostRuntime) -> Result<(), Fail> {
-    assert_eq!(rt;
-        wrong_trial(Lab::new(rt.alloc()), &BEGINNINGS, &WANTS)?,
-        None
-    );
-    Ok(())
+/// The first beginning of a register at which want of memory in the disk does.
+pub fn want_of_memory_at_fault(alloc: Global) -> Result<Option<Wrong>, Fail> {
+    wrong_trial(Lab::new(alloc), &BEGINNINGS, &WANTS)
 }

@@ -1,8 +1,8 @@
 //! Malicious bytes: none of them changes a register.
-use super::calls::{Call, call_over};
-use super::files::{DeskTask, Entry, HONEST, Lab, NoDesk, Nothing, file_of};
-use super::texts::{ADVANCE, IMPORT_HEAD, KEY, Text, joined};
-use super::trials::files_with;
+use crate::calls::{Call, call_over};
+use crate::files::{DeskTask, Entry, HONEST, Lab, NoDesk, Nothing, file_of};
+use crate::texts::{ADVANCE, IMPORT_HEAD, KEY, Text, joined};
+use crate::trials::files_with;
 use register_desk::{Desk, OpenRefusal, Watched};
 use register_faults::OneByte;
 use sqlite::{Alter, Files};
@@ -114,7 +114,8 @@ fn is_harmless(
 }
 
 /// The first hostile input that is not harmless.
-fn first_harm(lab: Lab) -> Result<Option<usize>, Fail> {
+pub fn input_that_harms(alloc: Global) -> Result<Option<usize>, Fail> {
+    let lab = Lab::new(alloc);
     let files = files_with(lab, KEY)?;
     for (place, hostile) in HOSTILE.iter().enumerate() {
         let input = input_of(lab.alloc, hostile)?;
@@ -126,7 +127,8 @@ fn first_harm(lab: Lab) -> Result<Option<usize>, Fail> {
 }
 
 /// The first proper prefix of the worked request *advanced* that is not harmless.
-fn first_harmful_prefix(lab: Lab) -> Result<Option<usize>, Fail> {
+pub fn prefix_that_harms(alloc: Global) -> Result<Option<usize>, Fail> {
+    let lab = Lab::new(alloc);
     let files = files_with(lab, KEY)?;
     for length in 0..ADVANCE.len() {
         let output = if length == 0 { "" } else { BAD_REQUEST };
@@ -166,20 +168,13 @@ fn opened_another(lab: Lab) -> Result<Opened, Fail> {
     opened(lab, &files)
 }
 
-#[test]
-fn malicious_bytes_change_nothing(rt: HostRuntime) -> Result<(), Fail> {
-    let lab = Lab::new(rt.alloc());
-    assert_eq!(rt; first_harm(lab)?, None);
-    assert_eq!(rt; first_harmful_prefix(lab)?, None);
-    Ok(())
-}
-
-#[test]
-fn strangers_are_no_registers(rt: HostRuntime) -> Result<(), Fail> {
-    let lab = Lab::new(rt.alloc());
+/// Whether a file of zeros, which is no database, is refused as a connection, and a database of another program as no
+/// register, and both stay as they are.
+pub fn are_strangers_refused(alloc: Global) -> Result<bool, Fail> {
+    let lab = Lab::new(alloc);
     let not_a_register = Err(NoDesk::Refused(OpenRefusal::NotARegister));
-    // It is no database, so the connection is refused.
-    assert_eq!(rt; opened_zeros(lab)?, (Err(NoDesk::NoConnection), true));
-    assert_eq!(rt; opened_another(lab)?, (not_a_register, true));
-    Ok(())
+    Ok(
+        opened_zeros(lab)? == (Err(NoDesk::NoConnection), true)
+            && opened_another(lab)? == (not_a_register, true),
+    )
 }

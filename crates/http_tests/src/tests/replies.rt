@@ -69,26 +69,16 @@ fn is_refused(alloc: Global, refusal: Refusal, body: &str) -> Result<bool, Alloc
     is_answered(alloc, Err(refusal), CONFLICT, body)
 }
 
+const BEHIND: &str = r#"{"latest":253402300799,"name":"MomentBehind","refused":3}"#;
+
+const TOO_LONG: &str = r#"{"limit":253402300799,"name":"PeriodTooLong","refused":10}"#;
+
 #[test]
 fn refusals_tell_their_moments(rt: HostRuntime) -> Result<(), Fail> {
     let alloc = rt.alloc();
     let moment = Moment::new(253_402_300_799).ok_or("a moment")?;
-    let behind = Refusal::MomentBehind { latest: moment };
-    assert!(rt;
-        is_refused(
-            alloc,
-            behind,
-            r#"{"latest":253402300799,"name":"MomentBehind","refused":3}"#
-        )?
-    );
-    let long = Refusal::PeriodTooLong { limit: moment };
-    assert!(rt;
-        is_refused(
-            alloc,
-            long,
-            r#"{"limit":253402300799,"name":"PeriodTooLong","refused":10}"#
-        )?
-    );
+    assert!(rt; is_refused(alloc, Refusal::MomentBehind { latest: moment }, BEHIND)?);
+    assert!(rt; is_refused(alloc, Refusal::PeriodTooLong { limit: moment }, TOO_LONG)?);
     Ok(())
 }
 

@@ -1,8 +1,8 @@
 //! The trials, as data.
-use super::files::Entry;
-use super::sending::Way;
-use super::texts::{Exchange, IMPORT_ROWS, IMPORTED, KEY, REGISTERED};
-use super::trials::Trial;
+use crate::files::Entry;
+use crate::sending::Way;
+use crate::texts::{Exchange, IMPORT_ROWS, IMPORTED, KEY, REGISTERED};
+use crate::trials::Trial;
 
 /// A day on which each command is accepted, of a ninth key. At each moment from 1100 to 2600 one of the first eight has
 /// just been activated or deactivated by the time.

@@ -1,8 +1,8 @@
 //! What is tried while calls of the files fail: something is done over a register, and what it leaves is opened again.
-use super::files::{DeskTask, Entry, Fault, HONEST, Lab, Left, NoDesk, Nothing, no_files};
-use super::leaving::{LEAVINGS, Leaving, Stopped, are_same};
-use super::sending::{Came, Way, is_broken, send};
-use super::texts::Exchange;
+use crate::files::{DeskTask, Entry, Fault, HONEST, Lab, Left, NoDesk, Nothing, no_files};
+use crate::leaving::{LEAVINGS, Leaving, Stopped, are_same};
+use crate::sending::{Came, Way, is_broken, send};
+use crate::texts::Exchange;
 use desk_trials::first_version;
 use register_desk::{Desk, OpenRefusal};
 use sqlite::{Alter, Files};
