@@ -229,8 +229,8 @@ fn worked_exchanges(rt: HostRuntime) -> Result<(), Fail> {
 }
 
 #[test]
-fn a_front_of_a_request_applies_nothing(rt: HostRuntime) -> Result<(), Fail> {
-    assert_eq!(rt; desk_trials::front_that_acts(rt.alloc())?, None);
+fn a_prefix_of_a_request_applies_nothing(rt: HostRuntime) -> Result<(), Fail> {
+    assert_eq!(rt; desk_trials::prefix_that_acts(rt.alloc())?, None);
     Ok(())
 }
 

@@ -18,7 +18,7 @@ pub(crate) fn exchanged<R: Read, W: Write>(
     reader: &mut Watched<R>,
     writer: &mut Watched<W>,
 ) -> Option<Outcome> {
-    if reader.failed() || writer.failed() {
+    if reader.has_failed() || writer.has_failed() {
         return None;
     }
     let moment = Moment::new(seconds)?;
@@ -107,23 +107,23 @@ pub fn worked_exchange_at_fault(alloc: Global) -> Result<Option<&'static str>, F
     Ok(None)
 }
 
-/// Whether an exchange over the front of *advanced*, of which nothing more comes, is refused, and over
+/// Whether an exchange over the prefix of *advanced*, of which nothing more comes, is refused, and over
 /// no byte writes nothing.
 fn is_cut_off(alloc: Global, desk: &mut Desk<MemStore>, taken: usize) -> bool {
     let reply = if taken == 0 { "" } else { BAD_REQUEST };
     match ADVANCE.get(..taken) {
-        Some(front) => is_replied(alloc, desk, &(100, front, reply)),
+        Some(prefix) => is_replied(alloc, desk, &(100, prefix, reply)),
         None => false,
     }
 }
 
-/// Whether an exchange over the front of *advanced*, behind which each read fails, ends so and writes
+/// Whether an exchange over the prefix of *advanced*, after which each read fails, ends so and writes
 /// nothing.
 fn is_broken_off(alloc: Global, desk: &mut Desk<MemStore>, taken: usize) -> bool {
-    let Some(front) = ADVANCE.get(..taken) else {
+    let Some(prefix) = ADVANCE.get(..taken) else {
         return false;
     };
-    let mut reader = Watched::new(BrokenAfter(front.as_bytes()));
+    let mut reader = Watched::new(BrokenAfter(prefix.as_bytes()));
     let mut writer = Watched::new(Vec::new(alloc));
     let outcome = exchanged(alloc, desk, 100, &mut reader, &mut writer);
     let expected = Outcome {
@@ -132,11 +132,11 @@ fn is_broken_off(alloc: Global, desk: &mut Desk<MemStore>, taken: usize) -> bool
         replies: 0,
         end: Finish::Ended(End::ReadFault),
     };
-    outcome == Some(expected) && reader.failed() && writer.into_inner().is_empty()
+    outcome == Some(expected) && reader.has_failed() && writer.into_inner().is_empty()
 }
 
-/// How long a front of *advanced* is that is not refused, or changes something, if there is one.
-pub fn front_that_acts(alloc: Global) -> Result<Option<usize>, Fail> {
+/// How long a prefix of *advanced* is that is not refused, or changes something, if there is one.
+pub fn prefix_that_acts(alloc: Global) -> Result<Option<usize>, Fail> {
     let mut desk = create_in_memory(alloc)?;
     for taken in 0..ADVANCE.len() {
         let is_refused = is_cut_off(alloc, &mut desk, taken)
@@ -173,7 +173,7 @@ fn is_troubled(alloc: Global, trouble: Trouble, taken: usize) -> Result<bool, Fa
         Trouble::IsInterrupted => MAX_IDLE_TURNS,
         Trouble::Fails | Trouble::FailsOnce | Trouble::TakesNothing => 0,
     };
-    let is_ended = outcome == Some(expected) && writer.idle() == idle;
+    let is_ended = outcome == Some(expected) && writer.idle_turns() == idle;
     let written = writer.into_inner().inner.inner;
     Ok(
         is_ended
@@ -183,8 +183,8 @@ fn is_troubled(alloc: Global, trouble: Trouble, taken: usize) -> Result<bool, Fa
     )
 }
 
-/// Behind how many bytes of the reply a failed write does not end the exchange as it should, if behind any, whether those
-/// behind it fail too or not. Behind all of the bytes its flush fails.
+/// After how many bytes of the reply a failed write does not end the exchange as it should, if after any, whether those
+/// after it fail too or not. After all of the bytes its flush fails.
 pub fn failed_reply_passed_over(alloc: Global) -> Result<Option<usize>, Fail> {
     for taken in 0..=ADVANCED.len() {
         if !is_troubled(alloc, Trouble::Fails, taken)?

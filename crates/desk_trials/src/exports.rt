@@ -155,7 +155,7 @@ fn is_cut(alloc: Global, desk: &mut Desk<MemStore>, good_turns: usize, text: &st
     outcome == expected && writer.into_inner().inner.as_slice() == text.as_bytes()
 }
 
-/// Whether the desk goes on behind a writer that failed.
+/// Whether the desk goes on after a writer that failed.
 fn goes_on(alloc: Global, desk: &mut Desk<MemStore>) -> bool {
     let mut output = Vec::new(alloc);
     let _ = run_over(desk, b"200 ann 2 advance\n", &mut output);

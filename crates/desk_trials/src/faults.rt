@@ -14,8 +14,8 @@ fn line_count(bytes: &[u8]) -> usize {
     bytes.iter().filter(|byte| **byte == b'\n').count()
 }
 
-/// Whether the run ends so over these bytes of *first day*, behind which each read fails.
-fn ends_behind(alloc: Global, given: &[u8]) -> Result<bool, Fail> {
+/// Whether the run ends so over these bytes of *first day*, after which each read fails.
+fn ends_after(alloc: Global, given: &[u8]) -> Result<bool, Fail> {
     let lines = line_count(given);
     let (Some(served), Some(stands)) = (first_day().lines.get(..lines), AFTER_LINES.get(lines))
     else {
@@ -42,7 +42,7 @@ fn ends_behind(alloc: Global, given: &[u8]) -> Result<bool, Fail> {
 pub fn failed_read_passed_over(alloc: Global) -> Result<Option<usize>, Fail> {
     let input = input_of(alloc, first_day())?;
     for taken in 0..=input.len() {
-        if !ends_behind(alloc, &input[..taken])? {
+        if !ends_after(alloc, &input[..taken])? {
             return Ok(Some(taken));
         }
     }

@@ -31,15 +31,15 @@ pub fn fresh_run<R: Read + Drop, W: Write + Drop>(
     let outcome = run(&mut reader, &mut writer, &mut desk);
     Ok(FreshRun {
         outcome,
-        read_failed: reader.failed(),
-        write_failed: writer.failed(),
-        idle: writer.idle(),
+        read_failed: reader.has_failed(),
+        write_failed: writer.has_failed(),
+        idle: writer.idle_turns(),
         stands: (desk.latest().seconds(), desk.count()),
         writer: writer.into_inner(),
     })
 }
 
-/// Runs the lines over the desk, and puts what is written behind the output.
+/// Runs the lines over the desk, and puts what is written after the output.
 pub fn run_over(desk: &mut Desk<MemStore>, lines: &[u8], output: &mut Vec<u8>) -> Outcome {
     let mut reader = Watched::new(lines);
     let mut writer = Watched::new(output);

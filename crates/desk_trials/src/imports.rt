@@ -37,7 +37,7 @@ fn imported<R: Read + Drop, W: Write>(
     table: R,
     writer: &mut Watched<W>,
 ) -> Option<Outcome> {
-    if first == 0 || first > LAST_NUMBER || writer.failed() {
+    if first == 0 || first > LAST_NUMBER || writer.has_failed() {
         return None;
     }
     let moment = Moment::new(moment)?;
@@ -63,7 +63,7 @@ pub(crate) fn replies_to<R: Read + Drop>(
         end,
     };
     outcome == Some(expected)
-        && !writer.failed()
+        && !writer.has_failed()
         && writer.into_inner().as_slice() == replies.as_bytes()
 }
 
@@ -164,7 +164,7 @@ pub fn odd_table_at_fault(alloc: Global) -> Result<Option<&'static str>, Fail> {
 
 const READ_FAULT: Finish = Finish::Ended(End::ReadFault);
 
-/// Whether a record that is no text ends the import, behind the rows before it.
+/// Whether a record that is no text ends the import, after the rows before it.
 pub fn is_import_ended_by_no_text(alloc: Global) -> Result<bool, Fail> {
     let row: &[u8] =
         b"type,owner,activation,protect_stop,deactivation,purpose\nmaster,bob,,,,a\nmaster,bob,,,,\xff\nmaster,bob,,,,c\n";
@@ -194,7 +194,7 @@ pub fn is_import_ended_by_reader(alloc: Global) -> Result<bool, Fail> {
     )
 }
 
-/// Whether a writer that fails once behind the first reply ends the import. The row in hand is applied then.
+/// Whether a writer that fails once after the first reply ends the import. The row in hand is applied then.
 fn is_cut_by_writer(alloc: Global, desk: &mut Desk<MemStore>, table: &[u8]) -> bool {
     let mut writer = Watched::new(Troubled {
         inner: Vec::new(alloc),
@@ -209,7 +209,7 @@ fn is_cut_by_writer(alloc: Global, desk: &mut Desk<MemStore>, table: &[u8]) -> b
         end: Finish::Ended(End::WriteFault),
     };
     imported(alloc, desk, (100, 1), table, &mut writer) == Some(expected)
-        && writer.failed()
+        && writer.has_failed()
         && desk.count() == 2
 }
 

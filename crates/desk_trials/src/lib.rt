@@ -23,7 +23,7 @@ pub use cases::first_wrong;
 pub use creations::{is_made_once, table_not_enough_to_refuse};
 pub use desks::{are_keys_shown, are_values_of_no_line_refused, is_key_shown_whole};
 pub use exchanges::{
-    failed_reply_passed_over, front_that_acts, is_stuck_writer_left, worked_exchange_at_fault,
+    failed_reply_passed_over, is_stuck_writer_left, prefix_that_acts, worked_exchange_at_fault,
 };
 pub use exports::{are_registers_written_out, is_export_ended_by_writer};
 pub use faults::{failed_read_passed_over, failed_write_passed_over, writer_trouble_passed_over};

@@ -8,7 +8,7 @@ use std::test::Fail;
 /// Lengths about the limit of a line, about the bytes of a read, and far above both.
 const LENGTHS: [usize; 6] = [1024, 1025, 4095, 4096, 4097, 3_000_000];
 
-/// Whether a line of so many bytes is refused, and the line behind it served.
+/// Whether a line of so many bytes is refused, and the line after it served.
 fn is_refused(alloc: Global, length: usize) -> Result<bool, Fail> {
     let tail = b"\n100 ann 1 advance\n";
     let expected = b"refused 1 BadLine\nok 0 - 100\n";
@@ -32,7 +32,7 @@ pub fn long_line_not_refused(alloc: Global) -> Result<Option<usize>, Fail> {
     Ok(None)
 }
 
-/// Whether a long rest behind the last line is counted.
+/// Whether a long rest after the last line is counted.
 pub fn is_long_rest_counted(alloc: Global) -> Result<bool, Fail> {
     let input = Filled {
         left: 3_000_000,

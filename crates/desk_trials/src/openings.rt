@@ -60,7 +60,7 @@ fn refusal_after(alloc: Global, edit: &str) -> Result<Option<OpenRefusal>, Fail>
     }
 }
 
-/// The first of these edits behind which the register is not refused, if there is one.
+/// The first of these edits after which the register is not refused, if there is one.
 fn first_not_refused(
     alloc: Global,
     edits: &'static [&'static str],
@@ -71,7 +71,7 @@ fn first_not_refused(
     Ok(first_wrong(edits, is_refused)?.copied())
 }
 
-/// A wrong edit behind which a register is not refused, if there is one.
+/// A wrong edit after which a register is not refused, if there is one.
 pub fn edit_not_refused(alloc: Global) -> Result<Option<&'static str>, Fail> {
     match first_not_refused(alloc, &WRONG_EDITS)? {
         Some(edit) => Ok(Some(edit)),

@@ -95,7 +95,7 @@ fn is_run(alloc: Global, row: &WorkedRow) -> Result<bool, Fail> {
     )
 }
 
-/// The dates behind the Initial Date, in seconds.
+/// The dates after the Initial Date, in seconds.
 fn seconds(dates: &Dates) -> [Option<u64>; 6] {
     let dates = [
         dates.activation,
@@ -108,7 +108,7 @@ fn seconds(dates: &Dates) -> [Option<u64>; 6] {
     dates.map(|date| date.map(|moment| moment.seconds()))
 }
 
-/// The names, each with a space behind it.
+/// The names, each with a space after it.
 fn joined(alloc: Global, names: &[Name]) -> Result<String, AllocError> {
     let mut text = String::new(alloc);
     for name in names {
@@ -132,7 +132,7 @@ fn is_shown(alloc: Global, row: &WorkedRow, shown: &Shown) -> Result<bool, Fail>
     )
 }
 
-/// Whether a run over the row goes as it should, and key 1 is shown as it should be behind it.
+/// Whether a run over the row goes as it should, and key 1 is shown as it should be after it.
 fn is_good(alloc: Global, row: &WorkedRow) -> Result<bool, Fail> {
     match &row.shown {
         Some(shown) => Ok(is_run(alloc, row)? && is_shown(alloc, row, shown)?),

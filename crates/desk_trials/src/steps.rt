@@ -70,9 +70,9 @@ static FULL_CUSTODY: WorkedRow = WorkedRow {
     shown: None,
 };
 
-/// A line, and how many steps it takes behind that.
+/// A line, and how many steps it takes after that.
 static BEHIND: [(&str, u64); 9] = [
-    // A request that comes again, one whose number is reused, and one whose moment is behind: the look-up alone.
+    // A request that comes again, one whose number is reused, and one whose moment is after: the look-up alone.
     ("100 bob 1 add-custodian 1 c1", 2),
     ("100 bob 1 advance", 2),
     ("99 bob 17 activate 1", 1),
@@ -99,7 +99,7 @@ pub fn line_of_other_steps(alloc: Global) -> Result<Option<&'static str>, Fail> 
 }
 
 /// Protect Stop Dates of keys that are due, and the steps of an export of them and of a report on them. An export takes
-/// for each row a search and the row; a report the same, one search more behind the last row of each date that several
+/// for each row a search and the row; a report the same, one search more after the last row of each date that several
 /// have, and the search that finds none; and one before for the period of each of the seven types, of which none is set.
 static ROWS: [(&[u64], u64, u64); 5] = [
     (&[], 0, 8),
@@ -122,16 +122,16 @@ fn desk_with(alloc: Global, stops: &[u64]) -> Result<Desk<MemStore>, Fail> {
     desk_of(alloc, lines.as_bytes())
 }
 
-/// How many steps an export takes, and a report behind it.
+/// How many steps an export takes, and a report after it.
 fn table_steps(alloc: Global, desk: &mut Desk<MemStore>) -> (u64, u64) {
     let before = desk.steps();
     let _ = export(alloc, desk, &mut Watched::new(Vec::new(alloc)));
     let between = desk.steps();
     let _ = rotation(alloc, desk, 1, &mut Watched::new(Vec::new(alloc)));
-    let behind = desk.steps();
+    let after = desk.steps();
     (
         between.saturating_sub(before),
-        behind.saturating_sub(between),
+        after.saturating_sub(between),
     )
 }
 

@@ -47,7 +47,7 @@ impl<S: Start> Files for DiskFiles<S> {
         }
     }
 
-    fn copy_log(mut left: FileStore<FileFrom<S>>) {
+    fn checkpoint(mut left: FileStore<FileFrom<S>>) {
         let _ = left.checkpoint();
     }
 }

@@ -301,7 +301,7 @@ fn selected<S: Alter>(
     }
 }
 
-/// Runs statements, and gives all rows of the register behind them as text, the kept replies among them; empty where
+/// Runs statements, and gives all rows of the register after them as text, the kept replies among them; empty where
 /// none of its tables is there.
 #[derive(Drop)]
 struct Running<'a> {

@@ -41,10 +41,10 @@ pub struct Case {
     stays: bool,
 }
 
-/// The interrupted turns in a row behind which a writer is given up.
+/// The interrupted turns in a row after which a writer is given up.
 const MAX_IDLE: usize = 10_000;
 
-/// The reads behind which the reader of an exchange is given up.
+/// The reads after which the reader of an exchange is given up.
 const MAX_EXCHANGE_READS: usize = 80_000;
 
 impl Case {
@@ -70,7 +70,7 @@ impl Case {
         !(self.stays && self.stream == Stream::Reader && call == Call::Run)
     }
 
-    /// Behind how many turns the call gives up a stream that is always interrupted behind so many good ones. An import
+    /// After how many turns the call gives up a stream that is always interrupted after so many good ones. An import
     /// does so at the first interrupted read.
     fn turns_at_end(self, call: Call, good: usize) -> usize {
         match (self.stream, call) {
@@ -102,7 +102,7 @@ impl Case {
     }
 }
 
-/// A call with its texts, the files that it finds, and the rows behind each step.
+/// A call with its texts, the files that it finds, and the rows after each step.
 #[derive(Drop)]
 struct Given {
     call: Call,
@@ -122,7 +122,7 @@ struct Done {
     turns: u64,
 }
 
-/// Makes the call over streams of which one has the trouble behind so many good turns.
+/// Makes the call over streams of which one has the trouble after so many good turns.
 #[derive(Drop)]
 struct Lending<'a> {
     given: &'a Given,
@@ -158,7 +158,7 @@ impl DeskTask for Lending<'_> {
     }
 }
 
-/// The call over the register in the files, and these behind it.
+/// The call over the register in the files, and these after it.
 fn lend(
     lab: Lab,
     files: &Files<Memory>,
@@ -188,14 +188,14 @@ impl Given {
             && done.outcome.written == self.output.len() as u64
     }
 
-    /// Whether it ended so, and what was written is a front of what was to be written.
-    fn is_front(&self, done: &Done, end: End) -> bool {
+    /// Whether it ended so, and what was written is a prefix of what was to be written.
+    fn is_prefix(&self, done: &Done, end: End) -> bool {
         done.outcome.end == Finish::Ended(end)
             && self.output.as_bytes().starts_with(&done.output)
             && done.outcome.written == done.output.len() as u64
     }
 
-    /// How many requests have acted, if the call ended as it may behind so many good turns.
+    /// How many requests have acted, if the call ended as it may after so many good turns.
     fn steps_of(&self, case: Case, done: &Done, good: usize) -> Option<usize> {
         if case.stays && done.turns != case.turns_at_end(self.call, good) as u64 {
             return None;
@@ -203,7 +203,7 @@ impl Given {
         let replies = done.outcome.replies as usize;
         if case.may_be_whole() && self.is_whole(done) {
             Some(self.steps)
-        } else if case.may_end(self.call) && self.is_front(done, case.end()) {
+        } else if case.may_end(self.call) && self.is_prefix(done, case.end()) {
             match case.stream {
                 Stream::Reader => Some(replies),
                 Stream::Writer => Some(replies.saturating_add(1).min(self.steps)),

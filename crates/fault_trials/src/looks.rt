@@ -35,7 +35,7 @@ pub enum Look {
 enum Seen {
     /// All that is to be seen.
     Whole,
-    /// A front of it, and then the end 31.
+    /// A prefix of it, and then the end 31.
     Refused,
     /// Anything else.
     Wrong,
@@ -66,7 +66,7 @@ fn read_rows<S: Alter>(rows: &mut KeyRows<'_, S>, numbers: &[u32]) -> Seen {
     }
 }
 
-/// The same, and that 32 comes behind 31, and none behind the last.
+/// The same, and that 32 comes after 31, and none after the last.
 fn read_out<S: Alter>(mut rows: KeyRows<'_, S>, numbers: &[u32]) -> Seen {
     match (read_rows(&mut rows, numbers), rows.next_key()) {
         (Seen::Whole, Ok(None)) => Seen::Whole,
@@ -148,7 +148,7 @@ fn goes_on<S: Alter>(alloc: Global, desk: &mut Desk<S>, texts: &Texts, looked: L
     }
 }
 
-/// Looks at the register: what is seen, or that it is wrong what comes behind a look that was refused.
+/// Looks at the register: what is seen, or that it is wrong what comes after a look that was refused.
 #[derive(Drop)]
 struct Looking<'a> {
     texts: &'a Texts,
@@ -165,7 +165,7 @@ impl DeskTask for Looking<'_> {
     }
 }
 
-/// Lets each read behind the opening fail in turn. Gives how many the look was refused for, or as an error how many
+/// Lets each read after the opening fail in turn. Gives how many the look was refused for, or as an error how many
 /// were before the one at which it went otherwise.
 fn refusals(
     lab: Lab,

@@ -46,7 +46,7 @@ pub const FIRST_OF_DAY: usize = 8;
 /// The place of its last request.
 pub const LAST_OF_DAY: usize = DAY.len() - 1;
 
-/// One request of the day behind those before it.
+/// One request of the day after those before it.
 pub fn of_day(place: usize) -> Option<Trial> {
     let (before, others) = DAY.split_at_checked(place)?;
     let sent = others.get(..1)?;
@@ -71,7 +71,7 @@ const AT_50: Exchange = (
     "ok 1 Active 100",
 );
 
-/// The worked row *one approval is too few*, up to its refused Destroy, behind which the key is Active still.
+/// The worked row *one approval is too few*, up to its refused Destroy, after which the key is Active still.
 #[rattlefmt::skip]
 const ONE_APPROVAL: &[Exchange] = &[
     ("100 ann 1 register master bob 1000 2000 2000 root", "ok 1 Pre-Active 100"),

@@ -28,7 +28,7 @@ pub enum Way {
 pub enum Came {
     /// All was answered as it should be.
     Whole,
-    /// So many were, and behind them the database refused.
+    /// So many were, and after them the database refused.
     Refused(usize),
     /// Anything else.
     Wrong,

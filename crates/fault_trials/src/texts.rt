@@ -7,7 +7,7 @@ pub type Exchange = (&'static str, &'static str);
 /// A text in pieces, some of which stand in other texts too.
 pub type Text = &'static [&'static str];
 
-/// The pieces, one behind the other.
+/// The pieces, one after the other.
 pub fn joined(alloc: Global, text: &[&str]) -> Result<String, AllocError> {
     let mut whole = String::new(alloc);
     for piece in text {

@@ -49,13 +49,13 @@ impl Trial {
 pub struct Count {
     /// The calls that were the first to fail.
     pub faults: u64,
-    /// What the files were left with, each content once behind as many answers.
+    /// What the files were left with, each content once after as many answers.
     pub left: u64,
     /// Among them those that had the register with one step more than was answered.
     pub ahead: u64,
 }
 
-/// The files that a trial begins with, and the rows of the register behind each step.
+/// The files that a trial begins with, and the rows of the register after each step.
 #[derive(Drop)]
 struct Made {
     files: Files<Memory>,
@@ -98,8 +98,8 @@ impl DeskTask for Repeating<'_> {
     }
 }
 
-/// The files behind the requests, which are answered as they should be.
-fn files_behind(lab: Lab, files: &Files<Memory>, sent: &[Exchange]) -> Result<Files<Memory>, Fail> {
+/// The files after the requests, which are answered as they should be.
+fn files_after(lab: Lab, files: &Files<Memory>, sent: &[Exchange]) -> Result<Files<Memory>, Fail> {
     let sending = Sending {
         sent,
         way: Way::Lines,
@@ -112,7 +112,7 @@ fn files_behind(lab: Lab, files: &Files<Memory>, sent: &[Exchange]) -> Result<Fi
 
 /// The files of the register with these requests.
 pub fn files_with(lab: Lab, sent: &[Exchange]) -> Result<Files<Memory>, Fail> {
-    files_behind(lab, &lab.new_files()?, sent)
+    files_after(lab, &lab.new_files()?, sent)
 }
 
 /// The rows of the register, and then with each request more.
@@ -121,7 +121,7 @@ pub fn rows_by_step(lab: Lab, before: &[Exchange], sent: &[Exchange]) -> Result<
     let mut rows = Vec::new(lab.alloc);
     rows.push(lab.rows_in(&files)?)?;
     for one in sent.chunks(1) {
-        files = files_behind(lab, &files, one)?;
+        files = files_after(lab, &files, one)?;
         rows.push(lab.rows_in(&files)?)?;
     }
     Ok(rows)
@@ -263,12 +263,12 @@ fn is_ahead(
 
 /// What was left behind an attempt, and how many steps were answered.
 #[derive(Drop)]
-struct Behind {
+struct Remains {
     steps: usize,
     stopped: Stopped,
 }
 
-/// The contents that were looked at behind so many steps. Each is looked at once.
+/// The contents that were looked at after so many steps. Each is looked at once.
 #[derive(Drop)]
 struct Looked {
     steps: usize,
@@ -293,17 +293,17 @@ fn look_at_all(
     lab: Lab,
     trial: &Trial,
     made: &Made,
-    behind: &Behind,
+    after: &Remains,
     looked: &mut Looked,
     count: &mut Count,
 ) -> Result<Option<Leaving>, Fail> {
-    if looked.steps != behind.steps {
-        *looked = Looked::new(lab.alloc, behind.steps);
+    if looked.steps != after.steps {
+        *looked = Looked::new(lab.alloc, after.steps);
     }
     for leaving in &LEAVINGS {
-        let files = behind.stopped.left(lab.alloc, *leaving)?;
+        let files = after.stopped.left(lab.alloc, *leaving)?;
         if !looked.has(&files) {
-            let Some(is_ahead) = is_ahead(lab, trial, made, &files, behind.steps)? else {
+            let Some(is_ahead) = is_ahead(lab, trial, made, &files, after.steps)? else {
                 return Ok(Some(*leaving));
             };
             count.left = count.left.saturating_add(1);
@@ -319,9 +319,9 @@ fn look_at_all(
 pub type Odd = (u64, Option<Came>, Option<Leaving>);
 
 /// Whether the last attempt left the same.
-fn is_seen(last: &Option<Behind>, behind: &Behind) -> bool {
+fn is_seen(last: &Option<Remains>, after: &Remains) -> bool {
     match last {
-        Some(last) => last.steps == behind.steps && last.stopped.is_same(&behind.stopped),
+        Some(last) => last.steps == after.steps && last.stopped.is_same(&after.stopped),
         None => false,
     }
 }
@@ -332,7 +332,7 @@ fn leave_behind(
     trial: &Trial,
     made: &Made,
     fault: Fault,
-) -> Result<Result<(Behind, bool), Came>, Fail> {
+) -> Result<Result<(Remains, bool), Came>, Fail> {
     let (came, left) = attempt(lab, trial, &made.files, fault)?;
     let is_over = !left.has_failed;
     let steps = match came {
@@ -341,7 +341,7 @@ fn leave_behind(
         _ => return Ok(Err(came)),
     };
     let stopped = Stopped::new(lab.alloc, left.files)?;
-    Ok(Ok((Behind { steps, stopped }, is_over)))
+    Ok(Ok((Remains { steps, stopped }, is_over)))
 }
 
 /// Lets each call that the fault counts, from the end of the opening on, be the first that fails, until none fails any
@@ -357,12 +357,12 @@ pub fn try_all(lab: Lab, trial: &Trial, fault: Fault) -> Result<Result<Count, Od
     let mut looked = Looked::new(lab.alloc, 0);
     let mut last = None;
     for before in first..MAX_CALLS {
-        let (behind, is_over) = match leave_behind(lab, trial, &made, fault.at(before))? {
+        let (after, is_over) = match leave_behind(lab, trial, &made, fault.at(before))? {
             Ok(found) => found,
             Err(came) => return Ok(Err((before, Some(came), None))),
         };
-        if !is_seen(&last, &behind) {
-            let odd = look_at_all(lab, trial, &made, &behind, &mut looked, &mut count)?;
+        if !is_seen(&last, &after) {
+            let odd = look_at_all(lab, trial, &made, &after, &mut looked, &mut count)?;
             if odd.is_some() {
                 return Ok(Err((before, None, odd)));
             }
@@ -371,7 +371,7 @@ pub fn try_all(lab: Lab, trial: &Trial, fault: Fault) -> Result<Result<Count, Od
             return Ok(Ok(count));
         }
         count.faults = before.saturating_sub(first).saturating_add(1);
-        last = Some(behind);
+        last = Some(after);
     }
     Ok(Err((MAX_CALLS, None, None)))
 }

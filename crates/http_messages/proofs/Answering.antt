@@ -16,8 +16,8 @@ use Rattle.http_messages.specs.declared.asked.Rejection.TheVariants.{BadRequest}
 use Rattle.http_messages.specs.declared.judge.Post as post
 use Rattle.http_messages.specs.declared.judge.Judged.TheVariants as Judged
 use Rattle.http_messages.specs.Judged.{Judges}
-use Rattle.http_messages.specs.Exchange.{AsksBody, AsksBehind, cut_short, no_command, command, sent}
-use Rattle.http_messages.specs.Exchange as rule
+use Rattle.http_messages.specs.Asked.{AsksBody, AsksAfter, cut_short, no_command, command, sent}
+use Rattle.http_messages.specs.Asked as rule
 
 one_value : (v w : Data) → Some v ≡ Some w → v ≡ w
 one_value v w e = cc
@@ -25,20 +25,20 @@ one_value v w e = cc
 some_is : (xs ys : List ℕ) → Some xs ≡ Some ys → xs ≡ ys
 some_is xs ys e = cc
 
-module _ (n : ℕ) (caller : List ℕ) (serial : ℕ) (behind : List ℕ) where
-  pub no_value : (body : List ℕ) → n ≤ length behind → body ≡ take n behind
-      → ((v : Data) → IsUtf8 body → read body ≢ Some v) → AsksBody n caller serial behind (Reject BadRequest)
+module _ (n : ℕ) (caller : List ℕ) (serial : ℕ) (after : List ℕ) where
+  pub no_value : (body : List ℕ) → n ≤ length after → body ≡ take n after
+      → ((v : Data) → IsUtf8 body → read body ≢ Some v) → AsksBody n caller serial after (Reject BadRequest)
   no_value body within e none =
       no_command within (λ q b. none (command_data q) (subst IsUtf8 (sym e) b.text) (ap read e ∙ b.value))
 
-  pub other_value : (body : List ℕ) (v : Data) → n ≤ length behind → body ≡ take n behind → read body ≡ Some v
-      → ((q : Command) → IsCommand q → v ≢ command_data q) → AsksBody n caller serial behind (Reject BadRequest)
+  pub other_value : (body : List ℕ) (v : Data) → n ≤ length after → body ≡ take n after → read body ≡ Some v
+      → ((q : Command) → IsCommand q → v ≢ command_data q) → AsksBody n caller serial after (Reject BadRequest)
   other_value body v within e is_v none =
       no_command within (λ q b. none q b.command (one_value v (command_data q) (sym is_v ∙ ap read e ∙ b.value)))
 
-  pub command_handed : (body : List ℕ) (q : Command) (v : Data) → n ≤ length behind → body ≡ take n behind
+  pub command_handed : (body : List ℕ) (q : Command) (v : Data) → n ≤ length after → body ≡ take n after
       → IsUtf8 body → read body ≡ Some v → IsCommand q → v ≡ command_data q
-      → AsksBody n caller serial behind (Apply (record { caller = caller; number = serial; command = q }))
+      → AsksBody n caller serial after (Apply (record { caller = caller; number = serial; command = q }))
   command_handed body q v within e utf8 is_v is_q same =
       command q within (record {
         command = is_q;
@@ -48,13 +48,13 @@ module _ (n : ℕ) (caller : List ℕ) (serial : ℕ) (behind : List ℕ) where
 
 -- ---- a body of which a part was read with the head
 
--- what is held at first is the front of what stands behind the head
-pub held_first : (behind none items : List ℕ) (n m : ℕ) → items ≡ none ++ take m behind → none ≡ []
-    → m ≡ min n (length behind) → (items ≡ take n behind ++ []) × (length items ≤ n)
-held_first behind none items n m is empty least =
-    let same : items ≡ take n behind =
-    is ∙ ap (λ l. l ++ take m behind) empty ∙ ap (λ k. take k behind) least ∙ take_min n behind in
-    (same ∙ sym (append-nil (take n behind)), omega (arith, ap length same, length-take n behind))
+-- what is held at first is the prefix of what stands after the head
+pub held_first : (after none items : List ℕ) (n m : ℕ) → items ≡ none ++ take m after → none ≡ []
+    → m ≡ min n (length after) → (items ≡ take n after ++ []) × (length items ≤ n)
+held_first after none items n m is empty least =
+    let same : items ≡ take n after =
+    is ∙ ap (λ l. l ++ take m after) empty ∙ ap (λ k. take k after) least ∙ take_min n after in
+    (same ∙ sym (append-nil (take n after)), omega (arith, ap length same, length-take n after))
 
 pub left_is : (old new : Option (List ℕ)) (more left : List ℕ) → old ≡ Some left → Consumes old new more
     → (rest : List ℕ) × (left ≡ more ++ rest)
@@ -68,21 +68,21 @@ left_at_end None new more left e p q = absurd (cc)
 left_at_end (Some xs) None more left e p q = absurd p
 left_at_end (Some xs) (Some ys) more left e p q = some_is left xs (sym e) ∙ p ∙ ap (λ l. more ++ l) q ∙ append-nil more
 
--- the body is the front of all that stands behind the head
-pub body_is : (n : ℕ) (behind more left rest : List ℕ) → left ≡ more ++ rest → n ≤ length (behind ++ more)
-    → (n ≤ length (behind ++ left)) × (take n (behind ++ more) ≡ take n (behind ++ left))
-body_is n behind more left rest e within =
-    let whole : behind ++ left ≡ (behind ++ more) ++ rest =
-    ap (λ l. behind ++ l) e ∙ sym (append_assoc behind more rest) in
-    let long : length (behind ++ left) ≡ length (behind ++ more) + length rest =
-    ap length whole ∙ length-append (behind ++ more) rest in
-    (omega arith, sym (ap (take n) whole ∙ take-append-le n (behind ++ more) rest within))
+-- the body is the prefix of all that stands after the head
+pub body_is : (n : ℕ) (after more left rest : List ℕ) → left ≡ more ++ rest → n ≤ length (after ++ more)
+    → (n ≤ length (after ++ left)) × (take n (after ++ more) ≡ take n (after ++ left))
+body_is n after more left rest e within =
+    let whole : after ++ left ≡ (after ++ more) ++ rest =
+    ap (λ l. after ++ l) e ∙ sym (append_assoc after more rest) in
+    let long : length (after ++ left) ≡ length (after ++ more) + length rest =
+    ap length whole ∙ length-append (after ++ more) rest in
+    (omega arith, sym (ap (take n) whole ∙ take-append-le n (after ++ more) rest within))
 
 -- ---- what a head asks for
 
-pub head_posts : (h : RequestHead) (behind left : List ℕ) (p : post.Post) (a : Asked)
-    → Judges h (Judged.Post p) → AsksBody p.length p.sender.caller p.sender.number (behind ++ left) a
-    → AsksBehind h (behind ++ left) a
-head_posts h behind left p a (host, path, method, says) asks =
+pub head_posts : (h : RequestHead) (after left : List ℕ) (p : post.Post) (a : Asked)
+    → Judges h (Judged.Post p) → AsksBody p.length p.sender.caller p.sender.number (after ++ left) a
+    → AsksAfter h (after ++ left) a
+head_posts h after left p a (host, path, method, says) asks =
     let whole = sent p.length p.sender.number p.sender.caller a says.plain says.length says.short says.sender asks in
     rule.post a host path method whole

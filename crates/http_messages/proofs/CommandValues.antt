@@ -9,7 +9,7 @@ use Rattle.period_core.specs.declared.key_type.KeyType.{KeyType}
 use Rattle.period_core.specs.KeyType.{key_type_text}
 use Rattle.period_core.specs.Period.{Period, of_months}
 use Rattle.register_core.specs.CommandRule.{kind_of}
-use Rattle.register_core.specs.Reading.{key_type_at, reason_at}
+use Rattle.register_core.specs.RequestLine.{key_type_at, reason_at}
 use Rattle.register_core.specs.declared.command_kind.CommandKind.{CommandKind}
 use Rattle.register_core.specs.declared.request.Command.{Command}
 use Rattle.register_core.specs.declared.fields.Fields.{Fields}

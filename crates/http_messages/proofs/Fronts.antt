@@ -4,7 +4,7 @@ use Rattle.std.proofs.lemmas.List.{take-append-le}
 use Rattle.std.proofs.Math.Seq.{take-append-add}
 use borrow.Rule.Slice.PartMut.{put_mid, post_of}
 
--- after a read behind the first bytes
+-- after a read after the first bytes
 pub take-refilled : (held new : List ℕ) (filled k count : ℕ) → filled ≤ length held → count ≤ length new
     → take (filled + count) (put_mid filled k held new) ≡ take filled held ++ take count new
 take-refilled held new filled k count within some =

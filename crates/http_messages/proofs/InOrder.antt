@@ -1,4 +1,4 @@
--- The members of an object, one behind the other, and what holds of a reader that gives none.
+-- The members of an object, one after the other, and what holds of a reader that gives none.
 use Rattle.std.proofs.Common.{◌≡◌, List, ℕ, Option, None, Some, IfNone}
 use Rattle.serde_json.specs.Data.{Data, null, boolean, number, string, array, object, Members, member}
 use Rattle.serde_json.specs.Find.{as_object}
@@ -10,7 +10,7 @@ pub ◌past◌ : {k : List ℕ} {a b : Data} {all rest more : Members} → all �
 whole past first = cc (first, whole)
 
 infixr 10 ◌before◌
--- the first, before what is known to stand behind it
+-- the first, before what is known to stand after it
 pub ◌before◌ : {k : List ℕ} {a : Data} {all rest more : Members} → all ≡ member k a rest → rest ≡ more
     → all ≡ member k a more
 first before others = cc (first, others)

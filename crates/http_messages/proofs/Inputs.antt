@@ -11,14 +11,14 @@ use Rattle.httparse.specs.declared.spans.RequestSpans.{RequestSpans}
 use Rattle.httparse.specs.Grammar.{RequestHead, ReadsRequest, HasNoRequest, NeverHasRequest, MayBecomeRequest}
 use Rattle.httparse.specs.Spans.{IsRequestAt, IsRequestWithin, header_bytes, name_and_value}
 use Rattle.httparse.proofs.GrammarLemmas.{ReadsRequest-append}
-use Rattle.http_messages.specs.Head.{front, max_head_length, max_headers, HasManyLines, HasHead}
+use Rattle.http_messages.specs.Head.{prefix, max_head_length, max_headers, HasManyLines, HasHead}
 use Rattle.http_messages.specs.Head.{HasBadHead, HasLargeHead, BreaksOff}
-use Rattle.http_messages.specs.Found.{FindsBad, FindsLarge, FindsHead}
+use Rattle.http_messages.specs.HeadSearch.{FindsBad, FindsLarge, FindsHead}
 use Rattle.std.proofs.lemmas.Result.{IfOk-weaker}
 use Rattle.http_messages.specs.declared.asked.AskFault.{AskFault}
 use Rattle.http_messages.specs.declared.asked.Asked.{Asked}
 use Rattle.http_messages.specs.declared.asking.Asking.{Asking}
-use Rattle.http_messages.specs.Exchange.{Asks, AsksFor, AsksBehind, whole_head}
+use Rattle.http_messages.specs.Asked.{Asks, AsksFor, AsksAfter, whole_head}
 use Rattle.http_messages.proofs.Answering.{left_is, left_at_end}
 
 never_more : (bytes more : List ℕ) → NeverHasRequest bytes → NeverHasRequest (bytes ++ more)
@@ -38,10 +38,10 @@ many_more bytes more many =
           many.over (more ++ others) k q (subst (λ b. ReadsRequest b k q) joined reads');
     }
 
--- the front of the input begins with what was read
-front_is : (bytes rest : List ℕ) → length bytes ≤ max_head_length
-    → front (bytes ++ rest) ≡ bytes ++ take (max_head_length - length bytes) rest
-front_is bytes rest short =
+-- the prefix of the input begins with what was read
+prefix_is : (bytes rest : List ℕ) → length bytes ≤ max_head_length
+    → prefix (bytes ++ rest) ≡ bytes ++ take (max_head_length - length bytes) rest
+prefix_is bytes rest short =
     let whole : max_head_length ≡ length bytes + (max_head_length - length bytes) = omega arith in
     ap (λ n. take n (bytes ++ rest)) whole ∙ take-append-add bytes rest (max_head_length - length bytes)
 
@@ -50,7 +50,7 @@ pub bad_input : (old new : Option (List ℕ)) (input bytes : List ℕ) → old �
 bad_input old new input bytes known took short found =
     let (rest, whole) = left_is old new bytes input known took in
     let more = take (max_head_length - length bytes) rest in
-    let here : front input ≡ bytes ++ more = ap front whole ∙ front_is bytes rest short in
+    let here : prefix input ≡ bytes ++ more = ap prefix whole ∙ prefix_is bytes rest short in
     elim found [
       | inl never ↦ inl (subst NeverHasRequest (sym here) (never_more bytes more never))
       | inr other ↦ elim other [
@@ -67,8 +67,8 @@ large_input old new input bytes known took found =
     let (rest, whole) = left_is old new bytes input known took in
     let short : length bytes ≤ max_head_length = omega (arith, found.full) in
     let none_more : max_head_length - length bytes ≡ 0 = omega (arith, found.full) in
-    let here : front input ≡ bytes =
-    ap front whole ∙ front_is bytes rest short ∙ ap (λ n. bytes ++ take n rest) none_more ∙ append-nil bytes in
+    let here : prefix input ≡ bytes =
+    ap prefix whole ∙ prefix_is bytes rest short ∙ ap (λ n. bytes ++ take n rest) none_more ∙ append-nil bytes in
     let long : length input ≡ length bytes + length rest = ap length whole ∙ length-append bytes rest in
     record {
       long = omega (arith, found.full, long);
@@ -105,7 +105,7 @@ pub whole_asked : (old new : Option (List ℕ)) (input bytes shown : List ℕ) (
     (spans : RequestSpans) (r : Result Asked AskFault) → old ≡ Some input → Consumes old new bytes
     → length bytes ≤ max_head_length → length headers ≡ max_headers → FindsHead bytes headers spans → shown ≡ bytes
     → ((h : RequestHead) (left : List ℕ) → IsRequestAt shown headers spans h → new ≡ Some left
-    → IfOk r (AsksBehind h (drop spans.len shown ++ left)))
+    → IfOk r (AsksAfter h (drop spans.len shown ++ left)))
     → IfOk r (Asks input)
 whole_asked old new input bytes shown headers spans r known took short room found same asks =
     let (rest, left, whole) = left_known old new bytes input known took in
@@ -113,14 +113,14 @@ whole_asked old new input bytes shown headers spans r known took short room foun
     head_of input bytes rest headers spans whole short room found.h found.at found.within in
     let at : IsRequestAt shown headers spans found.h =
     subst (λ b. IsRequestAt b headers spans found.h) (sym same) found.at in
-    let behind : drop spans.len shown ++ rest ≡ drop spans.len bytes ++ rest =
+    let after : drop spans.len shown ++ rest ≡ drop spans.len bytes ++ rest =
     ap (λ b. drop spans.len b ++ rest) same in
     IfOk-weaker r _ _
     (λ a asked. whole_head found.h (drop spans.len bytes ++ rest) a head
-    (subst (λ b. AsksBehind found.h b a) behind asked))
+    (subst (λ b. AsksAfter found.h b a) after asked))
     (asks found.h rest at left)
 
--- what is asked behind a head is asked
+-- what is asked after a head is asked
 pub some_asks : (input : List ℕ) (r : Result Asked AskFault) (s : Result (Option Asked) AskFault)
     → IfOk r (λ a. s ≡ Ok (Some a)) → IfOk r (Asks input) → IfErr r (λ fault. s ≡ Err fault)
     → IfOk s (AsksFor input)
@@ -129,7 +129,7 @@ some_asks input (Ok a) s is asks err =
 some_asks input (Err fault) s is asks err =
     subst (λ (t : Result (Option Asked) AskFault). IfOk t (AsksFor input)) (sym err) tt
 
--- what is asked where nothing is read behind the head
+-- what is asked where nothing is read after the head
 pub unread_asks : (input : List ℕ) (a : Asked) (o : Asking) → o ≡ record { read = 0; asked = Ok (Some a) }
     → Asks input a → IfOk o.asked (AsksFor input)
 unread_asks input a o e asks = subst (λ (o : Asking). IfOk o.asked (AsksFor input)) (sym e) asks

@@ -11,8 +11,8 @@ use Rattle.httparse.specs.Spans.{IsRequestAt, header_bytes, span_bytes}
 use Rattle.http_messages.specs.declared.route.Route.{Route}
 use Rattle.http_messages.specs.declared.route.Route.TheVariants.{Requests, Show, Usage}
 use Rattle.http_messages.specs.Route.{IsRouteOf, method_of}
-use Rattle.http_messages.specs.Exchange.{Lines, HasHost, lines_of, AsksPost, AsksBehind, no_host}
-use Rattle.http_messages.specs.Exchange.{no_path, no_method, show, usage, post}
+use Rattle.http_messages.specs.Asked.{Lines, HasHost, lines_of, AsksPost, AsksAfter, no_host}
+use Rattle.http_messages.specs.Asked.{no_path, no_method, show, usage, post}
 use Rattle.http_messages.specs.declared.asked.Asked.{Asked}
 use Rattle.http_messages.specs.declared.asked.Asked.TheVariants.{Reject, ShowKey, ShowUsage}
 use Rattle.http_messages.specs.declared.asked.Rejection.TheVariants.{BadRequest, NoRoute, MethodNotAllowed}
@@ -30,10 +30,10 @@ agree xs ys e = agree_by (bytes_eq xs ys) (xs ≡ ys) (bytes_eq-Decides xs ys).0
 no_truth : (v : Bool) → v ≡ false → IsTrue v → ⊥
 no_truth v e p = let both = sym e ∙ p in absurd (cc)
 
-module _ (front : List ℕ) (headers : List HeaderSpan) (spans : RequestSpans) (h : RequestHead)
-    (at : IsRequestAt front headers spans h) where
+module _ (prefix : List ℕ) (headers : List HeaderSpan) (spans : RequestSpans) (h : RequestHead)
+    (at : IsRequestAt prefix headers spans h) where
   abbrev lines : Lines
-  lines = map (header_bytes front) (take spans.headers headers)
+  lines = map (header_bytes prefix) (take spans.headers headers)
 
   host_is : HasHost spans.version lines → HasHost h.minor (lines_of h)
   host_is p = subst (HasHost h.minor) at.fields (subst (λ v. HasHost v lines) at.version p)
@@ -41,28 +41,28 @@ module _ (front : List ℕ) (headers : List HeaderSpan) (spans : RequestSpans) (
   host_was : HasHost h.minor (lines_of h) → HasHost spans.version lines
   host_was p = subst (HasHost spans.version) (sym at.fields) (subst (λ v. HasHost v (lines_of h)) (sym at.version) p)
 
-  route_is : (target : List ℕ) (o : Option Route) → target ≡ span_bytes front spans.path → IsRouteOf target o
+  route_is : (target : List ℕ) (o : Option Route) → target ≡ span_bytes prefix spans.path → IsRouteOf target o
       → IsRouteOf h.target o
   route_is target o e p = subst (λ t. IsRouteOf t o) (e ∙ at.path) p
 
-  route_leads : (target : List ℕ) (r s : Route) → r ≡ s → target ≡ span_bytes front spans.path
+  route_leads : (target : List ℕ) (r s : Route) → r ≡ s → target ≡ span_bytes prefix spans.path
       → IsRouteOf target (Some r) → IsRouteOf h.target (Some s)
   route_leads target r s is e p = subst (λ w. IsRouteOf h.target (Some w)) is (route_is target (Some r) e p)
 
   pub asks_no_host : (v : Bool) (rest : List ℕ) → v ≡ false → (HasHost spans.version lines → IsTrue v)
-      → AsksBehind h rest (Reject BadRequest)
+      → AsksAfter h rest (Reject BadRequest)
   asks_no_host v rest e f = no_host (λ p. let hit = f (host_was p) in no_truth v e hit)
 
   pub asks_no_path : (target : List ℕ) (rest : List ℕ) → HasHost spans.version lines
-      → target ≡ span_bytes front spans.path → IsRouteOf target None → AsksBehind h rest (Reject NoRoute)
+      → target ≡ span_bytes prefix spans.path → IsRouteOf target None → AsksAfter h rest (Reject NoRoute)
   asks_no_path target rest p e q = no_path (host_is p) (route_is target None e q)
 
   -- where the target spells a route
   module _ (target method text : List ℕ) (r : Route) (p : HasHost spans.version lines)
-      (e : target ≡ span_bytes front spans.path) (q : IsRouteOf target (Some r))
-      (f : method ≡ span_bytes front spans.method) (m : text ≡ method_of r) where
+      (e : target ≡ span_bytes prefix spans.path) (q : IsRouteOf target (Some r))
+      (f : method ≡ span_bytes prefix spans.method) (m : text ≡ method_of r) where
     pub asks_no_method : (rest : List ℕ) → true ≡ not (bytes_eq method text)
-        → AsksBehind h rest (Reject (MethodNotAllowed r))
+        → AsksAfter h rest (Reject (MethodNotAllowed r))
     asks_no_method rest other =
         no_method r (host_is p) (route_is target (Some r) e q)
         (λ same. differ method text other (f ∙ at.method ∙ same ∙ sym m))
@@ -72,15 +72,15 @@ module _ (front : List ℕ) (headers : List HeaderSpan) (spans : RequestSpans) (
       method_is : h.method ≡ method_of r
       method_is = sym (f ∙ at.method) ∙ agree method text same ∙ m
 
-      pub asks_show : (key : ℕ) (rest : List ℕ) → r ≡ Show key → AsksBehind h rest (ShowKey key)
+      pub asks_show : (key : ℕ) (rest : List ℕ) → r ≡ Show key → AsksAfter h rest (ShowKey key)
       asks_show key rest is =
           show key (host_is p) (route_leads target r (Show key) is e q) (method_is ∙ ap method_of is)
 
-      pub asks_usage : (key : ℕ) (rest : List ℕ) → r ≡ Usage key → AsksBehind h rest (ShowUsage key)
+      pub asks_usage : (key : ℕ) (rest : List ℕ) → r ≡ Usage key → AsksAfter h rest (ShowUsage key)
       asks_usage key rest is =
           usage key (host_is p) (route_leads target r (Usage key) is e q) (method_is ∙ ap method_of is)
 
-      pub asks_post : (rest : List ℕ) (a : Asked) → r ≡ Requests → AsksPost lines rest a → AsksBehind h rest a
+      pub asks_post : (rest : List ℕ) (a : Asked) → r ≡ Requests → AsksPost lines rest a → AsksAfter h rest a
       asks_post rest a is asked =
           post a (host_is p) (route_leads target r Requests is e q) (method_is ∙ ap method_of is)
           (subst (λ ls. AsksPost ls rest a) at.fields asked)

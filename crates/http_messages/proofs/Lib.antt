@@ -1,4 +1,4 @@
-pub mod Fronts
+pub mod Prefixes
 pub mod Routing
 pub mod Lines
 pub mod Judging

@@ -17,12 +17,12 @@ use Rattle.http_messages.specs.declared.asked.Asked.TheVariants.{Reject, Apply}
 use Rattle.http_messages.specs.declared.asked.Rejection.TheVariants.{MethodNotAllowed}
 use Rattle.http_messages.specs.HeadLaws.{IsLeftOpen}
 use Rattle.http_messages.specs.Route.{IsRoute, IsRouteOf, route_text, place_of, method_of, routes}
-use Rattle.http_messages.specs.Body.{IsBodyOf}
-use Rattle.http_messages.specs.Exchange.{Lines, Announces, IsFrom, Asks, AsksBehind, AsksPost}
-use Rattle.http_messages.specs.Exchange.{AsksBody, bad_head, large_head, whole_head, no_host}
-use Rattle.http_messages.specs.Exchange.{no_path, no_method, show, usage, post, encoded, no_length}
-use Rattle.http_messages.specs.Exchange.{bad_length, large_body, no_sender, sent, cut_short}
-use Rattle.http_messages.specs.Exchange.{no_command, command, lines_of}
+use Rattle.http_messages.specs.CommandBody.{IsBodyOf}
+use Rattle.http_messages.specs.Asked.{Lines, Announces, IsFrom, Asks, AsksAfter, AsksPost}
+use Rattle.http_messages.specs.Asked.{AsksBody, bad_head, large_head, whole_head, no_host}
+use Rattle.http_messages.specs.Asked.{no_path, no_method, show, usage, post, encoded, no_length}
+use Rattle.http_messages.specs.Asked.{bad_length, large_body, no_sender, sent, cut_short}
+use Rattle.http_messages.specs.Asked.{no_command, command, lines_of}
 use Rattle.http_messages.proofs.CommandValues.{one_command_data}
 use Rattle.http_messages.proofs.Routing.{finds_route, value_is, row_of, fits_number}
 use Rattle.http_messages.proofs.HeadLaws.{one_head, whole_not_bad, whole_not_large}
@@ -42,8 +42,8 @@ one_place target r s p q e f =
 one_number : (m n : ℕ) (back : List ℕ) → m < 2 ^ 64 → n < 2 ^ 64
     → codes "/keys/" ++ (decimal m ++ back) ≡ codes "/keys/" ++ (decimal n ++ back) → m ≡ n
 one_number m n back p q e =
-    let behind = append_cancel_left (codes "/keys/") (decimal m ++ back) (decimal n ++ back) e in
-    decimal_injective m n p q (append_cancel_right (decimal m) (decimal n) back behind)
+    let after = append_cancel_left (codes "/keys/") (decimal m ++ back) (decimal n ++ back) e in
+    decimal_injective m n p q (append_cancel_right (decimal m) (decimal n) back after)
 
 one_route : (target : List ℕ) (r s : Route) → IsRoute r → IsRoute s → target ≡ route_text r
     → target ≡ route_text s → r ≡ s
@@ -150,52 +150,52 @@ module _ (h : RequestHead) (rest : List ℕ) where
   other_route : (r s : Route) (P : Type 0) → IsRouteOf h.target (Some r) → IsRouteOf h.target (Some s) → (r ≡ s → ⊥) → P
   other_route r s P p q ne = absurd (ne (same_route h.target r s p q))
 
-  same_behind : (a b : Asked) → AsksBehind h rest a → AsksBehind h rest b → a ≡ b
-  same_behind a b (no_host p) (no_host q) = refl
-  same_behind a b (no_host p) (no_path q u) = absurd (p q)
-  same_behind a b (no_host p) (no_method r q u v) = absurd (p q)
-  same_behind a b (no_host p) (show k q u v) = absurd (p q)
-  same_behind a b (no_host p) (usage k q u v) = absurd (p q)
-  same_behind a b (no_host p) (post x q u v w) = absurd (p q)
-  same_behind a b (no_path p o) (no_host q) = absurd (q p)
-  same_behind a b (no_path p o) (no_path q u) = refl
-  same_behind a b (no_path p o) (no_method r q u v) = absurd (o r u.0 u.1)
-  same_behind a b (no_path p o) (show k q u v) = absurd (o (Show k) u.0 u.1)
-  same_behind a b (no_path p o) (usage k q u v) = absurd (o (Usage k) u.0 u.1)
-  same_behind a b (no_path p o) (post x q u v w) = absurd (o Requests u.0 u.1)
-  same_behind a b (no_method s p o i) (no_host q) = absurd (q p)
-  same_behind a b (no_method s p o i) (no_path q u) = absurd (u s o.0 o.1)
-  same_behind a b (no_method s p o i) (no_method r q u v) =
+  same_after : (a b : Asked) → AsksAfter h rest a → AsksAfter h rest b → a ≡ b
+  same_after a b (no_host p) (no_host q) = refl
+  same_after a b (no_host p) (no_path q u) = absurd (p q)
+  same_after a b (no_host p) (no_method r q u v) = absurd (p q)
+  same_after a b (no_host p) (show k q u v) = absurd (p q)
+  same_after a b (no_host p) (usage k q u v) = absurd (p q)
+  same_after a b (no_host p) (post x q u v w) = absurd (p q)
+  same_after a b (no_path p o) (no_host q) = absurd (q p)
+  same_after a b (no_path p o) (no_path q u) = refl
+  same_after a b (no_path p o) (no_method r q u v) = absurd (o r u.0 u.1)
+  same_after a b (no_path p o) (show k q u v) = absurd (o (Show k) u.0 u.1)
+  same_after a b (no_path p o) (usage k q u v) = absurd (o (Usage k) u.0 u.1)
+  same_after a b (no_path p o) (post x q u v w) = absurd (o Requests u.0 u.1)
+  same_after a b (no_method s p o i) (no_host q) = absurd (q p)
+  same_after a b (no_method s p o i) (no_path q u) = absurd (u s o.0 o.1)
+  same_after a b (no_method s p o i) (no_method r q u v) =
       ap (λ w. Reject (MethodNotAllowed w)) (same_route h.target s r o u)
-  same_behind a b (no_method s p o i) (show k q u v) =
+  same_after a b (no_method s p o i) (show k q u v) =
       absurd (i (v ∙ ap method_of (same_route h.target (Show k) s u o)))
-  same_behind a b (no_method s p o i) (usage k q u v) =
+  same_after a b (no_method s p o i) (usage k q u v) =
       absurd (i (v ∙ ap method_of (same_route h.target (Usage k) s u o)))
-  same_behind a b (no_method s p o i) (post x q u v w) =
+  same_after a b (no_method s p o i) (post x q u v w) =
       absurd (i (v ∙ ap method_of (same_route h.target Requests s u o)))
-  same_behind a b (show j p o i) (no_host q) = absurd (q p)
-  same_behind a b (show j p o i) (no_path q u) = absurd (u (Show j) o.0 o.1)
-  same_behind a b (show j p o i) (no_method r q u v) =
+  same_after a b (show j p o i) (no_host q) = absurd (q p)
+  same_after a b (show j p o i) (no_path q u) = absurd (u (Show j) o.0 o.1)
+  same_after a b (show j p o i) (no_method r q u v) =
       absurd (v (i ∙ ap method_of (same_route h.target (Show j) r o u)))
-  same_behind a b (show j p o i) (show k q u v) = let same = same_route h.target (Show j) (Show k) o u in cc
-  same_behind a b (show j p o i) (usage k q u v) = let same = same_route h.target (Show j) (Usage k) o u in absurd (cc)
-  same_behind a b (show j p o i) (post x q u v w) = let same = same_route h.target (Show j) Requests o u in absurd (cc)
-  same_behind a b (usage j p o i) (no_host q) = absurd (q p)
-  same_behind a b (usage j p o i) (no_path q u) = absurd (u (Usage j) o.0 o.1)
-  same_behind a b (usage j p o i) (no_method r q u v) =
+  same_after a b (show j p o i) (show k q u v) = let same = same_route h.target (Show j) (Show k) o u in cc
+  same_after a b (show j p o i) (usage k q u v) = let same = same_route h.target (Show j) (Usage k) o u in absurd (cc)
+  same_after a b (show j p o i) (post x q u v w) = let same = same_route h.target (Show j) Requests o u in absurd (cc)
+  same_after a b (usage j p o i) (no_host q) = absurd (q p)
+  same_after a b (usage j p o i) (no_path q u) = absurd (u (Usage j) o.0 o.1)
+  same_after a b (usage j p o i) (no_method r q u v) =
       absurd (v (i ∙ ap method_of (same_route h.target (Usage j) r o u)))
-  same_behind a b (usage j p o i) (show k q u v) = let same = same_route h.target (Usage j) (Show k) o u in absurd (cc)
-  same_behind a b (usage j p o i) (usage k q u v) = let same = same_route h.target (Usage j) (Usage k) o u in cc
-  same_behind a b (usage j p o i) (post x q u v w) =
+  same_after a b (usage j p o i) (show k q u v) = let same = same_route h.target (Usage j) (Show k) o u in absurd (cc)
+  same_after a b (usage j p o i) (usage k q u v) = let same = same_route h.target (Usage j) (Usage k) o u in cc
+  same_after a b (usage j p o i) (post x q u v w) =
       let same = same_route h.target (Usage j) Requests o u in absurd (cc)
-  same_behind a b (post z p o i e) (no_host q) = absurd (q p)
-  same_behind a b (post z p o i e) (no_path q u) = absurd (u Requests o.0 o.1)
-  same_behind a b (post z p o i e) (no_method r q u v) =
+  same_after a b (post z p o i e) (no_host q) = absurd (q p)
+  same_after a b (post z p o i e) (no_path q u) = absurd (u Requests o.0 o.1)
+  same_after a b (post z p o i e) (no_method r q u v) =
       absurd (v (i ∙ ap method_of (same_route h.target Requests r o u)))
-  same_behind a b (post z p o i e) (show k q u v) = let same = same_route h.target Requests (Show k) o u in absurd (cc)
-  same_behind a b (post z p o i e) (usage k q u v) =
+  same_after a b (post z p o i e) (show k q u v) = let same = same_route h.target Requests (Show k) o u in absurd (cc)
+  same_after a b (post z p o i e) (usage k q u v) =
       let same = same_route h.target Requests (Usage k) o u in absurd (cc)
-  same_behind a b (post z p o i e) (post x q u v w) = same_post (lines_of h) rest a b e w
+  same_after a b (post z p o i e) (post x q u v w) = same_post (lines_of h) rest a b e w
 
 pub one_answer : (input : List ℕ) (a b : Asked) → Asks input a → Asks input b
     → (a ≡ b) ⊎ IsLeftOpen input
@@ -209,4 +209,4 @@ one_answer input a b (whole_head h rest x p o) (bad_head q) = absurd (whole_not_
 one_answer input a b (whole_head h rest x p o) (large_head q) = absurd (whole_not_large input h rest p q)
 one_answer input a b (whole_head h rest x p o) (whole_head k others y q u) =
     let same = one_head input h k rest others p q in
-    inl (same_behind k others a b (subst (λ r. AsksBehind k r a) same.1 (subst (λ e. AsksBehind e rest a) same.0 o)) u)
+    inl (same_after k others a b (subst (λ r. AsksAfter k r a) same.1 (subst (λ e. AsksAfter e rest a) same.0 o)) u)

@@ -31,7 +31,7 @@ or_else-None : {K : Type 0} (x : Option K) → or_else x None ≡ x
 or_else-None None = refl
 or_else-None (Some x) = refl
 
--- what is found behind what a parameter took
+-- what is found after what a parameter took
 abbrev go_on : {K : Type 0} → ℕ × RowsOf K → List ℕ → Option K
 go_on r path = seek (r.0 - 1) r.1 path
 
@@ -59,12 +59,12 @@ pub seek-byte : {K : Type 0} (rs : RowsOf K) (b : ℕ) (path : List ℕ) → ste
     → seek 0 rs (b ∷ path) ≡ seek 0 (step b rs) path
 unfolding seek param_step
 seek-byte {K} rs b path p q =
-    let behind = go_on (param_step (step 256 rs) (b ∷ path)) path in
-    let behind_none = go_on (param_step {K = K} [] (b ∷ path)) path in
-    let none : or_else behind (own (step 257 rs)) ≡ None =
-    ap (λ w. or_else behind (own w)) q ∙ or_else-None behind
+    let after = go_on (param_step (step 256 rs) (b ∷ path)) path in
+    let after_none = go_on (param_step {K = K} [] (b ∷ path)) path in
+    let none : or_else after (own (step 257 rs)) ≡ None =
+    ap (λ w. or_else after (own w)) q ∙ or_else-None after
     ∙ ap (λ w. go_on (param_step w (b ∷ path)) path) p
-    ∙ sym (ap (λ x. or_else x (or_else behind_none None)) (seek-nil 0 path) ∙ or_else-None behind_none)
+    ∙ sym (ap (λ x. or_else x (or_else after_none None)) (seek-nil 0 path) ∙ or_else-None after_none)
     ∙ seek-nil {K = K} 0 (b ∷ path) in
     ap (or_else (seek 0 (step b rs) path)) none ∙ or_else-None (seek 0 (step b rs) path)
 
@@ -95,7 +95,7 @@ has_slash-digits : (y : List ℕ) → AreDigits y → has_slash y ≡ false
 has_slash-digits [] p = refl
 has_slash-digits (b ∷ y) p = ap (λ v. cond v true (has_slash y)) (no_slash b p.0) ∙ has_slash-digits y p.1
 
--- the segment of digits with a slash behind them
+-- the segment of digits with a slash after them
 segment-slash : (y z : List ℕ) → AreDigits y → segment (y ++ 47 ∷ z) ≡ y ++ 47 ∷ []
 segment-slash [] z p = refl
 segment-slash (b ∷ y) z p =
@@ -135,7 +135,7 @@ module _ {K : Type 0} (u k q : K) where
   abbrev pub rows : RowsOf K
   rows = (codes "/keys/" ++ 256 ∷ codes "/usage", u) ∷ (codes "/keys/" ++ 256 ∷ [], k) ∷ (codes "/requests", q) ∷ []
 
-  -- the longest suffix of these rows, by whether the segment ends in a slash behind another byte
+  -- the longest suffix of these rows, by whether the segment ends in a slash after another byte
   suffix_by : (seg : List ℕ) → longest_suffix seg after ≡ cond (cuts seg (47 ∷ [])) (47 ∷ []) []
   suffix_by seg = kept_suffix seg (cond (cuts seg (47 ∷ [])) (47 ∷ []) [])
 
@@ -251,26 +251,26 @@ more_digits n ds big p =
 pub decimal-digits : (n : ℕ) → n < 2 ^ 64 → AreDigits (decimal n) × (0 < length (decimal n))
 decimal-digits n small = decimal_by_steps IsText one_digit more_digits n small
 
--- ---- what stands between a front and a back
+-- ---- what stands between a prefix and a back
 
-pub cut_front : (front rest target : List ℕ) → target ≡ front ++ rest
-    → bytes_eq (take (length front) target) front ≡ false → ⊥
-cut_front front rest target e miss =
-    let same : take (length front) target ≡ front =
-    ap (take (length front)) e ∙ take_at front rest (length front) refl in
-    let hit = (bytes_eq-Decides (take (length front) target) front).1 same in
+pub cut_prefix : (prefix rest target : List ℕ) → target ≡ prefix ++ rest
+    → bytes_eq (take (length prefix) target) prefix ≡ false → ⊥
+cut_prefix prefix rest target e miss =
+    let same : take (length prefix) target ≡ prefix =
+    ap (take (length prefix)) e ∙ take_at prefix rest (length prefix) refl in
+    let hit = (bytes_eq-Decides (take (length prefix) target) prefix).1 same in
     absurd (cc)
 
-pub front_joins : (front rest target : List ℕ) → bytes_eq (take (length front) target) front ≡ true
-    → rest ≡ drop (length front) target → target ≡ front ++ rest
-front_joins front rest target hit e =
-    sym (take-append-drop (length front) target)
-    ∙ ap (λ l. l ++ drop (length front) target) ((bytes_eq-Decides (take (length front) target) front).0 hit)
-    ∙ ap (λ l. front ++ l) (sym e)
+pub prefix_joins : (prefix rest target : List ℕ) → bytes_eq (take (length prefix) target) prefix ≡ true
+    → rest ≡ drop (length prefix) target → target ≡ prefix ++ rest
+prefix_joins prefix rest target hit e =
+    sym (take-append-drop (length prefix) target)
+    ∙ ap (λ l. l ++ drop (length prefix) target) ((bytes_eq-Decides (take (length prefix) target) prefix).0 hit)
+    ∙ ap (λ l. prefix ++ l) (sym e)
 
-pub rest_is : (front rest target more : List ℕ) → target ≡ front ++ more → rest ≡ drop (length front) target
+pub rest_is : (prefix rest target more : List ℕ) → target ≡ prefix ++ more → rest ≡ drop (length prefix) target
     → rest ≡ more
-rest_is front rest target more e r = r ∙ ap (drop (length front)) e ∙ drop_at front more (length front) refl
+rest_is prefix rest target more e r = r ∙ ap (drop (length prefix)) e ∙ drop_at prefix more (length prefix) refl
 
 pub back_joins : (field back rest : List ℕ) → bytes_eq (drop (length rest - length back) rest) back ≡ true
     → field ≡ take (length rest - length back) rest → rest ≡ field ++ back

@@ -32,7 +32,7 @@ reply_data reply =
 abbrev pub name_data : Refusal → Data
 name_data refusal = string (refusal_name refusal)
 
--- its number, and what stands behind that
+-- its number, and what stands after that
 abbrev pub refused_members : Refusal → Members → Members
 refused_members refusal rest = member (codes "refused") (number_data (refusal_number refusal)) rest
 

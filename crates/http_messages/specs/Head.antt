@@ -1,4 +1,4 @@
--- What the front of an input is as the head of a request. The grammar of a head is `httparse`'s.
+-- What the prefix of an input is as the head of a request. The grammar of a head is `httparse`'s.
 use Rattle.std.specs.Prelude.{ℕ, ◌<◌, ◌≤◌, ◌⊎◌, List, length, take}
 use Rattle.httparse.specs.Grammar.{RequestHead, print_request, ReadsRequest, HasNoRequest}
 use Rattle.httparse.specs.Grammar.{NeverHasRequest, MayBecomeRequest}
@@ -12,8 +12,8 @@ abbrev pub max_headers : ℕ
 max_headers = 64
 
 -- the bytes of an input that are looked at for its head
-abbrev pub front : List ℕ → List ℕ
-front input = take max_head_length input
+abbrev pub prefix : List ℕ → List ℕ
+prefix input = take max_head_length input
 
 -- the input is this whole head and then the rest
 pub record HasHead (input : List ℕ) (h : RequestHead) (rest : List ℕ) : Type 0 where
@@ -32,13 +32,13 @@ pub record HasManyLines (bytes : List ℕ) : Type 0 where
   pub lines : RequestExceeds max_headers bytes
   pub over : RequestOverflows max_headers bytes
 
--- no head that is taken can stand here: whatever follows the front, it is none; or it has too many
+-- no head that is taken can stand here: whatever follows the prefix, it is none; or it has too many
 -- header lines; or it breaks off
 abbrev pub HasBadHead : List ℕ → Type 0
-HasBadHead input = NeverHasRequest (front input) ⊎ HasManyLines (front input) ⊎ BreaksOff input
+HasBadHead input = NeverHasRequest (prefix input) ⊎ HasManyLines (prefix input) ⊎ BreaksOff input
 
--- no whole head stands in the front, and what stands there can be the start of one
+-- no whole head stands in the prefix, and what stands there can be the start of one
 pub record HasLargeHead (input : List ℕ) : Type 0 where
   pub long : max_head_length ≤ length input
-  pub none : HasNoRequest (front input)
-  pub may : MayBecomeRequest (front input)
+  pub none : HasNoRequest (prefix input)
+  pub may : MayBecomeRequest (prefix input)

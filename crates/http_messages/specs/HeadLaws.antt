@@ -2,8 +2,8 @@
 use Rattle.std.specs.Prelude.{◌≡◌, ℕ, ◌⊎◌, List}
 use Rattle.httparse.specs.Grammar.{RequestHead, EndsInTarget}
 use Rattle.http_messages.specs.declared.asked.Asked.{Asked}
-use Rattle.http_messages.specs.Exchange.{Asks}
-use Rattle.http_messages.specs.Head.{front, HasHead, HasBadHead, HasLargeHead, HasManyLines}
+use Rattle.http_messages.specs.Asked.{Asks}
+use Rattle.http_messages.specs.Head.{prefix, HasHead, HasBadHead, HasLargeHead, HasManyLines}
 
 pub record TellsHeads : Type 0 where
   pub one : (input : List ℕ) (h k : RequestHead) (rest q : List ℕ) → HasHead input h rest → HasHead input k q
@@ -11,7 +11,7 @@ pub record TellsHeads : Type 0 where
   pub not_bad : (input : List ℕ) (h : RequestHead) (rest : List ℕ) → HasHead input h rest → HasBadHead input → ⊥
   pub not_large : (input : List ℕ) (h : RequestHead) (rest : List ℕ) → HasHead input h rest → HasLargeHead input → ⊥
   pub open_place : (input : List ℕ) → HasBadHead input → HasLargeHead input
-      → EndsInTarget (front input) ⊎ HasManyLines (front input)
+      → EndsInTarget (prefix input) ⊎ HasManyLines (prefix input)
 
 -- the one place that is left open: the rules for 400 and for 413 both hold of the head
 pub record IsLeftOpen (input : List ℕ) : Type 0 where

@@ -4,7 +4,7 @@ use Rattle.http_messages.specs.declared.asked.Rejection.TheVariants.{BadRequest,
 use Rattle.http_messages.specs.declared.asked.Rejection.TheVariants.{MethodNotAllowed}
 use Rattle.http_messages.specs.declared.asked.Rejection.TheVariants.{LengthRequired, TooLarge}
 use Rattle.http_messages.specs.Route.{method_of}
-use Rattle.http_messages.specs.Reply.{Reply, bad_request, no_route, not_allowed, length_required, too_large}
+use Rattle.http_messages.specs.HttpReply.{Reply, bad_request, no_route, not_allowed, length_required, too_large}
 
 abbrev pub reply_of : Rejection → Reply
 reply_of BadRequest = bad_request

@@ -3,9 +3,9 @@ ghost use Rattle.std.specs.Prelude.{◌≡◌, false, Ok, Err, IfOk, string_byte
 ghost use Rattle.http.specs.StatusCode.{IsStatusCode};
 ghost use Rattle.serde_json.specs.View.{view};
 ghost use Rattle.serde_json.specs.Written.{has_float};
-ghost use Rattle.http_messages.specs.Answer.{json_reply, key_reply, outcome_reply};
-ghost use Rattle.http_messages.specs.Answer.{refusal_status, usage_reply};
-ghost use Rattle.http_messages.specs.Reply.{reply_bytes};
+ghost use Rattle.http_messages.specs.AnswerText.{json_reply, key_reply, outcome_reply};
+ghost use Rattle.http_messages.specs.AnswerText.{refusal_status, usage_reply};
+ghost use Rattle.http_messages.specs.HttpReply.{reply_bytes};
 
 use crate::answer_value::{key_value, refusal_value, reply_value, usage_value};
 use crate::reply::reply_text;

@@ -4,15 +4,15 @@ ghost use Rattle.std.specs.Prelude.{length, take, drop, Some, Ok, Err, IfOk, IfE
 ghost use Rattle.httparse.specs.Grammar.{RequestHead};
 ghost use Rattle.httparse.specs.Spans.{IsRequestAt, IsRequestWithin};
 ghost use Rattle.streams.specs.Watched.{IsFaulted};
-ghost use Rattle.http_messages.specs.Body.{IsInRange};
+ghost use Rattle.http_messages.specs.CommandBody.{IsInRange};
 ghost use Rattle.http_messages.specs.Content.{HasRead};
-ghost use Rattle.http_messages.specs.Exchange.{AsksFor, AsksBody, AsksBehind};
+ghost use Rattle.http_messages.specs.Asked.{AsksFor, AsksBody, AsksAfter};
 ghost use Rattle.http_messages.specs.Judged.{Judges};
 
 use crate::asked::{AskFault, Asked, Rejection, Sent};
 use crate::command_value::command_of;
 use crate::content::{BodyRead, read_body, value_of};
-use crate::head::{Found, Front, MAX_EXCHANGE_READS, MAX_HEADERS};
+use crate::head::{Found, MAX_EXCHANGE_READS, MAX_HEADERS, Prefix};
 use crate::judge::{Judged, Post, judge};
 use crate::route::Routes;
 use httparse::spans::{EMPTY_HEADER_SPAN, HeaderSpan, RequestSpans};
@@ -38,7 +38,7 @@ impl Asking {
     }
 }
 
-/// What came of reading what stands behind a head.
+/// What came of reading what stands after a head.
 #[derive(Clone, Copy)]
 struct BodyAsking {
     read: usize,
@@ -56,8 +56,8 @@ impl BodyAsking {
 
 /// What a body asks for whose head said this.
 fn ask_body(alloc: Global, post: Post, body: &[u8]) -> Result<Asked, AskFault>
-    ensures asks { (behind : List ℕ) (n : ℕ) → n ≤ length behind → body.now ≡ take n behind →
-        IfOk result (AsksBody n post.sender.caller post.sender.number behind) }
+    ensures asks { (after : List ℕ) (n : ℕ) → n ≤ length after → body.now ≡ take n after →
+        IfOk result (AsksBody n post.sender.caller post.sender.number after) }
     ensures in_range { IfOk result IsInRange }
     ensures err { IfErr result (λ fault. fault ≡ AskFault.Memory) }
 {
@@ -75,16 +75,11 @@ fn ask_body(alloc: Global, post: Post, body: &[u8]) -> Result<Asked, AskFault>
     }
 }
 
-/// What a POST asks for whose head said this, with these bytes behind its head already read.
-fn ask_post<R: Read>(
-    alloc: Global,
-    behind: &[u8],
-    post: Post,
-    reader: &mut Watched<R>,
-) -> BodyAsking
+/// What a POST asks for whose head said this, with these bytes after its head already read.
+fn ask_post<R: Read>(alloc: Global, after: &[u8], post: Post, reader: &mut Watched<R>) -> BodyAsking
     ensures asks { (left : List ℕ) → R.remaining reader.old.inner ≡ Some left →
         IfOk result.asked (AsksBody post.length post.sender.caller post.sender.number
-        (behind.now ++ left)) }
+        (after.now ++ left)) }
     ensures read { HasRead (R.remaining reader.old.inner) (R.remaining reader.new.inner)
         result.read }
     ensures few { result.read < 2 ^ 32 }
@@ -93,7 +88,7 @@ fn ask_post<R: Read>(
         → IsFaulted reader.new.failed MAX_EXCHANGE_READS reader.new.turns) }
     ensures bounded { reader.old.turns ≤ MAX_EXCHANGE_READS → reader.new.turns ≤ MAX_EXCHANGE_READS }
 {
-    let BodyRead { read, body } = read_body(alloc, behind, post.length as usize, reader);
+    let BodyRead { read, body } = read_body(alloc, after, post.length as usize, reader);
     match body {
         Ok(Some(body)) => BodyAsking {
             read,
@@ -129,7 +124,7 @@ fn judge_routed(
     }
 }
 
-/// What a head asks for that stands whole at the front of what was read.
+/// What a head asks for that stands whole at the start of what was read.
 fn ask_head<R: Read>(
     alloc: Global,
     routes: &mut Routes,
@@ -141,7 +136,7 @@ fn ask_head<R: Read>(
     requires { IsRequestWithin bytes.now headers.now spans }
     ensures asks { (h : RequestHead) (left : List ℕ) → IsRequestAt bytes.now headers.now spans h
         → R.remaining reader.old.inner ≡ Some left
-        → IfOk result.asked (AsksBehind h (drop spans.len bytes.now ++ left)) }
+        → IfOk result.asked (AsksAfter h (drop spans.len bytes.now ++ left)) }
     ensures read { HasRead (R.remaining reader.old.inner) (R.remaining reader.new.inner)
         result.read }
     ensures few { result.read < 2 ^ 32 }
@@ -170,19 +165,19 @@ fn some_asked(asked: Result<Asked, AskFault>) -> Result<Option<Asked>, AskFault>
     }
 }
 
-/// Looks for a head with this front, and reads what is asked for. What is counted as read is what
-/// was read beside the front.
-fn ask_behind<R: Read>(
+/// Looks for a head with this prefix, and reads what is asked for. What is counted as read is what
+/// was read beside the prefix.
+fn ask_after<R: Read>(
     alloc: Global,
     routes: &mut Routes,
-    front: &mut Front,
+    prefix: &mut Prefix,
     reader: &mut Watched<R>,
 ) -> Asking
-    requires { front.old ≡ [] }
+    requires { prefix.old ≡ [] }
     ensures asks { (input : List ℕ) → R.remaining reader.old.inner ≡ Some input →
         IfOk result.asked (AsksFor input) }
     ensures read { HasRead (R.remaining reader.old.inner) (R.remaining reader.new.inner)
-        (length front.new + result.read) }
+        (length prefix.new + result.read) }
     ensures few { result.read < 2 ^ 32 }
     ensures in_range { IfOk result.asked (λ asked. IfSome asked IsInRange) }
     ensures fault { IfErr result.asked (λ fault. fault ≡ AskFault.ReadFault
@@ -190,16 +185,16 @@ fn ask_behind<R: Read>(
     ensures bounded { reader.old.turns ≤ MAX_EXCHANGE_READS → reader.new.turns ≤ MAX_EXCHANGE_READS }
 {
     let mut headers = [EMPTY_HEADER_SPAN; MAX_HEADERS];
-    match front.find_head(&mut headers, reader) {
+    match prefix.find_head(&mut headers, reader) {
         Err(ReadFault) => Asking::unread(Err(AskFault::ReadFault)),
         Ok(Found::Nothing) => Asking::unread(Ok(None)),
         Ok(Found::Bad) => Asking::unread(Ok(Some(Asked::Reject(Rejection::BadRequest)))),
         Ok(Found::TooLarge) => Asking::unread(Ok(Some(Asked::Reject(Rejection::TooLarge)))),
         Ok(Found::Whole(spans)) => {
-            let behind = ask_head(alloc, routes, front.bytes(), &headers, spans, reader);
+            let after = ask_head(alloc, routes, prefix.bytes(), &headers, spans, reader);
             Asking {
-                read: behind.read,
-                asked: some_asked(behind.asked),
+                read: after.read,
+                asked: some_asked(after.asked),
             }
         }
     }
@@ -217,10 +212,10 @@ pub fn ask<R: Read>(alloc: Global, routes: &mut Routes, reader: &mut Watched<R>)
         → IsFaulted reader.new.failed MAX_EXCHANGE_READS reader.new.turns) }
     ensures bounded { reader.old.turns ≤ MAX_EXCHANGE_READS → reader.new.turns ≤ MAX_EXCHANGE_READS }
 {
-    let mut front = Front::new();
-    let behind = ask_behind(alloc, routes, &mut front, reader);
+    let mut prefix = Prefix::new();
+    let after = ask_after(alloc, routes, &mut prefix, reader);
     Asking {
-        read: front.bytes().len() + behind.read,
-        asked: behind.asked,
+        read: prefix.bytes().len() + after.read,
+        asked: after.asked,
     }
 }

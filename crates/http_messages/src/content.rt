@@ -27,7 +27,7 @@ struct Piece {
     kept: Result<(), AskFault>,
 }
 
-/// Reads once, at most so many bytes, and puts them behind the others.
+/// Reads once, at most so many bytes, and puts them after the others.
 fn read_more<R: Read>(most: usize, body: &mut Vec<u8>, reader: &mut Watched<R>) -> Piece
     requires { 0 < most }
     ensures bytes { (more : List ℕ) × (length more ≡ result.count)
@@ -77,14 +77,14 @@ impl BodyRead {
     }
 }
 
-/// Reads the body that has this length, of which what stands here behind the head is the front.
+/// Reads the body that has this length, of which what stands here after the head is the prefix.
 pub(crate) fn read_body<R: Read>(
     alloc: Global,
-    behind: &[u8],
+    after: &[u8],
     length: usize,
     reader: &mut Watched<R>,
 ) -> BodyRead
-    ensures gets { IfOk result.body (GetsBody behind.now length (R.remaining reader.old.inner)
+    ensures gets { IfOk result.body (GetsBody after.now length (R.remaining reader.old.inner)
         (R.remaining reader.new.inner)) }
     ensures read { HasRead (R.remaining reader.old.inner) (R.remaining reader.new.inner)
         result.read }
@@ -94,9 +94,9 @@ pub(crate) fn read_body<R: Read>(
     ensures bounded { reader.old.turns ≤ MAX_EXCHANGE_READS → reader.new.turns ≤ MAX_EXCHANGE_READS }
 {
     let mut body = Vec::new(alloc);
-    let held = length.min(behind.len());
+    let held = length.min(after.len());
     let mut read = 0;
-    match body.extend_from_slice(&behind[..held]) {
+    match body.extend_from_slice(&after[..held]) {
         Ok(()) => {}
         Err(_) => return BodyRead::ended(read, Err(AskFault::Memory)),
     }

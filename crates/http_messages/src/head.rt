@@ -1,7 +1,7 @@
 //! Reads until a whole head of a request stands in memory, or until it is clear that none will.
 ghost use Rattle.std.specs.Prelude.{◌≡◌, ◌<◌, ◌≤◌, ◌⊎◌, ◌+◌, ◌++◌, ℕ, List, [], length, take, true, IfOk, OnOk, OnErr};
 ghost use Rattle.std.specs.Io.KnownBytes.{Consumes, IsAtEnd, Keeps};
-ghost use Rattle.http_messages.specs.Found.{Finds};
+ghost use Rattle.http_messages.specs.HeadSearch.{Finds};
 
 use httparse::spans::{EMPTY_HEADER_SPAN, HeaderSpan, RequestSpans, parse_request};
 use httparse::{Error, Status};
@@ -18,7 +18,7 @@ pub const MAX_HEADERS: usize = 64;
 /// The most turns at its reader that an exchange takes.
 pub const MAX_EXCHANGE_READS: u64 = 80_000;
 
-/// What stands at the front of the input.
+/// What stands at the start of the input.
 #[derive(Clone, Copy)]
 pub(crate) enum Found {
     /// A whole head, with its parts.
@@ -33,12 +33,12 @@ pub(crate) enum Found {
 
 /// The bytes that were read while a head was looked for. In a contract it is the list of them.
 #[derive(Drop)]
-pub(crate) struct Front {
+pub(crate) struct Prefix {
     bytes: [u8; MAX_HEAD_LENGTH],
     filled: usize,
 }
 
-impl Model for Front {
+impl Model for Prefix {
     ghost use Rattle.std.specs.Prelude.{◌≤◌, ℕ, List, take};
     ghost use Rattle.http_messages.specs.declared.head.TheConstants.{MAX_HEAD_LENGTH};
 
@@ -49,12 +49,12 @@ impl Model for Front {
     ghost invariant = { λ f. f.filled ≤ MAX_HEAD_LENGTH };
 }
 
-impl Front {
+impl Prefix {
     /// Begins with no byte.
     pub fn new() -> Self
         ensures { result ≡ [] }
     {
-        Front {
+        Prefix {
             bytes: [0; MAX_HEAD_LENGTH],
             filled: 0,
         }

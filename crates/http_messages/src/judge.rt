@@ -4,8 +4,8 @@ ghost use Rattle.httparse.specs.Grammar.{RequestHead};
 ghost use Rattle.httparse.specs.Spans.{IsHeaderWithin, IsRequestWithin, IsRequestAt, header_bytes};
 ghost use Rattle.http_messages.specs.Route.{routes, method_of};
 ghost use Rattle.http_messages.specs.Judged.{Judges, Says};
-ghost use Rattle.http_messages.specs.Fields.{values_of, IsLength};
-ghost use Rattle.http_messages.specs.Exchange.{HasHost, IsFrom, AsksPost, max_body_length};
+ghost use Rattle.http_messages.specs.HeaderFields.{values_of, IsLength};
+ghost use Rattle.http_messages.specs.Asked.{HasHost, IsFrom, AsksPost, max_body_length};
 ghost use Rattle.http_messages.specs.declared.asked.Asked.TheVariants.{Reject};
 
 use crate::asked::Rejection;
@@ -53,25 +53,25 @@ fn length_of(text: &[u8]) -> Option<u32>
 }
 
 /// Whether a head of this version has the Host lines that it must have.
-pub(crate) fn has_host(minor: u8, front: &[u8], headers: &[HeaderSpan]) -> bool
-    requires { All (IsHeaderWithin (length front.now)) headers.now }
-    ensures { IsTrue result ↔ HasHost minor (map (header_bytes front.now) headers.now) }
+pub(crate) fn has_host(minor: u8, prefix: &[u8], headers: &[HeaderSpan]) -> bool
+    requires { All (IsHeaderWithin (length prefix.now)) headers.now }
+    ensures { IsTrue result ↔ HasHost minor (map (header_bytes prefix.now) headers.now) }
 {
-    minor != 1 || matches!(values_named(front, headers, b"host"), Values::One(_))
+    minor != 1 || matches!(values_named(prefix, headers, b"host"), Values::One(_))
 }
 
 /// Whose request it is, and its number.
-fn sender_of(front: &[u8], headers: &[HeaderSpan]) -> Option<Sender>
-    requires { All (IsHeaderWithin (length front.now)) headers.now }
+fn sender_of(prefix: &[u8], headers: &[HeaderSpan]) -> Option<Sender>
+    requires { All (IsHeaderWithin (length prefix.now)) headers.now }
     ensures found { IfSome result (λ sender.
-        IsFrom (map (header_bytes front.now) headers.now) sender.caller sender.number) }
+        IsFrom (map (header_bytes prefix.now) headers.now) sender.caller sender.number) }
     ensures none { IfNone result ((caller : List ℕ) (number : ℕ) →
-        IsFrom (map (header_bytes front.now) headers.now) caller number → ⊥) }
+        IsFrom (map (header_bytes prefix.now) headers.now) caller number → ⊥) }
 {
-    let Values::One(caller) = values_named(front, headers, b"caller") else {
+    let Values::One(caller) = values_named(prefix, headers, b"caller") else {
         return None;
     };
-    let Values::One(field) = values_named(front, headers, b"request-number") else {
+    let Values::One(field) = values_named(prefix, headers, b"request-number") else {
         return None;
     };
     let Some(caller) = Name::new(caller) else {
@@ -87,18 +87,18 @@ fn sender_of(front: &[u8], headers: &[HeaderSpan]) -> Option<Sender>
 }
 
 /// What the header lines say of the body, or why the request is refused.
-pub(crate) fn post_of(front: &[u8], headers: &[HeaderSpan]) -> Result<Post, Rejection>
-    requires { All (IsHeaderWithin (length front.now)) headers.now }
-    ensures ok { IfOk result (Says (map (header_bytes front.now) headers.now)) }
+pub(crate) fn post_of(prefix: &[u8], headers: &[HeaderSpan]) -> Result<Post, Rejection>
+    requires { All (IsHeaderWithin (length prefix.now)) headers.now }
+    ensures ok { IfOk result (Says (map (header_bytes prefix.now) headers.now)) }
     ensures err { IfErr result (λ r. (rest : List ℕ) →
-        AsksPost (map (header_bytes front.now) headers.now) rest (Reject r)) }
+        AsksPost (map (header_bytes prefix.now) headers.now) rest (Reject r)) }
 {
-    match values_named(front, headers, b"transfer-encoding") {
+    match values_named(prefix, headers, b"transfer-encoding") {
         Values::None => {}
         Values::One(_) => return Err(Rejection::LengthRequired),
         Values::Several => return Err(Rejection::LengthRequired),
     }
-    let text = match values_named(front, headers, b"content-length") {
+    let text = match values_named(prefix, headers, b"content-length") {
         Values::None => return Err(Rejection::LengthRequired),
         Values::One(text) => text,
         Values::Several => return Err(Rejection::BadRequest),
@@ -109,7 +109,7 @@ pub(crate) fn post_of(front: &[u8], headers: &[HeaderSpan]) -> Result<Post, Reje
     if length > MAX_BODY_LENGTH {
         return Err(Rejection::TooLarge);
     }
-    let Some(sender) = sender_of(front, headers) else {
+    let Some(sender) = sender_of(prefix, headers) else {
         return Err(Rejection::BadRequest);
     };
     Ok(Post { length, sender })
@@ -138,28 +138,28 @@ pub(crate) fn method_text(route: Route) -> &'static str
 /// What the head asks for whose parts these are.
 pub(crate) fn judge(
     router: &Router<Place>,
-    front: &[u8],
+    prefix: &[u8],
     headers: &[HeaderSpan],
     spans: RequestSpans,
 ) -> Judged
     requires routes { router.now ≡ routes }
-    requires within { IsRequestWithin front.now headers.now spans }
-    ensures { (h : RequestHead) → IsRequestAt front.now headers.now spans h → Judges h result }
+    requires within { IsRequestWithin prefix.now headers.now spans }
+    ensures { (h : RequestHead) → IsRequestAt prefix.now headers.now spans h → Judges h result }
 {
     let lines = &headers[..spans.headers];
-    if !has_host(spans.version, front, lines) {
+    if !has_host(spans.version, prefix, lines) {
         return Judged::Rejected(Rejection::BadRequest);
     }
-    let Some(route) = route_of(router, spans.path.of(front)) else {
+    let Some(route) = route_of(router, spans.path.of(prefix)) else {
         return Judged::Rejected(Rejection::NoRoute);
     };
-    if spans.method.of(front) != method_text(route).as_bytes() {
+    if spans.method.of(prefix) != method_text(route).as_bytes() {
         return Judged::Rejected(Rejection::MethodNotAllowed(route));
     }
     match route {
         Route::Show(key) => Judged::Show(key),
         Route::Usage(key) => Judged::Usage(key),
-        Route::Requests => match post_of(front, lines) {
+        Route::Requests => match post_of(prefix, lines) {
             Ok(post) => Judged::Post(post),
             Err(refusal) => Judged::Rejected(refusal),
         },

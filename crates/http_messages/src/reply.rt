@@ -1,7 +1,7 @@
 //! The text of a reply.
 ghost use Rattle.std.specs.Prelude.{◌≡◌, ◌++◌, None, Some, IfOk, string_bytes, codes, length};
 ghost use Rattle.http.specs.StatusCode.{IsStatusCode};
-ghost use Rattle.http_messages.specs.Reply.{reply_bytes};
+ghost use Rattle.http_messages.specs.HttpReply.{reply_bytes};
 ghost use Rattle.http_messages.specs.Rejection.{reply_of};
 
 use crate::asked::Rejection;

@@ -83,13 +83,13 @@ fn key_number(field: &[u8]) -> Option<u32>
     }
 }
 
-/// What stands between the front and the back.
-fn between<'t>(target: &'t [u8], front: &[u8], back: &[u8]) -> Option<&'t [u8]>
-    ensures found { IfSome result (λ field. target.now ≡ front.now ++ (field.now ++ back.now)) }
+/// What stands between the prefix and the back.
+fn between<'t>(target: &'t [u8], prefix: &[u8], back: &[u8]) -> Option<&'t [u8]>
+    ensures found { IfSome result (λ field. target.now ≡ prefix.now ++ (field.now ++ back.now)) }
     ensures none { IfNone result ((field : List ℕ) →
-        target.now ≢ front.now ++ (field ++ back.now)) }
+        target.now ≢ prefix.now ++ (field ++ back.now)) }
 {
-    match target.strip_prefix(front) {
+    match target.strip_prefix(prefix) {
         Some(rest) => match rest.strip_suffix(back) {
             Some(field) => Some(field),
             None => None,
@@ -98,14 +98,14 @@ fn between<'t>(target: &'t [u8], front: &[u8], back: &[u8]) -> Option<&'t [u8]>
     }
 }
 
-/// The number of a key that stands between the front and the back.
-fn number_between(target: &[u8], front: &[u8], back: &[u8]) -> Option<u32>
+/// The number of a key that stands between the prefix and the back.
+fn number_between(target: &[u8], prefix: &[u8], back: &[u8]) -> Option<u32>
     ensures found { IfSome result (λ n.
-        (target.now ≡ front.now ++ (decimal n ++ back.now)) × IsKeyNumber n) }
+        (target.now ≡ prefix.now ++ (decimal n ++ back.now)) × IsKeyNumber n) }
     ensures none { IfNone result ((n : ℕ) → IsKeyNumber n →
-        target.now ≢ front.now ++ (decimal n ++ back.now)) }
+        target.now ≢ prefix.now ++ (decimal n ++ back.now)) }
 {
-    match between(target, front, back) {
+    match between(target, prefix, back) {
         Some(field) => match key_number(field) {
             Some(number) => Some(number),
             None => None,

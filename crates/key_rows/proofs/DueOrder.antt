@@ -3,7 +3,7 @@ use Rattle.std.proofs.Common.{◌≡◌, ◌⊎◌, inl, inr, List, [], ◌∷�
 use Rattle.std.specs.List.{AllByRecursion}
 use Rattle.std.proofs.lemmas.Bool.{cases_lt}
 use Rattle.key_rows.specs.declared.key_row.KeyRow.{KeyRow}
-use Rattle.key_rows.specs.DueRows.{stop_of, IsBefore, IsBehind, AreInOrder, HaveOwnNumbers}
+use Rattle.key_rows.specs.DueRows.{stop_of, IsBefore, IsAfter, AreInOrder, HaveOwnNumbers}
 use Rattle.key_rows.proofs.Members.{Has, has_of, each_of, all_of, has_last, has_cases}
 
 -- ---- two rows
@@ -43,27 +43,27 @@ compared a b =
           ]
         ]
 
--- ---- a row behind others
+-- ---- a row after others
 
--- a row behind the last of some rows in order is behind all of them
-pub behind_all : (rows : List KeyRow) (last r : KeyRow) → AreInOrder (rows ++ last ∷ [])
-    → IsBefore last r → IsBehind (rows ++ last ∷ []) r
-behind_all [] last r in_order before = (before, tt)
-behind_all (x ∷ rows) last r in_order before =
-    let behind = behind_all rows last r in_order.1 before in
+-- a row after the last of some rows in order is after all of them
+pub after_all : (rows : List KeyRow) (last r : KeyRow) → AreInOrder (rows ++ last ∷ [])
+    → IsBefore last r → IsAfter (rows ++ last ∷ []) r
+after_all [] last r in_order before = (before, tt)
+after_all (x ∷ rows) last r in_order before =
+    let after = after_all rows last r in_order.1 before in
     let of_last = each_of (IsBefore x) (rows ++ last ∷ []) in_order.0 last (has_last rows last) in
-    (before_trans x last r of_last before, behind)
+    (before_trans x last r of_last before, after)
 
--- a row behind some rows in order makes a longer list in order
-pub with_last : (rows : List KeyRow) (r : KeyRow) → AreInOrder rows → IsBehind rows r
+-- a row after some rows in order makes a longer list in order
+pub with_last : (rows : List KeyRow) (r : KeyRow) → AreInOrder rows → IsAfter rows r
     → AreInOrder (rows ++ r ∷ [])
-with_last [] r in_order behind = (tt, tt)
-with_last (x ∷ rows) r in_order behind = (
+with_last [] r in_order after = (tt, tt)
+with_last (x ∷ rows) r in_order after = (
   all_of (IsBefore x) (rows ++ r ∷ []) (λ y h. elim (has_cases rows r y h) [
     | inl k ↦ each_of (IsBefore x) rows in_order.0 y k
-    | inr e ↦ subst (IsBefore x) (sym e) behind.0
+    | inr e ↦ subst (IsBefore x) (sym e) after.0
   ]),
-  with_last rows r in_order.1 behind.1,
+  with_last rows r in_order.1 after.1,
 )
 
 -- ---- lists in order with the same rows
@@ -79,10 +79,10 @@ head_of f g fs gs of_f of_g (inl e) there = e
 head_of f g fs gs of_f of_g (inr h) (inl e) = sym e
 head_of f g fs gs of_f of_g (inr h) (inr k) =
     let before = each_of (IsBefore f) fs of_f.0 g k in
-    let behind = each_of (IsBefore g) gs of_g.0 f h in
-    absurd (not_before_back f g before behind)
+    let after = each_of (IsBefore g) gs of_g.0 f h in
+    absurd (not_before_back f g before after)
 
--- what is behind the head and in a list with the same head is behind that head
+-- what is after the head and in a list with the same head is after that head
 tail_of : (f g r : KeyRow) (fs gs : List KeyRow) → f ≡ g → AreInOrder (f ∷ fs) → Has fs r
     → Has (g ∷ gs) r → Has gs r
 tail_of f g r fs gs same of_f here (inl e) =
@@ -106,7 +106,7 @@ same_rows (f ∷ fs) (g ∷ gs) of_f of_g to from =
 -- ---- a list in order that begins another
 
 pub begun : (rows all : List KeyRow) → AreInOrder rows → AreInOrder all → AreAmong rows all
-    → ((r : KeyRow) → Has all r → Has rows r ⊎ IsBehind rows r)
+    → ((r : KeyRow) → Has all r → Has rows r ⊎ IsAfter rows r)
     → (rest : List KeyRow) × (all ≡ rows ++ rest)
 begun [] all of_rows of_all to from = (all, refl)
 begun (x ∷ rows) [] of_rows of_all to from = absurd (to x (inl refl))
@@ -114,26 +114,26 @@ begun (x ∷ rows) (y ∷ all) of_rows of_all to from =
     let same = first_of_both x y rows all of_rows of_all (to x (inl refl)) (from y (inl refl)) in
     let to_rest : AreAmong rows all = λ r h. tail_of x y r rows all same of_rows h (to r (inr h)) in
     let rest = begun rows all of_rows.1 of_all.1 to_rest
-    (λ r h. behind_first x y r rows all same of_all h (from r (inr h))) in
+    (λ r h. after_first x y r rows all same of_all h (from r (inr h))) in
     (rest.0, ap (λ z. z ∷ all) (sym same) ∙ ap (λ zs. x ∷ zs) rest.1)
   where
     first_of_both : (x y : KeyRow) (rows all : List KeyRow) → AreInOrder (x ∷ rows)
-        → AreInOrder (y ∷ all) → Has (y ∷ all) x → Has (x ∷ rows) y ⊎ IsBehind (x ∷ rows) y → x ≡ y
+        → AreInOrder (y ∷ all) → Has (y ∷ all) x → Has (x ∷ rows) y ⊎ IsAfter (x ∷ rows) y → x ≡ y
     first_of_both x y rows all of_rows of_all there (inl here) =
         head_of x y rows all of_rows of_all there here
-    first_of_both x y rows all of_rows of_all (inl e) (inr behind) = e
-    first_of_both x y rows all of_rows of_all (inr h) (inr behind) =
-        absurd (not_before_back x y behind.0 (each_of (IsBefore y) all of_all.0 x h))
+    first_of_both x y rows all of_rows of_all (inl e) (inr after) = e
+    first_of_both x y rows all of_rows of_all (inr h) (inr after) =
+        absurd (not_before_back x y after.0 (each_of (IsBefore y) all of_all.0 x h))
 
-    behind_first : (x y r : KeyRow) (rows all : List KeyRow) → x ≡ y → AreInOrder (y ∷ all)
-        → Has all r → Has (x ∷ rows) r ⊎ IsBehind (x ∷ rows) r → Has rows r ⊎ IsBehind rows r
-    behind_first x y r rows all same of_all here
+    after_first : (x y r : KeyRow) (rows all : List KeyRow) → x ≡ y → AreInOrder (y ∷ all)
+        → Has all r → Has (x ∷ rows) r ⊎ IsAfter (x ∷ rows) r → Has rows r ⊎ IsAfter rows r
+    after_first x y r rows all same of_all here
         (inl h) = inl (tail_of y x r all rows (sym same) of_all here h)
-    behind_first x y r rows all same of_all here (inr behind) = inr behind.1
+    after_first x y r rows all same of_all here (inr after) = inr after.1
 
 -- ---- numbers that rise
 
--- each row has a lower number than all behind it
+-- each row has a lower number than all after it
 abbrev pub AreRising : List KeyRow → Type 0
 AreRising [] = Unit {0}
 AreRising (r ∷ rows) = AllByRecursion (λ s. r.number < s.number) rows × AreRising rows

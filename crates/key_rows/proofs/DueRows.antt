@@ -5,7 +5,7 @@ use Rattle.std.specs.Prelude.{filter}
 use Rattle.std.specs.List.{Contains, AllByRecursion}
 use Rattle.std.proofs.lemmas.Bool.{cases_Bool}
 use Rattle.key_rows.specs.declared.key_row.KeyRow.{KeyRow}
-use Rattle.key_rows.specs.DueRows.{is_due, IsBefore, IsBehind, AreInOrder, AreDue, AreThose, AreFirstDue, HaveOwnNumbers}
+use Rattle.key_rows.specs.DueRows.{is_due, IsBefore, IsAfter, AreInOrder, AreDue, AreThose, AreFirstDue, HaveOwnNumbers}
 use Rattle.key_rows.proofs.Members.{Has, has_of, contains_of, each_of, all_of, has_before, has_last, has_cases}
 use Rattle.key_rows.proofs.DueOrder.{before_trans, compared, with_last, same_rows, begun}
 
@@ -19,14 +19,14 @@ none_first all until = record {
   others = λ r there due. inr tt;
 }
 
--- with the next of them they are the first: behind all of them, and before each other that is due
--- behind them
+-- with the next of them they are the first: after all of them, and before each other that is due
+-- after them
 pub next_first : (all : List KeyRow) (until : ℕ) (rows : List KeyRow) (r : KeyRow)
-    → AreFirstDue all until rows → Contains all r → is_due until r ≡ true → IsBehind rows r
-    → ((s : KeyRow) → Contains all s → is_due until s ≡ true → IsBehind rows s
+    → AreFirstDue all until rows → Contains all r → is_due until r ≡ true → IsAfter rows r
+    → ((s : KeyRow) → Contains all s → is_due until s ≡ true → IsAfter rows s
     → (s ≡ r) ⊎ IsBefore r s) → AreFirstDue all until (rows ++ r ∷ [])
-next_first all until rows r first there due behind next = record {
-  in_order = with_last rows r first.in_order behind;
+next_first all until rows r first there due later next = record {
+  in_order = with_last rows r first.in_order later;
   each = λ s h. each_with s (has_cases rows r s (has_of (rows ++ r ∷ []) s h));
   others =
       λ s is_there is_due_then. others_with s (first.others s is_there is_due_then)
@@ -40,35 +40,35 @@ next_first all until rows r first there due behind next = record {
       subst (λ x. is_due until x ≡ true) (sym e) due,
     )
 
-    behind_with : (s : KeyRow) → IsBehind rows s → IsBefore r s → IsBehind (rows ++ r ∷ []) s
-    behind_with s behind_rows after =
+    after_with : (s : KeyRow) → IsAfter rows s → IsBefore r s → IsAfter (rows ++ r ∷ []) s
+    after_with s after_rows after =
         all_of (λ x. IsBefore x s) (rows ++ r ∷ []) (λ x h. elim (has_cases rows r x h) [
-          | inl k ↦ each_of (λ x. IsBefore x s) rows behind_rows x k
+          | inl k ↦ each_of (λ x. IsBefore x s) rows after_rows x k
           | inr e ↦ subst (λ x. IsBefore x s) (sym e) after
         ])
 
-    others_with : (s : KeyRow) → Contains rows s ⊎ IsBehind rows s
-        → (IsBehind rows s → (s ≡ r) ⊎ IsBefore r s)
-        → Contains (rows ++ r ∷ []) s ⊎ IsBehind (rows ++ r ∷ []) s
+    others_with : (s : KeyRow) → Contains rows s ⊎ IsAfter rows s
+        → (IsAfter rows s → (s ≡ r) ⊎ IsBefore r s)
+        → Contains (rows ++ r ∷ []) s ⊎ IsAfter (rows ++ r ∷ []) s
     others_with s (inl h) then =
         inl (contains_of (rows ++ r ∷ []) s (has_before rows r s (has_of rows s h)))
-    others_with s (inr behind_rows) then =
-        elim (then behind_rows) [
+    others_with s (inr after_rows) then =
+        elim (then after_rows) [
           | inl e ↦ inl (subst (Contains (rows ++ r ∷ [])) (sym e)
               (contains_of (rows ++ r ∷ []) r (has_last rows r)))
-          | inr after ↦ inr (behind_with s behind_rows after)
+          | inr after ↦ inr (after_with s after_rows after)
         ]
 
--- where no other is due behind them, they are all
+-- where no other is due after them, they are all
 pub all_first : (all : List KeyRow) (until : ℕ) (rows : List KeyRow) → AreFirstDue all until rows
-    → ((s : KeyRow) → Contains all s → is_due until s ≡ true → IsBehind rows s → ⊥)
+    → ((s : KeyRow) → Contains all s → is_due until s ≡ true → IsAfter rows s → ⊥)
     → AreDue all until rows
 all_first all until rows first none = record {
   in_order = first.in_order;
   each = first.each;
   every =
       λ r there due. elim (first.others r there due)
-      [ inl h ↦ h | inr behind ↦ absurd (none r there due behind) ];
+      [ inl h ↦ h | inr later ↦ absurd (none r there due later) ];
 }
 
 -- ---- the laws
@@ -90,7 +90,7 @@ first_begin all until first rows p q =
     (λ r h. let e = p.each r (contains_of first r h) in has_of rows r (q.every r e.0 e.1))
     (λ r h. let e = q.each r (contains_of rows r h) in elim (p.others r e.0 e.1) [
       | inl k ↦ inl (has_of first r k)
-      | inr behind ↦ inr behind
+      | inr later ↦ inr later
     ])
 
 -- a row in its place among others
@@ -131,7 +131,7 @@ placed r (x ∷ rows) in_order own =
           every = λ s h. inr h;
         },
       )
-      | inr (inl after) ↦ behind after (placed r rows in_order.1 (λ s h. own s (inr h)))
+      | inr (inl after) ↦ later after (placed r rows in_order.1 (λ s h. own s (inr h)))
       | inr (inr same) ↦ (
         x ∷ rows,
         record {
@@ -143,9 +143,9 @@ placed r (x ∷ rows) in_order own =
       )
     ]
   where
-    behind : IsBefore x r → (out : List KeyRow) × Places r rows out
+    later : IsBefore x r → (out : List KeyRow) × Places r rows out
         → (out : List KeyRow) × Places r (x ∷ rows) out
-    behind after (out, places) = (
+    later after (out, places) = (
       x ∷ out,
       record {
         in_order = (
@@ -256,11 +256,11 @@ left_in_order : (p : KeyRow → Bool) (rows : List KeyRow) → AreInOrder rows �
 left_in_order p [] in_order = tt
 left_in_order p (r ∷ rows) in_order = by (p r) (left_in_order p rows in_order.1)
   where
-    behind : AllByRecursion (IsBefore r) (filter p rows)
-    behind = all_of (IsBefore r) (filter p rows) (λ x h. each_of (IsBefore r) rows in_order.0 x (has_left p rows x h).0)
+    later : AllByRecursion (IsBefore r) (filter p rows)
+    later = all_of (IsBefore r) (filter p rows) (λ x h. each_of (IsBefore r) rows in_order.0 x (has_left p rows x h).0)
 
     by : (b : Bool) → AreInOrder (filter p rows) → AreInOrder (cond b (r ∷ filter p rows) (filter p rows))
-    by true rest = (behind, rest)
+    by true rest = (later, rest)
     by false rest = rest
 
 -- those of the rows for which more holds are those of all

@@ -32,9 +32,9 @@ number_right n =
     let p = 7 - length (decimal n) - 0 - 0 in
     let none : p - p ≡ 0 = omega arith in
     let all : p ≡ 7 - length (decimal n) = omega arith in
-    let front = append-nil _ ∙ append-nil _ ∙ append-nil _ ∙ repeated p ∙ ap spaces all in
+    let prefix = append-nil _ ∙ append-nil _ ∙ append-nil _ ∙ repeated p ∙ ap spaces all in
     ap (λ (k : ℕ). (repeat p (32 ∷ []) ++ [] ++ [] ++ []) ++ (decimal n ++ repeat k (32 ∷ []))) none
-    ∙ ap (λ (l : List ℕ). l ++ (decimal n ++ [])) front
+    ∙ ap (λ (l : List ℕ). l ++ (decimal n ++ [])) prefix
     ∙ ap (λ (l : List ℕ). spaces (7 - length (decimal n)) ++ l) (append-nil (decimal n))
 
 abbrev due_mark : Bool → Bool → List ℕ

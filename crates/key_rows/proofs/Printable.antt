@@ -17,7 +17,7 @@ use Rattle.lifecycle_core.specs.declared.state.State.{State}
 use Rattle.lifecycle_core.specs.declared.state.State.TheVariants.{PreActive, Active, Deactivated}
 use Rattle.lifecycle_core.specs.declared.state.State.TheVariants.{Compromised, Destroyed, DestroyedCompromised}
 use Rattle.lifecycle_core.specs.State.{state_text}
-use Rattle.moment_core.specs.Text.{moment_text}
+use Rattle.moment_core.specs.MomentText.{moment_text}
 use Rattle.register_core.specs.Name.{IsName, is_name_byte}
 use Rattle.register_core.specs.Purpose.{IsPurpose, is_purpose_byte}
 use Rattle.key_rows.specs.declared.key_row.KeyRow.{KeyRow}
@@ -65,7 +65,7 @@ decimal_plain : (n : ℕ) → n < 2 ^ 64 → list_all is_plain (decimal n) ≡ t
 decimal_plain n small =
     decimal_by_steps (λ n ds. list_all is_plain ds ≡ true)
     (λ n small. and_from (is_plain (48 + n)) true (digit_plain n small) refl)
-    (λ n ds large front. all_append is_plain ds ((48 + n % 10) ∷ []) front
+    (λ n ds large prefix. all_append is_plain ds ((48 + n % 10) ∷ []) prefix
     (and_from (is_plain (48 + n % 10)) true (digit_plain (n % 10) (omega arith)) refl)) n small
 
 tens_plain : (n : ℕ) → is_plain (48 + n / 10 % 10) ≡ true

@@ -22,14 +22,14 @@ stop_of r = unwrap_or r.row.dates.protect_stop 0
 abbrev pub IsBefore : KeyRow → KeyRow → Type 0
 IsBefore a b = (stop_of a < stop_of b) ⊎ ((stop_of a ≡ stop_of b) × (a.number < b.number))
 
--- each comes before all behind it
+-- each comes before all after it
 abbrev pub AreInOrder : List KeyRow → Type 0
 AreInOrder [] = Unit {0}
 AreInOrder (r ∷ rows) = AllByRecursion (IsBefore r) rows × AreInOrder rows
 
--- a row comes behind all of these
-abbrev pub IsBehind : List KeyRow → KeyRow → Type 0
-IsBehind rows r = AllByRecursion (λ x. IsBefore x r) rows
+-- a row comes after all of these
+abbrev pub IsAfter : List KeyRow → KeyRow → Type 0
+IsAfter rows r = AllByRecursion (λ x. IsBefore x r) rows
 
 -- these are the rows of all of them for which this holds, in order
 pub record AreThose (holds : KeyRow → Bool) (all rows : List KeyRow) : Type 0 where
@@ -51,12 +51,12 @@ is_listed until periods r =
 abbrev pub AreListed : List KeyRow → ℕ → (KeyType → Period) → List KeyRow → Type 0
 AreListed all until periods rows = AreThose (is_listed until periods) all rows
 
--- these are the first of them: all others come behind
+-- these are the first of them: all others come after
 pub record AreFirstDue (all : List KeyRow) (until : ℕ) (rows : List KeyRow) : Type 0 where
   pub in_order : AreInOrder rows
   pub each : (r : KeyRow) → Contains rows r → Contains all r × (is_due until r ≡ true)
   pub others : (r : KeyRow) → Contains all r → is_due until r ≡ true
-      → Contains rows r ⊎ IsBehind rows r
+      → Contains rows r ⊎ IsAfter rows r
 
 -- no two of the rows have one number
 abbrev pub HaveOwnNumbers : List KeyRow → Type 0

@@ -3,7 +3,7 @@
 use Rattle.std.specs.Prelude.{ℕ, ◌==◌, ◌||◌, nat_le, if◌then◌else◌, List, [], ◌∷◌, ◌++◌, map}
 use Rattle.std.specs.Prelude.{flat_map, codes, decimal, Option, None, Some, IsTrue}
 use Rattle.std.specs.List.{list_any, list_all, join_with_byte}
-use Rattle.moment_core.specs.Text.{moment_text}
+use Rattle.moment_core.specs.MomentText.{moment_text}
 use Rattle.period_core.specs.KeyType.{key_type_text}
 use Rattle.lifecycle_core.specs.State.{state_text}
 use Rattle.key_rows.specs.declared.key_row.KeyRow.{KeyRow}

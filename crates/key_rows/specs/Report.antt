@@ -3,7 +3,7 @@ use Rattle.std.specs.Prelude.{ℕ, ◌+◌, ◌-◌, ◌*◌, min, if◌then◌e
 use Rattle.std.specs.Prelude.{flat_map, codes, decimal}
 use Rattle.moment_core.specs.Calendar.{day_seconds}
 use Rattle.moment_core.specs.Moment.{last_second}
-use Rattle.moment_core.specs.Text.{moment_text}
+use Rattle.moment_core.specs.MomentText.{moment_text}
 use Rattle.period_core.specs.KeyType.{key_type_text}
 use Rattle.lifecycle_core.specs.State.{is_reached_at}
 use Rattle.key_rows.specs.declared.key_row.KeyRow.{KeyRow}

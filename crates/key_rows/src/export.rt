@@ -12,7 +12,7 @@ use std::alloc::{AllocError, Global};
 /// A writer to memory, which fails for want of memory alone.
 type RowWriter = Writer<Vec<u8>>;
 
-/// Writes a field behind those that the row has. One with a line end would stand between quotes as
+/// Writes a field after those that the row has. One with a line end would stand between quotes as
 /// well, but no field of a key has one.
 fn put_field(row: &mut RowWriter, field: &str) -> Result<(), AllocError>
     ensures { OnOk result ((fields : List (List ℕ)) → length fields < 12 →

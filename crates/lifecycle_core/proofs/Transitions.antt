@@ -1,4 +1,4 @@
--- Which pairs are transitions, by a test, and the paths along which time takes a key.
+-- Which pairs are transitions, by a check, and the paths along which time takes a key.
 use Rattle.std.specs.Prelude.{◌≡◌, ℕ, ◌≤◌, Bool, true, false, not, ◌&&◌, if◌then◌else◌, Option, Some, None, is_some, [], ◌∷◌, refl}
 use Rattle.std.proofs.Common.{lit<, arith}
 use Rattle.std.proofs.lemmas.Bool.Decides.{nat_tests}

@@ -153,7 +153,7 @@ past_range s n late =
     sym (ap (λ (b : Bool). cond b (Some (day_number date * 86_400 + s % 86_400)) None)
     (lt-leb (day_number date * 86_400 + s % 86_400) last_second (omega (arith, far))))
 
--- what a test for the range answers
+-- what a check for the range answers
 pub sum_is : (s n day : ℕ) (o : Option ℕ) → day ≡ day_number (months_on (civil (s / 86_400)) n)
     → (IsSome o ↔ IsMoment (day * 86_400 + s % 86_400)) → IfSome o (λ m. m ≡ day * 86_400 + s % 86_400)
     → o ≡ months_after s n

@@ -43,7 +43,7 @@ same_month : (c e : Civil) → IsCivil c → IsCivil e → day_number c ≡ day_
 same_month c e is its same = elim (cases_lt (month_of c) (month_of e)) [
   | inl before ↦ absurd (omega (arith, same, later_month c e is its before))
   | inr from ↦ elim (cases_lt (month_of e) (month_of c)) [
-    | inl behind ↦ absurd (omega (arith, same, later_month e c its is behind))
+    | inl after ↦ absurd (omega (arith, same, later_month e c its is after))
     | inr to ↦ omega (arith, from, to)
   ]
 ]

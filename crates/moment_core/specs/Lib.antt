@@ -1,5 +1,5 @@
 pub mod Moment
 pub mod Calendar
 pub mod Dates
-pub mod Text
+pub mod MomentText
 pub mod Parts

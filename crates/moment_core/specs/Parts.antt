@@ -1,6 +1,6 @@
 -- The two halves of a moment's text.
 use Rattle.std.specs.Prelude.{ℕ, ◌/◌, ◌%◌, List, ◌++◌, codes}
-use Rattle.moment_core.specs.Text.{two_digits, four_digits}
+use Rattle.moment_core.specs.MomentText.{two_digits, four_digits}
 
 -- a date, with the T that ends it
 abbrev pub date_text : ℕ → ℕ → ℕ → List ℕ

@@ -52,7 +52,7 @@ pub(crate) fn day_of(year: u32, month: u8, day: u8) -> Option<u64>
 }
 
 /// The date with this year and month, and this day or the month's last where there is no such day.
-fn clamped(year: u32, month: u32, day: u8) -> Date
+fn clamp_day(year: u32, month: u32, day: u8) -> Date
     requires year_in { (1970 ≤ year) × (year ≤ 9999) }
     requires month_in { (1 ≤ month) × (month ≤ 12) }
     requires day_in { 1 ≤ day }
@@ -76,7 +76,7 @@ fn day_after_months(date: Date, months: u16) -> Option<u64>
     if year > 9999 {
         return None;
     }
-    let later = clamped(year, months % 12 + 1, date.day);
+    let later = clamp_day(year, months % 12 + 1, date.day);
     Some(u64::from(later.days_since_min() - DAYS_BEFORE))
 }
 

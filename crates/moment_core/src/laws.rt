@@ -2,7 +2,7 @@
 ghost use Rattle.std.specs.Prelude.{◌≡◌, ◌≤◌, ℕ, Some};
 ghost use Rattle.moment_core.specs.Calendar.{Civil, IsCivil, civil, day_number, months_after};
 ghost use Rattle.moment_core.specs.Moment.{IsMoment};
-ghost use Rattle.moment_core.specs.Text.{moment_text};
+ghost use Rattle.moment_core.specs.MomentText.{moment_text};
 
 /// Moments with one text are one moment, so that what is written is read again.
 pub fn one_text()

@@ -1,7 +1,7 @@
 //! The text of a moment, as YYYY-MM-DDTHH:MM:SSZ.
 ghost use Rattle.std.specs.Prelude.{◌≡◌, ◌≢◌, ℕ, ◌+◌, ◌/◌, ◌%◌, ◌<◌, ◌++◌, Some, IfSome, IfNone};
 ghost use Rattle.moment_core.specs.Moment.{IsMoment};
-ghost use Rattle.moment_core.specs.Text.{two_digits, moment_text};
+ghost use Rattle.moment_core.specs.MomentText.{two_digits, moment_text};
 ghost use Rattle.moment_core.specs.Parts.{date_text, time_text};
 
 use crate::calendar::{self, DAY_SECONDS};
@@ -22,7 +22,7 @@ fn ones(n: u32) -> u8
 }
 
 /// The text of a date's year, month and day and a second of the day.
-fn text_of(year: u32, month: u32, day: u32, second: u32) -> [u8; 20]
+fn format_fixed(year: u32, month: u32, day: u32, second: u32) -> [u8; 20]
     ensures { result ≡ date_text year month day ++ time_text second }
 {
     let (century, hour, minute) = (year / 100, second / 3600, second / 60 % 60);
@@ -52,7 +52,7 @@ fn text_of(year: u32, month: u32, day: u32, second: u32) -> [u8; 20]
 }
 
 /// The number of two digits, or `None` where there are not two digits.
-fn number(digits: &[u8]) -> Option<u8>
+fn read_two_digits(digits: &[u8]) -> Option<u8>
     ensures value { (n : ℕ) → n < 100 → digits.now ≡ two_digits n → result ≡ Some n }
     ensures within { IfSome result (λ n. n < 100) }
 {
@@ -64,18 +64,23 @@ fn number(digits: &[u8]) -> Option<u8>
 
 /// The moment whose text this is, if it is a moment's. Of another text it is some moment, or
 /// `None`.
-fn candidate(text: &[u8]) -> Option<Moment>
+fn parse_fixed(text: &[u8]) -> Option<Moment>
     ensures { (m : ℕ) → IsMoment m → text.now ≡ moment_text m → result ≡ Some m }
 {
     if text.len() != 20 {
         return None;
     }
-    let year = u32::from(number(&text[0..2])?) * 100 + u32::from(number(&text[2..4])?);
-    let day = calendar::day_of(year, number(&text[5..7])?, number(&text[8..10])?)?;
+    let year = u32::from(read_two_digits(&text[0..2])?) * 100
+        + u32::from(read_two_digits(&text[2..4])?);
+    let day = calendar::day_of(
+        year,
+        read_two_digits(&text[5..7])?,
+        read_two_digits(&text[8..10])?,
+    )?;
     let (hour, minute, second) = (
-        number(&text[11..13])?,
-        number(&text[14..16])?,
-        number(&text[17..19])?,
+        read_two_digits(&text[11..13])?,
+        read_two_digits(&text[14..16])?,
+        read_two_digits(&text[17..19])?,
     );
     Moment::new(
         day * DAY_SECONDS + u64::from(hour) * 3600 + u64::from(minute) * 60 + u64::from(second),
@@ -90,7 +95,7 @@ impl Moment {
         ensures found { IfSome result (λ m. text.now ≡ moment_text m) }
         ensures none { IfNone result ((m : ℕ) → IsMoment m → text.now ≢ moment_text m) }
     {
-        let moment = candidate(text)?;
+        let moment = parse_fixed(text)?;
         if &moment.write()[..] == text {
             Some(moment)
         } else {
@@ -106,7 +111,7 @@ impl Moment {
         let seconds = self.seconds();
         let date = calendar::date_of(seconds / DAY_SECONDS);
         let (month, day) = (u32::from(date.month), u32::from(date.day));
-        text_of(
+        format_fixed(
             calendar::year_of(&date),
             month,
             day,

@@ -46,16 +46,16 @@ is_long p d =
 -- ---- defaults
 
 -- the earlier of two dates; one that has no value counts as later than every moment
-abbrev pub earlier : Option ℕ → Option ℕ → Option ℕ
-earlier None second = second
-earlier (Some first) None = Some first
-earlier (Some first) (Some second) = Some (min first second)
+abbrev pub earlier_of : Option ℕ → Option ℕ → Option ℕ
+earlier_of None second = second
+earlier_of (Some first) None = Some first
+earlier_of (Some first) (Some second) = Some (min first second)
 
 -- step 1: Protect Stop, where Activation is set and it is not
 abbrev pub with_protect_stop : Period → Dates → Dates
 with_protect_stop p d =
     if is_some d.activation && is_none d.protect_stop
-    then record d { protect_stop = earlier (originator_limit p d) d.deactivation } else d
+    then record d { protect_stop = earlier_of (originator_limit p d) d.deactivation } else d
 
 -- step 2: Deactivation, where Activation is set and it is not
 abbrev pub with_deactivation : Period → Dates → Dates
@@ -69,12 +69,12 @@ cut None limit = None
 cut (Some date) None = Some date
 cut (Some date) (Some limit) = Some (min date limit)
 
-abbrev pub filled : Period → Dates → Dates
-filled p d = with_deactivation p (with_protect_stop p d)
+abbrev pub with_defaults : Period → Dates → Dates
+with_defaults p d = with_deactivation p (with_protect_stop p d)
 
 -- the dates of an activation: each step's date cut to its limit
-abbrev pub trimmed : Period → Dates → Dates
-trimmed p d =
+abbrev pub within_limits : Period → Dates → Dates
+within_limits p d =
     let first = with_protect_stop p d in
     let stop = cut first.protect_stop (originator_limit p first) in
     let stopped = record first { protect_stop = stop } in
@@ -84,17 +84,17 @@ trimmed p d =
 -- ---- refusals
 
 -- a date past its limit, with the limit
-abbrev pub over_limit : Option ℕ → Option ℕ → Option DateRefusal
-over_limit (Some date) (Some limit) = if nat_lt limit date then Some (PeriodTooLong limit) else None
-over_limit (Some date) None = None
-over_limit None limit = None
+abbrev pub length_refusal : Option ℕ → Option ℕ → Option DateRefusal
+length_refusal (Some date) (Some limit) = if nat_lt limit date then Some (PeriodTooLong limit) else None
+length_refusal (Some date) None = None
+length_refusal None limit = None
 
-abbrev pub out_of_order : Dates → Option DateRefusal
-out_of_order d = if are_in_order d then None else Some DateOrder
+abbrev pub order_refusal : Dates → Option DateRefusal
+order_refusal d = if are_in_order d then None else Some DateOrder
 
 -- a default was past the range, and its date is still unset
-abbrev pub out_of_range : Dates → Option DateRefusal
-out_of_range d =
+abbrev pub range_refusal : Dates → Option DateRefusal
+range_refusal d =
     if is_some d.activation && (is_none d.protect_stop || is_none d.deactivation)
     then Some DateRange else None
 
@@ -112,19 +112,19 @@ unless_refused (Some refusal) d = Err refusal
 -- Fill: the first that holds of the dates with their defaults refuses them
 abbrev pub fill_of : Period → Dates → Result Dates DateRefusal
 fill_of p d =
-    let full = filled p d in
+    let full = with_defaults p d in
     unless_refused (first_that_holds (
-    out_of_order full
-    ∷ over_limit full.protect_stop (originator_limit p full)
-    ∷ over_limit full.deactivation (recipient_limit p full)
-    ∷ out_of_range full
+    order_refusal full
+    ∷ length_refusal full.protect_stop (originator_limit p full)
+    ∷ length_refusal full.deactivation (recipient_limit p full)
+    ∷ range_refusal full
     ∷ [])) full
 
 -- Trim: no period is too long after it, so it refuses for the order and the range alone
 abbrev pub trim_of : Period → Dates → Result Dates DateRefusal
 trim_of p d =
-    let full = trimmed p d in
-    unless_refused (first_that_holds (out_of_order full ∷ out_of_range full ∷ [])) full
+    let full = within_limits p d in
+    unless_refused (first_that_holds (order_refusal full ∷ range_refusal full ∷ [])) full
 
 -- ---- what they owe
 

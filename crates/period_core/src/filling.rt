@@ -1,9 +1,11 @@
 //! Fill and Trim, which give dates their defaults or refuse them.
 ghost use Rattle.std.specs.Prelude.{◌≡◌, ◌≢◌, ℕ, IsSome, IfErr, OnOk};
-ghost use Rattle.period_core.specs.Fitting.{out_of_order, over_limit, out_of_range, fill_of};
+ghost use Rattle.period_core.specs.Fitting.{order_refusal, length_refusal, range_refusal, fill_of};
 ghost use Rattle.period_core.specs.Fitting.{trim_of, Fits, KeepsGiven, Gives};
 
-use crate::fitting::{are_in_order, filled, originator_limit, recipient_limit, trimmed};
+use crate::fitting::{
+    are_in_order, originator_limit, recipient_limit, with_defaults, within_limits,
+};
 use crate::period::Period;
 use lifecycle_core::Dates;
 use moment_core::Moment;
@@ -20,8 +22,8 @@ pub enum DateRefusal {
     DateRange,
 }
 
-fn out_of_order(dates: &Dates) -> Option<DateRefusal>
-    ensures { result ≡ out_of_order dates.now }
+fn order_refusal(dates: &Dates) -> Option<DateRefusal>
+    ensures { result ≡ order_refusal dates.now }
 {
     if are_in_order(dates) {
         None
@@ -30,8 +32,8 @@ fn out_of_order(dates: &Dates) -> Option<DateRefusal>
     }
 }
 
-fn over_limit(date: Option<Moment>, limit: Option<Moment>) -> Option<DateRefusal>
-    ensures { result ≡ over_limit date limit }
+fn length_refusal(date: Option<Moment>, limit: Option<Moment>) -> Option<DateRefusal>
+    ensures { result ≡ length_refusal date limit }
 {
     match (date, limit) {
         (Some(date), Some(limit)) => {
@@ -45,8 +47,8 @@ fn over_limit(date: Option<Moment>, limit: Option<Moment>) -> Option<DateRefusal
     }
 }
 
-fn out_of_range(dates: &Dates) -> Option<DateRefusal>
-    ensures { result ≡ out_of_range dates.now }
+fn range_refusal(dates: &Dates) -> Option<DateRefusal>
+    ensures { result ≡ range_refusal dates.now }
 {
     if dates.activation.is_some()
         && (dates.protect_stop.is_none() || dates.deactivation.is_none())
@@ -68,17 +70,17 @@ pub fn fill(period: Period, dates: &mut Dates) -> Result<(), DateRefusal>
     ensures fits { OnOk result (Fits period dates.new) }
     ensures keeps { OnOk result (KeepsGiven dates.old dates.new) }
 {
-    let full = filled(period, *dates);
-    if let Some(refusal) = out_of_order(&full) {
+    let full = with_defaults(period, *dates);
+    if let Some(refusal) = order_refusal(&full) {
         return Err(refusal);
     }
-    if let Some(refusal) = over_limit(full.protect_stop, originator_limit(period, &full)) {
+    if let Some(refusal) = length_refusal(full.protect_stop, originator_limit(period, &full)) {
         return Err(refusal);
     }
-    if let Some(refusal) = over_limit(full.deactivation, recipient_limit(period, &full)) {
+    if let Some(refusal) = length_refusal(full.deactivation, recipient_limit(period, &full)) {
         return Err(refusal);
     }
-    if let Some(refusal) = out_of_range(&full) {
+    if let Some(refusal) = range_refusal(&full) {
         return Err(refusal);
     }
     *dates = full;
@@ -97,11 +99,11 @@ pub fn trim(period: Period, dates: &mut Dates) -> Result<(), DateRefusal>
     ensures never_too_long { IfErr result (λ refusal.
         (limit : ℕ) → refusal ≢ DateRefusal.PeriodTooLong limit) }
 {
-    let full = trimmed(period, *dates);
-    if let Some(refusal) = out_of_order(&full) {
+    let full = within_limits(period, *dates);
+    if let Some(refusal) = order_refusal(&full) {
         return Err(refusal);
     }
-    if let Some(refusal) = out_of_range(&full) {
+    if let Some(refusal) = range_refusal(&full) {
         return Err(refusal);
     }
     *dates = full;

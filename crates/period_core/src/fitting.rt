@@ -1,8 +1,8 @@
 //! Which dates fit a usage period, and what a date becomes that is not given, rule by rule.
 ghost use Rattle.std.specs.Prelude.{◌≡◌, ◌↔◌, ◌||◌, ◌&&◌, is_some, is_none, IsTrue};
 ghost use Rattle.period_core.specs.Fitting.{Fits, is_not_after, are_in_order, originator_limit};
-ghost use Rattle.period_core.specs.Fitting.{recipient_limit, is_long, earlier, cut, with_protect_stop};
-ghost use Rattle.period_core.specs.Fitting.{with_deactivation, filled, trimmed};
+ghost use Rattle.period_core.specs.Fitting.{recipient_limit, is_long, earlier_of, cut, with_protect_stop};
+ghost use Rattle.period_core.specs.Fitting.{with_deactivation, with_defaults, within_limits};
 
 use crate::period::Period;
 use lifecycle_core::Dates;
@@ -66,8 +66,8 @@ pub fn is_long(period: Period, dates: &Dates) -> bool
 }
 
 /// The earlier of two dates; one that has no value counts as later than every moment.
-fn earlier(first: Option<Moment>, second: Option<Moment>) -> Option<Moment>
-    ensures { result ≡ earlier first second }
+fn earlier_of(first: Option<Moment>, second: Option<Moment>) -> Option<Moment>
+    ensures { result ≡ earlier_of first second }
 {
     match (first, second) {
         (Some(first), Some(second)) => Some(if first <= second { first } else { second }),
@@ -94,7 +94,7 @@ fn with_protect_stop(period: Period, dates: Dates) -> Dates
         return dates;
     }
     Dates {
-        protect_stop: earlier(originator_limit(period, &dates), dates.deactivation),
+        protect_stop: earlier_of(originator_limit(period, &dates), dates.deactivation),
         ..dates
     }
 }
@@ -113,15 +113,15 @@ fn with_deactivation(period: Period, dates: Dates) -> Dates
 }
 
 /// The dates with their defaults, whether they fit or not.
-pub fn filled(period: Period, dates: Dates) -> Dates
-    ensures { result ≡ filled period dates }
+pub fn with_defaults(period: Period, dates: Dates) -> Dates
+    ensures { result ≡ with_defaults period dates }
 {
     with_deactivation(period, with_protect_stop(period, dates))
 }
 
 /// The dates with their defaults, each cut to its limit.
-pub fn trimmed(period: Period, dates: Dates) -> Dates
-    ensures { result ≡ trimmed period dates }
+pub fn within_limits(period: Period, dates: Dates) -> Dates
+    ensures { result ≡ within_limits period dates }
 {
     let first = with_protect_stop(period, dates);
     let stopped = Dates {

@@ -18,7 +18,7 @@ mod office;
 mod period;
 
 pub use filling::{DateRefusal, fill, trim};
-pub use fitting::{are_in_order, filled, fits, is_long, is_not_after, trimmed};
+pub use fitting::{are_in_order, fits, is_long, is_not_after, with_defaults, within_limits};
 pub use key_type::KeyType;
 pub use office::OfficePeriods;
 pub use period::{MAX_MONTHS, Period, period_of};

@@ -70,7 +70,7 @@ pub(crate) fn custodians(alloc: Global, history: &[Request], key: u32) -> Result
     Ok(names)
 }
 
-/// Whether the request, behind those before it, ends the approval of the key's destruction by this
+/// Whether the request, after those before it, ends the approval of the key's destruction by this
 /// name.
 fn ends(before: &[Request], key: u32, name: &Name, request: &Request) -> bool
     requires { length before.now + 1 < 2 ^ 32 }

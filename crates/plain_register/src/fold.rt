@@ -8,7 +8,7 @@ use crate::view::judgement;
 use register_core::{Refusal, Reply, Request};
 use std::alloc::{AllocError, Global};
 
-/// The answer to an item behind a history, which then has the item's request at its end where that
+/// The answer to an item after a history, which then has the item's request at its end where that
 /// is accepted.
 fn answer_to(
     alloc: Global,

@@ -140,7 +140,7 @@ fn period_with(before: Option<Period>, kind: KeyType, command: &Command) -> Opti
     }
 }
 
-/// The period of the type behind a history: the one that was set last, or the table's.
+/// The period of the type after a history: the one that was set last, or the table's.
 pub(crate) fn period(history: &[Request], kind: KeyType) -> Period
     ensures { result ≡ period history.now kind }
 {

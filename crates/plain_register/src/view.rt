@@ -1,4 +1,4 @@
-//! The keys of a history as they stand, and the first refusal that holds behind it.
+//! The keys of a history as they stand, and the first refusal that holds after it.
 ghost use Rattle.std.specs.Prelude.{◌≡◌, ◌+◌, ◌^◌, ◌<◌, length, IfOk};
 ghost use Rattle.register_core.specs.Custody.{held};
 ghost use Rattle.register_core.specs.Verdict.{judgement};
@@ -8,7 +8,7 @@ use crate::custody::{approvals, custodians, need};
 use crate::history::{count, dates, kind_of_key, latest, owner, period};
 use lifecycle_core::{Row, state_of};
 use period_core::KeyType;
-use register_core::{Command, Held, Refusal, Request, View, judge, type_needed};
+use register_core::{Command, Held, Refusal, Request, View, judge, needed_type};
 use std::alloc::{AllocError, Global};
 
 /// The key as it stands at the latest moment, or `None` where there is no such key.
@@ -44,7 +44,7 @@ fn view(alloc: Global, history: &[Request], command: &Command) -> Result<View, A
         None => None,
     };
     // Any type's serves where no period is looked at.
-    let kind = type_needed(&key, command).unwrap_or(KeyType::DataEncryption);
+    let kind = needed_type(&key, command).unwrap_or(KeyType::DataEncryption);
     Ok(View {
         latest: latest(history),
         keys: count(history),
@@ -53,7 +53,7 @@ fn view(alloc: Global, history: &[Request], command: &Command) -> Result<View, A
     })
 }
 
-/// The first refusal that holds behind a history, if any does.
+/// The first refusal that holds after a history, if any does.
 pub fn judgement(
     alloc: Global,
     history: &[Request],

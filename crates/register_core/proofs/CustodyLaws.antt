@@ -6,7 +6,7 @@ use Rattle.std.proofs.lemmas.Bool.Decides.{eqb_tells}
 use Rattle.lifecycle_core.specs.declared.dates.Dates.{Dates}
 use Rattle.lifecycle_core.specs.Reason.{is_compromise}
 use Rattle.period_core.specs.Period.{Period}
-use Rattle.period_core.specs.Fitting.{filled}
+use Rattle.period_core.specs.Fitting.{with_defaults}
 use Rattle.register_core.specs.declared.request.Request.{Request}
 use Rattle.register_core.specs.declared.request.Command.{Command}
 use Rattle.register_core.specs.declared.request.Command.TheVariants.{Register as Registers, Activate, SetDates, Revoke, Destroy}
@@ -106,7 +106,7 @@ approved_next h q is before k has set = elim (which h q k (judged h q is.accepte
       let r = made.registration in
       let given : Dates = given_dates q.moment r.activation r.protect_stop r.deactivation in
       let p : Period = period h r.kind in
-      let its : dates (h ++ q ∷ []) k ≡ filled p given =
+      let its : dates (h ++ q ∷ []) k ≡ with_defaults p given =
       ap (dates (h ++ q ∷ [])) made.next ∙ dates_made h q r made.makes in
       let none : is_some (dates (h ++ q ∷ []) k).destroy ≡ false =
       ap (λ (d : Dates). is_some d.destroy) its ∙ ap is_some (filled_keeps p given).destroy in

@@ -2,11 +2,11 @@
 use Rattle.std.proofs.Common.{◌≡◌, ℕ, cond, List, [], ◌∷◌, ◌++◌, None, refl, sym, ap, subst, ◌∙◌, arith, inl, inr}
 use Rattle.lifecycle_core.specs.declared.dates.Dates.{Dates}
 use Rattle.period_core.specs.Period.{Period}
-use Rattle.period_core.specs.Fitting.{filled}
+use Rattle.period_core.specs.Fitting.{with_defaults}
 use Rattle.register_core.specs.declared.request.Request.{Request}
 use Rattle.register_core.specs.History.{period, type, dates, dated_by}
 use Rattle.register_core.specs.Effect.{given_dates, dates_after, sets_dates}
-use Rattle.register_core.specs.Verdict.{unfit, judgement}
+use Rattle.register_core.specs.Verdict.{dates_refusal, judgement}
 use Rattle.register_core.specs.Fold.{IsLawful}
 use Rattle.register_core.specs.Laws.{IsAccepted, HasKey, MovesOnly}
 use Rattle.register_core.proofs.Verdicts.{judged}
@@ -31,11 +31,11 @@ made_sound h q k made =
     let given : Dates = given_dates q.moment r.activation r.protect_stop r.deactivation in
     let span : Period = period h r.kind in
     let fit =
-    filled_fits span given (sym (ap (unfit (period h) None q.moment) (is_registration q.command r made.makes)) ∙ made.fit) in
+    filled_fits span given (sym (ap (dates_refusal (period h) None q.moment) (is_registration q.command r made.makes)) ∙ made.fit) in
     let set = ap (dated_by (h ++ q ∷ [])) made.next ∙ dated_made h q r made.makes in
     let its = ap (dates (h ++ q ∷ [])) made.next ∙ dates_made h q r made.makes in
-    sound_as span _ (filled span given) _ set its
-    (sound_by span given (filled span given) fit (filled_keeps span given) refl)
+    sound_as span _ (with_defaults span given) _ set its
+    (sound_by span given (with_defaults span given) fit (filled_keeps span given) refl)
 
 -- what the request makes of the dates of the key that it names
 on_steps : (h : List Request) (q : Request) (k : ℕ) → IsOn h q k → IsSound (dated_by h k) (dates h k)

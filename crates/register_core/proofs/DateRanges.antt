@@ -8,7 +8,7 @@ use Rattle.lifecycle_core.specs.declared.dates.Dates.{Dates}
 use Rattle.lifecycle_core.specs.Reason.{is_compromise}
 use Rattle.moment_core.specs.Calendar.{in_range, months_after}
 use Rattle.moment_core.specs.Moment.{IsMoment, last_second}
-use Rattle.period_core.specs.Fitting.{cut, earlier, filled, months_on_date, originator_limit, recipient_limit, trimmed}
+use Rattle.period_core.specs.Fitting.{cut, earlier_of, with_defaults, months_on_date, originator_limit, recipient_limit, within_limits}
 use Rattle.period_core.specs.Fitting.{with_deactivation, with_protect_stop}
 use Rattle.period_core.specs.Period.{Period}
 use Rattle.register_core.specs.declared.request.Command.{Command}
@@ -16,7 +16,7 @@ use Rattle.register_core.specs.declared.request.Command.TheVariants.{Register as
 use Rattle.register_core.specs.declared.request.Edit.{Edit}
 use Rattle.register_core.specs.declared.request.Edit.TheVariants.{Keep, Clear, Set}
 use Rattle.register_core.specs.declared.request.Request.{Request}
-use Rattle.register_core.specs.Effect.{dates_after, deactivated, edited, edited_dates, given_dates, no_later_than}
+use Rattle.register_core.specs.Effect.{dates_after, deactivated, apply_edit, edited_dates, given_dates, cut_at}
 use Rattle.register_core.specs.Fold.{IsLawful}
 use Rattle.register_core.specs.History.{Placed, count, dates, own_from, period, type}
 use Rattle.register_core.specs.Request.{IsCommand, IsDate, IsEdit, IsRequest}
@@ -45,7 +45,7 @@ limit_in : (date : Option ℕ) (months : ℕ) → IsDate (months_on_date date mo
 limit_in None months = tt
 limit_in (Some date) months = months_in date months
 
-earlier_in : (first second : Option ℕ) → IsDate first → IsDate second → IsDate (earlier first second)
+earlier_in : (first second : Option ℕ) → IsDate first → IsDate second → IsDate (earlier_of first second)
 earlier_in None second a b = b
 earlier_in (Some x) None a b = a
 earlier_in (Some x) (Some y) a b = omega (arith, a)
@@ -55,11 +55,11 @@ cut_in None limit a = tt
 cut_in (Some x) None a = a
 cut_in (Some x) (Some y) a = omega (arith, a)
 
-no_later_in : (t : ℕ) (date : Option ℕ) → IsDate date → IsDate (no_later_than t date)
+no_later_in : (t : ℕ) (date : Option ℕ) → IsDate date → IsDate (cut_at t date)
 no_later_in t None a = tt
 no_later_in t (Some x) a = omega (arith, a)
 
-edited_in : (edit : Edit) (date : Option ℕ) → IsEdit edit → IsDate date → IsDate (edited edit date)
+edited_in : (edit : Edit) (date : Option ℕ) → IsEdit edit → IsDate date → IsDate (apply_edit edit date)
 edited_in Keep date e a = a
 edited_in Clear date e a = tt
 edited_in (Set x) date e a = e
@@ -86,10 +86,10 @@ with_end p d are =
       deactivation = limit_in d.protect_stop p.recipient;
     }) are
 
-filled_in : (p : Period) (d : Dates) → AreDates d → AreDates (filled p d)
+filled_in : (p : Period) (d : Dates) → AreDates d → AreDates (with_defaults p d)
 filled_in p d are = with_end p (with_protect_stop p d) (with_stop p d are)
 
-trimmed_in : (p : Period) (d : Dates) → AreDates d → AreDates (trimmed p d)
+trimmed_in : (p : Period) (d : Dates) → AreDates d → AreDates (within_limits p d)
 trimmed_in p d are =
     let first = with_protect_stop p d in
     let in_first = with_stop p d are in

@@ -12,15 +12,15 @@ use Rattle.moment_core.proofs.Forward.{months_forward}
 use Rattle.period_core.specs.declared.key_type.KeyType.{KeyType}
 use Rattle.period_core.specs.Period.{Period}
 use Rattle.period_core.specs.Period.{periods}
-use Rattle.period_core.specs.Fitting.{is_not_after, months_on_date, Fits, KeepsDate, cut, filled, trimmed}
+use Rattle.period_core.specs.Fitting.{is_not_after, months_on_date, Fits, KeepsDate, cut, with_defaults, within_limits}
 use Rattle.register_core.specs.declared.request.Command.{Command}
 use Rattle.register_core.specs.declared.request.Command.TheVariants.{Register as Registers, Activate, SetDates, Revoke, Destroy}
 use Rattle.register_core.specs.declared.request.Edit.{Edit}
 use Rattle.register_core.specs.declared.request.Edit.TheVariants.{Keep, Clear, Set}
 use Rattle.register_core.specs.declared.view.Held.{Held}
-use Rattle.register_core.specs.Effect.{edited, edited_dates, no_later_than, compromised, deactivated, dates_after, sets_dates}
+use Rattle.register_core.specs.Effect.{apply_edit, edited_dates, cut_at, compromised, deactivated, dates_after, sets_dates}
 use Rattle.register_core.specs.CommandRule.{before_compromise, is_one_of, is_for}
-use Rattle.register_core.specs.Verdict.{is_kept, frozen, unfit}
+use Rattle.register_core.specs.Verdict.{keeps_date, freeze_refusal, dates_refusal}
 use Rattle.register_core.specs.Subject.{named}
 use Rattle.register_core.specs.Laws.{MovesOnly}
 use Rattle.register_core.proofs.CustodyLeads.{not_refused}
@@ -76,7 +76,7 @@ sound_by period d new fits keeps occurs = record {
 -- ---- Activate
 
 activated_moves : (period : Period) (d : Dates) (t : ℕ) → state_at d t ≡ PreActive
-    → MovesOnly d t (trimmed period (record d { activation = Some t }))
+    → MovesOnly d t (within_limits period (record d { activation = Some t }))
 activated_moves period d t early =
     let given : Dates = record d { activation = Some t } in
     let keeps = trimmed_keeps period given in
@@ -96,7 +96,7 @@ activated_moves period d t early =
 
 -- ---- SetDates
 
-kept_edit : (edit : Edit) → is_kept edit ≡ true → edit ≡ Keep
+kept_edit : (edit : Edit) → keeps_date edit ≡ true → edit ≡ Keep
 kept_edit Keep e = refl
 kept_edit Clear e = absurd cc
 kept_edit (Set date) e = absurd cc
@@ -111,8 +111,8 @@ must_keep false held e set = absurd (let f = sym e ∙ set in cc)
 
 edited_moves : (period : Period) (d : Dates) (t : ℕ) (activation protect_stop deactivation : Edit)
     → (state_at d t ≡ PreActive) ⊎ (state_at d t ≡ Active)
-    → (not (is_kept activation) && not (is_one_of (PreActive ∷ []) (state_at d t))) || (not (is_kept protect_stop) && is_reached_at d.protect_stop t) ≡ false
-    → MovesOnly d t (filled period (edited_dates activation protect_stop deactivation d))
+    → (not (keeps_date activation) && not (is_one_of (PreActive ∷ []) (state_at d t))) || (not (keeps_date protect_stop) && is_reached_at d.protect_stop t) ≡ false
+    → MovesOnly d t (with_defaults period (edited_dates activation protect_stop deactivation d))
 edited_moves period d t activation protect_stop deactivation early free =
     let given : Dates = edited_dates activation protect_stop deactivation d in
     let keeps = filled_keeps period given in
@@ -122,14 +122,14 @@ edited_moves period d t activation protect_stop deactivation early free =
         | inl pre ↦ inl pre
         | inr active ↦
             let open_now : not (is_one_of (PreActive ∷ []) (state_at d t)) ≡ true = ap (λ (s : State). not (is_one_of (PreActive ∷ []) s)) active in
-            let edit = kept_edit activation (must_keep (is_kept activation) _ both.0 open_now) in
-            inr (keeps.activation ∙ ap (λ (e : Edit). edited e d.activation) edit)
+            let edit = kept_edit activation (must_keep (keeps_date activation) _ both.0 open_now) in
+            inr (keeps.activation ∙ ap (λ (e : Edit). apply_edit e d.activation) edit)
       ];
       deactivation = elim early [ inl pre ↦ inl pre | inr active ↦ inr (inl active) ];
       protect_stop = λ reached.
           let stop = reached_stop d.protect_stop t reached in
-          let edit = kept_edit protect_stop (must_keep (is_kept protect_stop) (is_reached_at d.protect_stop t) both.1 reached) in
-          filled_stop period given stop.0 (ap (λ (e : Edit). edited e d.protect_stop) edit ∙ stop.1) ∙ sym stop.1;
+          let edit = kept_edit protect_stop (must_keep (keeps_date protect_stop) (is_reached_at d.protect_stop t) both.1 reached) in
+          filled_stop period given stop.0 (ap (λ (e : Edit). apply_edit e d.protect_stop) edit ∙ stop.1) ∙ sym stop.1;
       initial = keeps.initial;
       destroy = keeps_same d.destroy _ keeps.destroy;
       compromise = keeps_same d.compromise _ keeps.compromise;
@@ -138,7 +138,7 @@ edited_moves period d t activation protect_stop deactivation early free =
 
 -- ---- Revoke
 
-no_later : (stop : Option ℕ) (t : ℕ) → IsTrue (is_reached_at stop t) → no_later_than t stop ≡ stop
+no_later : (stop : Option ℕ) (t : ℕ) → IsTrue (is_reached_at stop t) → cut_at t stop ≡ stop
 no_later None t reached = refl
 no_later (Some x) t reached = let le = leb-true x t reached in ap (λ (y : ℕ). Some y) (let e : min x t ≡ x = omega (arith, le) in e)
 
@@ -182,7 +182,7 @@ before_limit t n (Some limit) is = le-leb t limit (months_forward t n limit (sym
 
 shortened : (period : Period) (t : ℕ) (act stop end : Option ℕ) → FitsSo period act stop end
     → is_reached_at act t ≡ true → is_reached_at end t ≡ false → is_some stop ≡ true → is_some end ≡ true
-    → FitsSo period act (no_later_than t stop) (Some t)
+    → FitsSo period act (cut_at t stop) (Some t)
 shortened period t None stop end fits active open_end stopped ended = absurd cc
 shortened period t (Some a) None end fits active open_end stopped ended = absurd cc
 shortened period t (Some a) (Some p) None fits active open_end stopped ended = absurd cc
@@ -220,7 +220,7 @@ joined period d so = record {
   recipient = so.recipient;
 }
 
-stop_some : (stop : Option ℕ) (t : ℕ) → is_some stop ≡ true → is_some (no_later_than t stop) ≡ true
+stop_some : (stop : Option ℕ) (t : ℕ) → is_some stop ≡ true → is_some (cut_at t stop) ≡ true
 stop_some None t some = absurd cc
 stop_some (Some x) t some = refl
 
@@ -285,7 +285,7 @@ revoked period d t false occurrence sound fits_state =
 
 -- the dates are sound by the period of the type where the command gives them, and else by the one that they were sound by
 pub step : (ps : KeyType → Period) (before : Period) (key : Held) (t k : ℕ) (c : Command) → named c ≡ Some k → IsSound before key.row.dates
-    → is_for c (state_at key.row.dates t) ≡ true → frozen (Some key) t c ≡ None → unfit ps (Some key) t c ≡ None
+    → is_for c (state_at key.row.dates t) ≡ true → freeze_refusal (Some key) t c ≡ None → dates_refusal ps (Some key) t c ≡ None
     → Steps (cond (sets_dates c) (ps key.kind) before) key.row.dates t (dates_after (ps key.kind) key.row.dates t c)
 step ps before key t k (Registers kind owner activation protect_stop deactivation purpose) names sound fits_state free fit = absurd cc
 step ps before key t k (Activate n) names sound fits_state free fit =

@@ -6,7 +6,7 @@ use Rattle.lifecycle_core.specs.declared.dates.Dates.{Dates}
 use Rattle.period_core.specs.Period.{Period}
 use Rattle.period_core.specs.declared.filling.DateRefusal.{DateRefusal}
 use Rattle.period_core.specs.declared.filling.DateRefusal.TheVariants.{DateOrder, PeriodTooLong, DateRange}
-use Rattle.period_core.specs.Fitting.{is_not_after, originator_limit, recipient_limit, Fits, earlier, with_protect_stop, with_deactivation, cut, filled, trimmed, over_limit, out_of_order, out_of_range, unless_refused, fill_of, trim_of}
+use Rattle.period_core.specs.Fitting.{is_not_after, originator_limit, recipient_limit, Fits, earlier_of, with_protect_stop, with_deactivation, cut, with_defaults, within_limits, length_refusal, order_refusal, range_refusal, unless_refused, fill_of, trim_of}
 use Rattle.register_core.specs.Verdict.{refused_dates}
 use Rattle.register_core.proofs.Filling.{past}
 
@@ -29,7 +29,7 @@ end_kept : {X : Type 0} (f : Dates → X) → IsApart f → (period : Period) (d
     → f (with_deactivation period d) ≡ f d
 end_kept f apart period d = kept f (is_some d.activation && is_none d.deactivation) _ d (apart.end d _)
 
-filled_kept : {X : Type 0} (f : Dates → X) → IsApart f → (period : Period) (d : Dates) → f (filled period d) ≡ f d
+filled_kept : {X : Type 0} (f : Dates → X) → IsApart f → (period : Period) (d : Dates) → f (with_defaults period d) ≡ f d
 filled_kept f apart period d = end_kept f apart period (with_protect_stop period d) ∙ stop_kept f apart period d
 
 abbrev stopped : Period → Dates → Dates
@@ -37,7 +37,7 @@ stopped period d =
     let first = with_protect_stop period d in
     record first { protect_stop = cut first.protect_stop (originator_limit period first) }
 
-trimmed_kept : {X : Type 0} (f : Dates → X) → IsApart f → (period : Period) (d : Dates) → f (trimmed period d) ≡ f d
+trimmed_kept : {X : Type 0} (f : Dates → X) → IsApart f → (period : Period) (d : Dates) → f (within_limits period d) ≡ f d
 trimmed_kept f apart period d =
     apart.end (with_deactivation period (stopped period d)) _
     ∙ end_kept f apart period (stopped period d)
@@ -62,11 +62,11 @@ keeps_by old new kept_by = record {
   compromise_occurrence = kept_by (Option ℕ) (λ x. x.compromise_occurrence) (record { stop = λ x date. refl; end = λ x date. refl });
 }
 
-pub filled_keeps : (period : Period) (d : Dates) → KeepsOthers d (filled period d)
-filled_keeps period d = keeps_by d (filled period d) (λ X f apart. filled_kept f apart period d)
+pub filled_keeps : (period : Period) (d : Dates) → KeepsOthers d (with_defaults period d)
+filled_keeps period d = keeps_by d (with_defaults period d) (λ X f apart. filled_kept f apart period d)
 
-pub trimmed_keeps : (period : Period) (d : Dates) → KeepsOthers d (trimmed period d)
-trimmed_keeps period d = keeps_by d (trimmed period d) (λ X f apart. trimmed_kept f apart period d)
+pub trimmed_keeps : (period : Period) (d : Dates) → KeepsOthers d (within_limits period d)
+trimmed_keeps period d = keeps_by d (within_limits period d) (λ X f apart. trimmed_kept f apart period d)
 
 never_empty : (b : Bool) (o : Option ℕ) (x : ℕ) → o ≡ Some x → b && is_none o ≡ false
 never_empty true None x set = absurd cc
@@ -80,13 +80,13 @@ given_stop period d x set =
     by (is_some d.activation && is_none d.protect_stop) (never_empty (is_some d.activation) d.protect_stop x set)
   where
     by : (b : Bool) → b ≡ false
-        → (cond b (record d { protect_stop = earlier (originator_limit period d) d.deactivation }) d).protect_stop
+        → (cond b (record d { protect_stop = earlier_of (originator_limit period d) d.deactivation }) d).protect_stop
         ≡ Some x
     by true e = absurd cc
     by false e = set
 
 pub filled_stop : (period : Period) (d : Dates) (x : ℕ) → d.protect_stop ≡ Some x
-    → (filled period d).protect_stop ≡ Some x
+    → (with_defaults period d).protect_stop ≡ Some x
 filled_stop period d x set =
     kept (λ (y : Dates). y.protect_stop)
     (is_some (with_protect_stop period d).activation && is_none (with_protect_stop period d).deactivation) _
@@ -94,13 +94,13 @@ filled_stop period d x set =
     ∙ given_stop period d x set
 
 -- Trim's Protect Stop
-trimmed_stop_is : (period : Period) (d : Dates) → (trimmed period d).protect_stop ≡ (stopped period d).protect_stop
+trimmed_stop_is : (period : Period) (d : Dates) → (within_limits period d).protect_stop ≡ (stopped period d).protect_stop
 trimmed_stop_is period d =
     kept (λ (y : Dates). y.protect_stop)
     (is_some (stopped period d).activation && is_none (stopped period d).deactivation) _ (stopped period d) refl
 
 pub trimmed_stop : (period : Period) (d : Dates) (x : ℕ) → d.protect_stop ≡ Some x
-    → (trimmed period d).protect_stop ≡ cut (Some x) (originator_limit period d)
+    → (within_limits period d).protect_stop ≡ cut (Some x) (originator_limit period d)
 trimmed_stop period d x set =
     trimmed_stop_is period d
     ∙ ap (λ (o : Option ℕ). cut o (originator_limit period (with_protect_stop period d))) (given_stop period d x set)
@@ -126,7 +126,7 @@ ranged : (b : Bool) → ◌≡◌ {A = Option DateRefusal} (cond b (Some DateRan
 ranged true e = absurd cc
 ranged false e = refl
 
-limited : (date limit : Option ℕ) → over_limit date limit ≡ None → is_not_after date limit ≡ true
+limited : (date limit : Option ℕ) → length_refusal date limit ≡ None → is_not_after date limit ≡ true
 limited None limit e = refl
 limited (Some date) None e = refl
 limited (Some date) (Some limit) e = by (nat_lt limit date) refl e
@@ -146,22 +146,22 @@ some_second true None None e set = absurd cc
 some_second true (Some p) None e set = absurd cc
 some_second false p x e set = absurd cc
 
-whole : (d : Dates) → out_of_range d ≡ None → IsWhole d
+whole : (d : Dates) → range_refusal d ≡ None → IsWhole d
 whole d e = record {
   protect_stop = some_first (is_some d.activation) d.protect_stop d.deactivation (ranged _ e);
   deactivation = some_second (is_some d.activation) d.protect_stop d.deactivation (ranged _ e);
 }
 
 pub filled_fits : (period : Period) (d : Dates) → refused_dates (fill_of period d) ≡ None
-    → Fits period (filled period d) × IsWhole (filled period d)
+    → Fits period (with_defaults period d) × IsWhole (with_defaults period d)
 filled_fits period d e =
-    let full = filled period d in
-    let originator = over_limit full.protect_stop (originator_limit period full) in
-    let recipient = over_limit full.deactivation (recipient_limit period full) in
-    let order = past (out_of_order full) (originator ∷ recipient ∷ out_of_range full ∷ []) (passes _ full e) in
-    let first = past originator (recipient ∷ out_of_range full ∷ []) order.later in
-    let second = past recipient (out_of_range full ∷ []) first.later in
-    let range = past (out_of_range full) [] second.later in (
+    let full = with_defaults period d in
+    let originator = length_refusal full.protect_stop (originator_limit period full) in
+    let recipient = length_refusal full.deactivation (recipient_limit period full) in
+    let order = past (order_refusal full) (originator ∷ recipient ∷ range_refusal full ∷ []) (passes _ full e) in
+    let first = past originator (recipient ∷ range_refusal full ∷ []) order.later in
+    let second = past recipient (range_refusal full ∷ []) first.later in
+    let range = past (range_refusal full) [] second.later in (
       record {
         order = ordered _ order.here;
         originator = limited full.protect_stop (originator_limit period full) first.here;
@@ -176,13 +176,13 @@ cut_within (Some date) None = refl
 cut_within (Some date) (Some limit) = le-leb (min date limit) limit (omega arith)
 
 pub trimmed_fits : (period : Period) (d : Dates) → refused_dates (trim_of period d) ≡ None
-    → Fits period (trimmed period d) × IsWhole (trimmed period d)
+    → Fits period (within_limits period d) × IsWhole (within_limits period d)
 trimmed_fits period d e =
-    let full = trimmed period d in
+    let full = within_limits period d in
     let first = with_protect_stop period d in
     let second = with_deactivation period (stopped period d) in
-    let ordering = past (out_of_order full) (out_of_range full ∷ []) (passes _ full e) in
-    let range = past (out_of_range full) [] ordering.later in
+    let ordering = past (order_refusal full) (range_refusal full ∷ []) (passes _ full e) in
+    let range = past (range_refusal full) [] ordering.later in
     let limit : originator_limit period full ≡ originator_limit period first =
     end_kept (originator_limit period) (record { stop = λ y date. refl; end = λ y date. refl }) period
     (stopped period d) in (

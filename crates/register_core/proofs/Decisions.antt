@@ -8,7 +8,7 @@ use Rattle.lifecycle_core.specs.declared.dates.Dates.{Dates}
 use Rattle.lifecycle_core.specs.State.{state_at}
 use Rattle.period_core.specs.declared.key_type.KeyType.{KeyType}
 use Rattle.period_core.specs.Period.{Period}
-use Rattle.period_core.specs.Fitting.{filled}
+use Rattle.period_core.specs.Fitting.{with_defaults}
 use Rattle.register_core.specs.declared.request.Request.{Request}
 use Rattle.register_core.specs.declared.request.Command.{Command}
 use Rattle.register_core.specs.declared.request.Command.TheVariants.{Advance, SetPeriod}
@@ -26,7 +26,7 @@ use Rattle.register_core.specs.Effect.{given_dates, dates_after, owner_after, ro
 use Rattle.register_core.specs.Custody.{custodians, approvals, need, held}
 use Rattle.register_core.specs.KeptReply.{reply}
 use Rattle.register_core.specs.Version.{current}
-use Rattle.register_core.specs.Verdict.{unknown, named_key, judgement}
+use Rattle.register_core.specs.Verdict.{key_refusal, named_key, judgement}
 use Rattle.register_core.specs.CustodyRefusal.{already_custodian, already_approved}
 use Rattle.register_core.specs.Decision.{held_change, registered_key, change_of, change_by, change_without_key, reply_to, Stands, LeadsTo}
 use Rattle.register_core.proofs.Histories.{latest_grows, count_grows, key_named, kind_named, owner_named, dates_named, kind_made, owner_made, dates_made}
@@ -102,7 +102,7 @@ held_made h q r makes =
     let k = count h + 1 in
     let counted : count all ≡ k = count_grows h q ∙ ap (λ (s : Subject). count h + count_by s) makes in
     assembled_same (need all k) (custodians all k) (approvals all k) (is_there all k) (type all k) r.kind (owner all k) r.owner
-    (dates all k) (filled (period h r.kind) (given_dates q.moment r.activation r.protect_stop r.deactivation))
+    (dates all k) (with_defaults (period h r.kind) (given_dates q.moment r.activation r.protect_stop r.deactivation))
     (latest all) q.moment
     (there all k (omega arith) (omega (arith, counted)))
     (kind_made h q r makes)
@@ -149,7 +149,7 @@ agrees_made : (h : List Request) (q : Request) (r : Registration) → subject q.
 agrees_made h q r makes =
     let given : Dates = given_dates q.moment r.activation r.protect_stop r.deactivation in
     let replies =
-    reply_of_key h q (count h + 1) (filled (period h r.kind) given) (ap (key_by (count h)) makes)
+    reply_of_key h q (count h + 1) (with_defaults (period h r.kind) given) (ap (key_by (count h)) makes)
     (dates_made h q r makes) in
     (replies, (held_made h q r makes, nobody_changes h q (count h + 1) (ap named_by makes), periods_made h q r makes))
 
@@ -166,7 +166,7 @@ pub change_named : (periods : KeyType → Period) (c : Command) (k : ℕ) (key :
 change_named periods c k key q names =
     ap (λ (s : Subject). change_of periods s (Some key) q) (is_named (subject c) k names)
 
-pub unknown_named : (c : Command) (k : ℕ) → named c ≡ Some k → unknown None c ≡ Some UnknownKey
+pub unknown_named : (c : Command) (k : ℕ) → named c ≡ Some k → key_refusal None c ≡ Some UnknownKey
 unknown_named c k names = ap (λ (key : Option ℕ). cond (is_some key) (Some UnknownKey) None) names
 
 pub new_names : (h : List Request) (q : Request) (k : ℕ) → already_custodian (Some (standing h k)) q.command ≡ None → already_approved (Some (standing h k)) q.caller q.command ≡ None → IsNew h q k

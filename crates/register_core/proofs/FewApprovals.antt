@@ -23,7 +23,7 @@ use Rattle.register_core.proofs.Versions.{lawful_still}
 abbrev is_other : List ℕ → List ℕ → Bool
 is_other name other = not (bytes_eq other name)
 
--- a name that is among these leaves fewer behind
+-- a name that is among these leaves fewer after
 taken_out : (name : List ℕ) (names : List (List ℕ)) → is_among name names ≡ true → suc (length (filter (is_other name) names)) ≤ length names
 taken_out name [] there = absurd cc
 taken_out name (other ∷ names) there = by (bytes_eq other name) there (taken_out name names)

@@ -17,7 +17,7 @@ use Rattle.register_core.specs.History.{latest, count, period, dates}
 use Rattle.register_core.specs.Subject.{made_by}
 use Rattle.register_core.specs.Effect.{custody_change}
 use Rattle.register_core.specs.Custody.{all_custodians, custodians, held}
-use Rattle.register_core.specs.Verdict.{Accepts, max_keys, too_many, named_key, judgement, judgement_in, verdict_in}
+use Rattle.register_core.specs.Verdict.{Accepts, max_keys, limit_refusal, named_key, judgement, judgement_in, verdict_in}
 use Rattle.register_core.specs.CustodyRefusal.{too_many_custodians}
 use Rattle.register_core.specs.Version.{current, custodians_of}
 use Rattle.register_core.specs.Decision.{custodians_by}
@@ -36,7 +36,7 @@ use Rattle.register_core.proofs.Versions.{lawful_still, still}
 
 -- ---- keys
 
-room : (keys : ℕ) (c : Command) → too_many keys c ≡ None → keys ≤ max_keys → keys + made_by c ≤ max_keys
+room : (keys : ℕ) (c : Command) → limit_refusal keys c ≡ None → keys ≤ max_keys → keys + made_by c ≤ max_keys
 room keys (Registers kind owner activation protect_stop deactivation purpose) free few = omega (arith, leb-false _ _ (not_refused _ _ free))
 room keys c free few = omega (arith, few)
 

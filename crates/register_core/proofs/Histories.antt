@@ -9,7 +9,7 @@ use Rattle.std.proofs.lemmas.List.Sums.{fold-append}
 use Rattle.lifecycle_core.specs.declared.dates.Dates.{Dates}
 use Rattle.period_core.specs.declared.key_type.KeyType.{KeyType}
 use Rattle.period_core.specs.declared.key_type.KeyType.TheVariants.{DataEncryption}
-use Rattle.period_core.specs.Fitting.{filled}
+use Rattle.period_core.specs.Fitting.{with_defaults}
 use Rattle.register_core.specs.declared.request.Request.{Request}
 use Rattle.register_core.specs.declared.request.Command.{Command}
 use Rattle.register_core.specs.History.{latest, registrations, count, Placed, own_from, own, period, type, dates, owner, dated_by}
@@ -49,11 +49,11 @@ pub own_grows_from : (before h : List Request) (q : Request) (k : ℕ)
     → own_from before (h ++ q ∷ []) k ≡ own_from before h k ++ concerning (before ++ h) q k
 own_grows_from before [] q k = append-nil _ ∙ ap (λ (g : List Request). concerning g q k) (sym (append-nil before))
 own_grows_from before (p ∷ h) q k =
-    let front = concerning before p k in
+    let prefix = concerning before p k in
     let rest = own_from (before ++ p ∷ []) h k in
-    ap (λ (l : List Placed). front ++ l) (own_grows_from (before ++ p ∷ []) h q k)
-    ∙ sym (append_assoc front rest (concerning ((before ++ p ∷ []) ++ h) q k))
-    ∙ ap (λ (g : List Request). (front ++ rest) ++ concerning g q k) (append_assoc before (p ∷ []) h)
+    ap (λ (l : List Placed). prefix ++ l) (own_grows_from (before ++ p ∷ []) h q k)
+    ∙ sym (append_assoc prefix rest (concerning ((before ++ p ∷ []) ++ h) q k))
+    ∙ ap (λ (g : List Request). (prefix ++ rest) ++ concerning g q k) (append_assoc before (p ∷ []) h)
 
 pub own_grows : (h : List Request) (q : Request) (k : ℕ) → own (h ++ q ∷ []) k ≡ own h k ++ concerning h q k
 own_grows h q k = own_grows_from [] h q k
@@ -166,7 +166,7 @@ owner_made h q r makes =
 
 pub dates_made : (h : List Request) (q : Request) (r : Registration) → subject q.command ≡ Makes r →
     dates (h ++ q ∷ []) (count h + 1)
-    ≡ filled (period h r.kind) (given_dates q.moment r.activation r.protect_stop r.deactivation)
+    ≡ with_defaults (period h r.kind) (given_dates q.moment r.activation r.protect_stop r.deactivation)
 dates_made h q r makes =
     let before : Dates = fold (dates_step r.kind) no_dates (own h (count h + 1)) in
     ap (λ (kind : KeyType). fold (dates_step kind) no_dates (own (h ++ q ∷ []) (count h + 1))) (kind_made h q r makes)
@@ -181,34 +181,34 @@ dated_made h q r makes =
     ∙ fold_ends (dated_step r.kind) (periods r.kind) h q (count h + 1) (ap (key_by (count h)) makes)
     ∙ ap (λ (c : Command). cond (sets_dates c) (period h r.kind) before) (is_registration q.command r makes)
 
--- ---- the front of a history, one request longer
+-- ---- the prefix of a history, one request longer
 
-pub next_front : (h : List Request) (i : ℕ) (q : Request) → i < length h → q ≡ get_or h i q → take (i + 1) h ≡ take i h ++ q ∷ []
-next_front h i q lt is = take_more h i q lt ∙ ap (λ (p : Request). take i h ++ p ∷ []) (sym is)
+pub next_prefix : (h : List Request) (i : ℕ) (q : Request) → i < length h → q ≡ get_or h i q → take (i + 1) h ≡ take i h ++ q ∷ []
+next_prefix h i q lt is = take_more h i q lt ∙ ap (λ (p : Request). take i h ++ p ∷ []) (sym is)
 
 pub count_next : (h : List Request) (i : ℕ) (q : Request) → i < length h → q ≡ get_or h i q → count (take (i + 1) h) ≡ count (take i h) + made_by q.command
-count_next h i q lt is = ap count (next_front h i q lt is) ∙ count_grows (take i h) q
+count_next h i q lt is = ap count (next_prefix h i q lt is) ∙ count_grows (take i h) q
 
 one_after : {X : Type 0} (step : X → Placed → X) (before : X) (p : Placed) (b : Bool)
     → fold step before (cond b (p ∷ []) []) ≡ cond b (step before p) before
 one_after step before p true = refl
 one_after step before p false = refl
 
--- what the key's requests in a history give, by what those in its front do
+-- what the key's requests in a history give, by what those in its prefix do
 pub fold_next : {X : Type 0} (step : X → Placed → X) (first : X) (h : List Request) (i : ℕ) (q : Request) (k : ℕ)
     → i < length h → q ≡ get_or h i q →
-    let front = take i h in
-    let before = fold step first (own front k) in
+    let prefix = take i h in
+    let before = fold step first (own prefix k) in
     fold step first (own (take (i + 1) h) k)
-    ≡ cond (is_key k (key_of (count front) q.command)) (step before (placed front q)) before
+    ≡ cond (is_key k (key_of (count prefix) q.command)) (step before (placed prefix q)) before
 fold_next step first h i q k lt is =
-    let front = take i h in
-    ap (λ (g : List Request). fold step first (own g k)) (next_front h i q lt is)
-    ∙ ap (fold step first) (own_grows front q k)
-    ∙ fold-append step first (own front k) (concerning front q k)
-    ∙ one_after step (fold step first (own front k)) (placed front q) (is_key k (key_of (count front) q.command))
+    let prefix = take i h in
+    ap (λ (g : List Request). fold step first (own g k)) (next_prefix h i q lt is)
+    ∙ ap (fold step first) (own_grows prefix q k)
+    ∙ fold-append step first (own prefix k) (concerning prefix q k)
+    ∙ one_after step (fold step first (own prefix k)) (placed prefix q) (is_key k (key_of (count prefix) q.command))
 
--- The same of a loop over the history, which knows what the front gave, and how many keys it made.
+-- The same of a loop over the history, which knows what the prefix gave, and how many keys it made.
 pub fold_with : {X : Type 0} (step : X → Placed → X) (first : X) (h : List Request) (k : ℕ)
     {i : ℕ} {q : Request} {made : ℕ} {before after : X} → i < length h → q ≡ get_or h i q
     → made ≡ count (take i h) → before ≡ fold step first (own (take i h) k)

@@ -37,14 +37,14 @@ use Rattle.register_core.specs.Verdict.{Accepts, Repeats, Refuses, max_keys, alw
 use Rattle.register_core.proofs.CustodyLeads.{not_refused}
 use Rattle.register_core.proofs.Decisions.{unknown_named}
 use Rattle.register_core.proofs.FewLaws.{few_keys}
-use Rattle.register_core.proofs.Histories.{count_grows, latest_grows, next_front}
+use Rattle.register_core.proofs.Histories.{count_grows, latest_grows, next_prefix}
 use Rattle.register_core.proofs.Lawful.{holds_of_each, all_more, all_but_last, all_weaker}
-use Rattle.register_core.proofs.OnKey.{on_key, not_behind}
+use Rattle.register_core.proofs.OnKey.{on_key, not_after}
 use Rattle.register_core.proofs.Ranges.{named_in_range}
 use Rattle.register_core.proofs.Refusals.{passes}
 use Rattle.register_core.proofs.Verdicts.{is_new, judged, verdict_again}
 
--- what is kept of later requests stands behind what is kept of those before
+-- what is kept of later requests stands after what is kept of those before
 pub kept_append : (before h later : List Request) → kept_from before (h ++ later) ≡ kept_from before h ++ kept_from (before ++ h) later
 kept_append before [] later = ap (λ (l : List Request). kept_from l later) (sym (append-nil before))
 kept_append before (q ∷ h) later =
@@ -104,7 +104,7 @@ sent_once h lawful caller number = omega (arith, one_kept h lawful caller number
 
 -- ---- a request that comes again
 
--- whatever comes later stands behind what is there
+-- whatever comes later stands after what is there
 history_extends : (items : List (Option Request)) (h : List Request) → (later : List Request) × (history h items ≡ h ++ later)
 history_extends [] h = ([], sym (append-nil h))
 history_extends (None ∷ items) h = history_extends items h
@@ -116,36 +116,36 @@ history_extends (Some q ∷ items) h = by (is_accepted (verdict h q)) (history_e
     by false more same = same
 
 -- what is kept of a request is the first under its caller and number, where nothing is before it
-pub first_at : (caller : List ℕ) (number : ℕ) (front : List Request) (q : Request) (later : List Request) → kept_under caller number (kept front) ≡ [] → is_under caller number (kept_of front q) ≡ true
-    → kept_under caller number (kept ((front ++ q ∷ []) ++ later)) ≡ kept_of front q ∷ kept_under caller number (kept_from (front ++ q ∷ []) later)
-first_at caller number front q later none own =
-    let rest = kept_from (front ++ q ∷ []) later in
-    ap (kept_under caller number) (kept_append [] (front ++ q ∷ []) later ∙ ap (λ (l : List KeptReply). l ++ rest) (kept_grows front q))
-    ∙ filter-append (is_under caller number) (kept front ++ kept_of front q ∷ []) rest
+pub first_at : (caller : List ℕ) (number : ℕ) (prefix : List Request) (q : Request) (later : List Request) → kept_under caller number (kept prefix) ≡ [] → is_under caller number (kept_of prefix q) ≡ true
+    → kept_under caller number (kept ((prefix ++ q ∷ []) ++ later)) ≡ kept_of prefix q ∷ kept_under caller number (kept_from (prefix ++ q ∷ []) later)
+first_at caller number prefix q later none own =
+    let rest = kept_from (prefix ++ q ∷ []) later in
+    ap (kept_under caller number) (kept_append [] (prefix ++ q ∷ []) later ∙ ap (λ (l : List KeptReply). l ++ rest) (kept_grows prefix q))
+    ∙ filter-append (is_under caller number) (kept prefix ++ kept_of prefix q ∷ []) rest
     ∙ ap (λ (l : List KeptReply). l ++ kept_under caller number rest)
-    (filter-append (is_under caller number) (kept front) (kept_of front q ∷ [])
-    ∙ ap (λ (l : List KeptReply). l ++ kept_under caller number (kept_of front q ∷ [])) none
-    ∙ ap (λ (b : Bool). cond b (kept_of front q ∷ []) []) own)
+    (filter-append (is_under caller number) (kept prefix) (kept_of prefix q ∷ [])
+    ∙ ap (λ (l : List KeptReply). l ++ kept_under caller number (kept_of prefix q ∷ [])) none
+    ∙ ap (λ (b : Bool). cond b (kept_of prefix q ∷ []) []) own)
 
 -- a search through a history, from its first request on, finds it
 pub first_found : (caller : List ℕ) (number : ℕ) (h : List Request) (i : ℕ) (q : Request) (found : KeptReply) → i < length h → q ≡ get_or h i q → kept_under caller number (kept (take i h)) ≡ []
     → ((before : List Request) → is_under caller number (kept_of before q) ≡ true) → found ≡ kept_of (take i h) q → Some found ≡ slice_get (kept_under caller number (kept h)) 0
 first_found caller number h i q found lt is none own here =
     let later = drop (i + 1) h in
-    let whole : h ≡ (take i h ++ q ∷ []) ++ later = sym (take-append-drop (i + 1) h) ∙ ap (λ (front : List Request). front ++ later) (next_front h i q lt is) in
+    let whole : h ≡ (take i h ++ q ∷ []) ++ later = sym (take-append-drop (i + 1) h) ∙ ap (λ (prefix : List Request). prefix ++ later) (next_prefix h i q lt is) in
     ap Some here ∙ sym (ap (λ (l : List KeptReply). slice_get l 0) (ap (λ (g : List Request). kept_under caller number (kept g)) whole ∙ first_at caller number (take i h) q later none (own (take i h))))
 
 pub none_yet : (caller : List ℕ) (number : ℕ) (h : List Request) (i : ℕ) (q : Request) → i < length h → q ≡ get_or h i q → kept_under caller number (kept (take i h)) ≡ []
     → ((before : List Request) → is_under caller number (kept_of before q) ≡ false) → kept_under caller number (kept (take (i + 1) h)) ≡ []
 none_yet caller number h i q lt is none other =
-    ap (λ (g : List Request). kept_under caller number (kept g)) (next_front h i q lt is)
+    ap (λ (g : List Request). kept_under caller number (kept g)) (next_prefix h i q lt is)
     ∙ under_grows caller number (take i h) q
     ∙ ap (λ (l : List KeptReply). l ++ kept_under caller number (kept_of (take i h) q ∷ [])) none
     ∙ ap (λ (b : Bool). cond b (kept_of (take i h) q ∷ []) []) (other (take i h))
 
--- so a request that is accepted behind some repeats its reply behind those with it, and whatever later ones
-pub repeats_behind : (h : List Request) (q : Request) (later : List Request) → verdict h q ≡ Accepts → verdict ((h ++ q ∷ []) ++ later) q ≡ Repeats (reply h q)
-repeats_behind h q later accepted =
+-- so a request that is accepted after some repeats its reply after those with it, and whatever later ones
+pub repeats_after : (h : List Request) (q : Request) (later : List Request) → verdict h q ≡ Accepts → verdict ((h ++ q ∷ []) ++ later) q ≡ Repeats (reply h q)
+repeats_after h q later accepted =
     let own : is_under q.caller q.number (kept_of h q) ≡ true = rw ((bytes_eq-Decides q.caller q.caller).1 refl, (Decides-eqb q.number q.number).1 refl) in
     let same : is_same_command q.command q.command ≡ true = (bytes_eq-Decides (command_text q.command) (command_text q.command)).1 refl in
     verdict_again ((h ++ q ∷ []) ++ later) q (kept_of h q) _ (first_at q.caller q.number h q later (is_new h q accepted) own)
@@ -211,7 +211,7 @@ kept_here h q is request lawful =
 kept_longer : (h : List Request) (q : Request) → IsAccepted h q → (k : KeptReply) → IsKeptIn h k → IsKeptIn (h ++ q ∷ []) k
 kept_longer h q is k within = record {
   in_range = within.in_range;
-  moment = omega (arith, within.moment, not_behind h q (judged h q is.accepted), latest_grows h q);
+  moment = omega (arith, within.moment, not_after h q (judged h q is.accepted), latest_grows h q);
   key = omega (arith, within.key, count_grows h q);
 }
 

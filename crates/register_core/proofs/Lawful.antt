@@ -13,7 +13,7 @@ use Rattle.register_core.specs.Fold.{history_after, history_after_in, history_in
 use Rattle.register_core.specs.Laws.{IsAccepted}
 use Rattle.register_core.proofs.Folds.{history_within}
 
--- what holds of each of a list and of one behind it holds of each
+-- what holds of each of a list and of one after it holds of each
 pub all_more : {X : Type 0} (P : X → Type 0) (xs : List X) (x : X) → AllByRecursion P xs → P x → AllByRecursion P (xs ++ x ∷ [])
 all_more P [] x all here = (here, tt)
 all_more P (y ∷ ys) x all here = (all.0, all_more P ys x all.1 here)
@@ -30,10 +30,10 @@ either : (b : Bool) → (b ≡ true) ⊎ (b ≡ false)
 either true = inl refl
 either false = inr refl
 
-from_test : (v : Verdict) → is_accepted v ≡ true → v ≡ Accepts
-from_test Accepts e = refl
-from_test (Repeats first) e = absurd cc
-from_test (Refuses refusal) e = absurd cc
+from_check : (v : Verdict) → is_accepted v ≡ true → v ≡ Accepts
+from_check Accepts e = refl
+from_check (Repeats first) e = absurd cc
+from_check (Refuses refusal) e = absurd cc
 
 -- ---- in any version
 
@@ -73,7 +73,7 @@ module _ (version : Version) where
         by : (b : Bool) → is_accepted (verdict_in version h q) ≡ b → history_in version (cond b (h ++ q ∷ []) h) (items later) ≡ h ++ q ∷ later
             → (IsLawfulIn version (h ++ q ∷ []) → P (h ++ q ∷ []) → history_in version (h ++ q ∷ []) (items later) ≡ (h ++ q ∷ []) ++ later → P ((h ++ q ∷ []) ++ later)) → P (h ++ q ∷ later)
         by true e rest next =
-            let accepted = from_test (verdict_in version h q) e in
+            let accepted = from_check (verdict_in version h q) e in
             subst P (append_assoc h (q ∷ []) later)
             (next (lawful_with_in h q each.0 lawful accepted) (step h q lawful accepted holds) (rest ∙ sym (append_assoc h (q ∷ []) later)))
         by false e rest next =

@@ -35,7 +35,7 @@ use Rattle.register_core.specs.CommandKind.{command_kind_text, command_shape}
 use Rattle.register_core.specs.CommandRule.{kind_of}
 use Rattle.register_core.specs.Request.{max_line_length, AreFields, IsCommand, IsDate, IsEdit, IsKeyNumber, IsRequest, IsLineOf, StandsFor, IsItem, date_text, edit_text, fields_text, command_text, request_text}
 use Rattle.register_core.specs.CommandText.{IsCommandText, IsCommandItem}
-use Rattle.register_core.specs.Reading.{◌>>=◌, is_space, field_at, field_then, moment_at, date_at, edit_at, key_number_at, reason_at, occurrence_at, request_number_at, name_at, key_type_at, purpose_at, registered, register_at, edits, edits_at, revoked, revoke_at, key_and_name_at, key_and_need_at, quorum_at, type_and_period_at, originator_at, recipient_at, set_period, keyed_at, named_at, kind_at, shaped_at, behind_at, split_by, word_at, command_at, requested, fields_at, request_at}
+use Rattle.register_core.specs.RequestLine.{◌>>=◌, is_space, field_at, field_then, moment_at, date_at, edit_at, key_number_at, reason_at, occurrence_at, request_number_at, name_at, key_type_at, purpose_at, registered, register_at, edits, edits_at, revoked, revoke_at, key_and_name_at, key_and_need_at, quorum_at, type_and_period_at, originator_at, recipient_at, set_period, keyed_at, named_at, kind_at, shaped_at, after_at, split_by, word_at, command_at, requested, fields_at, request_at}
 use Rattle.register_core.proofs.Commands.{made, made_again, has_shape}
 use Rattle.register_core.proofs.FieldReading.{bind_some, some_is, none_from, IsReader, HasNoSpace, field_takes, field_again, then_reader}
 use Rattle.register_core.proofs.Readers.{moment_reader, date_reader, edit_reader, moment_small, key_number_reader, key_number_small, request_number_reader, request_number_small, quorum_reader, originator_reader, recipient_reader, IsMonths, months_small, name_reader, purpose_reader, key_type_reader, kind_reader, reason_reader, reason_text, reason_small, IsOccurrence, occurrence_reader, not_space}
@@ -90,7 +90,7 @@ key_type_solid PrivateAuthentication = refl
 key_type_solid PrivateTransport = refl
 key_type_solid Master = refl
 
--- ---- texts, as fields with what stands behind them
+-- ---- texts, as fields with what stands after them
 
 abbrev before : List ℕ → List ℕ → List ℕ
 before field rest = field ++ (32 ∷ rest)
@@ -117,17 +117,17 @@ joined_named k n = simp append_assoc
 joined_request : (m c n d : List ℕ) → m ++ codes " " ++ c ++ codes " " ++ n ++ codes " " ++ d ≡ before m (before c (before n d))
 joined_request m c n d = simp append_assoc
 
--- ---- what stands behind a command's word
+-- ---- what stands after a command's word
 
--- what stands behind a word, with the space before it
-abbrev behind_text : Option (List ℕ) → List ℕ
-behind_text None = []
-behind_text (Some fields) = spaced fields
+-- what stands after a word, with the space before it
+abbrev after_text : Option (List ℕ) → List ℕ
+after_text None = []
+after_text (Some fields) = spaced fields
 
 -- what is read as fields
-record AreRead (behind : Option (List ℕ)) (f : Fields) : Type 0 where
+record AreRead (after : Option (List ℕ)) (f : Fields) : Type 0 where
   in_range : AreFields f
-  text : behind_text behind ≡ fields_text f
+  text : after_text after ≡ fields_text f
 
 -- the fields that are made of what was read
 made_of : {A : Type 0} {read_by : List ℕ → Option A} {text : A → List ℕ} {P : A → Type 0} → IsReader read_by text P
@@ -314,17 +314,17 @@ no_field word solid =
     none_from (field_at word) (λ (x : List ℕ × List ℕ) (e : field_at word ≡ Some x).
     no_space_in x.0 x.1 (subst HasNoSpace (field_takes word x e) solid))
 
-word_takes : (bytes : List ℕ) → bytes ≡ (word_at bytes).0 ++ behind_text (word_at bytes).1
+word_takes : (bytes : List ℕ) → bytes ≡ (word_at bytes).0 ++ after_text (word_at bytes).1
 unfolding word_at
 word_takes bytes = by (field_at bytes) refl
   where
     by : (o : Option (List ℕ × List ℕ)) → field_at bytes ≡ o
-        → bytes ≡ (split_by bytes o).0 ++ behind_text (split_by bytes o).1
+        → bytes ≡ (split_by bytes o).0 ++ after_text (split_by bytes o).1
     by (Some x) e = field_takes bytes x e
     by None e = sym (append-nil bytes)
 
-word_again : (word : List ℕ) (behind : Option (List ℕ)) → HasNoSpace word
-    → word_at (word ++ behind_text behind) ≡ (word, behind)
+word_again : (word : List ℕ) (after : Option (List ℕ)) → HasNoSpace word
+    → word_at (word ++ after_text after) ≡ (word, after)
 unfolding word_at
 word_again word None solid = rw (append-nil, no_field word solid) refl
 word_again word (Some fields) solid = rw (field_again word fields solid) refl
@@ -346,54 +346,54 @@ shaped_takes shapes.Registration bytes f e = register_takes bytes f e
 shaped_takes shapes.DateEdits bytes f e = edits_take bytes f e
 shaped_takes shapes.Revocation bytes f e = revoke_takes bytes f e
 
-behind_takes : (shape : Shape) (behind : Option (List ℕ)) (f : Fields) → behind_at shape behind ≡ Some f
-    → AreRead behind f
-behind_takes shape (Some bytes) f e = shaped_takes shape bytes f e
-behind_takes shapes.Nothing None f e =
+after_takes : (shape : Shape) (after : Option (List ℕ)) (f : Fields) → after_at shape after ≡ Some f
+    → AreRead after f
+after_takes shape (Some bytes) f e = shaped_takes shape bytes f e
+after_takes shapes.Nothing None f e =
     subst (AreRead None) (some_is Nothing f e) (record { in_range = tt; text = refl })
-behind_takes shape None f e = absurd cc
+after_takes shape None f e = absurd cc
 
--- the fields are read of what stands behind their word
+-- the fields are read of what stands after their word
 record AreReadAgain (f : Fields) : Type 0 where
-  behind : Option (List ℕ)
-  text : fields_text f ≡ behind_text behind
-  read : behind_at (shape_of f) behind ≡ Some f
+  after : Option (List ℕ)
+  text : fields_text f ≡ after_text after
+  read : after_at (shape_of f) after ≡ Some f
 
 read_again : (f : Fields) → AreFields f → AreReadAgain f
-read_again Nothing in_range = record { behind = None; text = refl; read = refl }
-read_again (Key key) in_range = record { behind = Some (decimal key); text = refl; read = keyed_again key in_range }
+read_again Nothing in_range = record { after = None; text = refl; read = refl }
+read_again (Key key) in_range = record { after = Some (decimal key); text = refl; read = keyed_again key in_range }
 read_again (KeyAndName key name) in_range = record {
-  behind = Some (before (decimal key) name);
+  after = Some (before (decimal key) name);
   text = joined_named (decimal key) name;
   read = named_again KeyAndName key name in_range;
 }
 read_again (KeyAndOwner key owner) in_range = record {
-  behind = Some (before (decimal key) owner);
+  after = Some (before (decimal key) owner);
   text = joined_named (decimal key) owner;
   read = named_again KeyAndOwner key owner in_range;
 }
 read_again (KeyAndNeed key need) in_range = record {
-  behind = Some (before (decimal key) (decimal need));
+  after = Some (before (decimal key) (decimal need));
   text = joined_named (decimal key) (decimal need);
   read = key_and_need_again key need in_range;
 }
 read_again (TypeAndPeriod kind p) in_range = record {
-  behind = Some (before (key_type_text kind) (before (decimal p.originator) (decimal p.recipient)));
+  after = Some (before (key_type_text kind) (before (decimal p.originator) (decimal p.recipient)));
   text = joined_revoke (key_type_text kind) (decimal p.originator) (decimal p.recipient);
   read = type_and_period_again kind p in_range;
 }
 read_again (Registration k o a p d u) in_range = record {
-  behind = Some (text_of_registered (k, (o, (a, (p, (d, u))))));
+  after = Some (text_of_registered (k, (o, (a, (p, (d, u))))));
   text = joined_register (key_type_text k) o (date_text a) (date_text p) (date_text d) u;
   read = register_again k o a p d u in_range;
 }
 read_again (DateEdits key a p d) in_range = record {
-  behind = Some (before (decimal key) (before (edit_text a) (before (edit_text p) (edit_text d))));
+  after = Some (before (decimal key) (before (edit_text a) (before (edit_text p) (edit_text d))));
   text = joined_edits (decimal key) (edit_text a) (edit_text p) (edit_text d);
   read = edits_again key a p d in_range;
 }
 read_again (Revocation key r o) in_range = record {
-  behind = Some (before (decimal key) (before (reason_text r) (date_text o)));
+  after = Some (before (decimal key) (before (reason_text r) (date_text o)));
   text = joined_revoke (decimal key) (reason_text r) (date_text o);
   read = revoke_again key r o in_range;
 }
@@ -404,17 +404,17 @@ command_takes : (bytes : List ℕ) (q : Command) → command_at bytes ≡ Some q
 unfolding command_at
 command_takes bytes q e =
     let word = word_at bytes in
-    let kind = bind_some (kind_at word.0) (λ kind. behind_at (command_shape kind) word.1 >>= command_with kind) q e in
-    let fields = bind_some (behind_at (command_shape kind.0) word.1) (command_with kind.0) q kind.2 in
-    let taken = behind_takes (command_shape kind.0) word.1 fields.0 fields.1 in
+    let kind = bind_some (kind_at word.0) (λ kind. after_at (command_shape kind) word.1 >>= command_with kind) q e in
+    let fields = bind_some (after_at (command_shape kind.0) word.1) (command_with kind.0) q kind.2 in
+    let taken = after_takes (command_shape kind.0) word.1 fields.0 fields.1 in
     let of = made fields.0 kind.0 q fields.2 in
     let text = command_kind_text (kind_of q) in
     let word_is : word.0 ≡ text =
     (kind_reader.takes word.0 kind.0 kind.1).1 ∙ ap command_kind_text (sym of.kind_is) in
-    let split : bytes ≡ text ++ behind_text word.1 =
-    word_takes bytes ∙ ap (λ (w : List ℕ). w ++ behind_text word.1) word_is in (
+    let split : bytes ≡ text ++ after_text word.1 =
+    word_takes bytes ∙ ap (λ (w : List ℕ). w ++ after_text word.1) word_is in (
       subst AreFields (sym of.fields_are) taken.in_range,
-      split ∙ ap (λ (behind : List ℕ). text ++ behind) (taken.text ∙ ap fields_text (sym of.fields_are)),
+      split ∙ ap (λ (after : List ℕ). text ++ after) (taken.text ∙ ap fields_text (sym of.fields_are)),
     )
 
 command_again : (q : Command) → IsCommand q → command_at (command_text q) ≡ Some q
@@ -422,11 +422,11 @@ unfolding command_at
 command_again q in_range =
     let again = read_again (fields_of q) in_range in
     let word = command_kind_text (kind_of q) in
-    let split : word_at (command_text q) ≡ (word, again.behind) =
+    let split : word_at (command_text q) ≡ (word, again.after) =
     ap (λ (fields : List ℕ). word_at (word ++ fields)) again.text
-    ∙ word_again word again.behind (kind_solid (kind_of q)) in
-    let read : behind_at (command_shape (kind_of q)) again.behind ≡ Some (fields_of q) =
-    ap (λ (shape : Shape). behind_at shape again.behind) (sym (has_shape q)) ∙ again.read in
+    ∙ word_again word again.after (kind_solid (kind_of q)) in
+    let read : after_at (command_shape (kind_of q)) again.after ≡ Some (fields_of q) =
+    ap (λ (shape : Shape). after_at shape again.after) (sym (has_shape q)) ∙ again.read in
     rw (split, kind_reader.again (kind_of q) tt, read) (made_again q)
 
 command_read : (bytes : List ℕ) (q : Command) → IsCommandText bytes q → command_at bytes ≡ Some q

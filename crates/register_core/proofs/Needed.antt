@@ -21,11 +21,11 @@ use Rattle.register_core.specs.Subject.{Subject, Makes, Names, NoKey, named_by, 
 use Rattle.register_core.specs.KeptReply.{reply}
 use Rattle.register_core.specs.Name.{is_among}
 use Rattle.register_core.specs.CommandRule.{is_same_giver}
-use Rattle.register_core.specs.CustodyRefusal.{refused_custody}
-use Rattle.register_core.specs.Verdict.{refused_dates, unfit, not_custodian, always, judge, judge_view, judgement, named_key}
+use Rattle.register_core.specs.CustodyRefusal.{custody_refusal}
+use Rattle.register_core.specs.Verdict.{refused_dates, dates_refusal, custodian_refusal, always, judge, judge_view, judgement, named_key}
 use Rattle.register_core.specs.Decision.{registered_key, change_of, change_by, reply_of_view, IsViewOf, LeadsTo}
 use Rattle.register_core.specs.Effect.{given_dates, edited_dates, dates_after}
-use Rattle.register_core.specs.Need.{needed_of, needed_key, type_needed, Suffices}
+use Rattle.register_core.specs.Need.{needed_of, needed_key, needed_type, Suffices}
 use Rattle.register_core.proofs.Decisions.{agrees_as}
 use Rattle.register_core.proofs.Subjects.{is_registration}
 
@@ -33,7 +33,7 @@ use Rattle.register_core.proofs.Subjects.{is_registration}
 
 -- no revocation is a custodian's, whatever its reason
 revoked_so : (held : Held) (caller : List ℕ) (key : ℕ) (reason : Reason) (occurrence : Option ℕ)
-    → not_custodian (Some held) caller (Revoke key reason occurrence) ≡ None
+    → custodian_refusal (Some held) caller (Revoke key reason occurrence) ≡ None
 revoked_so held caller key reason occurrence = by (is_compromise reason)
   where
     by : (b : Bool) → cond (is_same_giver Custodian (cond b Anybody Owner) && not (is_among caller held.custodians))
@@ -43,7 +43,7 @@ revoked_so held caller key reason occurrence = by (is_compromise reason)
 
 -- two refusals look at the lists: that of who approves or withdraws, and those of custody
 custodian_so : (held : Held) (caller : List ℕ) (c : Command) →
-    not_custodian (Some (needed_of c held)) caller c ≡ not_custodian (Some held) caller c
+    custodian_refusal (Some (needed_of c held)) caller c ≡ custodian_refusal (Some held) caller c
 custodian_so held caller (Approve key) = refl
 custodian_so held caller (Revoke key reason occurrence) =
     revoked_so (needed_of (Revoke key reason occurrence) held) caller key reason occurrence
@@ -51,7 +51,7 @@ custodian_so held caller (Revoke key reason occurrence) =
 custodian_so held caller c = refl
 
 custody_so : (held : Held) (caller : List ℕ) (c : Command) →
-    refused_custody (Some (needed_of c held)) caller c ≡ refused_custody (Some held) caller c
+    custody_refusal (Some (needed_of c held)) caller c ≡ custody_refusal (Some held) caller c
 custody_so held caller (Approve key) = refl
 custody_so held caller c = refl
 
@@ -67,7 +67,7 @@ abbrev pub AreSoFor : Option KeyType → (KeyType → Period) → (KeyType → P
 AreSoFor needed periods others = IfSome needed (λ kind. periods kind ≡ others kind)
 
 fit_so : (periods others : KeyType → Period) (key : Option Held) (t : ℕ) (c : Command)
-    → AreSoFor (type_needed key c) periods others → unfit periods key t c ≡ unfit others key t c
+    → AreSoFor (needed_type key c) periods others → dates_refusal periods key t c ≡ dates_refusal others key t c
 fit_so periods others key t (Registers kind owner activation protect_stop deactivation purpose) same =
     ap (λ (p : Period). refused_dates (fill_of p (given_dates t activation protect_stop deactivation))) same
 fit_so periods others (Some held) t (Activate k) same =
@@ -80,12 +80,12 @@ fit_so periods others None t c same = refl
 fit_so periods others (Some held) t c same = refl
 
 pub judge_by : (last keys : ℕ) (periods others : KeyType → Period) (key : Option Held) (q : Request)
-    → AreSoFor (type_needed key q.command) periods others
+    → AreSoFor (needed_type key q.command) periods others
     → judge last keys periods key q ≡ judge last keys others key q
 judge_by last keys periods others key q same = rw (fit_so periods others key q.moment q.command same)
 
 dates_so : (periods others : KeyType → Period) (held : Held) (t k : ℕ) (c : Command) → named c ≡ Some k
-    → AreSoFor (type_needed (Some held) c) periods others
+    → AreSoFor (needed_type (Some held) c) periods others
     → dates_after (periods held.kind) held.row.dates t c ≡ dates_after (others held.kind) held.row.dates t c
 dates_so periods others held t k (Registers kind owner activation protect_stop deactivation purpose) names same = absurd cc
 dates_so periods others held t k (Activate n) names same =
@@ -95,10 +95,10 @@ dates_so periods others held t k (SetDates n activation protect_stop deactivatio
 dates_so periods others held t k c names same = refl
 
 change_so : (periods others : KeyType → Period) (s : Subject) (key : Option Held) (q : Request) → subject q.command ≡ s
-    → AreSoFor (type_needed key q.command) periods others → change_of periods s key q ≡ change_of others s key q
+    → AreSoFor (needed_type key q.command) periods others → change_of periods s key q ≡ change_of others s key q
 change_so periods others (Makes r) key q is same =
     let so : periods r.kind ≡ others r.kind =
-    subst (λ (c : Command). AreSoFor (type_needed key c) periods others) (is_registration q.command r is) same in
+    subst (λ (c : Command). AreSoFor (needed_type key c) periods others) (is_registration q.command r is) same in
     ap (λ (p : Period). change.Made (registered_key (always p) q.moment r)) so
 change_so periods others (Names k) None q is same = refl
 change_so periods others (Names k) (Some held) q is same =
@@ -106,25 +106,25 @@ change_so periods others (Names k) (Some held) q is same =
 change_so periods others NoKey key q is same = refl
 
 pub changed_by : (periods others : KeyType → Period) (key : Option Held) (q : Request)
-    → AreSoFor (type_needed key q.command) periods others → change_by periods key q ≡ change_by others key q
+    → AreSoFor (needed_type key q.command) periods others → change_by periods key q ≡ change_by others key q
 changed_by periods others key q same = change_so periods others (subject q.command) key q refl same
 
--- ---- a moment that is behind
+-- ---- a moment that is after
 
 -- the first of the refusals is the one that holds
 first_holds : (first : Option Refusal) (refusal : Refusal) (others : List (Option Refusal)) → first ≡ Some refusal →
     first_that_holds (first ∷ others) ≡ Some refusal
 first_holds first refusal others holds = ap (λ (x : Option Refusal). first_that_holds (x ∷ others)) holds
 
-is_behind : (last keys : ℕ) (periods : KeyType → Period) (key : Option Held) (q : Request)
+is_after : (last keys : ℕ) (periods : KeyType → Period) (key : Option Held) (q : Request)
     → nat_lt q.moment last ≡ true → judge last keys periods key q ≡ Some (MomentBehind last)
-is_behind last keys periods key q is =
+is_after last keys periods key q is =
     first_holds _ (MomentBehind last) _ (first_holds _ (MomentBehind last) _
     (ap (λ (b : Bool). cond b (Some (MomentBehind last)) None) is))
 
 -- ---- the decision
 
--- what is needed gives the judgement of the request behind the history
+-- what is needed gives the judgement of the request after the history
 pub judged_so : (h : List Request) (q : Request)
     → judge (latest h) (count h) (period h) (needed_key h q) q ≡ judgement h q
 judged_so h q = by (nat_lt q.moment (latest h)) (named_key h q.command) refl
@@ -133,7 +133,7 @@ judged_so h q = by (nat_lt q.moment (latest h)) (named_key h q.command) refl
         judge (latest h) (count h) (period h) (cond b None (option_map (needed_of q.command) key)) q
         ≡ judge (latest h) (count h) (period h) key q
     by true key is =
-        is_behind (latest h) (count h) (period h) None q is ∙ sym (is_behind (latest h) (count h) (period h) key q is)
+        is_after (latest h) (count h) (period h) None q is ∙ sym (is_after (latest h) (count h) (period h) key q is)
     by false None is = refl
     by false (Some held) is = judge_so (latest h) (count h) (period h) held q
 
@@ -153,7 +153,7 @@ changed_so h q accepted = by (nat_lt q.moment (latest h)) (named_key h q.command
     by : (b : Bool) (key : Option Held) → nat_lt q.moment (latest h) ≡ b
         → judge (latest h) (count h) (period h) key q ≡ None
         → change_by (period h) (cond b None (option_map (needed_of q.command) key)) q ≡ change_by (period h) key q
-    by true key is accepted = let refused = is_behind (latest h) (count h) (period h) key q is in absurd cc
+    by true key is accepted = let refused = is_after (latest h) (count h) (period h) key q is in absurd cc
     by false key is accepted = change_same (period h) (subject q.command) q.command key q
 
 -- ---- a view that suffices

@@ -11,7 +11,7 @@ use Rattle.register_core.specs.History.{latest, count, period, dates}
 use Rattle.register_core.specs.Subject.{Registration, Subject, Makes, Names, NoKey, subject, named_by, key_by, count_by, key_of, is_key, named}
 use Rattle.register_core.specs.Custody.{held}
 use Rattle.register_core.specs.CommandRule.{is_for}
-use Rattle.register_core.specs.Verdict.{not_custodian, frozen, unfit, occurs_later, judge, named_key, judgement}
+use Rattle.register_core.specs.Verdict.{custodian_refusal, freeze_refusal, dates_refusal, occurrence_refusal, judge, named_key, judgement}
 use Rattle.register_core.specs.Version.{current}
 use Rattle.register_core.specs.CustodyRefusal.{owner_custodian, approvals_missing}
 use Rattle.register_core.proofs.Histories.{count_grows}
@@ -26,12 +26,12 @@ pub record IsOn (h : List Request) (q : Request) (k : ℕ) : Type 0 where
   pub low : 1 ≤ k
   pub high : k ≤ count h
   pub fits_state : is_for q.command (state_at (dates h k) q.moment) ≡ true
-  pub not_frozen : frozen (Some (standing h k)) q.moment q.command ≡ None
-  pub fit : unfit (period h) (Some (standing h k)) q.moment q.command ≡ None
+  pub not_frozen : freeze_refusal (Some (standing h k)) q.moment q.command ≡ None
+  pub fit : dates_refusal (period h) (Some (standing h k)) q.moment q.command ≡ None
   pub apart : owner_custodian (Some (standing h k)) q.command ≡ None
   pub enough : approvals_missing (Some (standing h k)) q.command ≡ None
-  pub occurred : occurs_later q.moment q.command ≡ None
-  pub custodians_own : not_custodian (Some (standing h k)) q.caller q.command ≡ None
+  pub occurred : occurrence_refusal q.moment q.command ≡ None
+  pub custodians_own : custodian_refusal (Some (standing h k)) q.caller q.command ≡ None
   pub new : IsNew h q k
 
 right_state : (b : Bool) (refusal : Refusal) → cond b None (Some refusal) ≡ None → b ≡ true
@@ -41,8 +41,8 @@ right_state false refusal e = absurd cc
 abbrev judged : List Request → Request → Option Held → Option Refusal
 judged h q key = judge (latest h) (count h) (period h) key q
 
-pub not_behind : (h : List Request) (q : Request) → judgement h q ≡ None → latest h ≤ q.moment
-not_behind h q accepted =
+pub not_after : (h : List Request) (q : Request) → judgement h q ≡ None → latest h ≤ q.moment
+not_after h q accepted =
     ltb-false _ _ (not_refused _ _ (passes current (latest h) (count h) (period h) (named_key h q.command) q accepted).in_time)
 
 on_there : (h : List Request) (q : Request) (k : ℕ) → named q.command ≡ Some k → is_there h k ≡ true → judged h q (Some (standing h k)) ≡ None → IsOn h q k
@@ -84,7 +84,7 @@ pub record IsMade (h : List Request) (q : Request) (k : ℕ) : Type 0 where
   pub next : k ≡ count h + 1
   pub registration : Registration
   pub makes : subject q.command ≡ Makes registration
-  pub fit : unfit (period h) None q.moment q.command ≡ None
+  pub fit : dates_refusal (period h) None q.moment q.command ≡ None
 
 -- it neither makes nor names it
 pub record IsOther (h : List Request) (q : Request) (k : ℕ) : Type 0 where

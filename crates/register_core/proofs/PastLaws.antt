@@ -6,21 +6,21 @@ use Rattle.lifecycle_core.specs.declared.dates.Dates.{Dates}
 use Rattle.lifecycle_core.specs.declared.reason.Reason.{Reason}
 use Rattle.lifecycle_core.specs.Reason.{is_compromise}
 use Rattle.period_core.specs.Period.{Period}
-use Rattle.period_core.specs.Fitting.{is_not_after, filled}
+use Rattle.period_core.specs.Fitting.{is_not_after, with_defaults}
 use Rattle.register_core.specs.declared.request.Request.{Request}
 use Rattle.register_core.specs.declared.request.Command.{Command}
 use Rattle.register_core.specs.declared.request.Command.TheVariants.{Register as Registers, Activate, SetDates, Revoke, Destroy}
 use Rattle.register_core.specs.History.{latest, type, period, dates}
 use Rattle.register_core.specs.Subject.{named}
 use Rattle.register_core.specs.Effect.{given_dates, edited_dates, compromised, deactivated, dates_after}
-use Rattle.register_core.specs.Verdict.{occurs_later, judgement}
+use Rattle.register_core.specs.Verdict.{occurrence_refusal, judgement}
 use Rattle.register_core.specs.Fold.{IsLawful}
 use Rattle.register_core.specs.Laws.{HasKey}
 use Rattle.register_core.proofs.Histories.{latest_grows, dates_other, dates_named, dates_made}
 use Rattle.register_core.proofs.Dating.{KeepsOthers, filled_keeps, trimmed_keeps}
 use Rattle.register_core.proofs.CustodyLeads.{not_refused}
 use Rattle.register_core.proofs.Lawful.{lawful_holds}
-use Rattle.register_core.proofs.OnKey.{which, not_behind}
+use Rattle.register_core.proofs.OnKey.{which, not_after}
 
 pub record IsPast (t : ℕ) (d : Dates) : Type 0 where
   pub initial : d.initial ≤ t
@@ -53,11 +53,11 @@ kept t d new keeps past = record {
 now : (t : ℕ) → IsTrue (nat_le t t)
 now t = le-leb t t (omega arith)
 
-occurred : (t initial key : ℕ) (reason : Reason) (occurrence : Option ℕ) → initial ≤ t → occurs_later t (Revoke key reason occurrence) ≡ None → IsTrue (nat_le (unwrap_or occurrence initial) t)
+occurred : (t initial key : ℕ) (reason : Reason) (occurrence : Option ℕ) → initial ≤ t → occurrence_refusal t (Revoke key reason occurrence) ≡ None → IsTrue (nat_le (unwrap_or occurrence initial) t)
 occurred t initial key reason None le early = le-leb initial t le
 occurred t initial key reason (Some date) le early = le-leb date t (ltb-false t date (not_refused _ _ early))
 
-revoked : (compromise : Bool) (t : ℕ) (d : Dates) (key : ℕ) (reason : Reason) (occurrence : Option ℕ) → IsPast t d → occurs_later t (Revoke key reason occurrence) ≡ None
+revoked : (compromise : Bool) (t : ℕ) (d : Dates) (key : ℕ) (reason : Reason) (occurrence : Option ℕ) → IsPast t d → occurrence_refusal t (Revoke key reason occurrence) ≡ None
     → IsPast t (cond compromise (compromised t occurrence d) (deactivated t d))
 revoked true t d key reason occurrence past early = record {
   initial = past.initial;
@@ -84,7 +84,7 @@ past_with t d a s e past =
     }
 
 -- what the command that names the key at t makes of its dates
-past_after : (p : Period) (d : Dates) (t k : ℕ) (c : Command) → named c ≡ Some k → occurs_later t c ≡ None
+past_after : (p : Period) (d : Dates) (t k : ℕ) (c : Command) → named c ≡ Some k → occurrence_refusal t c ≡ None
     → IsPast t d → IsPast t (dates_after p d t c)
 past_after p d t k (Registers of_kind owner activation protect_stop deactivation purpose) names early past =
     absurd cc
@@ -109,16 +109,16 @@ AllPast h = (k : ℕ) → HasKey h k → IsPast (latest h) (dates h k)
 
 past_next : (h : List Request) (q : Request) → IsLawful h → judgement h q ≡ None → AllPast h → AllPast (h ++ q ∷ [])
 past_next h q lawful accepted before k has =
-    let moved : (d : Dates) → IsPast (latest h) d → IsPast q.moment d = λ d. later (latest h) q.moment d (not_behind h q accepted) in
+    let moved : (d : Dates) → IsPast (latest h) d → IsPast q.moment d = λ d. later (latest h) q.moment d (not_after h q accepted) in
     subst (λ (t : ℕ). IsPast t (dates (h ++ q ∷ []) k)) (sym (latest_grows h q)) (elim (which h q k accepted has.1) [
       | inl made ↦
           let r = made.registration in
           let given : Dates = given_dates q.moment r.activation r.protect_stop r.deactivation in
           let p : Period = period h r.kind in
-          let its : dates (h ++ q ∷ []) k ≡ filled p given =
+          let its : dates (h ++ q ∷ []) k ≡ with_defaults p given =
           ap (dates (h ++ q ∷ [])) made.next ∙ dates_made h q r made.makes in
           subst (IsPast q.moment) (sym its)
-          (kept q.moment given (filled p given) (filled_keeps p given)
+          (kept q.moment given (with_defaults p given) (filled_keeps p given)
           (record { initial = omega arith; destroy = refl; compromise = refl; occurrence = refl }))
       | inr (inl on) ↦
           let past = moved (dates h k) (before k (on.low, on.high)) in

@@ -8,14 +8,14 @@ use Rattle.lifecycle_core.specs.State.{state_at}
 use Rattle.lifecycle_core.specs.Transition.{Leads}
 use Rattle.lifecycle_core.proofs.Transitions.{time_leads}
 use Rattle.period_core.specs.Period.{Period}
-use Rattle.period_core.specs.Fitting.{filled}
+use Rattle.period_core.specs.Fitting.{with_defaults}
 use Rattle.register_core.specs.declared.request.Request.{Request}
 use Rattle.register_core.specs.History.{latest, count, type, period, dates}
 use Rattle.register_core.specs.Effect.{given_dates}
 use Rattle.register_core.specs.Laws.{IsAccepted, HasKey, MovesOnly, state_of_key}
 use Rattle.register_core.proofs.Verdicts.{judged}
 use Rattle.register_core.proofs.Histories.{dates_other, dates_named, dates_made}
-use Rattle.register_core.proofs.OnKey.{not_behind, IsOn, IsMade, IsOther, which}
+use Rattle.register_core.proofs.OnKey.{not_after, IsOn, IsMade, IsOther, which}
 use Rattle.register_core.proofs.Dating.{filled_keeps}
 use Rattle.register_core.proofs.DateLaws.{freeze}
 use Rattle.register_core.proofs.PathSteps.{then, path_made, path_named}
@@ -32,12 +32,12 @@ made_path h q k made =
     let r = made.registration in
     let given : Dates = given_dates q.moment r.activation r.protect_stop r.deactivation in
     let p : Period = period h r.kind in
-    let its : dates (h ++ q ∷ []) k ≡ filled p given =
+    let its : dates (h ++ q ∷ []) k ≡ with_defaults p given =
     ap (dates (h ++ q ∷ [])) made.next ∙ dates_made h q r made.makes in
     let keeps = filled_keeps p given in
     from_none h k _ made.next
     (subst (λ (d : Dates). Leads None (Some (state_at d q.moment))) (sym its)
-    (path_made (filled p given) q.moment (ap is_some keeps.destroy) (ap is_some keeps.compromise)))
+    (path_made (with_defaults p given) q.moment (ap is_some keeps.destroy) (ap is_some keeps.compromise)))
 
 on_path : (h : List Request) (q : Request) (k : ℕ) → IsAccepted h q → IsOn h q k → Leads (state_of_key h k) (Some (state_at (dates (h ++ q ∷ []) k) q.moment))
 on_path h q k is on =
@@ -45,7 +45,7 @@ on_path h q k is on =
     let its = dates_named h q k on.names in
     let moves = subst (MovesOnly d q.moment) its (freeze h q is k (on.low, on.high)) in
     from_there h k _ on.high (then _ (Some (state_at d q.moment)) _
-    (time_leads d (latest h) q.moment (not_behind h q (judged h q is.accepted)))
+    (time_leads d (latest h) q.moment (not_after h q (judged h q is.accepted)))
     (subst (λ (x : Dates). Leads (Some (state_at d q.moment)) (Some (state_at x q.moment))) (sym its)
     (path_named (period h (type h k)) d q.moment k q.command on.names on.fits_state moves)))
 
@@ -53,7 +53,7 @@ other_path : (h : List Request) (q : Request) (k : ℕ) → IsAccepted h q → I
 other_path h q k is other =
     from_there h k _ other.high
     (subst (λ (x : Dates). Leads (Some (state_at (dates h k) (latest h))) (Some (state_at x q.moment))) (sym (dates_other h q k other.other))
-    (time_leads (dates h k) (latest h) q.moment (not_behind h q (judged h q is.accepted))))
+    (time_leads (dates h k) (latest h) q.moment (not_after h q (judged h q is.accepted))))
 
 pub path : (h : List Request) (q : Request) → IsAccepted h q → (k : ℕ) → HasKey (h ++ q ∷ []) k → Leads (state_of_key h k) (Some (state_at (dates (h ++ q ∷ []) k) q.moment))
 path h q is k has = elim (which h q k (judged h q is.accepted) has.1) [

@@ -27,7 +27,7 @@ use Rattle.register_core.specs.Purpose.{is_purpose_byte, max_purpose_length, IsP
 use Rattle.period_core.specs.KeyType.{key_type_text}
 use Rattle.period_core.specs.Period.{max_months}
 use Rattle.register_core.specs.CommandKind.{command_kind_text}
-use Rattle.register_core.specs.Reading.{◌>>=◌, number_at, moment_at, date_at, edit_at, key_number_at, reasons, reason_at, occurrence_at, request_number_at, quorum_at, originator_at, recipient_at, name_at, purpose_at, key_types, key_type_at, command_kinds, kind_at, is_space, is_trimmed}
+use Rattle.register_core.specs.RequestLine.{◌>>=◌, number_at, moment_at, date_at, edit_at, key_number_at, reasons, reason_at, occurrence_at, request_number_at, quorum_at, originator_at, recipient_at, name_at, purpose_at, key_types, key_type_at, command_kinds, kind_at, is_space, is_trimmed}
 use Rattle.register_core.specs.Request.{IsDate, IsKeyNumber, IsEdit, date_text, edit_text}
 use Rattle.register_core.proofs.FieldReading.{IsReader, is_read, bind_some, some_is}
 
@@ -287,7 +287,7 @@ find_passes : {A : Type 0} (p : A → Bool) (ks : List A) (k : A) → find p ks 
 find_passes p [] k e = absurd cc
 find_passes p (x ∷ ks) k e = elim (found_step (p x) x (find p ks) k e) [
   | inl here ↦ subst (λ y. p y ≡ true) here.1 here.0
-  | inr behind ↦ find_passes p ks k behind
+  | inr after ↦ find_passes p ks k after
 ]
 
 key_type_again : (k : KeyType) → key_type_at (key_type_text k) ≡ Some k
@@ -331,7 +331,7 @@ holds_of_found : {A : Type 0} (P : A → Type 0) (p : A → Bool) (xs : List A) 
 holds_of_found P p [] k all e = absurd cc
 holds_of_found P p (x ∷ xs) k all e = elim (found_step (p x) x (find p xs) k e) [
   | inl here ↦ subst P here.1 (all 0 x (omega arith))
-  | inr behind ↦ holds_of_found P p xs k (λ i d lt. all (suc i) d (omega arith)) behind
+  | inr after ↦ holds_of_found P p xs k (λ i d lt. all (suc i) d (omega arith)) after
 ]
 
 -- What holds of each kind in the list holds of each kind.

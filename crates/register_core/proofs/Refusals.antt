@@ -6,19 +6,19 @@ use Rattle.register_core.specs.declared.request.Request.{Request}
 use Rattle.register_core.specs.declared.version.Version.{Version}
 use Rattle.register_core.specs.declared.view.Held.{Held}
 use Rattle.register_core.specs.CustodyRefusal.{already_custodian, no_such_custodian, too_many_custodians, owner_custodian, already_approved, no_approval, approvals_missing}
-use Rattle.register_core.specs.Verdict.{behind, unknown, not_owner, not_custodian, not_office, wrong_state, frozen, unfit, occurs_later, too_many, judge_in}
+use Rattle.register_core.specs.Verdict.{moment_refusal, key_refusal, owner_refusal, custodian_refusal, office_refusal, state_refusal, freeze_refusal, dates_refusal, occurrence_refusal, limit_refusal, judge_in}
 use Rattle.register_core.proofs.Filling.{past}
 
 pub record IsPassed (version : Version) (last keys : ℕ) (periods : KeyType → Period) (key : Option Held) (q : Request)
     : Type 0 where
-  pub in_time : behind last q.moment ≡ None
-  pub known : unknown key q.command ≡ None
-  pub owners : not_owner key q.caller q.command ≡ None
-  pub custodians : not_custodian key q.caller q.command ≡ None
-  pub office : not_office q.caller q.command ≡ None
-  pub state : wrong_state key q.moment q.command ≡ None
-  pub free : frozen key q.moment q.command ≡ None
-  pub fit : unfit periods key q.moment q.command ≡ None
+  pub in_time : moment_refusal last q.moment ≡ None
+  pub known : key_refusal key q.command ≡ None
+  pub owners : owner_refusal key q.caller q.command ≡ None
+  pub custodians : custodian_refusal key q.caller q.command ≡ None
+  pub office : office_refusal q.caller q.command ≡ None
+  pub state : state_refusal key q.moment q.command ≡ None
+  pub free : freeze_refusal key q.moment q.command ≡ None
+  pub fit : dates_refusal periods key q.moment q.command ≡ None
   pub new_custodian : already_custodian key q.command ≡ None
   pub old_custodian : no_such_custodian key q.command ≡ None
   pub room : too_many_custodians version key q.command ≡ None
@@ -26,8 +26,8 @@ pub record IsPassed (version : Version) (last keys : ℕ) (periods : KeyType →
   pub new_approval : already_approved key q.caller q.command ≡ None
   pub old_approval : no_approval key q.caller q.command ≡ None
   pub approved : approvals_missing key q.command ≡ None
-  pub occurred : occurs_later q.moment q.command ≡ None
-  pub numbered : too_many keys q.command ≡ None
+  pub occurred : occurrence_refusal q.moment q.command ≡ None
+  pub numbered : limit_refusal keys q.command ≡ None
 
 pub passes : (version : Version) (last keys : ℕ) (periods : KeyType → Period) (key : Option Held) (q : Request)
     → judge_in version last keys periods key q ≡ None → IsPassed version last keys periods key q

@@ -57,7 +57,7 @@ judged_in version h q accepted = by (knows version q.command) refl accepted
 pub verdict_is : (h : List Request) (q : Request) (j : Option Refusal) → kept_under q.caller q.number (kept h) ≡ [] → judgement h q ≡ j → verdict h q ≡ verdict_by j
 verdict_is h q j none is = ap (λ (l : List KeptReply). unless_kept l q.command (verdict_by (judgement h q))) none ∙ ap verdict_by is
 
--- a request that was accepted before is not accepted again, by the test
+-- a request that was accepted before is not accepted again, by the check
 pub no_longer_accepted : (before : KeptReply) (c : Command) → is_accepted (repeated before c) ≡ false
 no_longer_accepted before c = by (is_same_command before.command c)
   where

@@ -19,7 +19,7 @@ use Rattle.register_core.specs.declared.version.Version.TheVariants.{First, Seco
 use Rattle.register_core.specs.declared.view.Held.{Held}
 use Rattle.register_core.specs.Answer.{outcome}
 use Rattle.register_core.specs.CustodyRefusal.{already_custodian, no_such_custodian, too_many_custodians, owner_custodian}
-use Rattle.register_core.specs.CustodyRefusal.{already_approved, no_approval, approvals_missing, refused_custody_in}
+use Rattle.register_core.specs.CustodyRefusal.{already_approved, no_approval, approvals_missing, custody_refusal_in}
 use Rattle.register_core.specs.Effect.{period_after}
 use Rattle.register_core.specs.Fold.{answer_to_in, answers_in, history_after_in, history_in}
 use Rattle.register_core.specs.Fold.{items, IsLawful, IsLawfulIn}
@@ -27,8 +27,8 @@ use Rattle.register_core.specs.History.{latest, count, period, set_period}
 use Rattle.register_core.specs.KeptReply.{kept, kept_under, reply}
 use Rattle.register_core.specs.Request.{IsRequest}
 use Rattle.register_core.specs.Settings.{KeyNeed, TypePeriod, all_needs, all_periods, needs_after, periods_after}
-use Rattle.register_core.specs.Verdict.{Verdict, Accepts, answer_by, frozen, judge_in, judgement, judgement_in, named_key}
-use Rattle.register_core.specs.Verdict.{occurs_later, refused_entry, too_many, unfit, unless_kept, verdict, verdict_by}
+use Rattle.register_core.specs.Verdict.{Verdict, Accepts, answer_by, freeze_refusal, judge_in, judgement, judgement_in, named_key}
+use Rattle.register_core.specs.Verdict.{occurrence_refusal, entry_refusal, limit_refusal, dates_refusal, unless_kept, verdict, verdict_by}
 use Rattle.register_core.specs.Verdict.{verdict_in}
 use Rattle.register_core.specs.Version.{current, custodians_of, is_of_first, knows}
 use Rattle.register_core.proofs.CustodyLeads.{not_refused}
@@ -48,30 +48,30 @@ room (Some held) (AddCustodian key name) none =
 room None c none = refl
 room (Some held) c none = refl
 
-custody : (key : Option Held) (caller : List ℕ) (c : Command) → refused_custody_in First key caller c ≡ None
-    → refused_custody_in current key caller c ≡ None
+custody : (key : Option Held) (caller : List ℕ) (c : Command) → custody_refusal_in First key caller c ≡ None
+    → custody_refusal_in current key caller c ≡ None
 custody key caller c none =
-    let behind : List (Option Refusal) =
+    let after : List (Option Refusal) =
     owner_custodian key c ∷ already_approved key caller c ∷ no_approval key caller c ∷ approvals_missing key c ∷ [] in
     let this : Option Refusal = too_many_custodians First key c in
-    let first = past (already_custodian key c) (no_such_custodian key c ∷ this ∷ behind) none in
-    let second = past (no_such_custodian key c) (this ∷ behind) first.later in
-    let third = past this behind second.later in
-    ap (λ (x : Option Refusal). first_that_holds (already_custodian key c ∷ no_such_custodian key c ∷ x ∷ behind))
+    let first = past (already_custodian key c) (no_such_custodian key c ∷ this ∷ after) none in
+    let second = past (no_such_custodian key c) (this ∷ after) first.later in
+    let third = past this after second.later in
+    ap (λ (x : Option Refusal). first_that_holds (already_custodian key c ∷ no_such_custodian key c ∷ x ∷ after))
     (room key c third.here ∙ sym third.here) ∙ none
 
 judged_still : (last keys : ℕ) (periods : KeyType → Period) (key : Option Held) (q : Request)
     → judge_in First last keys periods key q ≡ None → judge_in current last keys periods key q ≡ None
 judged_still last keys periods key q none =
-    let behind : List (Option Refusal) = occurs_later q.moment q.command ∷ too_many keys q.command ∷ [] in
-    let this : Option Refusal = refused_custody_in First key q.caller q.command in
-    let fit : Option Refusal = unfit periods key q.moment q.command in
-    let first = past (refused_entry last key q) (frozen key q.moment q.command ∷ fit ∷ this ∷ behind) none in
-    let second = past (frozen key q.moment q.command) (fit ∷ this ∷ behind) first.later in
-    let third = past fit (this ∷ behind) second.later in
-    let fourth = past this behind third.later in
+    let after : List (Option Refusal) = occurrence_refusal q.moment q.command ∷ limit_refusal keys q.command ∷ [] in
+    let this : Option Refusal = custody_refusal_in First key q.caller q.command in
+    let fit : Option Refusal = dates_refusal periods key q.moment q.command in
+    let first = past (entry_refusal last key q) (freeze_refusal key q.moment q.command ∷ fit ∷ this ∷ after) none in
+    let second = past (freeze_refusal key q.moment q.command) (fit ∷ this ∷ after) first.later in
+    let third = past fit (this ∷ after) second.later in
+    let fourth = past this after third.later in
     ap (λ (x : Option Refusal). first_that_holds
-    (refused_entry last key q ∷ frozen key q.moment q.command ∷ fit ∷ x ∷ behind))
+    (entry_refusal last key q ∷ freeze_refusal key q.moment q.command ∷ fit ∷ x ∷ after))
     (custody key q.caller q.command fourth.here ∙ sym fourth.here) ∙ none
 
 -- what a version accepts is accepted still
@@ -152,7 +152,7 @@ lawful_from version h (None ∷ later) lawful all = lawful_from version h later 
 lawful_from version h (Some q ∷ later) lawful all =
     lawful_from version (history_after_in version h (Some q)) later (lawful_after_in version h q all.0 lawful) all.1
 
--- those of a version come first, those of this program's behind them
+-- those of a version come first, those of this program's after them
 pub versions_follow : (version : Version) (old new : List (Option Request)) → AreRequests old → AreRequests new
     → IsLawful (history_in current (history_in version [] old) new)
 versions_follow version old new all_old all_new =

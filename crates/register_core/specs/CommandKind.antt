@@ -6,7 +6,7 @@ use Rattle.register_core.specs.declared.fields.Shape.{Shape}
 use Rattle.register_core.specs.declared.fields.Shape.TheVariants.{Nothing, Key, KeyAndName, KeyAndOwner}
 use Rattle.register_core.specs.declared.fields.Shape.TheVariants.{KeyAndNeed, TypeAndPeriod, Registration, DateEdits, Revocation}
 
--- what the commands of a kind look like: their word, and the shape of the fields behind it
+-- what the commands of a kind look like: their word, and the shape of the fields after it
 pub record Form : Type 0 where
   pub word : List ℕ
   pub shape : Shape

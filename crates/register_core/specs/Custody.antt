@@ -50,7 +50,7 @@ abbrev pub approved_by : List ℕ → Command → List (KeyName)
 approved_by caller (Approve key) = key_name key caller ∷ []
 approved_by caller _ = []
 
--- The caller's command, behind these requests, ends the approval: it is withdrawn or given anew, its custodian is
+-- The caller's command, after these requests, ends the approval: it is withdrawn or given anew, its custodian is
 -- removed, or the key is compromised and was not destroyed before.
 abbrev pub ends_by : List Request → KeyName → List ℕ → Command → Bool
 ends_by before entry caller (Approve key) = is_key_name key caller entry

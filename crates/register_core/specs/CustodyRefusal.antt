@@ -61,9 +61,9 @@ custody_refusals version key caller c =
     ∷ approvals_missing key c
     ∷ []
 
-abbrev pub refused_custody_in : Version → Option Held → List ℕ → Command → Option Refusal
-refused_custody_in version key caller c = first_that_holds (custody_refusals version key caller c)
+abbrev pub custody_refusal_in : Version → Option Held → List ℕ → Command → Option Refusal
+custody_refusal_in version key caller c = first_that_holds (custody_refusals version key caller c)
 
 -- in this program's version
-abbrev pub refused_custody : Option Held → List ℕ → Command → Option Refusal
-refused_custody = refused_custody_in current
+abbrev pub custody_refusal : Option Held → List ℕ → Command → Option Refusal
+custody_refusal = custody_refusal_in current

@@ -4,7 +4,7 @@ use Rattle.lifecycle_core.specs.declared.row.Row.{Row}
 use Rattle.lifecycle_core.specs.Row.{IsRightAt}
 use Rattle.period_core.specs.declared.key_type.KeyType.{KeyType}
 use Rattle.period_core.specs.Period.{Period}
-use Rattle.period_core.specs.Fitting.{filled}
+use Rattle.period_core.specs.Fitting.{with_defaults}
 use Rattle.register_core.specs.declared.request.Request.{Request}
 use Rattle.register_core.specs.declared.request.Command.{Command}
 use Rattle.register_core.specs.declared.request.Command.TheVariants.{SetPeriod}
@@ -20,7 +20,7 @@ use Rattle.register_core.specs.Settings.{KeyNeed, TypePeriod, with_need, with_pe
 use Rattle.register_core.specs.Custody.{all_custodians, custodians, all_approvals, approvals, need, held}
 use Rattle.register_core.specs.declared.key.Key.{Key}
 use Rattle.register_core.specs.Verdict.{named_key, always}
-use Rattle.register_core.specs.Need.{type_needed}
+use Rattle.register_core.specs.Need.{needed_type}
 use Rattle.register_core.specs.Subject.{Registration, Subject, Makes, Names, NoKey, subject}
 use Rattle.register_core.specs.Effect.{given_dates, dates_after, owner_after, row_at, custody_change}
 use Rattle.register_core.specs.KeyName.{is_key_name, is_at, KeyName, key_name}
@@ -38,7 +38,7 @@ registered_key periods t new = record {
   kind = new.kind;
   owner = new.owner;
   purpose = new.purpose;
-  row = row_at (filled (periods new.kind) (given_dates t new.activation new.protect_stop new.deactivation)) t;
+  row = row_at (with_defaults (periods new.kind) (given_dates t new.activation new.protect_stop new.deactivation)) t;
 }
 
 -- what an accepted command that is about no key changes of what the register keeps besides keys
@@ -76,7 +76,7 @@ IsRightKey (Some held) t = IsRightAt held.row t
 pub record IsViewOf (view : View) (h : List Request) (c : Command) : Type 0 where
   pub latest_is : view.latest ≡ latest h
   pub keys_are : view.keys ≡ count h
-  pub period_is : IfSome (type_needed view.key c) (λ kind. view.period ≡ period h kind)
+  pub period_is : IfSome (needed_type view.key c) (λ kind. view.period ≡ period h kind)
   pub key_is : view.key ≡ named_key h c
 
 -- ---- what a change leads to
@@ -100,7 +100,7 @@ abbrev pub needs_by : ℕ → CustodyChange → List KeyNeed → List KeyNeed
 needs_by key (NeedSet need) sets = with_need key need sets
 needs_by key _ sets = sets
 
--- the custodians, the approvals and the needs behind the request are those before it, with the change
+-- the custodians, the approvals and the needs after the request are those before it, with the change
 pub record CustodyLead (h : List Request) (q : Request) (key : ℕ) (custody : CustodyChange) : Type 0 where
   pub custodians_are : all_custodians (h ++ q ∷ []) ≡ custodians_by key custody (all_custodians h)
   pub approvals_are : all_approvals (h ++ q ∷ []) ≡ approvals_by key custody (all_approvals h)
@@ -111,7 +111,7 @@ abbrev pub periods_by : Change → List TypePeriod → List TypePeriod
 periods_by (change.PeriodSet kind period) sets = with_period kind period sets
 periods_by _ sets = sets
 
--- the periods behind the request are those before it, with the change
+-- the periods after the request are those before it, with the change
 abbrev pub PeriodsLead : List Request → Request → Change → Type 0
 PeriodsLead h q change = all_periods (h ++ q ∷ []) ≡ periods_by change (all_periods h)
 

@@ -7,7 +7,7 @@ use Rattle.lifecycle_core.specs.Reason.{is_compromise}
 use Rattle.period_core.specs.declared.key_type.KeyType.{KeyType}
 use Rattle.period_core.specs.KeyType.{key_type_code}
 use Rattle.period_core.specs.Period.{Period}
-use Rattle.period_core.specs.Fitting.{filled, trimmed}
+use Rattle.period_core.specs.Fitting.{with_defaults, within_limits}
 use Rattle.register_core.specs.declared.request.Command.{Command}
 use Rattle.register_core.specs.declared.request.Command.TheVariants.{Register, Activate, SetDates, Revoke, Assign, AddCustodian, RemoveCustodian, Approve, Withdraw, Destroy, SetQuorum, SetPeriod}
 use Rattle.register_core.specs.declared.request.Edit.{Edit}
@@ -42,20 +42,20 @@ abbrev pub given_dates : ℕ → Option ℕ → Option ℕ → Option ℕ → Da
 given_dates t activation protect_stop deactivation =
     record no_dates { initial = t; activation = activation; protect_stop = protect_stop; deactivation = deactivation }
 
-abbrev pub edited : Edit → Option ℕ → Option ℕ
-edited Keep before = before
-edited Clear before = None
-edited (Set date) before = Some date
+abbrev pub apply_edit : Edit → Option ℕ → Option ℕ
+apply_edit Keep before = before
+apply_edit Clear before = None
+apply_edit (Set date) before = Some date
 
 -- the dates with these edits, before Fill
 abbrev pub edited_dates : Edit → Edit → Edit → Dates → Dates
 edited_dates activation protect_stop deactivation d =
-    record d { activation = edited activation d.activation; protect_stop = edited protect_stop d.protect_stop; deactivation = edited deactivation d.deactivation }
+    record d { activation = apply_edit activation d.activation; protect_stop = apply_edit protect_stop d.protect_stop; deactivation = apply_edit deactivation d.deactivation }
 
 -- a date that is later than t becomes t
-abbrev pub no_later_than : ℕ → Option ℕ → Option ℕ
-no_later_than t None = None
-no_later_than t (Some date) = Some (min date t)
+abbrev pub cut_at : ℕ → Option ℕ → Option ℕ
+cut_at t None = None
+cut_at t (Some date) = Some (min date t)
 
 -- a key that is compromised at t, with the occurrence that is given, or the Initial Date
 abbrev pub compromised : ℕ → Option ℕ → Dates → Dates
@@ -63,15 +63,15 @@ compromised t occurrence d = record d { compromise = Some t; compromise_occurren
 
 -- a key that is deactivated at t: its originator use ends no later
 abbrev pub deactivated : ℕ → Dates → Dates
-deactivated t d = record d { deactivation = Some t; protect_stop = no_later_than t d.protect_stop }
+deactivated t d = record d { deactivation = Some t; protect_stop = cut_at t d.protect_stop }
 
 -- the dates of a key after a command at the moment t, where this is the period of its type
 abbrev pub dates_after : Period → Dates → ℕ → Command → Dates
 dates_after p d t (Register kind owner activation protect_stop deactivation purpose) =
-    filled p (given_dates t activation protect_stop deactivation)
-dates_after p d t (Activate key) = trimmed p (record d { activation = Some t })
+    with_defaults p (given_dates t activation protect_stop deactivation)
+dates_after p d t (Activate key) = within_limits p (record d { activation = Some t })
 dates_after p d t (SetDates key activation protect_stop deactivation) =
-    filled p (edited_dates activation protect_stop deactivation d)
+    with_defaults p (edited_dates activation protect_stop deactivation d)
 dates_after p d t (Revoke key reason occurrence) =
     if is_compromise reason then compromised t occurrence d else deactivated t d
 dates_after p d t (Destroy key) = record d { destroy = Some t }

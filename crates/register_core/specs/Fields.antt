@@ -1,4 +1,4 @@
--- The fields of a command: what stands behind its word. A command is its kind and its fields.
+-- The fields of a command: what stands after its word. A command is its kind and its fields.
 use Rattle.std.specs.Prelude.{Option, None, Some}
 use Rattle.register_core.specs.declared.command_kind.CommandKind.{CommandKind}
 use Rattle.register_core.specs.declared.command_kind.CommandKind.TheVariants as kinds

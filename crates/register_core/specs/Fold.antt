@@ -47,7 +47,7 @@ answers = answers_in current
 abbrev pub items : List Request → List (Option Request)
 items h = map (λ (q : Request). Some q) h
 
--- a list of requests that the register comes to have accepted: each is in its range, and accepted behind those before it
+-- a list of requests that the register comes to have accepted: each is in its range, and accepted after those before it
 pub record IsLawfulIn (version : Version) (h : List Request) : Type 0 where
   pub in_range : AllByRecursion IsRequest h
   pub accepted : history_in version [] (items h) ≡ h

@@ -29,7 +29,7 @@ pub record Placed : Type 0 where
   pub before : List Request
   pub request : Request
 
--- of the requests behind this history, those that made or name key k, in order
+-- of the requests after this history, those that made or name key k, in order
 abbrev pub own_from : List Request → List Request → ℕ → List Placed
 own_from before [] k = []
 own_from before (q ∷ later) k =
@@ -46,7 +46,7 @@ own h k = own_from [] h k
 abbrev pub set_period : List Request → KeyType → Option Period
 set_period h kind = fold (λ before q. period_after kind before q.command) None h
 
--- the period of a type behind a history: the one that was set last, or the table's
+-- the period of a type after a history: the one that was set last, or the table's
 abbrev pub period : List Request → KeyType → Period
 period h kind = unwrap_or (set_period h kind) (periods kind)
 

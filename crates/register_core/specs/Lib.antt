@@ -25,4 +25,4 @@ pub mod Decision
 pub mod Need
 pub mod Fold
 pub mod Laws
-pub mod Reading
+pub mod RequestLine

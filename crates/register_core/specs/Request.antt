@@ -96,7 +96,7 @@ edit_text Keep = codes "="
 edit_text Clear = codes "-"
 edit_text (Set date) = decimal date
 
--- what stands behind a command's word: its fields, each with a space before it
+-- what stands after a command's word: its fields, each with a space before it
 abbrev pub fields_text : Fields → List ℕ
 fields_text Nothing = []
 fields_text (Key key) = codes " " ++ decimal key
@@ -114,14 +114,14 @@ fields_text (DateEdits key activation protect_stop deactivation) =
 fields_text (Revocation key reason occurrence) =
     codes " " ++ decimal key ++ codes " " ++ decimal (reason_code reason) ++ codes " " ++ date_text occurrence
 
--- the word of a command's kind, and its fields behind it
+-- the word of a command's kind, and its fields after it
 abbrev pub command_text : Command → List ℕ
 command_text c = command_kind_text (kind_of c) ++ fields_text (fields_of c)
 
 abbrev pub request_text : Request → List ℕ
 request_text q = decimal q.moment ++ codes " " ++ q.caller ++ codes " " ++ decimal q.number ++ codes " " ++ command_text q.command
 
--- the bytes, which have no LF behind them, are the line of the request
+-- the bytes, which have no LF after them, are the line of the request
 pub record IsLineOf (bytes : List ℕ) (q : Request) : Type 0 where
   pub request : IsRequest q
   pub within : length bytes ≤ max_line_length

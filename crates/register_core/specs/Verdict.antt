@@ -1,4 +1,4 @@
--- What a request comes to behind a history: it is accepted, it repeats one that was, or it is refused.
+-- What a request comes to after a history: it is accepted, it repeats one that was, or it is refused.
 use Rattle.std.specs.Prelude.{ℕ, nat_lt, nat_le, Bool, true, false, not, ◌&&◌, ◌||◌, List, [], ◌∷◌, codes, Option, None, Some, is_some, Result, Ok, Err, if◌then◌else◌}
 use Rattle.std.specs.Option.{option_and_then}
 use Rattle.std.specs.Str.{bytes_eq}
@@ -30,7 +30,7 @@ use Rattle.register_core.specs.Request.{command_text}
 use Rattle.register_core.specs.Effect.{given_dates, edited_dates}
 use Rattle.register_core.specs.Custody.{held}
 use Rattle.register_core.specs.CommandRule.{is_owners, is_custodians, is_offices, is_one_of, is_for}
-use Rattle.register_core.specs.CustodyRefusal.{refused_custody_in}
+use Rattle.register_core.specs.CustodyRefusal.{custody_refusal_in}
 use Rattle.register_core.specs.declared.version.Version.{Version}
 use Rattle.register_core.specs.Version.{current, knows}
 use Rattle.register_core.specs.Subject.{named}
@@ -38,8 +38,8 @@ use Rattle.register_core.specs.Subject.{named}
 -- ---- the refusals, each where its condition holds
 
 -- the moment is below the latest
-abbrev pub behind : ℕ → ℕ → Option Refusal
-behind last t = if nat_lt t last then Some (MomentBehind last) else None
+abbrev pub moment_refusal : ℕ → ℕ → Option Refusal
+moment_refusal last t = if nat_lt t last then Some (MomentBehind last) else None
 
 abbrev pub refusal_of_dates : DateRefusal → Refusal
 refusal_of_dates dates.DateOrder = DateOrder
@@ -51,94 +51,94 @@ refused_dates (Ok d) = None
 refused_dates (Err refusal) = Some (refusal_of_dates refusal)
 
 -- Fill, or at an activation Trim, by the period of the key's type, refuses the dates that the command gives it at t
-abbrev pub unfit : (KeyType → Period) → Option Held → ℕ → Command → Option Refusal
-unfit periods key t (Register kind owner activation protect_stop deactivation purpose) =
+abbrev pub dates_refusal : (KeyType → Period) → Option Held → ℕ → Command → Option Refusal
+dates_refusal periods key t (Register kind owner activation protect_stop deactivation purpose) =
     refused_dates (fill_of (periods kind) (given_dates t activation protect_stop deactivation))
-unfit periods (Some held) t (Activate key) =
+dates_refusal periods (Some held) t (Activate key) =
     refused_dates (trim_of (periods held.kind) (record held.row.dates { activation = Some t }))
-unfit periods (Some held) t (SetDates key activation protect_stop deactivation) =
+dates_refusal periods (Some held) t (SetDates key activation protect_stop deactivation) =
     refused_dates (fill_of (periods held.kind) (edited_dates activation protect_stop deactivation held.row.dates))
-unfit periods _ t _ = None
+dates_refusal periods _ t _ = None
 
 -- the command names a key that is not there
-abbrev pub unknown : Option Held → Command → Option Refusal
-unknown None c = if is_some (named c) then Some UnknownKey else None
-unknown (Some held) c = None
+abbrev pub key_refusal : Option Held → Command → Option Refusal
+key_refusal None c = if is_some (named c) then Some UnknownKey else None
+key_refusal (Some held) c = None
 
 -- the command is the owner's, and the caller is another
-abbrev pub not_owner : Option Held → List ℕ → Command → Option Refusal
-not_owner None caller c = None
-not_owner (Some held) caller c = if is_owners c && not (bytes_eq caller held.owner) then Some NotOwner else None
+abbrev pub owner_refusal : Option Held → List ℕ → Command → Option Refusal
+owner_refusal None caller c = None
+owner_refusal (Some held) caller c = if is_owners c && not (bytes_eq caller held.owner) then Some NotOwner else None
 
 -- the command is a custodian's, and the caller is no custodian of the key
-abbrev pub not_custodian : Option Held → List ℕ → Command → Option Refusal
-not_custodian None caller c = None
-not_custodian (Some held) caller c = if is_custodians c && not (is_among caller held.custodians) then Some NotCustodian else None
+abbrev pub custodian_refusal : Option Held → List ℕ → Command → Option Refusal
+custodian_refusal None caller c = None
+custodian_refusal (Some held) caller c = if is_custodians c && not (is_among caller held.custodians) then Some NotCustodian else None
 
 -- who sets the periods of types (own)
 abbrev pub office : List ℕ
 office = codes "office"
 
 -- the command is the office's, and the caller is another
-abbrev pub not_office : List ℕ → Command → Option Refusal
-not_office caller c = if is_offices c && not (bytes_eq caller office) then Some NotOffice else None
+abbrev pub office_refusal : List ℕ → Command → Option Refusal
+office_refusal caller c = if is_offices c && not (bytes_eq caller office) then Some NotOffice else None
 
 -- the command is not for the state that the key has at t
-abbrev pub wrong_state : Option Held → ℕ → Command → Option Refusal
-wrong_state None t c = None
-wrong_state (Some held) t c = let state = state_at held.row.dates t in if is_for c state then None else Some (WrongState state)
+abbrev pub state_refusal : Option Held → ℕ → Command → Option Refusal
+state_refusal None t c = None
+state_refusal (Some held) t c = let state = state_at held.row.dates t in if is_for c state then None else Some (WrongState state)
 
 -- an edit keeps a date only where it is =
-abbrev pub is_kept : Edit → Bool
-is_kept Keep = true
-is_kept _ = false
+abbrev pub keeps_date : Edit → Bool
+keeps_date Keep = true
+keeps_date _ = false
 
 -- an Activation Date that is not kept outside Pre-Active, or a Protect Stop at most t that is not kept
-abbrev pub frozen : Option Held → ℕ → Command → Option Refusal
-frozen (Some held) t (SetDates key activation protect_stop deactivation) =
+abbrev pub freeze_refusal : Option Held → ℕ → Command → Option Refusal
+freeze_refusal (Some held) t (SetDates key activation protect_stop deactivation) =
     let d = held.row.dates in
-    if (not (is_kept activation) && not (is_one_of (PreActive ∷ []) (state_at d t))) || (not (is_kept protect_stop) && is_reached_at d.protect_stop t)
+    if (not (keeps_date activation) && not (is_one_of (PreActive ∷ []) (state_at d t))) || (not (keeps_date protect_stop) && is_reached_at d.protect_stop t)
     then Some DateFrozen else None
-frozen _ t _ = None
+freeze_refusal _ t _ = None
 
 -- the occurrence of a compromise is after t
-abbrev pub occurs_later : ℕ → Command → Option Refusal
-occurs_later t (Revoke key reason (Some occurrence)) = if nat_lt t occurrence then Some OccurrenceLater else None
-occurs_later t _ = None
+abbrev pub occurrence_refusal : ℕ → Command → Option Refusal
+occurrence_refusal t (Revoke key reason (Some occurrence)) = if nat_lt t occurrence then Some OccurrenceLater else None
+occurrence_refusal t _ = None
 
 -- how many keys the register takes
 abbrev pub max_keys : ℕ
 max_keys = 1_000_000
 
 -- the command makes a key, and there are as many as the register takes
-abbrev pub too_many : ℕ → Command → Option Refusal
-too_many keys (Register kind owner activation protect_stop deactivation purpose) = if nat_le max_keys keys then Some Full else None
-too_many keys _ = None
+abbrev pub limit_refusal : ℕ → Command → Option Refusal
+limit_refusal keys (Register kind owner activation protect_stop deactivation purpose) = if nat_le max_keys keys then Some Full else None
+limit_refusal keys _ = None
 
 -- Each refusal of a request, in order, where its condition holds; the key is the one that it names, as it stands. First
 -- those of who asks, of which key and when;
 abbrev pub entry_refusals : ℕ → Option Held → Request → List (Option Refusal)
 entry_refusals last key q =
-    behind last q.moment
-    ∷ unknown key q.command
-    ∷ not_owner key q.caller q.command
-    ∷ not_custodian key q.caller q.command
-    ∷ not_office q.caller q.command
-    ∷ wrong_state key q.moment q.command
+    moment_refusal last q.moment
+    ∷ key_refusal key q.command
+    ∷ owner_refusal key q.caller q.command
+    ∷ custodian_refusal key q.caller q.command
+    ∷ office_refusal q.caller q.command
+    ∷ state_refusal key q.moment q.command
     ∷ []
 
-abbrev pub refused_entry : ℕ → Option Held → Request → Option Refusal
-refused_entry last key q = first_that_holds (entry_refusals last key q)
+abbrev pub entry_refusal : ℕ → Option Held → Request → Option Refusal
+entry_refusal last key q = first_that_holds (entry_refusals last key q)
 
 -- then those of what it asks, in this version and by these periods of the types.
 abbrev pub refusals : Version → ℕ → ℕ → (KeyType → Period) → Option Held → Request → List (Option Refusal)
 refusals version last keys periods key q =
-    refused_entry last key q
-    ∷ frozen key q.moment q.command
-    ∷ unfit periods key q.moment q.command
-    ∷ refused_custody_in version key q.caller q.command
-    ∷ occurs_later q.moment q.command
-    ∷ too_many keys q.command
+    entry_refusal last key q
+    ∷ freeze_refusal key q.moment q.command
+    ∷ dates_refusal periods key q.moment q.command
+    ∷ custody_refusal_in version key q.caller q.command
+    ∷ occurrence_refusal q.moment q.command
+    ∷ limit_refusal keys q.command
     ∷ []
 
 -- The refusal of a request in a version where the latest moment, the number of keys, the periods of the types and the key
@@ -154,7 +154,7 @@ judge = judge_in current
 abbrev pub named_key : List Request → Command → Option Held
 named_key h c = option_and_then (held h) (named c)
 
--- the judgement of a request behind a history: the first refusal that holds, or none
+-- the judgement of a request after a history: the first refusal that holds, or none
 abbrev pub judgement_in : Version → List Request → Request → Option Refusal
 judgement_in version h q = judge_in version (latest h) (count h) (period h) (named_key h q.command) q
 
@@ -171,7 +171,7 @@ judge_view view q = judge view.latest view.keys (always view.period) view.key q
 
 -- ---- verdicts
 
--- what a request comes to behind a history
+-- what a request comes to after a history
 pub data Verdict : Type 0 where
   Accepts : Verdict
   Repeats : Reply → Verdict
@@ -190,7 +190,7 @@ is_same_command c d = bytes_eq (command_text c) (command_text d)
 abbrev pub repeated : KeptReply → Command → Verdict
 repeated before c = if is_same_command before.command c then Repeats before.reply else Refuses RequestReused
 
--- the repeat test, which comes before the judgement: what is kept under the request's caller and number decides
+-- the repeat check, which comes before the judgement: what is kept under the request's caller and number decides
 abbrev pub unless_kept : List KeptReply → Command → Verdict → Verdict
 unless_kept [] c judged = judged
 unless_kept (before ∷ more) c judged = repeated before c

@@ -28,7 +28,7 @@ pub enum CustodyChange {
 /// What an accepted request changes, beside the latest moment.
 #[derive(Clone, Copy, Debug, PartialEq, Eq)]
 pub enum Change {
-    /// A new key comes behind the others.
+    /// A new key comes after the others.
     Made(Key),
     /// The key with this number has this owner and this row, and its custody changes so.
     Held {

@@ -1,13 +1,13 @@
-//! The text of a command, which is the end of a request's line: the word of its kind, and behind it the kind's fields.
+//! The text of a command, which is the end of a request's line: the word of its kind, and after it the kind's fields.
 ghost use Rattle.std.specs.Prelude.{◌≡◌, ◌+◌, ◌≤◌, ◌++◌, codes, decimal, length, option_map};
 ghost use Rattle.arrayvec.specs.ArrayString.{array_string_len};
 ghost use Rattle.register_core.specs.declared.fields.Fields.TheVariants.{Registration, DateEdits, TypeAndPeriod};
 ghost use Rattle.register_core.specs.declared.fields.Fields.TheVariants.{Revocation};
 ghost use Rattle.register_core.specs.Request.{fields_text, command_text};
 ghost use Rattle.register_core.specs.CommandText.{IsCommandItem};
-ghost use Rattle.register_core.specs.Reading.{register_at, edits_at, revoke_at, key_and_name_at};
-ghost use Rattle.register_core.specs.Reading.{key_and_need_at, shaped_at, behind_at, word_at};
-ghost use Rattle.register_core.specs.Reading.{command_at, type_and_period_at};
+ghost use Rattle.register_core.specs.RequestLine.{register_at, edits_at, revoke_at, key_and_name_at};
+ghost use Rattle.register_core.specs.RequestLine.{key_and_need_at, shaped_at, after_at, word_at};
+ghost use Rattle.register_core.specs.RequestLine.{command_at, type_and_period_at};
 
 use crate::command_kind::MAX_WORD_LENGTH;
 use crate::field::{
@@ -30,7 +30,7 @@ use period_core::{KeyType, Period};
 pub const MAX_COMMAND_LENGTH: usize = 400;
 
 /// The fields of a registration.
-#[tactic(auto, unfolding(crate::specs::Reading::register_at))]
+#[tactic(auto, unfolding(crate::specs::RequestLine::register_at))]
 fn register_of(bytes: &[u8]) -> Option<Fields>
     ensures { result ≡ register_at bytes.now }
 {
@@ -45,8 +45,8 @@ fn register_of(bytes: &[u8]) -> Option<Fields>
     })
 }
 
-/// The number of a key, and the name behind it.
-#[tactic(auto, unfolding(crate::specs::Reading::key_and_name_at))]
+/// The number of a key, and the name after it.
+#[tactic(auto, unfolding(crate::specs::RequestLine::key_and_name_at))]
 fn key_and_name_of(bytes: &[u8]) -> Option<(u32, Name)>
     ensures { result ≡ key_and_name_at bytes.now }
 {
@@ -55,8 +55,8 @@ fn key_and_name_of(bytes: &[u8]) -> Option<(u32, Name)>
     Some((key, name))
 }
 
-/// The number of a key, and behind it how many approvals its destruction needs.
-#[tactic(auto, unfolding(crate::specs::Reading::key_and_need_at))]
+/// The number of a key, and after it how many approvals its destruction needs.
+#[tactic(auto, unfolding(crate::specs::RequestLine::key_and_need_at))]
 fn key_and_need_of(bytes: &[u8]) -> Option<Fields>
     ensures { result ≡ key_and_need_at bytes.now }
 {
@@ -65,8 +65,8 @@ fn key_and_need_of(bytes: &[u8]) -> Option<Fields>
     Some(Fields::KeyAndNeed { key, need })
 }
 
-/// A type, and behind it the months of its period.
-#[tactic(auto, unfolding(crate::specs::Reading::type_and_period_at))]
+/// A type, and after it the months of its period.
+#[tactic(auto, unfolding(crate::specs::RequestLine::type_and_period_at))]
 fn type_and_period_of(bytes: &[u8]) -> Option<Fields>
     ensures { result ≡ type_and_period_at bytes.now }
 {
@@ -79,7 +79,7 @@ fn type_and_period_of(bytes: &[u8]) -> Option<Fields>
 }
 
 /// The fields of a change of dates.
-#[tactic(auto, unfolding(crate::specs::Reading::edits_at))]
+#[tactic(auto, unfolding(crate::specs::RequestLine::edits_at))]
 fn edits_of(bytes: &[u8]) -> Option<Fields>
     ensures { result ≡ edits_at bytes.now }
 {
@@ -93,7 +93,7 @@ fn edits_of(bytes: &[u8]) -> Option<Fields>
 }
 
 /// The fields of a revocation.
-#[tactic(auto, unfolding(crate::specs::Reading::revoke_at))]
+#[tactic(auto, unfolding(crate::specs::RequestLine::revoke_at))]
 fn revoke_of(bytes: &[u8]) -> Option<Fields>
     ensures { result ≡ revoke_at bytes.now }
 {
@@ -108,8 +108,8 @@ fn revoke_of(bytes: &[u8]) -> Option<Fields>
     })
 }
 
-/// The fields of this shape, which stand behind the space behind a word.
-#[tactic(auto, unfolding(crate::specs::Reading::keyed_at, crate::specs::Reading::named_at))]
+/// The fields of this shape, which stand after the space after a word.
+#[tactic(auto, unfolding(crate::specs::RequestLine::keyed_at, crate::specs::RequestLine::named_at))]
 fn shaped_fields(shape: Shape, bytes: &[u8]) -> Option<Fields>
     ensures { result ≡ shaped_at shape bytes.now }
 {
@@ -132,22 +132,22 @@ fn shaped_fields(shape: Shape, bytes: &[u8]) -> Option<Fields>
     }
 }
 
-/// The fields of this shape behind a word, which has a space behind it or stands alone.
-fn fields_behind(shape: Shape, behind: Option<&[u8]>) -> Option<Fields>
-    ensures { result ≡ behind_at shape (option_map (λ bytes. bytes.now) behind.entry) }
+/// The fields of this shape after a word, which has a space after it or stands alone.
+fn fields_after(shape: Shape, after: Option<&[u8]>) -> Option<Fields>
+    ensures { result ≡ after_at shape (option_map (λ bytes. bytes.now) after.entry) }
 {
-    match (behind, shape) {
+    match (after, shape) {
         (Some(bytes), _) => shaped_fields(shape, bytes),
         (None, Shape::Nothing) => Some(Fields::Nothing),
         (None, _) => None,
     }
 }
 
-/// The word at the front, and what stands behind its space where it has one.
-#[tactic(auto, unfolding(crate::specs::Reading::word_at))]
+/// The word at the start, and what stands after its space where it has one.
+#[tactic(auto, unfolding(crate::specs::RequestLine::word_at))]
 fn split_word(bytes: &[u8]) -> (&[u8], Option<&[u8]>)
     ensures word { result.0.now ≡ (word_at bytes.now).0 }
-    ensures behind { option_map (λ fields. fields.now) result.1 ≡ (word_at bytes.now).1 }
+    ensures after { option_map (λ fields. fields.now) result.1 ≡ (word_at bytes.now).1 }
 {
     match split_field(bytes) {
         Some((word, fields)) => (word, Some(fields)),
@@ -156,14 +156,14 @@ fn split_word(bytes: &[u8]) -> (&[u8], Option<&[u8]>)
 }
 
 /// The command, all of the bytes.
-#[tactic(auto, unfolding(crate::specs::Reading::command_at))]
+#[tactic(auto, unfolding(crate::specs::RequestLine::command_at))]
 pub(crate) fn command_of(bytes: &[u8]) -> Option<Command>
     ensures { result ≡ command_at bytes.now }
 {
-    let (word, behind) = split_word(bytes);
+    let (word, after) = split_word(bytes);
     let kind = command_kind_of(word)?;
     // By reference: the checker makes no proof of a `?` on fields that are held by value.
-    match &fields_behind(kind.shape(), behind) {
+    match &fields_after(kind.shape(), after) {
         Some(fields) => Command::with_fields(kind, fields),
         None => None,
     }
@@ -179,7 +179,7 @@ pub fn read_command(bytes: &[u8]) -> Option<Command>
 /// The text of a command.
 pub type CommandText = ShortText<MAX_COMMAND_LENGTH>;
 
-/// Appends a space, and behind it the number of a key.
+/// Appends a space, and after it the number of a key.
 fn put_key(text: &mut ArrayString<MAX_COMMAND_LENGTH>, key: u32)
     requires { array_string_len text.old ≤ MAX_WORD_LENGTH }
     ensures bytes { text.new.bytes ≡ text.old.bytes ++ codes " " ++ decimal key }
@@ -189,7 +189,7 @@ fn put_key(text: &mut ArrayString<MAX_COMMAND_LENGTH>, key: u32)
     put_number(text, u64::from(key));
 }
 
-/// The same with a name behind the number.
+/// The same with a name after the number.
 fn put_key_and_name(text: &mut ArrayString<MAX_COMMAND_LENGTH>, key: u32, name: &Name)
     requires { array_string_len text.old ≤ MAX_WORD_LENGTH }
     ensures { text.new.bytes ≡ text.old.bytes ++
@@ -200,7 +200,7 @@ fn put_key_and_name(text: &mut ArrayString<MAX_COMMAND_LENGTH>, key: u32, name: 
     text.push_str(name.text());
 }
 
-/// The same with a number of approvals behind it.
+/// The same with a number of approvals after it.
 fn put_key_and_need(text: &mut ArrayString<MAX_COMMAND_LENGTH>, key: u32, need: Quorum)
     requires { array_string_len text.old ≤ MAX_WORD_LENGTH }
     ensures { text.new.bytes ≡ text.old.bytes ++

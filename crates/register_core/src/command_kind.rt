@@ -28,7 +28,7 @@ pub enum CommandKind {
 #[derive(Clone, Copy, Debug)]
 struct Form {
     word: &'static str,
-    /// That of the fields behind the word.
+    /// That of the fields after the word.
     shape: Shape,
 }
 
@@ -86,7 +86,7 @@ impl CommandKind {
         self.form().word
     }
 
-    /// The shape of the fields behind that word.
+    /// The shape of the fields after that word.
     pub fn shape(self) -> Shape
         ensures { result ≡ command_shape self }
     {

@@ -4,7 +4,7 @@ ghost use Rattle.register_core.specs.Version.{current};
 ghost use Rattle.register_core.specs.CustodyRefusal.{already_custodian, no_such_custodian};
 ghost use Rattle.register_core.specs.CustodyRefusal.{too_many_custodians, owner_custodian};
 ghost use Rattle.register_core.specs.CustodyRefusal.{already_approved, no_approval};
-ghost use Rattle.register_core.specs.CustodyRefusal.{approvals_missing, refused_custody};
+ghost use Rattle.register_core.specs.CustodyRefusal.{approvals_missing, custody_refusal};
 
 use crate::name::Name;
 use crate::reply::Refusal;
@@ -110,12 +110,12 @@ fn approvals_missing(key: &Option<Held>, command: &Command) -> Option<Refusal>
 }
 
 /// The first of these refusals that holds, if one does.
-pub(crate) fn refused_custody(
+pub(crate) fn custody_refusal(
     key: &Option<Held>,
     caller: &Name,
     command: &Command,
 ) -> Option<Refusal>
-    ensures { result ≡ refused_custody key.now caller.now command.now }
+    ensures { result ≡ custody_refusal key.now caller.now command.now }
 {
     if let Some(refusal) = already_custodian(key, command) {
         return Some(refusal);

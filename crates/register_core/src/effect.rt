@@ -1,7 +1,7 @@
 //! What a command does to a key: to its dates, its owner and its custody.
 ghost use Rattle.std.specs.Prelude.{◌≡◌};
-ghost use Rattle.register_core.specs.Effect.{owner_after, no_dates, given_dates, edited};
-ghost use Rattle.register_core.specs.Effect.{edited_dates, no_later_than, dates_after, row_at};
+ghost use Rattle.register_core.specs.Effect.{owner_after, no_dates, given_dates, apply_edit};
+ghost use Rattle.register_core.specs.Effect.{edited_dates, cut_at, dates_after, row_at};
 ghost use Rattle.register_core.specs.Effect.{custody_change};
 
 use crate::change::CustodyChange;
@@ -9,7 +9,7 @@ use crate::name::Name;
 use crate::request::{Command, Edit};
 use lifecycle_core::{Dates, Row, state_of};
 use moment_core::Moment;
-use period_core::{Period, filled, trimmed};
+use period_core::{Period, with_defaults, within_limits};
 
 /// The dates of a key before it is registered: none is set.
 pub(crate) fn no_dates() -> Dates
@@ -45,8 +45,8 @@ pub fn given_dates(
 }
 
 /// The date after an edit.
-fn edited(edit: Edit, before: Option<Moment>) -> Option<Moment>
-    ensures { result ≡ edited edit before }
+fn apply_edit(edit: Edit, before: Option<Moment>) -> Option<Moment>
+    ensures { result ≡ apply_edit edit before }
 {
     match edit {
         Edit::Keep => before,
@@ -65,9 +65,9 @@ pub(crate) fn edited_dates(
     ensures { result ≡ edited_dates activation protect_stop deactivation dates.now }
 {
     Dates {
-        activation: edited(activation, dates.activation),
-        protect_stop: edited(protect_stop, dates.protect_stop),
-        deactivation: edited(deactivation, dates.deactivation),
+        activation: apply_edit(activation, dates.activation),
+        protect_stop: apply_edit(protect_stop, dates.protect_stop),
+        deactivation: apply_edit(deactivation, dates.deactivation),
         ..*dates
     }
 }
@@ -83,8 +83,8 @@ pub(crate) fn row_at(dates: Dates, at: Moment) -> Row
 }
 
 /// The earlier of the date and the moment, where the date is set.
-fn no_later_than(at: Moment, date: Option<Moment>) -> Option<Moment>
-    ensures { result ≡ no_later_than at date }
+fn cut_at(at: Moment, date: Option<Moment>) -> Option<Moment>
+    ensures { result ≡ cut_at at date }
 {
     match date {
         Some(date) if at < date => Some(at),
@@ -102,11 +102,11 @@ pub fn dates_after(period: Period, dates: &Dates, at: Moment, command: &Command)
             protect_stop,
             deactivation,
             ..
-        } => filled(
+        } => with_defaults(
             period,
             given_dates(at, activation, protect_stop, deactivation),
         ),
-        Command::Activate { .. } => trimmed(
+        Command::Activate { .. } => within_limits(
             period,
             Dates {
                 activation: Some(at),
@@ -118,7 +118,7 @@ pub fn dates_after(period: Period, dates: &Dates, at: Moment, command: &Command)
             protect_stop,
             deactivation,
             ..
-        } => filled(
+        } => with_defaults(
             period,
             edited_dates(activation, protect_stop, deactivation, dates),
         ),
@@ -133,7 +133,7 @@ pub fn dates_after(period: Period, dates: &Dates, at: Moment, command: &Command)
         },
         Command::Revoke { .. } => Dates {
             deactivation: Some(at),
-            protect_stop: no_later_than(at, dates.protect_stop),
+            protect_stop: cut_at(at, dates.protect_stop),
             ..*dates
         },
         Command::Destroy { .. } => Dates {

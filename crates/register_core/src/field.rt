@@ -4,11 +4,11 @@ ghost use Rattle.std.specs.Prelude.{codes, length, position, IsSome, IfSome, IfN
 ghost use Rattle.arrayvec.specs.ArrayString.{array_string_len};
 ghost use Rattle.lifecycle_core.specs.Reason.{reason_code};
 ghost use Rattle.register_core.specs.Request.{IsKeyNumber, date_text, edit_text};
-ghost use Rattle.register_core.specs.Reading.{Gives, is_space, field_at, field_as, moment_at};
-ghost use Rattle.register_core.specs.Reading.{date_at, edit_at, key_number_at, reason_at};
-ghost use Rattle.register_core.specs.Reading.{occurrence_at, request_number_at, name_at};
-ghost use Rattle.register_core.specs.Reading.{key_type_at, kind_at, purpose_at, quorum_at};
-ghost use Rattle.register_core.specs.Reading.{originator_at, recipient_at};
+ghost use Rattle.register_core.specs.RequestLine.{Gives, is_space, field_at, field_as, moment_at};
+ghost use Rattle.register_core.specs.RequestLine.{date_at, edit_at, key_number_at, reason_at};
+ghost use Rattle.register_core.specs.RequestLine.{occurrence_at, request_number_at, name_at};
+ghost use Rattle.register_core.specs.RequestLine.{key_type_at, kind_at, purpose_at, quorum_at};
+ghost use Rattle.register_core.specs.RequestLine.{originator_at, recipient_at};
 ghost use Rattle.register_core.specs.Quorum.{IsQuorum};
 ghost use Rattle.period_core.specs.Period.{max_months};
 
@@ -33,8 +33,8 @@ fn first_space(bytes: &[u8]) -> Option<usize>
     bytes.iter().position(|byte| *byte == b' ')
 }
 
-/// The field before the first space, and what stands behind that space.
-#[tactic(auto, unfolding(crate::specs::Reading::field_at))]
+/// The field before the first space, and what stands after that space.
+#[tactic(auto, unfolding(crate::specs::RequestLine::field_at))]
 pub(crate) fn split_field(bytes: &[u8]) -> Option<(&[u8], &[u8])>
     ensures { Gives (λ x. (x.0.now, x.1.now)) result (field_at bytes.now) }
 {
@@ -42,12 +42,12 @@ pub(crate) fn split_field(bytes: &[u8]) -> Option<(&[u8], &[u8])>
     Some((&bytes[..end], &bytes[end + 1..]))
 }
 
-/// Takes the field before the first space, and leaves what stands behind that space.
+/// Takes the field before the first space, and leaves what stands after that space.
 pub(crate) fn next_field<'a>(rest: &mut &'a [u8]) -> Option<&'a [u8]>
     ensures { Gives (λ field. (field.now, rest.new.now)) result (field_at rest.old.now) }
 {
-    let (field, behind) = split_field(rest)?;
-    *rest = behind;
+    let (field, after) = split_field(rest)?;
+    *rest = after;
     Some(field)
 }
 
@@ -79,7 +79,7 @@ pub(crate) fn moment_of(field: &[u8]) -> Option<Moment>
 }
 
 /// The date that the field writes, `-` for none.
-#[tactic(auto, unfolding(crate::specs::Reading::date_at))]
+#[tactic(auto, unfolding(crate::specs::RequestLine::date_at))]
 pub(crate) fn date_of(field: &[u8]) -> Option<Option<Moment>>
     ensures { result ≡ date_at field.now }
 {
@@ -92,7 +92,7 @@ pub(crate) fn date_of(field: &[u8]) -> Option<Option<Moment>>
 
 /// What the field says of a date: `=` that it stays, `-` that it is unset, or the moment to set it
 /// to.
-#[tactic(auto, unfolding(crate::specs::Reading::edit_at))]
+#[tactic(auto, unfolding(crate::specs::RequestLine::edit_at))]
 pub(crate) fn edit_of(field: &[u8]) -> Option<Edit>
     ensures { result ≡ edit_at field.now }
 {
@@ -124,7 +124,7 @@ pub(crate) fn key_number_of(field: &[u8]) -> Option<u32>
     key_number(read_decimal(field)?)
 }
 
-/// The key's number before the first space, and what stands behind that space.
+/// The key's number before the first space, and what stands after that space.
 pub(crate) fn split_key_number(bytes: &[u8]) -> Option<(u32, &[u8])>
     ensures { Gives (λ x. (x.0, x.1.now)) result (field_as key_number_at bytes.now) }
 {
@@ -149,7 +149,7 @@ pub(crate) fn reason_of(field: &[u8]) -> Option<Reason>
 }
 
 /// The occurrence that the field writes: a date with a compromise, else `-` alone.
-#[tactic(auto, unfolding(crate::specs::Reading::occurrence_at))]
+#[tactic(auto, unfolding(crate::specs::RequestLine::occurrence_at))]
 pub(crate) fn occurrence_of(reason: Reason, field: &[u8]) -> Option<Option<Moment>>
     ensures { result ≡ occurrence_at reason field.now }
 {
@@ -250,7 +250,7 @@ pub(crate) fn put_number<const N: usize>(line: &mut ArrayString<N>, number: u64)
     line.push_str(digits.format(number));
 }
 
-/// Appends a space, and behind it the date, `-` for none.
+/// Appends a space, and after it the date, `-` for none.
 pub(crate) fn put_date<const N: usize>(line: &mut ArrayString<N>, date: Option<Moment>)
     requires { array_string_len line.old + 21 ≤ N }
     ensures bytes { line.new.bytes ≡ line.old.bytes ++ codes " " ++ date_text date }
@@ -263,7 +263,7 @@ pub(crate) fn put_date<const N: usize>(line: &mut ArrayString<N>, date: Option<M
     }
 }
 
-/// Appends a space, and behind it what becomes of a date.
+/// Appends a space, and after it what becomes of a date.
 pub(crate) fn put_edit<const N: usize>(line: &mut ArrayString<N>, edit: Edit)
     requires { array_string_len line.old + 21 ≤ N }
     ensures bytes { line.new.bytes ≡ line.old.bytes ++ codes " " ++ edit_text edit }

@@ -27,7 +27,7 @@ pub enum Shape {
     Revocation,
 }
 
-/// What stands behind a command's word.
+/// What stands after a command's word.
 #[derive(Clone, Copy, Debug)]
 pub enum Fields {
     /// The word stands alone.
@@ -108,7 +108,7 @@ impl Fields {
 }
 
 /// The command of this kind, whose word stands alone.
-fn bare(kind: CommandKind) -> Option<Command>
+fn bare_command(kind: CommandKind) -> Option<Command>
     ensures { result ≡ command_with kind Nothing }
 {
     match kind {
@@ -118,7 +118,7 @@ fn bare(kind: CommandKind) -> Option<Command>
 }
 
 /// The command of this kind on a key alone.
-fn keyed(kind: CommandKind, key: u32) -> Option<Command>
+fn keyed_command(kind: CommandKind, key: u32) -> Option<Command>
     ensures { result ≡ command_with kind (Key key) }
 {
     match kind {
@@ -131,7 +131,7 @@ fn keyed(kind: CommandKind, key: u32) -> Option<Command>
 }
 
 /// The command of this kind on a key and a name.
-fn named(kind: CommandKind, key: u32, name: Name) -> Option<Command>
+fn named_command(kind: CommandKind, key: u32, name: Name) -> Option<Command>
     ensures { result ≡ command_with kind (KeyAndName key name) }
 {
     match kind {
@@ -142,7 +142,7 @@ fn named(kind: CommandKind, key: u32, name: Name) -> Option<Command>
 }
 
 impl Command {
-    /// What stands behind the command's word.
+    /// What stands after the command's word.
     #[rattlefmt::skip]
     pub fn fields(&self) -> Fields
         ensures { result ≡ fields_of self.now }
@@ -175,9 +175,9 @@ impl Command {
     {
         use CommandKind as Kind;
         match *fields {
-            Fields::Nothing => bare(kind),
-            Fields::Key { key } => keyed(kind, key),
-            Fields::KeyAndName { key, name } => named(kind, key, name),
+            Fields::Nothing => bare_command(kind),
+            Fields::Key { key } => keyed_command(kind, key),
+            Fields::KeyAndName { key, name } => named_command(kind, key, name),
             Fields::KeyAndOwner { key, owner } => match kind {
                 Kind::Assign => Some(Command::Assign { key, owner }),
                 _ => None,

@@ -1,6 +1,6 @@
 //! What a decision on a request looks at.
 ghost use Rattle.std.specs.Prelude.{◌≡◌};
-ghost use Rattle.register_core.specs.Need.{type_needed};
+ghost use Rattle.register_core.specs.Need.{needed_type};
 
 use crate::request::Command;
 use crate::view::Held;
@@ -8,8 +8,8 @@ use period_core::KeyType;
 
 /// The type whose usage period the dates that the command gives are held to: the registered type, or that of the key
 /// that the command names. `None` where it gives no dates, or the key is not there.
-pub fn type_needed(key: &Option<Held>, command: &Command) -> Option<KeyType>
-    ensures { result ≡ type_needed key.now command.now }
+pub fn needed_type(key: &Option<Held>, command: &Command) -> Option<KeyType>
+    ensures { result ≡ needed_type key.now command.now }
 {
     match (key, command) {
         (_, Command::Register { kind, .. }) => Some(*kind),

@@ -1,12 +1,12 @@
 //! The verdict on a request, where the key that it names is known.
 ghost use Rattle.std.specs.Prelude.{◌≡◌, IsSome};
-ghost use Rattle.register_core.specs.Verdict.{refused_dates, behind, unknown, not_owner};
-ghost use Rattle.register_core.specs.Verdict.{not_custodian, not_office, wrong_state};
-ghost use Rattle.register_core.specs.Verdict.{is_kept, frozen, unfit, refused_entry, occurs_later};
-ghost use Rattle.register_core.specs.Verdict.{too_many, always, judge_view};
+ghost use Rattle.register_core.specs.Verdict.{refused_dates, moment_refusal, key_refusal, owner_refusal};
+ghost use Rattle.register_core.specs.Verdict.{custodian_refusal, office_refusal, state_refusal};
+ghost use Rattle.register_core.specs.Verdict.{keeps_date, freeze_refusal, dates_refusal, entry_refusal, occurrence_refusal};
+ghost use Rattle.register_core.specs.Verdict.{limit_refusal, always, judge_view};
 ghost use Rattle.period_core.specs.Fitting.{fill_of, trim_of};
 
-use crate::custody_refusal::refused_custody;
+use crate::custody_refusal::custody_refusal;
 use crate::effect::{edited_dates, given_dates};
 use crate::limits::{MAX_KEYS, OFFICE};
 use crate::name::Name;
@@ -18,8 +18,8 @@ use moment_core::Moment;
 use period_core::{Period, fill, trim};
 
 /// The moment is below the latest.
-fn behind(latest: Moment, at: Moment) -> Option<Refusal>
-    ensures { result ≡ behind latest at }
+fn moment_refusal(latest: Moment, at: Moment) -> Option<Refusal>
+    ensures { result ≡ moment_refusal latest at }
 {
     if at < latest {
         Some(Refusal::MomentBehind { latest })
@@ -29,8 +29,8 @@ fn behind(latest: Moment, at: Moment) -> Option<Refusal>
 }
 
 /// The command names a key that is not there.
-fn unknown(key: &Option<Held>, command: &Command) -> Option<Refusal>
-    ensures { result ≡ unknown key.now command.now }
+fn key_refusal(key: &Option<Held>, command: &Command) -> Option<Refusal>
+    ensures { result ≡ key_refusal key.now command.now }
 {
     match (key, command.key()) {
         (None, Some(_)) => Some(Refusal::UnknownKey),
@@ -39,8 +39,8 @@ fn unknown(key: &Option<Held>, command: &Command) -> Option<Refusal>
 }
 
 /// The command is the owner's, and the caller is another.
-fn not_owner(key: &Option<Held>, caller: &Name, command: &Command) -> Option<Refusal>
-    ensures { result ≡ not_owner key.now caller.now command.now }
+fn owner_refusal(key: &Option<Held>, caller: &Name, command: &Command) -> Option<Refusal>
+    ensures { result ≡ owner_refusal key.now caller.now command.now }
 {
     match key {
         Some(held)
@@ -52,8 +52,8 @@ fn not_owner(key: &Option<Held>, caller: &Name, command: &Command) -> Option<Ref
 }
 
 /// The command is a custodian's, and the caller is no custodian of the key.
-fn not_custodian(key: &Option<Held>, caller: &Name, command: &Command) -> Option<Refusal>
-    ensures { result ≡ not_custodian key.now caller.now command.now }
+fn custodian_refusal(key: &Option<Held>, caller: &Name, command: &Command) -> Option<Refusal>
+    ensures { result ≡ custodian_refusal key.now caller.now command.now }
 {
     match key {
         Some(held) if command.is_custodians() && !held.custodians.contains(caller) => {
@@ -64,8 +64,8 @@ fn not_custodian(key: &Option<Held>, caller: &Name, command: &Command) -> Option
 }
 
 /// The command is the office's, and the caller is another.
-fn not_office(caller: &Name, command: &Command) -> Option<Refusal>
-    ensures { result ≡ not_office caller.now command.now }
+fn office_refusal(caller: &Name, command: &Command) -> Option<Refusal>
+    ensures { result ≡ office_refusal caller.now command.now }
 {
     if command.is_offices() && caller.text() != OFFICE {
         Some(Refusal::NotOffice)
@@ -75,8 +75,8 @@ fn not_office(caller: &Name, command: &Command) -> Option<Refusal>
 }
 
 /// The command is not for the state that the key has at the moment.
-fn wrong_state(key: &Option<Held>, at: Moment, command: &Command) -> Option<Refusal>
-    ensures { result ≡ wrong_state key.now at command.now }
+fn state_refusal(key: &Option<Held>, at: Moment, command: &Command) -> Option<Refusal>
+    ensures { result ≡ state_refusal key.now at command.now }
 {
     match key {
         Some(held) => {
@@ -92,16 +92,16 @@ fn wrong_state(key: &Option<Held>, at: Moment, command: &Command) -> Option<Refu
 }
 
 /// Whether the edit keeps its date.
-fn is_kept(edit: Edit) -> bool
-    ensures { result ≡ is_kept edit }
+fn keeps_date(edit: Edit) -> bool
+    ensures { result ≡ keeps_date edit }
 {
     matches!(edit, Edit::Keep)
 }
 
 /// An Activation Date that is not kept outside Pre-Active, or a Protect Stop that is reached and
 /// not kept.
-fn frozen(key: &Option<Held>, at: Moment, command: &Command) -> Option<Refusal>
-    ensures { result ≡ frozen key.now at command.now }
+fn freeze_refusal(key: &Option<Held>, at: Moment, command: &Command) -> Option<Refusal>
+    ensures { result ≡ freeze_refusal key.now at command.now }
 {
     match (key, command) {
         (
@@ -118,7 +118,9 @@ fn frozen(key: &Option<Held>, at: Moment, command: &Command) -> Option<Refusal>
                 Some(stop) => stop <= at,
                 None => false,
             };
-            if (!is_kept(*activation) && is_active) || (!is_kept(*protect_stop) && is_stopped) {
+            if (!keeps_date(*activation) && is_active)
+                || (!keeps_date(*protect_stop) && is_stopped)
+            {
                 Some(Refusal::DateFrozen)
             } else {
                 None
@@ -129,7 +131,7 @@ fn frozen(key: &Option<Held>, at: Moment, command: &Command) -> Option<Refusal>
 }
 
 /// The refusal of dates that do not fit the period with their defaults, if they have one.
-fn refused(period: Period, mut dates: Dates) -> Option<Refusal>
+fn fill_refusal(period: Period, mut dates: Dates) -> Option<Refusal>
     ensures { result ≡ refused_dates (fill_of period dates) }
 {
     match fill(period, &mut dates) {
@@ -139,7 +141,7 @@ fn refused(period: Period, mut dates: Dates) -> Option<Refusal>
 }
 
 /// The refusal of dates that do not fit the period once they are trimmed to it, if they have one.
-fn refused_trimmed(period: Period, mut dates: Dates) -> Option<Refusal>
+fn trim_refusal(period: Period, mut dates: Dates) -> Option<Refusal>
     requires { IsSome dates.activation }
     ensures { result ≡ refused_dates (trim_of period dates) }
 {
@@ -150,8 +152,13 @@ fn refused_trimmed(period: Period, mut dates: Dates) -> Option<Refusal>
 }
 
 /// The refusal of the dates that the command gives at the moment, if they have one by this period.
-fn unfit(period: Period, key: &Option<Held>, at: Moment, command: &Command) -> Option<Refusal>
-    ensures { result ≡ unfit (always period) key.now at command.now }
+fn dates_refusal(
+    period: Period,
+    key: &Option<Held>,
+    at: Moment,
+    command: &Command,
+) -> Option<Refusal>
+    ensures { result ≡ dates_refusal (always period) key.now at command.now }
 {
     match (key, *command) {
         (
@@ -162,11 +169,11 @@ fn unfit(period: Period, key: &Option<Held>, at: Moment, command: &Command) -> O
                 deactivation,
                 ..
             },
-        ) => refused(
+        ) => fill_refusal(
             period,
             given_dates(at, activation, protect_stop, deactivation),
         ),
-        (Some(held), Command::Activate { .. }) => refused_trimmed(
+        (Some(held), Command::Activate { .. }) => trim_refusal(
             period,
             Dates {
                 activation: Some(at),
@@ -181,7 +188,7 @@ fn unfit(period: Period, key: &Option<Held>, at: Moment, command: &Command) -> O
                 deactivation,
                 ..
             },
-        ) => refused(
+        ) => fill_refusal(
             period,
             edited_dates(activation, protect_stop, deactivation, &held.row.dates),
         ),
@@ -190,8 +197,8 @@ fn unfit(period: Period, key: &Option<Held>, at: Moment, command: &Command) -> O
 }
 
 /// The occurrence of a compromise is after the moment.
-fn occurs_later(at: Moment, command: &Command) -> Option<Refusal>
-    ensures { result ≡ occurs_later at command.now }
+fn occurrence_refusal(at: Moment, command: &Command) -> Option<Refusal>
+    ensures { result ≡ occurrence_refusal at command.now }
 {
     match *command {
         Command::Revoke {
@@ -203,8 +210,8 @@ fn occurs_later(at: Moment, command: &Command) -> Option<Refusal>
 }
 
 /// The command makes a key, and there are as many as the register takes.
-fn too_many(keys: u32, command: &Command) -> Option<Refusal>
-    ensures { result ≡ too_many keys command.now }
+fn limit_refusal(keys: u32, command: &Command) -> Option<Refusal>
+    ensures { result ≡ limit_refusal keys command.now }
 {
     match command {
         Command::Register { .. } if keys >= MAX_KEYS => Some(Refusal::Full),
@@ -213,27 +220,27 @@ fn too_many(keys: u32, command: &Command) -> Option<Refusal>
 }
 
 /// The first refusal of who asks, of which key and when, if one holds.
-fn refused_entry(view: &View, request: &Request) -> Option<Refusal>
-    ensures { result ≡ refused_entry view.now.latest view.now.key request.now }
+fn entry_refusal(view: &View, request: &Request) -> Option<Refusal>
+    ensures { result ≡ entry_refusal view.now.latest view.now.key request.now }
 {
     let at = request.moment;
     let command = &request.command;
-    if let Some(refusal) = behind(view.latest, at) {
+    if let Some(refusal) = moment_refusal(view.latest, at) {
         return Some(refusal);
     }
-    if let Some(refusal) = unknown(&view.key, command) {
+    if let Some(refusal) = key_refusal(&view.key, command) {
         return Some(refusal);
     }
-    if let Some(refusal) = not_owner(&view.key, &request.caller, command) {
+    if let Some(refusal) = owner_refusal(&view.key, &request.caller, command) {
         return Some(refusal);
     }
-    if let Some(refusal) = not_custodian(&view.key, &request.caller, command) {
+    if let Some(refusal) = custodian_refusal(&view.key, &request.caller, command) {
         return Some(refusal);
     }
-    if let Some(refusal) = not_office(&request.caller, command) {
+    if let Some(refusal) = office_refusal(&request.caller, command) {
         return Some(refusal);
     }
-    wrong_state(&view.key, at, command)
+    state_refusal(&view.key, at, command)
 }
 
 /// The first refusal of the request that holds, or `None`: it is accepted.
@@ -242,20 +249,20 @@ pub fn judge(view: &View, request: &Request) -> Option<Refusal>
 {
     let at = request.moment;
     let command = &request.command;
-    if let Some(refusal) = refused_entry(view, request) {
+    if let Some(refusal) = entry_refusal(view, request) {
         return Some(refusal);
     }
-    if let Some(refusal) = frozen(&view.key, at, command) {
+    if let Some(refusal) = freeze_refusal(&view.key, at, command) {
         return Some(refusal);
     }
-    if let Some(refusal) = unfit(view.period, &view.key, at, command) {
+    if let Some(refusal) = dates_refusal(view.period, &view.key, at, command) {
         return Some(refusal);
     }
-    if let Some(refusal) = refused_custody(&view.key, &request.caller, command) {
+    if let Some(refusal) = custody_refusal(&view.key, &request.caller, command) {
         return Some(refusal);
     }
-    if let Some(refusal) = occurs_later(at, command) {
+    if let Some(refusal) = occurrence_refusal(at, command) {
         return Some(refusal);
     }
-    too_many(view.keys, command)
+    limit_refusal(view.keys, command)
 }

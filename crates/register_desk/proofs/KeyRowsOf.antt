@@ -23,12 +23,12 @@ use Rattle.register_core.specs.Laws.{HasKey}
 use Rattle.register_core.specs.Request.{IsDate}
 use Rattle.register_core.proofs.DateRanges.{stop_in_range}
 use Rattle.register_core.proofs.UnsetPeriods.{none_long}
-use Rattle.register_store.specs.Making.{key_at}
+use Rattle.register_store.specs.TableChanges.{key_at}
 use Rattle.register_store.specs.Tables.{numbered}
 use Rattle.register_store.proofs.DueFound.{one_number}
 use Rattle.register_store.proofs.KeyFound.{at_number}
 use Rattle.register_desk.specs.Register.{tables}
-use Rattle.register_desk.specs.Rows.{all_rows, row_of}
+use Rattle.register_desk.specs.KeyRows.{all_rows, row_of}
 use Rattle.register_desk.proofs.Grows.{found_key, keys_counted}
 use Rattle.register_desk.proofs.RowWalk.{key_next}
 

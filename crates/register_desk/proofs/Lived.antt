@@ -20,15 +20,15 @@ use Rattle.std.proofs.Math.Logic.{∥∥₁_map, ∥∥₁_elim}
 use Rattle.sqlite.specs.Recovery.{Image}
 use Rattle.register_core.specs.Fold.{IsLawful}
 use Rattle.register_desk.proofs.Lives.{empty_lawful, lawful_on}
-use Rattle.register_desk.specs.Files.{FileLife, HoldsAfter, HoldsOneOf, HoldsRegister, LeadOn, left_by}
+use Rattle.register_desk.specs.DatabaseFiles.{FileLife, HoldsAfter, HoldsOneOf, HoldsRegister, LeadOn, left_by}
 use Rattle.register_desk.specs.Input.{AreItems}
-use Rattle.register_desk.specs.Leaving.{IsClean, IsWhole}
+use Rattle.register_desk.specs.Desk.{IsClean, IsWhole}
 use Rattle.register_desk.specs.Lives.{after, applied, AreInRange, IsLife, LeavesLife, life_of, LivesSome}
 use Rattle.register_desk.specs.Lives.{MayApplyOneMore}
 use Rattle.register_desk.specs.Register.{StandsFor, tables}
 use Rattle.register_desk.specs.Run.{Answered, LeavesDesk, RunsOver}
-use Rattle.register_desk.specs.Serving.{Served, ServedInPart, ServesTo}
-use Rattle.register_desk.proofs.Answering.{front_so, stopped_so}
+use Rattle.register_desk.specs.RunProgress.{Served, ServedInPart, ServesTo}
+use Rattle.register_desk.proofs.Answering.{prefix_so, stopped_so}
 
 -- ---- items of lines are in range
 
@@ -142,14 +142,14 @@ module _ {S : Type 0} (g : Ghosts S) (h : List Request) (before old new : Option
   answered : (middle : Option (List ℕ)) (served : Served g before middle old new kept now replies)
       → Answered g h served.items replies old new now
   answered middle served =
-      front_so g served.items served.items replies served.counted [] (sym (append-nil served.items)) h old new kept
+      prefix_so g served.items served.items replies served.counted [] (sym (append-nil served.items)) h old new kept
       now served.so_far stands clean
 
   in_range_so_far : (middle w : Option (List ℕ)) (mid : Desk S g)
       (served : Served g before middle old w kept mid replies) → AreInRange served.items
   in_range_so_far middle w mid served = items_in_range served.lines served.items served.took.each
 
-  -- the item in hand behind them
+  -- the item in hand after them
   lives_in_hand : (end : End) → LeavesDesk kept now (Ended end) → ServedInPart g before old new kept now replies end
       → LivesSome g h (Ended end) replies old new kept now
   lives_in_hand end leaves serves =

@@ -34,16 +34,16 @@ use Rattle.register_core.specs.Verdict.{always, answer_by, judge, judge_view, Re
 use Rattle.register_core.proofs.Needed.{judge_by, changed_by}
 use Rattle.register_core.proofs.Lawful.{all_more}
 use Rattle.register_store.specs.Change.{made_count, with_change}
-use Rattle.register_store.specs.Making as tabled
-use Rattle.register_store.specs.Making.{AreRightAt, advanced, held_by, where_number, with_keys_advanced}
-use Rattle.register_store.specs.Reading.{seen}
+use Rattle.register_store.specs.TableChanges as tabled
+use Rattle.register_store.specs.TableChanges.{AreRightAt, advanced, held_by, where_number, with_keys_advanced}
+use Rattle.register_store.specs.TableReads.{seen}
 use Rattle.register_store.specs.Schema.{Holds}
 use Rattle.register_store.specs.Tables.{Tables}
-use Rattle.register_desk.specs.Custody.{IsViewOver, key_needed, period_over}
+use Rattle.register_desk.specs.TablesView.{IsViewOver, key_needed, period_over}
 use Rattle.register_desk.specs.declared.desk.Desk.{Desk}
-use Rattle.register_desk.specs.Leaving.{AcceptsOver, IsOverAfter, IsOverWithRequest}
+use Rattle.register_desk.specs.Desk.{AcceptsOver, IsOverAfter, IsOverWithRequest}
 use Rattle.register_desk.specs.Register.{IsOver}
-use Rattle.register_desk.specs.Step.{CanTake, with_request}
+use Rattle.register_store.specs.AcceptedRequest.{CanTake, with_request}
 
 -- ---- how many keys there are
 

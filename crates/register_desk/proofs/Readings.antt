@@ -6,15 +6,15 @@ use Rattle.register_store.specs.declared.counted.Counted.{Counted}
 use Rattle.register_core.specs.declared.request.Request.{Request}
 use Rattle.register_store.specs.declared.error.StoreError.{StoreError}
 use Rattle.register_store.specs.declared.error.StoreError.TheVariants.{Database, Memory, NoRegister}
-use Rattle.register_store.specs.Reading.{seen, HoldsWhereOpen, KeepsSight, ReadsBy}
+use Rattle.register_store.specs.TableReads.{seen, HoldsWhereOpen, KeepsSight, ReadsBy}
 use Rattle.register_store.specs.Tables.{Tables}
 use Rattle.register_store.specs.Schema.{Holds}
 use Rattle.register_desk.specs.declared.desk.Desk.{Desk}
 use Rattle.register_desk.specs.declared.end.End.{End}
 use Rattle.register_desk.specs.declared.end.End.TheVariants as ends
-use Rattle.register_desk.specs.Leaving.{IsWhole, IsBroken, IsClean, EndsBy, ChangesNothing, KeepsCounts}
-use Rattle.register_desk.specs.Loading.{KeepsAll}
-use Rattle.register_store.specs.Making.{AreRightAt}
+use Rattle.register_desk.specs.Desk.{IsWhole, IsBroken, IsClean, EndsBy, ChangesNothing, KeepsCounts}
+use Rattle.register_desk.specs.DeskCalls.{KeepsAll}
+use Rattle.register_store.specs.TableChanges.{AreRightAt}
 use Rattle.register_desk.specs.Register.{tables, IsOver, StandsFor, Sees, Keeps, Leaves}
 
 -- a stop leaves what it left before
@@ -74,7 +74,7 @@ module _ {S : Type 0} (g : store.Ghosts S) where
     stop = λ t sees whole clean. (sees whole clean).leaves;
   }
 
-  -- one behind another
+  -- one after another
   pub nothing_then : (old mid new : Desk S g) → ChangesNothing g old mid → (IsWhole old → IsWhole mid)
       → ChangesNothing g mid new → ChangesNothing g old new
   nothing_then old mid new one whole two = record {
@@ -84,7 +84,7 @@ module _ {S : Type 0} (g : store.Ghosts S) where
     stop = λ t sees was_whole clean. two.stop t (one.rows t sees) (whole was_whole) clean;
   }
 
-  -- a desk that breaks behind that
+  -- a desk that breaks after that
   pub then_broken : (old mid new : Desk S g) → ChangesNothing g old mid → KeepsAll mid new → IsBroken new
       → ChangesNothing g old new
   then_broken old mid new nothing same broken = record {

@@ -7,7 +7,7 @@ use std::io::{Error, ErrorKind, Read, Result, Write};
 pub enum Trouble {
     /// Each turn fails by `BrokenPipe`.
     Fails,
-    /// One turn fails so, and those behind it go well.
+    /// One turn fails so, and those after it go well.
     FailsOnce,
     /// A read or a write takes no byte; a flush goes well.
     TakesNothing,
@@ -47,7 +47,7 @@ impl Troubling for Trouble {
 #[derive(Drop)]
 pub struct Counted {
     pub trouble: Trouble,
-    /// Whether each turn behind the good ones is troubled; else one is, and those behind it go well.
+    /// Whether each turn after the good ones is troubled; else one is, and those after it go well.
     pub stays: bool,
     /// Counts each turn, the good ones too.
     pub turns: Counter,

@@ -9,11 +9,11 @@ use Rattle.register_core.specs.Fold.{IsLawful}
 use Rattle.register_desk.specs.declared.desk.Desk.{Desk}
 use Rattle.register_desk.specs.declared.runs.Finish.{Finish}
 use Rattle.register_desk.specs.declared.runs.Outcome.{Outcome}
-use Rattle.register_desk.specs.Files.{HoldsRegister}
-use Rattle.register_desk.specs.Leaving.{IsClean, IsWhole}
+use Rattle.register_desk.specs.DatabaseFiles.{HoldsRegister}
+use Rattle.register_desk.specs.Desk.{IsClean, IsWhole}
 use Rattle.register_desk.specs.Register.{StandsFor}
 use Rattle.register_desk.specs.Lives.{LeavesLife, LivesSome as RunsSome, life_of}
-use Rattle.register_files.specs.Calls.{LivesAnyway}
+use Rattle.register_files.specs.FileCalls.{LivesAnyway}
 use Rattle.register_files.specs.Life.{LeadsOnTo, LeavesLifeInFiles, LivesSome}
 
 module _ {S : Type 0} (g : Ghosts S) (may_leave : Image → Type 0) (outcome : Outcome) (old new : Option (List ℕ))

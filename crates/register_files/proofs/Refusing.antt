@@ -15,14 +15,14 @@ use Rattle.register_core.specs.Fold.{IsLawful, IsLawfulIn}
 use Rattle.register_desk.specs.declared.opening.OpenRefusal.{OpenRefusal}
 use Rattle.register_desk.specs.declared.opening.OpenRefusal.TheVariants.{Memory, NewerVersion, NotARegister, Store}
 use Rattle.register_desk.specs.declared.opening.Unopened.{Unopened}
-use Rattle.register_desk.specs.Files.{HoldsRegister, ShowsFiles}
-use Rattle.register_desk.specs.Opening.{IsMadeIn, IsReasonOf, IsTakenIn, LeavesBehind, LeavesCommitted, LeavesMade}
-use Rattle.register_desk.specs.Opening.{LeavesStored, RefusesNoTable, ShowsTable}
+use Rattle.register_desk.specs.DatabaseFiles.{HoldsRegister, ShowsFiles}
+use Rattle.register_desk.specs.OpenRefusal.{IsMadeIn, IsReasonOf, IsTakenIn, LeavesBehind, LeavesCommitted, LeavesMade}
+use Rattle.register_desk.specs.OpenRefusal.{LeavesStored, RefusesNoTable, ShowsTable}
 use Rattle.register_desk.specs.Register.{HasHistoryIn}
 use Rattle.register_desk.proofs.Found.{finds_register, lawful_there, registered_left}
 use Rattle.register_desk.proofs.Opened.{stored_in}
 use Rattle.register_files.specs.declared.register_file.Refused.{Refused}
-use Rattle.register_files.specs.Calls.{MakesRegister}
+use Rattle.register_files.specs.FileCalls.{MakesRegister}
 use Rattle.register_files.specs.Life.{ClosesAs, GivesBack, IsFoundIn, LeavesBehindIn, LeavesFound, LeavesInFiles}
 use Rattle.register_files.specs.Life.{RefusesFiles, Refuses, RefusesMaking, RefusesToMake, SparesRegister}
 
@@ -94,7 +94,7 @@ module _ {S : Type 0} (g : Ghosts S) (may_leave : S → Image → Type 0) (found
         → IsReasonOf (state g old) (state g new) refusal)
         (spared : (version : Version) (h : List Request) → IsLawfulIn version h
         → HasHistoryIn version h (state g old) → HasCleanDisk (state g new) → RefusesNoTable refusal)
-        (behind : LeavesBehind refusal (state g old) (state g new))
+        (after : LeavesBehind refusal (state g old) (state g new))
         (stored : (version : Version) (h : List Request) → IsLawfulIn version h → HasHistoryIn version h (state g old)
         → LeavesStored (stored_in version h) (state g old) (state g new)) where
       module _ (it : S) (closes : ClosesAs g new it) (clean : IsCleanStore (g.view it)) where
@@ -131,7 +131,7 @@ module _ {S : Type 0} (g : Ghosts S) (may_leave : S → Image → Type 0) (found
         reason = subst (λ (r : OpenRefusal). IsReasonOf (state g old) (state g new) r) (sym same)
             (reason (closes.clean clean));
         leaves = subst (λ (r : OpenRefusal). LeavesBehindIn r found (state g old) (may_leave it)) (sym same)
-            (left_behind it closes clean refusal behind);
+            (left_behind it closes clean refusal after);
       }
 
       spares_register : (it : S) → ClosesAs g new it → (given : OpenRefusal) → given ≡ refusal → (h : List Request)

@@ -5,8 +5,8 @@ ghost use Rattle.sqlite.specs.Held.{AreDatabases, state};
 ghost use Rattle.sqlite.specs.Recovery.{Image};
 ghost use Rattle.sqlite.specs.State.{HasCleanDisk};
 ghost use Rattle.sqlite.specs.Tree.{Trees};
-ghost use Rattle.register_desk.specs.Files.{ShowsFiles};
-ghost use Rattle.register_desk.specs.Opening.{RefusesNoTable};
+ghost use Rattle.register_desk.specs.DatabaseFiles.{ShowsFiles};
+ghost use Rattle.register_desk.specs.OpenRefusal.{RefusesNoTable};
 
 use register_desk::OpenRefusal;
 use sqlite::{Alter, Connection};
@@ -38,7 +38,7 @@ pub trait Files {
         ensures blames_none { IfErr result RefusesNoTable };
 
     /// Copies the log into the database file. What cannot be copied stays in the log, where the next opening finds it.
-    fn copy_log(left: Self::Opened);
+    fn checkpoint(left: Self::Opened);
 
     /// An opening of what a stop leaves finds a database that the store may come back as.
     ghost opens_again: { (it : Self.Opened) → IsTrue (Self.Opened.Store.view it).is_numbered

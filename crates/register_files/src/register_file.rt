@@ -4,12 +4,12 @@ ghost use Rattle.sqlite_trees.specs.View.{IsClean as IsCleanStore};
 ghost use Rattle.register_core.specs.declared.request.Request.{Request};
 ghost use Rattle.register_core.specs.Fold.{IsLawful};
 ghost use Rattle.register_desk.specs.declared.runs.Finish.{Finish};
-ghost use Rattle.register_desk.specs.Files.{HoldsRegister};
-ghost use Rattle.register_desk.specs.Leaving.{IsClean, IsWhole, LeavesEither};
+ghost use Rattle.register_desk.specs.DatabaseFiles.{HoldsRegister};
+ghost use Rattle.register_desk.specs.Desk.{IsClean, IsWhole, LeavesEither};
 ghost use Rattle.register_desk.specs.Lives.{LeavesLife};
 ghost use Rattle.register_desk.specs.Register.{StandsFor};
-ghost use Rattle.register_files.specs.Calls.{Exports, ImportsRows, MakesRegister, Reports};
-ghost use Rattle.register_files.specs.Calls.{RunsLines, ServesExchanges};
+ghost use Rattle.register_files.specs.FileCalls.{Exports, ImportsRows, MakesRegister, Reports};
+ghost use Rattle.register_files.specs.FileCalls.{RunsLines, ServesExchanges};
 ghost use Rattle.register_files.specs.Life.{ClosesAs, LeavesInFiles, LeavesLifeInFiles, Refuses};
 
 use crate::files::Files;

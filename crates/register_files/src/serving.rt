@@ -1,10 +1,10 @@
 //! Serves connections one after the other, one HTTP exchange each.
 ghost use Rattle.std.specs.Prelude.{◌≡◌, List};
 ghost use Rattle.register_core.specs.declared.request.Request.{Request};
-ghost use Rattle.register_desk.specs.Leaving.{IsClean, IsWhole};
+ghost use Rattle.register_desk.specs.Desk.{IsClean, IsWhole};
 ghost use Rattle.register_desk.specs.Register.{StandsFor};
-ghost use Rattle.register_http.specs.Items.{LeavesOne};
-ghost use Rattle.register_files.specs.Serving.{EndsServing, LeavesSome, goes_on};
+ghost use Rattle.register_http.specs.OneItem.{LeavesOne};
+ghost use Rattle.register_files.specs.ServedExchanges.{EndsServing, LeavesSome, goes_on};
 
 use moment_core::Moment;
 use register_desk::{Desk, End, Finish, Watched};
@@ -18,7 +18,7 @@ use std::time::{Clock, Duration, Instant, SystemTime, UNIX_EPOCH};
 /// How many seconds the client of one exchange may keep it waiting in all.
 const MAX_CLIENT_SECONDS: u64 = 10;
 
-/// How many pieces of what a client has sent behind its request are taken off its connection
+/// How many pieces of what a client has sent after its request are taken off its connection
 /// before it is closed.
 const MAX_READS_BEHIND: usize = 256;
 
@@ -63,7 +63,7 @@ struct Timed<'a, C: Clock> {
 
 impl<C: Clock> Timed<'_, C> {
     /// How long the client may still keep the exchange waiting.
-    fn left(&self) -> io::Result<Duration> {
+    fn time_left(&self) -> io::Result<Duration> {
         let elapsed = self.start.elapsed(self.clock)?;
         match Duration::from_secs(MAX_CLIENT_SECONDS).checked_sub(elapsed) {
             Some(left) if !left.is_zero() => Ok(left),
@@ -74,7 +74,7 @@ impl<C: Clock> Timed<'_, C> {
 
 impl<C: Clock> Read for Timed<'_, C> {
     fn read(&mut self, buf: &mut [u8]) -> io::Result<usize> {
-        self.stream.set_read_timeout(Some(self.left()?))?;
+        self.stream.set_read_timeout(Some(self.time_left()?))?;
         let mut stream = self.stream;
         stream.read(buf)
     }
@@ -82,7 +82,7 @@ impl<C: Clock> Read for Timed<'_, C> {
 
 impl<C: Clock> Write for Timed<'_, C> {
     fn write(&mut self, buf: &[u8]) -> io::Result<usize> {
-        self.stream.set_write_timeout(Some(self.left()?))?;
+        self.stream.set_write_timeout(Some(self.time_left()?))?;
         let mut stream = self.stream;
         stream.write(buf)
     }
@@ -92,7 +92,7 @@ impl<C: Clock> Write for Timed<'_, C> {
     }
 }
 
-/// Takes off the connection what the client has sent behind its request, as far as it is there:
+/// Takes off the connection what the client has sent after its request, as far as it is there:
 /// bytes that nobody read would have the system break the connection before the client has its
 /// reply.
 fn drain(stream: &TcpStream) {
@@ -153,7 +153,7 @@ fn goes_on(finish: Finish) -> bool
 
 /// Serves so many connections that come to the listener, one after the other, each one exchange at
 /// the moment that `now` tells once it was accepted. A client that is slow keeps the next one
-/// waiting no longer than ten seconds, and a connection is closed behind its reply.
+/// waiting no longer than ten seconds, and a connection is closed after its reply.
 ///
 /// Gives the end of what there is to do after that many, or [`End::Store`] or [`End::Broken`] of
 /// an exchange, or [`End::ReadFault`] where a connection could not be accepted or no moment was

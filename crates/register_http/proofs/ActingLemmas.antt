@@ -10,20 +10,20 @@ use Rattle.register_core.specs.Answer.{UnlessAccepted, outcome}
 use Rattle.register_core.specs.declared.request.Request.{Request}
 use Rattle.register_core.specs.declared.reply.Reply as core
 use Rattle.register_core.specs.declared.reply.Refusal.{Refusal}
-use Rattle.http_messages.specs.Answer.{outcome_reply}
+use Rattle.http_messages.specs.AnswerText.{outcome_reply}
 use Rattle.register_desk.specs.declared.desk.Desk.{Desk}
 use Rattle.register_desk.specs.declared.end.End.{End}
 use Rattle.register_desk.specs.declared.end.End.TheVariants.{Memory, Store, Broken, ReadFault, WriteFault, BadHeader}
-use Rattle.register_desk.specs.Leaving.{ChangesNothing, EndsBy, GoesOn, IsBroken, IsClean, IsWhole, LeavesEither}
+use Rattle.register_desk.specs.Desk.{ChangesNothing, EndsBy, GoesOn, IsBroken, IsClean, IsWhole, LeavesEither}
 use Rattle.register_desk.specs.Register.{StandsFor, tables}
 use Rattle.register_desk.proofs.Found.{leaves_alone, leaves_still}
 use Rattle.http_messages.specs.declared.asked.Asked.{Asked}
 use Rattle.http_messages.specs.declared.asked.Asked.TheVariants.{Reject}
 use Rattle.http_messages.specs.declared.asked.Rejection.{Rejection}
 use Rattle.http_messages.specs.Rejection.{reply_of}
-use Rattle.http_messages.specs.Reply.{Reply}
-use Rattle.register_http.specs.Acting.{Acts, IsTextOf, MayChange, StopsBy}
-use Rattle.register_http.specs.Answering.{found_reply, history_after, reply_to, uses_register}
+use Rattle.http_messages.specs.HttpReply.{Reply}
+use Rattle.register_http.specs.Action.{Acts, IsTextOf, MayChange, StopsBy}
+use Rattle.register_http.specs.ActionReply.{found_reply, history_after, reply_to, uses_register}
 
 whole_not_broken : {A : Type 0} {S : Type 0} {g : Ghosts S} (desk : Desk S g) → IsWhole desk → IsBroken desk → A
 whole_not_broken desk whole broken = let both = sym whole ∙ broken in absurd (cc)

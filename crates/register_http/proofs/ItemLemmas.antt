@@ -10,17 +10,17 @@ use Rattle.register_desk.specs.declared.end.End.TheVariants.{Memory, Store, Brok
 use Rattle.register_desk.specs.declared.runs.Finish.{Finish}
 use Rattle.register_desk.specs.declared.runs.Finish.TheVariants.{Ended}
 use Rattle.register_desk.specs.declared.runs.Outcome.{Outcome}
-use Rattle.register_desk.specs.Leaving.{IsClean, IsWhole, LeavesEither}
+use Rattle.register_desk.specs.Desk.{IsClean, IsWhole, LeavesEither}
 use Rattle.register_desk.specs.Register.{StandsFor}
 use Rattle.register_desk.proofs.Found.{leaves_alone}
 use Rattle.http_messages.specs.declared.asked.AskFault.{AskFault}
 use Rattle.http_messages.specs.declared.asked.AskFault.TheVariants as fault
 use Rattle.http_messages.specs.declared.asked.Asked.{Asked}
 use Rattle.http_messages.specs.declared.asked.Asked.TheVariants.{Reject, ShowKey, ShowUsage, Apply}
-use Rattle.register_http.specs.Acting.{Acts, StandsForEither}
-use Rattle.register_http.specs.Answering.{history_after, request_at}
+use Rattle.register_http.specs.Action.{Acts, StandsForEither}
+use Rattle.register_http.specs.ActionReply.{history_after, request_at}
 use Rattle.register_http.specs.Exchange.{EndsAs, Serves, ServesAsked}
-use Rattle.register_http.specs.Items.{LeavesOne}
+use Rattle.register_http.specs.OneItem.{LeavesOne}
 
 -- the item that is handed to the register
 abbrev item_of : ℕ → Asked → Option Request
@@ -36,7 +36,7 @@ handed h moment (ShowUsage key) = refl
 handed h moment (Apply sent) = refl
 
 module _ {S : Type 0} (g : Ghosts S) (moment : ℕ) (kept now : Desk S g) where
-  -- the desk behind an answer, or behind an end that is not the database's
+  -- the desk after an answer, or after an end that is not the database's
   went_on : (asked : Asked) (result : Result (String Global) End) → Acts g moment asked kept now result → (h : List Request) → StandsFor g kept h → IsWhole kept → IsClean g now
       → (result ≢ Err Store) → IsWhole now × StandsForEither g h (history_after h moment asked) now
   went_on asked (Ok text) acts h s whole clean other = (acts.ends.whole whole, inr (acts.stands h s clean))

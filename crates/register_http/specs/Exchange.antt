@@ -14,22 +14,22 @@ use Rattle.register_desk.specs.Run.{TookBytes, max_idle_turns}
 use Rattle.http_messages.specs.declared.asked.AskFault.{AskFault}
 use Rattle.http_messages.specs.declared.asked.AskFault.TheVariants as fault
 use Rattle.http_messages.specs.declared.asked.Asked.{Asked}
-use Rattle.http_messages.specs.Exchange.{AsksFor}
-use Rattle.register_http.specs.Acting.{Acts}
-use Rattle.register_http.specs.Sending.{Sends, end_reply, reply_text}
+use Rattle.http_messages.specs.Asked.{AsksFor}
+use Rattle.register_http.specs.Action.{Acts}
+use Rattle.register_http.specs.SentReply.{Sends, end_reply, reply_text}
 
 -- the most reads in one exchange (this register's own)
 abbrev pub max_exchange_reads : ℕ
 max_exchange_reads = 80_000
 
--- how an exchange ends behind an answer: at the end of what there is to do where the reply was written whole, at a
+-- how an exchange ends after an answer: at the end of what there is to do where the reply was written whole, at a
 -- fault of the writer where it was not, and at the end that the desk came to whatever became of its reply
 abbrev pub EndsAs : Result (String Global) End → Finish → ℕ → Type 0
 EndsAs (Ok text) end replies = ((end ≡ AtEnd 0) × (replies ≡ 1)) ⊎ ((end ≡ Ended WriteFault) × (replies ≡ 0))
 EndsAs (Err e) end replies = end ≡ Ended e
 
 module _ {S : Type 0} (g : Ghosts S) where
-  -- the desk was asked this, and a front of its reply was written
+  -- the desk was asked this, and a prefix of its reply was written
   pub record Serves (moment : ℕ) (asked : Asked) (kept now : Desk S g) (old new : Option (List ℕ))
       (outcome : Outcome) : Type 0 where
     pub result : Result (String Global) End

@@ -1,5 +1,5 @@
-pub mod Answering
-pub mod Acting
-pub mod Sending
+pub mod ActionReply
+pub mod Action
+pub mod SentReply
 pub mod Exchange
-pub mod Items
+pub mod OneItem

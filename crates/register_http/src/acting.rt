@@ -1,12 +1,12 @@
 //! What the register does where an exchange asks it something, and the text of its reply.
 ghost use Rattle.std.specs.Prelude.{◌≡◌, ℕ, Ok, Err, IfOk, OnErr, string_bytes};
-ghost use Rattle.http_messages.specs.Body.{IsInRange};
-ghost use Rattle.http_messages.specs.Reply.{reply_bytes};
-ghost use Rattle.http_messages.specs.Answer.{outcome_reply};
+ghost use Rattle.http_messages.specs.CommandBody.{IsInRange};
+ghost use Rattle.http_messages.specs.HttpReply.{reply_bytes};
+ghost use Rattle.http_messages.specs.AnswerText.{outcome_reply};
 ghost use Rattle.register_core.specs.Request.{IsRequest};
 ghost use Rattle.register_core.specs.declared.reply.Refusal.TheVariants.{UnknownKey};
-ghost use Rattle.register_http.specs.Acting.{Acts, IsTextOf};
-ghost use Rattle.register_http.specs.Answering.{record_reply, request_at};
+ghost use Rattle.register_http.specs.Action.{Acts, IsTextOf};
+ghost use Rattle.register_http.specs.ActionReply.{record_reply, request_at};
 
 use http_messages::{Asked, Sent, key_text, outcome_text, rejection_text, usage_text};
 use key_rows::KeyRow;

@@ -1,13 +1,13 @@
 //! One exchange: a request is read, the register asked once, and a reply written.
 ghost use Rattle.std.specs.Prelude.{◌≡◌, List, false, Err, IfOk, IfSome};
 ghost use Rattle.register_core.specs.declared.request.Request.{Request};
-ghost use Rattle.http_messages.specs.Body.{IsInRange};
-ghost use Rattle.register_desk.specs.Leaving.{IsClean, IsWhole};
+ghost use Rattle.http_messages.specs.CommandBody.{IsInRange};
+ghost use Rattle.register_desk.specs.Desk.{IsClean, IsWhole};
 ghost use Rattle.register_desk.specs.Register.{StandsFor};
 ghost use Rattle.register_http.specs.Exchange.{Exchanges, LeavesReader, LeavesWriter, Serves};
 ghost use Rattle.register_http.specs.Exchange.{KeepsWriter, ServesAsked};
-ghost use Rattle.register_http.specs.Items.{LeavesOne};
-ghost use Rattle.register_http.specs.Sending.{Sends, end_reply};
+ghost use Rattle.register_http.specs.OneItem.{LeavesOne};
+ghost use Rattle.register_http.specs.SentReply.{Sends, end_reply};
 
 use crate::acting::act;
 use http_messages::{AskFault, Asked, Routes, ask};
@@ -112,7 +112,7 @@ fn refuse<W: Write>(end: End, writer: &mut Watched<W>) -> Outcome
 }
 
 /// What an exchange did that wrote nothing.
-fn silent(end: Finish) -> Outcome
+fn silent_outcome(end: Finish) -> Outcome
     ensures { result ≡ record { read = 0; written = 0; replies = 0; end = end } }
 {
     Outcome {
@@ -142,16 +142,16 @@ fn serve_asked<W: Write, S: Alter>(
 {
     match asked {
         Ok(Some(asked)) => serve(alloc, desk, moment, asked, writer),
-        Ok(None) => silent(Finish::AtEnd { rest: 0 }),
+        Ok(None) => silent_outcome(Finish::AtEnd { rest: 0 }),
         Err(AskFault::Memory) => refuse(End::Memory, writer),
-        Err(AskFault::ReadFault) => silent(Finish::Ended(End::ReadFault)),
+        Err(AskFault::ReadFault) => silent_outcome(Finish::Ended(End::ReadFault)),
     }
 }
 
 /// One exchange at this moment: reads one request, asks the register once, and writes one reply.
-/// Where the reader gives no byte it does nothing. Bytes behind the request are no request.
+/// Where the reader gives no byte it does nothing. Bytes after the request are no request.
 ///
-/// Its end is that behind a 503 or 500 reply, [`End::Memory`], [`End::Store`] or [`End::Broken`],
+/// Its end is that after a 503 or 500 reply, [`End::Memory`], [`End::Store`] or [`End::Broken`],
 /// even where writing that fails; else [`End::ReadFault`] or [`End::WriteFault`] where a stream
 /// failed or a bound on its turns was met, else the end of what there is to do. At
 /// [`End::ReadFault`] nothing was written, and the register was not asked.

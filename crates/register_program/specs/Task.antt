@@ -12,7 +12,7 @@ use Rattle.register_files.specs.declared.register_file.Life.{Life}
 use Rattle.register_files.specs.declared.register_file.Refused.{Refused}
 use Rattle.register_files.specs.declared.values.Bounds.{Bounds}
 use Rattle.register_files.specs.declared.values.Terms.{Terms}
-use Rattle.register_files.specs.Calls.{Exports, ImportsRows, MakesRegister, Reports, RunsLines, ServesExchanges}
+use Rattle.register_files.specs.FileCalls.{Exports, ImportsRows, MakesRegister, Reports, RunsLines, ServesExchanges}
 use Rattle.register_files.specs.Values.{AreBounds, AreTerms, IsDays}
 use Rattle.register_program.specs.declared.acting.Done.{Done}
 use Rattle.register_program.specs.declared.acting.Done.TheVariants.{RanInMemory, Made, Lived, BadValue}
@@ -28,7 +28,7 @@ RunsInMemory input old new (Ok finish) =
     → input ≡ Some bytes → HasItems bytes items rest → EndsBy items rest finish old new
 RunsInMemory input old new (Err refusal) = new ≡ old
 
--- the exit status behind it
+-- the exit status after it
 abbrev pub status_after : {L : Type 0} → Done L → ℕ
 status_after (RanInMemory (Ok finish)) = status_of finish
 status_after (RanInMemory (Err refusal)) = unopened_status

@@ -139,12 +139,12 @@ fn conclude<F: Files>(done: Done<F::Opened>, faults: &mut impl Write) -> u8
         Done::RanInMemory(Ok(finish)) => report_finish(finish, faults),
         Done::RanInMemory(Err(refusal)) => report_refusal(refusal, faults),
         Done::Made(Ok(left)) => {
-            F::copy_log(left);
+            F::checkpoint(left);
             0
         }
         Done::Made(Err(refused)) => report_refusal(refused.refusal, faults),
         Done::Lived(Ok(Life { outcome, store })) => {
-            F::copy_log(store);
+            F::checkpoint(store);
             report_finish(outcome.end, faults)
         }
         Done::Lived(Err(refused)) => report_refusal(refused.refusal, faults),

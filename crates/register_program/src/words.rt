@@ -55,8 +55,8 @@ const SERVE: &str = "Serves HTTP exchanges on 127.0.0.1, one connection after th
 
 const REPORT: &str = "Writes which keys are due for rotation";
 
-/// An option whose value has to be given. The word behind its name is the value, whatever it begins with.
-fn needed<'a>(alloc: Global, name: &'a str, value: &'a str, help: &'a str) -> Arg<'a> {
+/// An option whose value has to be given. The word after its name is the value, whatever it begins with.
+fn required_option<'a>(alloc: Global, name: &'a str, value: &'a str, help: &'a str) -> Arg<'a> {
     Arg::new(alloc, name)
         .long(name)
         .value_name(value)
@@ -72,21 +72,24 @@ fn file_command<'a>(
     name: &'a str,
     about: &'a str,
 ) -> Result<Command<'a>, AllocError> {
-    Command::new(alloc, name)
-        .about(about)
-        .arg(needed(alloc, "file", "FILE", "The file of the register"))
+    Command::new(alloc, name).about(about).arg(required_option(
+        alloc,
+        "file",
+        "FILE",
+        "The file of the register",
+    ))
 }
 
 fn import_command<'a>(alloc: Global) -> Result<Command<'a>, AllocError> {
     file_command(alloc, "import", IMPORT)?
-        .arg(needed(
+        .arg(required_option(
             alloc,
             "moment",
             "SECONDS",
             "The moment, in seconds since 1970",
         ))?
-        .arg(needed(alloc, "caller", "NAME", "Who asks for the registrations"))?
-        .arg(needed(
+        .arg(required_option(alloc, "caller", "NAME", "Who asks for the registrations"))?
+        .arg(required_option(
             alloc,
             "first",
             "NUMBER",
@@ -95,7 +98,7 @@ fn import_command<'a>(alloc: Global) -> Result<Command<'a>, AllocError> {
 }
 
 fn report_command<'a>(alloc: Global) -> Result<Command<'a>, AllocError> {
-    file_command(alloc, "report", REPORT)?.arg(needed(
+    file_command(alloc, "report", REPORT)?.arg(required_option(
         alloc,
         "days",
         "DAYS",
@@ -105,8 +108,8 @@ fn report_command<'a>(alloc: Global) -> Result<Command<'a>, AllocError> {
 
 fn serve_command<'a>(alloc: Global) -> Result<Command<'a>, AllocError> {
     file_command(alloc, "serve", SERVE)?
-        .arg(needed(alloc, "port", "PORT", "The port, from 1 to 65535"))?
-        .arg(needed(
+        .arg(required_option(alloc, "port", "PORT", "The port, from 1 to 65535"))?
+        .arg(required_option(
             alloc,
             "exchanges",
             "NUMBER",

@@ -1,4 +1,4 @@
--- The header row, what stands behind it, and what an import without it comes to.
+-- The header row, what stands after it, and what an import without it comes to.
 use Rattle.std.proofs.Common.{◌≡◌, ◌≢◌, ℕ, Bool, true, false, List, [], ◌∷◌, Option, None, Some}
 use Rattle.std.proofs.Common.{refl, sym, ap, subst, ◌∙◌}
 use Rattle.std.specs.Prelude as Std
@@ -15,15 +15,15 @@ use Rattle.register_desk.specs.declared.end.End.{End}
 use Rattle.register_desk.specs.declared.end.End.TheVariants.{Memory, Store, Broken, ReadFault, WriteFault, BadHeader}
 use Rattle.register_desk.specs.declared.runs.Finish.TheVariants.{Ended}
 use Rattle.register_desk.specs.declared.desk.Desk.{Desk}
-use Rattle.register_desk.specs.Leaving.{IsBroken, IsClean}
+use Rattle.register_desk.specs.Desk.{IsBroken, IsClean}
 use Rattle.register_desk.specs.Register.{StandsFor}
 use Rattle.register_desk.specs.Run.{Answered, Refused, RunsOver}
 use Rattle.register_desk.specs.Lives.{LivesSome, MayApplyOneMore}
 use Rattle.register_desk.proofs.Lived.{lived_alone}
-use Rattle.register_desk.proofs.Answering.{answered_none, front_refused, front_so}
+use Rattle.register_desk.proofs.Answering.{answered_none, prefix_refused, prefix_so}
 use Rattle.register_report.specs.Import.{ImportsBroken}
-use Rattle.register_report.specs.Rows.{BeginsWithHeader, HasRows, Item, Row, header}
-use Rattle.register_report.specs.Serving.{ExplainsNoHeader}
+use Rattle.register_report.specs.ImportRows.{BeginsWithHeader, HasRows, Item, Row, header}
+use Rattle.register_report.specs.ImportProgress.{ExplainsNoHeader}
 use Rattle.register_report.proofs.RowsLemmas.{HasLeft, rows_split}
 
 pub same_tail : (a b : Row) (xs ys : List Row) → a ∷ xs ≡ b ∷ ys → xs ≡ ys
@@ -74,16 +74,16 @@ module _ {R : Type 0} {remaining : R → Option (List ℕ)} {a : Reader R} {byte
       rows-more remaining a b fields default_config states.StartRecord (strip_bom bytes)
       (strip_bom bytes) [] reads.config reads.source (sym reads.start, refl) one
 
-  -- the rows behind the header row
-  pub rows_behind : (rows : List Row) → ReadRecord remaining a b true header → HasRows bytes rows
+  -- the rows after the header row
+  pub rows_after : (rows : List Row) → ReadRecord remaining a b true header → HasRows bytes rows
       → HasLeft remaining b rows
-  rows_behind rows one has =
+  rows_after rows one has =
       let first = first_read header one in
       let split = rows_split default_config states.StartRecord (reader_state b) (strip_bom bytes)
       first.0 (header ∷ []) (header ∷ rows) first.2 has in
       let same : rows ≡ split.more = same_tail header header rows split.more split.parts in
       let are = subst (λ (rs : List Row). AreRecords default_config (reader_state b) first.0 rs)
-      (sym same) split.behind in
+      (sym same) split.after in
       record { bytes = first.0; source = first.1; are = are }
 
   pub begins_so : ReadRecord remaining a b true header → BeginsWithHeader bytes
@@ -120,12 +120,12 @@ module _ {R : Type 0} {remaining : R → Option (List ℕ)} {a : Reader R} {byte
     none_answered : (h : List Request) → StandsFor g kept h → IsClean g kept
         → Answered g h items 0 written written kept
     none_answered h stands clean =
-        front_so g items [] 0 refl items refl h written written kept kept
+        prefix_so g items [] 0 refl items refl h written written kept kept
         (answered_none g written kept) stands clean
 
     none_refused : IsBroken kept → Refused items 0 written written
     none_refused broken =
-        front_refused g items [] 0 refl items refl written written kept kept
+        prefix_refused g items [] 0 refl items refl written written kept kept
         (answered_none g written kept) broken
 
     pub no_header_over : (end : End) → ExplainsNoHeader remaining a b end → (h : List Request)
@@ -158,7 +158,7 @@ module _ {S : Type 0} (g : Ghosts S) (h : List Request) (kept : Desk S g)
       → RunsOver g h [] [] (Ended end) 0 written written kept)
       → LivesSome g h (Ended end) 0 written written kept kept
   none_lives end may over =
-      let none = front_so g [] [] 0 refl [] refl h written written kept kept
+      let none = prefix_so g [] [] 0 refl [] refl h written written kept kept
       (answered_none g written kept) stands clean in
       lived_alone g h [] tt 0 kept clean [] (Ended end) written written kept may (λ whole. whole) none
       (λ other. over other none)

@@ -14,7 +14,7 @@ use Rattle.key_rows.proofs.DueRows.{a_list, fewer, one_list}
 use Rattle.register_core.specs.declared.request.Request.{Request}
 use Rattle.register_core.specs.Fold.{IsLawful}
 use Rattle.register_core.specs.History.{period, set_period}
-use Rattle.register_desk.specs.Rows.{all_rows}
+use Rattle.register_desk.specs.KeyRows.{all_rows}
 use Rattle.register_desk.proofs.KeyRowsOf.{listed_if_due, listed_is_due, own_numbers}
 use Rattle.register_report.specs.declared.table.Table.{Table}
 use Rattle.register_report.specs.declared.table.Table.TheVariants.{Report}

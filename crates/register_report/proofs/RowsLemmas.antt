@@ -12,9 +12,9 @@ use Rattle.period_core.specs.declared.key_type.KeyType.{KeyType}
 use Rattle.period_core.specs.KeyType.{key_type_text}
 use Rattle.register_core.specs.declared.request.Request.{Request}
 use Rattle.register_core.specs.Request.{IsDate, IsRequest}
-use Rattle.register_core.specs.Reading.{key_type_at}
+use Rattle.register_core.specs.RequestLine.{key_type_at}
 use Rattle.register_core.proofs.Readers.{key_type_reader}
-use Rattle.register_report.specs.Rows.{AreRowItems, IsRowItem, IsRowOf, Item, Row, date_field}
+use Rattle.register_report.specs.ImportRows.{AreRowItems, IsRowItem, IsRowOf, Item, Row, date_field}
 
 -- ---- no row asks for two registrations
 
@@ -56,7 +56,7 @@ one_item moment caller number fields (Some a) (Some b) p q =
 pub record RowsSplit (cfg : Config) (all rows : List Row) (s : State) (left : List ℕ) : Type 0 where
   pub more : List Row
   pub parts : all ≡ rows ++ more
-  pub behind : AreRecords cfg s left more
+  pub after : AreRecords cfg s left more
 
 some_same : {A : Type 0} (a b : A) → Some a ≡ Some b → a ≡ b
 some_same a b e = cc
@@ -67,7 +67,7 @@ unfolding Reached
 rows_split cfg s s2 xs left [] all reached are = record {
   more = all;
   parts = refl;
-  behind = rw (← reached.0, ← reached.1) are;
+  after = rw (← reached.0, ← reached.1) are;
 }
 rows_split cfg s s2 xs left (r ∷ rows) [] reached are =
     let none : next_record cfg s [] [] xs ≡ None = rw (are.2.0, are.2.1) are.3 in
@@ -79,9 +79,9 @@ rows_split cfg s s2 xs left (r ∷ rows) (t ∷ all) reached are =
     subst (λ (p : Read). AreRecords cfg p.1 p.2 all) (sym same) (are.0, are.1, step.3, are.3) in
     let split = rows_split cfg reached.0.1 s2 reached.0.2 left rows all reached.3 rest in
     let head : t ≡ r = step.2 ∙ ap (λ (p : Read). p.0) (sym same) ∙ sym reached.2 in
-    let front = ap (λ (f : Row). f ∷ all) head in
-    let behind = ap (λ (l : List Row). r ∷ l) split.parts in
-    record { more = split.more; parts = front ∙ behind; behind = split.behind }
+    let prefix = ap (λ (f : Row). f ∷ all) head in
+    let after = ap (λ (l : List Row). r ∷ l) split.parts in
+    record { more = split.more; parts = prefix ∙ after; after = split.after }
 
 -- the rows that are left to a reader, where its bytes are known
 pub record HasLeft {R : Type 0} (remaining : R → Option (List ℕ)) (reader : Reader R)
@@ -111,7 +111,7 @@ pub record ItemsSplit (moment : ℕ) (caller : List ℕ) (number : ℕ) (all ite
     (rows : List Row) : Type 0 where
   pub more : List Item
   pub parts : all ≡ items ++ more
-  pub behind : AreRowItems moment caller number rows more
+  pub after : AreRowItems moment caller number rows more
 
 pub items_split : (moment : ℕ) (caller : List ℕ) (number : ℕ) (rows more : List Row)
     → (items all : List Item)
@@ -121,7 +121,7 @@ pub items_split : (moment : ℕ) (caller : List ℕ) (number : ℕ) (rows more :
 items_split moment caller number [] more [] all a b = record {
   more = all;
   parts = refl;
-  behind = subst (λ (n : ℕ). AreRowItems moment caller n more all) (omega arith) b;
+  after = subst (λ (n : ℕ). AreRowItems moment caller n more all) (omega arith) b;
 }
 items_split moment caller number (r ∷ rows) more (i ∷ items) [] a b = absurd b
 items_split moment caller number (r ∷ rows) more (i ∷ items) (j ∷ all) a b =
@@ -131,8 +131,8 @@ items_split moment caller number (r ∷ rows) more (i ∷ items) (j ∷ all) a b
       parts =
           ap (λ (k : Item). k ∷ all) (one_item moment caller number r j i b.0 a.0)
           ∙ ap (λ (l : List Item). i ∷ l) split.parts;
-      behind =
-          subst (λ (n : ℕ). AreRowItems moment caller n more split.more) (omega arith) split.behind;
+      after =
+          subst (λ (n : ℕ). AreRowItems moment caller n more split.more) (omega arith) split.after;
     }
 items_split moment caller number [] more (i ∷ items) all a b = absurd a
 items_split moment caller number (r ∷ rows) more [] all a b = absurd a

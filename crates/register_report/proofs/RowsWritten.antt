@@ -13,14 +13,14 @@ use Rattle.register_desk.specs.declared.end.End.{End}
 use Rattle.register_desk.specs.declared.end.End.TheVariants.{WriteFault}
 use Rattle.register_desk.specs.declared.desk.Desk.{Desk}
 use Rattle.register_desk.specs.declared.rows.KeyRows.{KeyRows}
-use Rattle.register_desk.specs.Leaving.{ChangesNothing, IsClean, IsWhole}
+use Rattle.register_desk.specs.Desk.{ChangesNothing, IsClean, IsWhole}
 use Rattle.register_desk.specs.Register.{StandsFor}
-use Rattle.register_desk.specs.Rows.{AreAll, AreSoFar, GiveNext, HaveGiven, all_rows, until_of}
+use Rattle.register_desk.specs.KeyRows.{AreAll, AreSoFar, GiveNext, HaveGiven, all_rows, until_of}
 use Rattle.register_desk.proofs.Readings.{nothing_done, nothing_then, stands_still}
 use Rattle.register_report.specs.declared.table.Table.{Table}
 use Rattle.register_report.specs.Table.{count_in, lines_text, lists, row_text}
-use Rattle.register_report.specs.Writing.{Puts, PutsRows, PutsText}
-use Rattle.register_report.proofs.TextLemmas.{front_whole, no_fault, passed_on, puts_nothing, puts_well, text_failed, text_same, text_then}
+use Rattle.register_report.specs.TextWriter.{Puts, PutsRows, PutsText}
+use Rattle.register_report.proofs.TextLemmas.{prefix_whole, no_fault, passed_on, puts_nothing, puts_well, text_failed, text_same, text_then}
 
 -- the lines of one row more, and their number
 one_line : (table : Table) (given : List KeyRow) (row : KeyRow)
@@ -119,7 +119,7 @@ module _ {W S : Type 0} {contents : W → Option (List ℕ)} {g : Ghosts S} {tab
   text_as r sound = record {
     bytes = lines_text table so.given;
     puts = puts_as r sound;
-    front = front_whole (lines_text table so.given);
+    prefix = prefix_whole (lines_text table so.given);
     whole = same r;
   }
     where

@@ -11,11 +11,11 @@ use Rattle.register_desk.specs.declared.end.End.{End}
 use Rattle.register_desk.specs.declared.end.End.TheVariants.{Memory, Store, Broken, ReadFault, WriteFault, BadHeader}
 use Rattle.register_desk.specs.declared.runs.Finish.TheVariants.{Ended}
 use Rattle.register_desk.specs.declared.desk.Desk.{Desk}
-use Rattle.register_desk.specs.Leaving.{GoesOn}
-use Rattle.register_desk.specs.Serving.{ServesItem}
+use Rattle.register_desk.specs.Desk.{GoesOn}
+use Rattle.register_desk.specs.RunProgress.{ServesItem}
 use Rattle.register_desk.proofs.Answering.{answered_more, answered_none}
-use Rattle.register_report.specs.Rows.{IsRowItem, Item, Row}
-use Rattle.register_report.specs.Serving.{ExplainsEnd, ReadRows, ServedRowInPart, ServedRows, ServesRowsTo}
+use Rattle.register_report.specs.ImportRows.{IsRowItem, Item, Row}
+use Rattle.register_report.specs.ImportProgress.{ExplainsEnd, ReadRows, ServedRowInPart, ServedRows, ServesRowsTo}
 use Rattle.register_report.proofs.RowsLemmas.{items_more}
 
 read_none : {R : Type 0} (remaining : R → Option (List ℕ)) (reader : Reader R)

@@ -7,10 +7,10 @@ use Rattle.register_desk.specs.declared.end.End.TheVariants.{Memory, Store, Brok
 use Rattle.register_desk.specs.declared.runs.Finish.TheVariants.{Ended}
 use Rattle.register_desk.specs.declared.runs.Outcome.{Outcome}
 use Rattle.register_desk.specs.declared.desk.Desk.{Desk}
-use Rattle.register_desk.specs.Leaving.{GoesOn}
+use Rattle.register_desk.specs.Desk.{GoesOn}
 use Rattle.register_desk.specs.Run.{LeavesDesk, LeavesWriter, max_idle_turns, Wrote}
 use Rattle.register_desk.proofs.Goings.{leaves_going}
-use Rattle.register_report.specs.Serving.{ExplainsEnd, ExplainsNoHeader}
+use Rattle.register_report.specs.ImportProgress.{ExplainsEnd, ExplainsNoHeader}
 use Rattle.streams.specs.declared.watched.Watched.{Watched}
 
 -- no write failed

@@ -1,4 +1,4 @@
--- An input that begins with its header row has rows behind it, and no two lists of them; they stand
+-- An input that begins with its header row has rows after it, and no two lists of them; they stand
 -- for a list of items, and for no two.
 use Rattle.std.proofs.Common.{◌≡◌, ◌⊎◌, inl, inr, ℕ, zero, suc, ◌+◌, ◌≤◌, ◌<◌, nat_le, Bool}
 use Rattle.std.proofs.Common.{true, false, if◌then◌else◌, List, [], ◌∷◌, ◌++◌, length, Option, None, Some}
@@ -13,7 +13,7 @@ use Rattle.csv.specs.declared.parser.Config.{Config}
 use Rattle.csv.specs.declared.parser.State.{State}
 use Rattle.csv.specs.declared.parser.State.TheVariants as states
 use Rattle.moment_core.specs.Moment.{IsMoment, last_second}
-use Rattle.moment_core.specs.Text.{moment_text}
+use Rattle.moment_core.specs.MomentText.{moment_text}
 use Rattle.period_core.specs.declared.key_type.KeyType.{KeyType}
 use Rattle.period_core.specs.KeyType.{key_type_text}
 use Rattle.register_core.specs.declared.request.Request.{Request}
@@ -24,8 +24,8 @@ use Rattle.register_core.specs.Purpose.{IsPurpose}
 use Rattle.register_core.specs.Request.{IsDate, IsRequest}
 use Rattle.register_core.proofs.FieldReading.{IsReader}
 use Rattle.register_core.proofs.Readers.{key_type_reader, name_reader, purpose_reader}
-use Rattle.register_report.specs.Rows.{AreRowItems, BeginsWithHeader, HasRowItems, HasRows}
-use Rattle.register_report.specs.Rows.{IsRowItem, IsRowOf, Item, Row, date_field, header}
+use Rattle.register_report.specs.ImportRows.{AreRowItems, BeginsWithHeader, HasRowItems, HasRows}
+use Rattle.register_report.specs.ImportRows.{IsRowItem, IsRowOf, Item, Row, date_field, header}
 use Rattle.register_report.proofs.HeaderLemmas.{same_tail}
 use Rattle.register_report.proofs.RowsLemmas.{one_item, rows_split}
 
@@ -42,14 +42,14 @@ both (inr never) q = inr (λ it. never it.0)
 is_at_most : (a b : ℕ) → Decided (a ≤ b)
 is_at_most a b = by (nat_le a b) refl
   where
-    by : (test : Bool) → nat_le a b ≡ test → Decided (a ≤ b)
+    by : (check : Bool) → nat_le a b ≡ check → Decided (a ≤ b)
     by true e = inl (leb-true a b e)
     by false e = inr (λ le. let lt = leb-false a b e in omega (arith, le, lt))
 
 is_same : (xs ys : List ℕ) → Decided (xs ≡ ys)
 is_same xs ys = by (bytes_eq xs ys) refl
   where
-    by : (test : Bool) → bytes_eq xs ys ≡ test → Decided (xs ≡ ys)
+    by : (check : Bool) → bytes_eq xs ys ≡ check → Decided (xs ≡ ys)
     by true e = inl ((bytes_eq-Decides xs ys).0 e)
     by false e = inr (λ same. absurd (let both = sym e ∙ (bytes_eq-Decides xs ys).1 same in cc))
 
@@ -70,7 +70,7 @@ read_or_none {A} {read_by} {text} {P} own field = by (read_by field) refl
 at_last : (m last : ℕ) → m ≤ suc last → (m ≤ last → ⊥) → m ≡ suc last
 at_last m last le above = by (nat_le m last) refl
   where
-    by : (test : Bool) → nat_le m last ≡ test → m ≡ suc last
+    by : (check : Bool) → nat_le m last ≡ check → m ≡ suc last
     by true e = absurd (above (leb-true m last e))
     by false e = let lt = leb-false m last e in omega (arith, le, lt)
 
@@ -281,22 +281,22 @@ leaves cfg s fields field [] read e = at_end (ends_at_end s) e
         }
     at_end false e = absurd cc
 leaves cfg s fields field (byte ∷ bytes) read e =
-    behind (is_end (step cfg s byte).1) (λ later. leaves cfg (step cfg s byte).0
+    after (is_end (step cfg s byte).1) (λ later. leaves cfg (step cfg s byte).0
     (fields_after (step cfg s byte).1 fields field) (field_after (step cfg s byte).1 byte field)
     bytes read later) e
   where
-    behind : (b : Bool)
+    after : (b : Bool)
         → (next_record cfg (step cfg s byte).0 (fields_after (step cfg s byte).1 fields field)
         (field_after (step cfg s byte).1 byte field) bytes ≡ Some read → Leaves bytes read)
         → (if b then Some (fields_after (step cfg s byte).1 fields field, (step cfg s byte).0, bytes)
         else next_record cfg (step cfg s byte).0 (fields_after (step cfg s byte).1 fields field)
         (field_after (step cfg s byte).1 byte field) bytes) ≡ Some read
         → Leaves (byte ∷ bytes) read
-    behind true later e =
+    after true later e =
         let same : (fields_after (step cfg s byte).1 fields field, (step cfg s byte).0, bytes) ≡ read = cc in
         let left : bytes ≡ read.2 = ap (λ (r : Read). r.2) same in
         record { fewer_or_none = inl (omega (arith, ap length left)) }
-    behind false later e =
+    after false later e =
         elim (later e).fewer_or_none [
           | inl fewer ↦ record { fewer_or_none = inl (omega (arith, fewer)) }
           | inr none ↦ record { fewer_or_none = inr none }
@@ -305,18 +305,18 @@ leaves cfg s fields field (byte ∷ bytes) read e =
 abbrev HasRecords : State → List ℕ → Type 0
 HasRecords s bytes = (rows : List Row) × AreRecords default_config s bytes rows
 
--- the records behind one that leaves fewer bytes, and so all of them
+-- the records after one that leaves fewer bytes, and so all of them
 with_first : (s : State) (bytes : List ℕ)
     → ((read : Read) → length read.2 < length bytes → HasRecords read.1 read.2)
     → HasRecords s bytes
 unfolding Reached next_record
-with_first s bytes behind = by (next_record default_config s [] [] bytes) refl
+with_first s bytes after = by (next_record default_config s [] [] bytes) refl
   where
     by : (o : Option Read) → next_record default_config s [] [] bytes ≡ o → HasRecords s bytes
     by None e = ([], (s, bytes, (refl, refl), e))
     by (Some read) e = elim (leaves default_config s [] [] bytes read e).fewer_or_none [
       | inl fewer ↦
-          let rest = behind read fewer in
+          let rest = after read fewer in
           (read.0 ∷ rest.0, (rest.1.0, rest.1.1, (read, e, refl, rest.1.2), rest.1.3))
       | inr none ↦
           let last : next_record default_config read.1 [] [] read.2 ≡ None = rw (none.0, none.1) refl in
@@ -345,20 +345,20 @@ table_in moment caller first bytes begins =
     let items = items_of moment caller first rows.0 in
     (items.0, record { rows = rows.0; has = rows.1; each = items.1 })
 
--- no record behind the last
-none_behind : (s : State) (bytes : List ℕ) (rows : List Row)
+-- no record after the last
+none_after : (s : State) (bytes : List ℕ) (rows : List Row)
     → next_record default_config s [] [] bytes ≡ None → AreRecords default_config s bytes rows
     → rows ≡ []
 unfolding Reached
-none_behind s bytes [] none are = refl
-none_behind s bytes (row ∷ rows) none are = absurd (let both = sym none ∙ are.2.1 in cc)
+none_after s bytes [] none are = refl
+none_after s bytes (row ∷ rows) none are = absurd (let both = sym none ∙ are.2.1 in cc)
 
 pub same_rows : (bytes : List ℕ) (rows others : List Row) → HasRows bytes rows
     → HasRows bytes others → rows ≡ others
 same_rows bytes rows others a b =
     let split = rows_split default_config states.StartRecord a.0 (strip_bom bytes) a.1
     (header ∷ rows) (header ∷ others) a.2 b in
-    let none = none_behind a.0 a.1 split.more a.3 split.behind in
+    let none = none_after a.0 a.1 split.more a.3 split.after in
     let tail = same_tail header header others (rows ++ split.more) split.parts in
     sym (tail ∙ ap (λ (more : List Row). rows ++ more) none ∙ append-nil rows)
 

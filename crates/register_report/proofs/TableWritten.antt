@@ -1,4 +1,4 @@
--- A table that was written, or a front of it: its head, its lines, its foot.
+-- A table that was written, or a prefix of it: its head, its lines, its foot.
 use Rattle.std.proofs.Common.{◌≡◌, ◌≢◌, ℕ, List, [], ◌++◌, true, false, Option}
 use Rattle.std.proofs.Common.{Result, Ok, Err, OnOk, refl, ap}
 use Rattle.std.specs.Prelude.{IsErrAnd}
@@ -7,10 +7,10 @@ use Rattle.streams.specs.declared.watched.Watched.{Watched}
 use Rattle.register_desk.specs.declared.end.End.{End}
 use Rattle.register_desk.specs.declared.end.End.TheVariants.{WriteFault}
 use Rattle.register_desk.specs.declared.rows.KeyRows.{KeyRows}
-use Rattle.register_desk.specs.Rows.{all_rows}
+use Rattle.register_desk.specs.KeyRows.{all_rows}
 use Rattle.register_report.specs.declared.table.Table.{Table}
 use Rattle.register_report.specs.Table.{foot_text, head_text, lines_text}
-use Rattle.register_report.specs.Writing.{PutsRows, PutsTable, PutsText}
+use Rattle.register_report.specs.TextWriter.{PutsRows, PutsTable, PutsText}
 use Rattle.register_report.proofs.TextLemmas.{passed_on, text_failed, text_longer, text_nothing, text_same, text_then}
 
 -- a fault that is not the writer's

@@ -7,25 +7,25 @@ use Rattle.std.proofs.lemmas.List.{append-nil}
 use Rattle.streams.specs.declared.watched.Watched.{Watched}
 use Rattle.register_desk.specs.declared.end.End.{End}
 use Rattle.register_desk.specs.declared.end.End.TheVariants.{WriteFault}
-use Rattle.register_desk.specs.Run.{IsFrontOf}
+use Rattle.register_desk.specs.Run.{IsPrefixOf}
 use Rattle.register_desk.proofs.Answering.{appends_none, appends_then}
-use Rattle.register_report.specs.Writing.{Puts, PutsText}
+use Rattle.register_report.specs.TextWriter.{Puts, PutsText}
 
--- a front of the front, and of what it begins
-pub front_of_first : (part text more : List ℕ) → IsFrontOf part text → IsFrontOf part (text ++ more)
-front_of_first part text more front = (
-  front.0 ++ more,
-  sym (append_assoc part front.0 more)
-      ∙ ap (λ bytes. bytes ++ more) front.1,
+-- a prefix of the prefix, and of what it begins
+pub prefix_of_first : (part text more : List ℕ) → IsPrefixOf part text → IsPrefixOf part (text ++ more)
+prefix_of_first part text more prefix = (
+  prefix.0 ++ more,
+  sym (append_assoc part prefix.0 more)
+      ∙ ap (λ bytes. bytes ++ more) prefix.1,
 )
 
-pub front_behind : (first part text : List ℕ) → IsFrontOf part text
-    → IsFrontOf (first ++ part) (first ++ text)
-front_behind first part text front =
-    (front.0, append_assoc first part front.0 ∙ ap (λ bytes. first ++ bytes) front.1)
+pub prefix_after : (first part text : List ℕ) → IsPrefixOf part text
+    → IsPrefixOf (first ++ part) (first ++ text)
+prefix_after first part text prefix =
+    (prefix.0, append_assoc first part prefix.0 ∙ ap (λ bytes. first ++ bytes) prefix.1)
 
-pub front_whole : (text : List ℕ) → IsFrontOf text text
-front_whole text = ([], append-nil text)
+pub prefix_whole : (text : List ℕ) → IsPrefixOf text text
+prefix_whole text = ([], append-nil text)
 
 -- a call that went well met no fault
 pub no_fault : {T : Type 0} (x : T) → ◌≢◌ {A = Result T End} (Ok x) (Err WriteFault)
@@ -55,7 +55,7 @@ module _ {W : Type 0} (contents : W → Option (List ℕ)) where
   text_nothing writer count text e sound = record {
     bytes = [];
     puts = puts_nothing writer count (Err e) sound;
-    front = (text, refl);
+    prefix = (text, refl);
     whole = tt;
   }
 
@@ -90,18 +90,18 @@ module _ {W : Type 0} {contents : W → Option (List ℕ)} {a b : Watched W} {i 
   text_failed {T} {U} {text} {e} one = record {
     bytes = one.bytes;
     puts = puts_failed one.puts;
-    front = one.front;
+    prefix = one.prefix;
     whole = tt;
   }
 
-  -- a text that was not written whole is a front of a longer one
+  -- a text that was not written whole is a prefix of a longer one
   pub text_longer : {T : Type 0} {text : List ℕ} (more : List ℕ) {e : End}
       → PutsText {T = T} contents a b i j text (Err e)
       → PutsText {T = T} contents a b i j (text ++ more) (Err e)
   text_longer {T} {text} more {e} one = record {
     bytes = one.bytes;
     puts = one.puts;
-    front = front_of_first one.bytes text more one.front;
+    prefix = prefix_of_first one.bytes text more one.prefix;
     whole = tt;
   }
 
@@ -112,7 +112,7 @@ module _ {W : Type 0} {contents : W → Option (List ℕ)} {a b : Watched W} {i 
       subst (λ (t : List ℕ). PutsText {T = T} contents a b i j t r) same one
 
   module _ {c : Watched W} {k : ℕ} where
-    -- what went well, and what came behind it
+    -- what went well, and what came after it
     pub puts_then : {T U : Type 0} {xs ys : List ℕ} {x : T} {r : Result U End}
         → Puts {T = T} contents a b i j xs (Ok x) → Puts contents b c j k ys r
         → Puts contents a c i k (xs ++ ys) r
@@ -131,11 +131,11 @@ module _ {W : Type 0} {contents : W → Option (List ℕ)} {a b : Watched W} {i 
         → PutsText contents a c i k (first ++ next) r
     text_then {T} {U} {first} {next} {x} {r} one two =
         let same : one.bytes ≡ first = one.whole in
-        let front = front_behind first two.bytes next two.front in
+        let prefix = prefix_after first two.bytes next two.prefix in
         record {
           bytes = one.bytes ++ two.bytes;
           puts = puts_then one.puts two.puts;
-          front = subst (λ bytes. IsFrontOf (bytes ++ two.bytes) (first ++ next)) (sym same) front;
+          prefix = subst (λ bytes. IsPrefixOf (bytes ++ two.bytes) (first ++ next)) (sym same) prefix;
           whole = both r two.whole;
         }
       where

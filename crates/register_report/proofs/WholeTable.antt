@@ -16,17 +16,17 @@ use Rattle.register_desk.specs.declared.end.End.{End}
 use Rattle.register_desk.specs.declared.end.End.TheVariants.{WriteFault}
 use Rattle.register_desk.specs.declared.rows.KeyRows.{KeyRows}
 use Rattle.register_desk.specs.declared.runs.Finish.{Finish}
-use Rattle.register_desk.specs.Leaving.{ChangesNothing, IsClean, IsWhole}
+use Rattle.register_desk.specs.Desk.{ChangesNothing, IsClean, IsWhole}
 use Rattle.register_desk.specs.Register.{StandsFor}
-use Rattle.register_desk.specs.Rows.{AreAll, HaveGiven, all_rows, until_of}
-use Rattle.register_desk.specs.Run.{IsFrontOf}
+use Rattle.register_desk.specs.KeyRows.{AreAll, HaveGiven, all_rows, until_of}
+use Rattle.register_desk.specs.Run.{IsPrefixOf}
 use Rattle.register_report.specs.declared.table.Table.{Table}
 use Rattle.register_report.specs.declared.table.Table.TheVariants.{Export}
 use Rattle.register_report.specs.Table.{count_in, foot_text, head_text, lines_text, row_text, table_text}
-use Rattle.register_report.specs.Writing.{AreUpTo, IsExport, Puts, PutsAll, PutsTable, TextOf, WritesText, finish_of}
-use Rattle.register_report.specs.Writing.{text_up_to}
+use Rattle.register_report.specs.TextWriter.{AreUpTo, IsExport, Puts, PutsAll, PutsTable, TextOf, WritesText, finish_of}
+use Rattle.register_report.specs.TextWriter.{text_up_to}
 use Rattle.register_desk.proofs.Readings.{stands_still}
-use Rattle.register_report.proofs.TextLemmas.{front_of_first, puts_nothing}
+use Rattle.register_report.proofs.TextLemmas.{prefix_of_first, puts_nothing}
 
 -- ---- rows
 
@@ -49,7 +49,7 @@ begins false None all given rows first whole = record {
   rest = drop (length given) all;
   is =
       whole ∙ sym (take-append-drop (length given) all)
-      ∙ ap (λ front. front ++ drop (length given) all) (sym first);
+      ∙ ap (λ prefix. prefix ++ drop (length given) all) (sym first);
   same = λ is. absurd cc;
 }
 begins false (Some until) all given rows first whole =
@@ -78,15 +78,15 @@ text_then table given rest =
     (append_assoc (lines_text table given) (lines_text table rest) foot)
     ∙ sym (append_assoc (head_text table) (lines_text table given) (lines_text table rest ++ foot))
 
-front_so : (is_all : Bool) (table : Table) (given rows : List KeyRow) (bytes : List ℕ)
-    → Begins is_all given rows → IsFrontOf bytes (text_up_to is_all table given)
-    → IsFrontOf bytes (table_text table rows)
-front_so true table given rows bytes it front =
-    subst (λ rs. IsFrontOf bytes (table_text table rs)) (it.same refl) front
-front_so false table given rows bytes it front =
-    subst (IsFrontOf bytes) (sym (ap (table_text table) it.is ∙ text_then table given it.rest))
-    (front_of_first bytes (head_text table ++ lines_text table given)
-    (lines_text table it.rest ++ foot_text table (count_in table (given ++ it.rest))) front)
+prefix_so : (is_all : Bool) (table : Table) (given rows : List KeyRow) (bytes : List ℕ)
+    → Begins is_all given rows → IsPrefixOf bytes (text_up_to is_all table given)
+    → IsPrefixOf bytes (table_text table rows)
+prefix_so true table given rows bytes it prefix =
+    subst (λ rs. IsPrefixOf bytes (table_text table rs)) (it.same refl) prefix
+prefix_so false table given rows bytes it prefix =
+    subst (IsPrefixOf bytes) (sym (ap (table_text table) it.is ∙ text_then table given it.rest))
+    (prefix_of_first bytes (head_text table ++ lines_text table given)
+    (lines_text table it.rest ++ foot_text table (count_in table (given ++ it.rest))) prefix)
 
 whole_so : (is_all : Bool) (table : Table) (given rows : List KeyRow) (bytes : List ℕ)
     → (r : Result (Unit {0}) End) → Begins is_all given rows → OnOk r (is_all ≡ true)
@@ -112,10 +112,10 @@ module _ {W S : Type 0} {contents : W → Option (List ℕ)} {g : Ghosts S} {old
   puts_all desk_old desk_new {start} {next} {r} it nothing mark reads back none full = record {
     bytes = it.text.bytes;
     puts = it.text.puts;
-    front = λ h text stands whole clean is.
+    prefix = λ h text stands whole clean is.
         let all = so h text stands whole clean is in
-        subst (IsFrontOf it.text.bytes) all.2
-        (front_so it.is_all table it.given all.0 it.text.bytes all.1 it.text.front);
+        subst (IsPrefixOf it.text.bytes) all.2
+        (prefix_so it.is_all table it.given all.0 it.text.bytes all.1 it.text.prefix);
     whole = λ h text stands whole clean is.
         let all = so h text stands whole clean is in
         subst (λ t. OnOk r (it.text.bytes ≡ t)) all.2
@@ -141,7 +141,7 @@ puts_none (Ok x) other failed = absurd failed
 puts_none {contents = contents} {writer = writer} {count = count} (Err e) {e = f} other is = record {
   bytes = [];
   puts = puts_nothing contents writer count (Err e) no_fault_of;
-  front = λ h text stands whole clean text_is. (text, refl);
+  prefix = λ h text stands whole clean text_is. (text, refl);
   whole = λ h text stands whole clean text_is. tt;
 }
   where
@@ -153,11 +153,11 @@ puts_none {contents = contents} {writer = writer} {count = count} (Err e) {e = f
 module _ {W : Type 0} {contents : W → Option (List ℕ)} {old new : Watched W}
     {before after : ℕ} where
   writes_text : {text bytes : List ℕ} (r : Result (Unit {0}) End)
-      → Puts contents old new before after bytes r → IsFrontOf bytes text → OnOk r (bytes ≡ text)
+      → Puts contents old new before after bytes r → IsPrefixOf bytes text → OnOk r (bytes ≡ text)
       → WritesText text (finish_of r) (contents old.inner) (contents new.inner)
-  writes_text (Ok x) puts front whole =
+  writes_text (Ok x) puts prefix whole =
       subst (Appends (contents old.inner) (contents new.inner)) whole puts.written
-  writes_text {text} {bytes} (Err e) puts front whole = (bytes, front, puts.written)
+  writes_text {text} {bytes} (Err e) puts prefix whole = (bytes, prefix, puts.written)
 
 module _ {W S : Type 0} {contents : W → Option (List ℕ)} {g : Ghosts S} {begun new : Watched W}
     {after : ℕ} {desk_old desk_new : Desk S g} {Text : TextOf} {r : Result (Unit {0}) End} where
@@ -168,7 +168,7 @@ module _ {W S : Type 0} {contents : W → Option (List ℕ)} {g : Ghosts S} {beg
       → IsClean g desk_new → Text h text
       → WritesText text end (contents old) (contents new.inner)
   agrees {old} {end} it inner finish {h} text stands whole clean is =
-      let told = writes_text r it.puts (it.front h text stands whole clean is) (it.whole h text stands whole clean is) in
+      let told = writes_text r it.puts (it.prefix h text stands whole clean is) (it.whole h text stands whole clean is) in
       let ended = subst (λ f. WritesText text f (contents begun.inner) (contents new.inner))
       (sym finish) told in
       subst (λ w. WritesText text end (contents w) (contents new.inner)) inner ended

@@ -7,7 +7,7 @@ use Rattle.register_desk.specs.declared.runs.Finish.TheVariants.{AtEnd, Ended}
 use Rattle.register_desk.specs.declared.runs.Outcome.{Outcome}
 use Rattle.register_desk.specs.declared.desk.Desk.{Desk}
 use Rattle.register_desk.specs.Run.{Refused, RunsBroken}
-use Rattle.register_report.specs.Rows.{Item}
+use Rattle.register_report.specs.ImportRows.{Item}
 use Rattle.streams.specs.declared.watched.Watched.{Watched}
 
 -- nothing was registered and nothing written

@@ -1,6 +1,6 @@
-pub mod Rows
-pub mod Fields
-pub mod Serving
+pub mod ImportRows
+pub mod RecordFields
+pub mod ImportProgress
 pub mod Import
 pub mod Table
-pub mod Writing
+pub mod TextWriter

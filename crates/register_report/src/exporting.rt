@@ -6,12 +6,12 @@ ghost use Rattle.key_rows.specs.DueRows.{AreListed};
 ghost use Rattle.key_rows.specs.Export.{export_text};
 ghost use Rattle.key_rows.specs.Report.{horizon, report_text};
 ghost use Rattle.key_rows.specs.declared.key_row.KeyRow.{KeyRow};
-ghost use Rattle.register_desk.specs.Leaving.{IsClean, IsWhole};
+ghost use Rattle.register_desk.specs.Desk.{IsClean, IsWhole};
 ghost use Rattle.register_desk.specs.Register.{StandsFor};
-ghost use Rattle.register_desk.specs.Rows.{all_rows};
+ghost use Rattle.register_desk.specs.KeyRows.{all_rows};
 ghost use Rattle.register_desk.specs.Run.{LeavesWriter};
-ghost use Rattle.register_report.specs.Writing.{EndsAs, IsExport, IsReport, LeavesAlone, PutsAll, WritesText};
-ghost use Rattle.register_report.specs.Writing.{finish_of};
+ghost use Rattle.register_report.specs.TextWriter.{EndsAs, IsExport, IsReport, LeavesAlone, PutsAll, WritesText};
+ghost use Rattle.register_report.specs.TextWriter.{finish_of};
 
 use crate::table::Table;
 use crate::writing::put_table;
@@ -91,7 +91,7 @@ fn put_listed_keys<W: Write, S: Alter>(
 /// The outcome's end is [`End::Store`] where the database refused, or a row is one that no register
 /// holds, and the desk goes on; [`End::Broken`] on a broken desk; [`End::Memory`] where there is no
 /// memory for a row; [`End::WriteFault`] where the writer failed. What was written before any of
-/// these is a front of the export.
+/// these is a prefix of the export.
 pub fn export<W: Write, S: Alter>(
     alloc: Global,
     desk: &mut Desk<S>,
@@ -115,7 +115,7 @@ pub fn export<W: Write, S: Alter>(
 /// Writes the report on the keys that are due for rotation in so many days from the latest accepted
 /// moment: the Active keys with a Protect Stop Date up to the horizon, and those that are used for
 /// longer than the period of their type, by that date and then by number, with `overdue` where it
-/// is reached, `due` up to the horizon, and `long` behind it. It changes nothing, and holds one row
+/// is reached, `due` up to the horizon, and `long` after it. It changes nothing, and holds one row
 /// at a time.
 ///
 /// # Errors

@@ -7,15 +7,15 @@ ghost use Rattle.csv.specs.Reading.{reader_config, reader_trim};
 ghost use Rattle.csv.specs.declared.reader.Trim.TheVariants as trim;
 ghost use Rattle.register_core.specs.declared.request.Request.{Request};
 ghost use Rattle.register_core.specs.Number.{IsNumber};
-ghost use Rattle.register_desk.specs.Leaving.{IsBroken, IsClean, IsWhole};
+ghost use Rattle.register_desk.specs.Desk.{IsBroken, IsClean, IsWhole};
 ghost use Rattle.register_desk.specs.Register.{StandsFor};
 ghost use Rattle.register_desk.specs.Run.{LeavesDesk, LeavesNext, LeavesWriter};
 ghost use Rattle.register_desk.specs.Run.{IsRequestNext, RunsOver};
 ghost use Rattle.register_desk.specs.Lives.{LivesSome};
 ghost use Rattle.register_report.specs.Import.{DoesNothing, EndsWithoutHeader, ImportsBroken};
-ghost use Rattle.register_report.specs.Rows.{AreTexts, BeginsWithHeader, HasRowItems, HasRows};
-ghost use Rattle.register_report.specs.Rows.{header, max_rows};
-ghost use Rattle.register_report.specs.Serving.{EndsEarly, ExplainsEnd, ExplainsNoHeader, ServesRowsTo};
+ghost use Rattle.register_report.specs.ImportRows.{AreTexts, BeginsWithHeader, HasRowItems, HasRows};
+ghost use Rattle.register_report.specs.ImportRows.{header, max_rows};
+ghost use Rattle.register_report.specs.ImportProgress.{EndsEarly, ExplainsEnd, ExplainsNoHeader, ServesRowsTo};
 
 use crate::row::{is_header, row_item};
 use csv::{ErrorKind, Reader, ReaderBuilder, StringRecord};
@@ -92,7 +92,7 @@ fn serve_rows<R: Read, W: Write, S: Alter>(
         (W.contents writer.old.inner) (W.contents writer.new.inner)
         desk.old desk.new result.replies result.end }
     ensures limit { result.replies ≤ max_rows }
-    // No row is refused for its number but the one behind as many as there may be.
+    // No row is refused for its number but the one after as many as there may be.
     ensures cause { result.end ≡ Finish.Ended End.ReadFault
         → EndsEarly S.Store R.remaining moment caller first reader.old reader.new
         (W.contents writer.old.inner) (W.contents writer.new.inner)
@@ -134,7 +134,7 @@ fn serve_rows<R: Read, W: Write, S: Alter>(
     }
 }
 
-/// Registers a key for each row of a table, at this moment and of this caller: the first row behind
+/// Registers a key for each row of a table, at this moment and of this caller: the first row after
 /// the header row under the number `first`, each other under the next. Each row's reply line is
 /// written and flushed before the next row is applied. A row that asks for no registration, or
 /// under a number that no request has, is answered `refused 1 BadLine`. A row that was accepted
@@ -162,7 +162,7 @@ pub fn import<R: Read + Drop, W: Write, S: Alter>(
 ) -> Outcome
     requires first { IsNumber first }
     requires writer { writer.old.failed ≡ false }
-    // Behind its header row, an import is a run over the items of its rows. The disk is to have
+    // After its header row, an import is a run over the items of its rows. The disk is to have
     // given back what was written, and the reader's bytes are to be known, here and below.
     ensures agrees { (h : List Request) (bytes : List ℕ) (items : List (Option Request)) →
         StandsFor S.Store desk.old h → IsClean S.Store desk.new →

@@ -1,16 +1,16 @@
 //! Laws about this crate's definitions. A function's contract is the law; it does nothing.
 ghost use Rattle.std.specs.Prelude.{◌≡◌, ℕ, List, Option};
 ghost use Rattle.register_core.specs.declared.request.Request.{Request};
-ghost use Rattle.register_report.specs.Rows.{BeginsWithHeader, HasRowItems, HasRows};
+ghost use Rattle.register_report.specs.ImportRows.{BeginsWithHeader, HasRowItems, HasRows};
 
-/// An input that begins with its header row has rows behind it, which stand for a list of items.
+/// An input that begins with its header row has rows after it, which stand for a list of items.
 pub fn some_table()
     ensures { (moment : ℕ) (caller : List ℕ) (first : ℕ) (bytes : List ℕ) →
         BeginsWithHeader bytes →
         (items : List (Option Request)) × HasRowItems moment caller first bytes items }
 {}
 
-/// An input has no two lists of rows behind its header row, and these stand for no two lists of
+/// An input has no two lists of rows after its header row, and these stand for no two lists of
 /// items.
 pub fn one_table()
     ensures rows { (bytes : List ℕ) (rows others : List (List (List ℕ))) → HasRows bytes rows →

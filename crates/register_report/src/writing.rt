@@ -1,9 +1,9 @@
 //! Writing out what a desk has, a row at a time.
 ghost use Rattle.std.specs.Prelude.{◌≡◌, ◌≢◌, Ok, IfOk, IfErr};
-ghost use Rattle.register_desk.specs.Leaving.{ChangesNothing};
-ghost use Rattle.register_desk.specs.Rows.{GoOn};
+ghost use Rattle.register_desk.specs.Desk.{ChangesNothing};
+ghost use Rattle.register_desk.specs.KeyRows.{GoOn};
 ghost use Rattle.register_report.specs.Table.{lists, row_text};
-ghost use Rattle.register_report.specs.Writing.{IsEndOfWriting, PutsRows, PutsTable, PutsText};
+ghost use Rattle.register_report.specs.TextWriter.{IsEndOfWriting, PutsRows, PutsTable, PutsText};
 
 use crate::table::Table;
 use key_rows::KeyRow;

@@ -1,4 +1,4 @@
--- What the query of a table shows where the database is a register's, and so that no test of its tables fails.
+-- What the query of a table shows where the database is a register's, and so that no check of its tables fails.
 use Rattle.std.proofs.Common.{◌≡◌, ◌<◌, inl, inr, ℕ, List, [], ◌∷◌, ◌++◌, Result, Ok, Err, IfOk, IfErr, sym, ap, subst}
 use Rattle.std.proofs.Common.{◌∙◌, refl, arith}
 use Rattle.std.specs.List.Sorted.{IsPermutation}
@@ -13,8 +13,8 @@ use Rattle.sqlite.specs.Term.{Term, col}
 use Rattle.sqlite.proofs.Callers.{IsPlain, begins_as, reads_as}
 use Rattle.sqlite_tied.specs.Compute.{everything}
 use Rattle.sql_steps.proofs.Statements.{plain_query}
-use Rattle.row_tests.specs.Showing.{HasNoMeaning, IsQuery, ShowsAll, ShowsFirst}
-use Rattle.row_tests.proofs.Selects.{IsSelect, select_plain}
+use Rattle.row_checks.specs.ShownRows.{HasNoMeaning, IsQuery, ShowsAll, ShowsFirst}
+use Rattle.row_checks.proofs.Selects.{IsSelect, select_plain}
 use Rattle.register_store.specs.declared.error.CheckError.{CheckError}
 use Rattle.register_store.specs.declared.error.CheckError.TheVariants.{NotARegister, NewerVersion, Memory}
 use Rattle.register_store.specs.declared.error.CheckError.TheVariants.{Database as Refused}
@@ -24,12 +24,12 @@ use Rattle.register_store.specs.declared.table.TableName.TheVariants.{Quorum}
 use Rattle.sqlite_resolve.specs.Compile.{first}
 use Rattle.register_core.specs.declared.version.Version.{Version}
 use Rattle.register_core.specs.declared.version.Version.TheVariants.{First, Second}
-use Rattle.register_store.specs.Checking.{BlamesNone, FailsTest, HasNewer, IsReasonAt, ShowsRows, TestsBy, check_text}
+use Rattle.register_store.specs.CheckedTables.{BlamesNone, FailsCheck, HasNewer, IsReasonAt, ShowsRows, ChecksTable, check_text}
 use Rattle.register_store.specs.Schema.{schema_in}
 use Rattle.register_store.specs.Stored.{HoldsStored, Part, Stored, part, with_part}
 use Rattle.register_store.specs.Tables.{Layout, place_of, table_count, table_of}
 use Rattle.register_store.proofs.Meanings.{Asks, IsPlacedIn, Meant, asks, classes_in, placed_as}
-use Rattle.register_store.specs.Tests.{MeetsTest, MeetsTests}
+use Rattle.register_store.specs.OpeningChecks.{MeetsCheck, MeetsChecks}
 use Rattle.register_store.proofs.Ordered.{ordered_query}
 
 -- ---- what the texts mean
@@ -99,12 +99,12 @@ IsLike Meta c d = c ≡ d
 IsLike Keys c d = c ≡ d
 IsLike name c d = IsPermutation d c
 
--- the rows of an answer show what the table has, which meets the test where the table does
+-- the rows of an answer show what the table has, which meets the check where the table does
 pub record ShowsOwn (name : TableName) (t : Stored) (rows : List Row) : Type 0 where
   pub c : Part name
   pub shows : ShowsRows name rows c
   pub like : IsLike name c (part name t)
-  pub meets : MeetsTest name t → MeetsTest name (with_part name c t)
+  pub meets : MeetsCheck name t → MeetsCheck name (with_part name c t)
 
 module _ (name : TableName) (t : Stored) (within : IsWithin name t.version) where
   abbrev asked_of : (db : Database) (holds : HoldsStored t db) → Meant (schema_in t.version holds.schema.layout)
@@ -152,8 +152,8 @@ module _ (name : TableName) (t : Stored) (within : IsWithin name t.version) wher
         let begun = begun_answers new some.rows here some.shown in
         (begun.0, own new.now (some.rows ++ begun.0) here begun.1)
 
-    -- the test of a register's table does not fail
-    pub fails_not : (old new : State) → HoldsStored t old.now → MeetsTest name t → FailsTest name t old new → ⊥
+    -- the check of a register's table does not fail
+    pub fails_not : (old new : State) → HoldsStored t old.now → MeetsCheck name t → FailsCheck name t old new → ⊥
     fails_not old new holds meets (inl none) = meaning_of old new holds none
     fails_not old new holds meets (inr (inl some)) =
         let it = begun_own old new holds some in
@@ -163,7 +163,7 @@ module _ (name : TableName) (t : Stored) (within : IsWithin name t.version) wher
         all.holds.fails it.c it.shows (it.meets meets)
 
     module _ (newer_not : (found : ℕ) (old new : State) → HoldsStored t old.now → HasNewer found old new → ⊥) where
-      pub blames_none : {T : Type 0} (old new : State) (q : Result T CheckError) → HoldsStored t old.now → MeetsTests t → IfErr q (IsReasonAt name t old new) → IfErr q BlamesNone
+      pub blames_none : {T : Type 0} (old new : State) (q : Result T CheckError) → HoldsStored t old.now → MeetsChecks t → IfErr q (IsReasonAt name t old new) → IfErr q BlamesNone
       blames_none old new (Ok x) holds meets why = tt
       blames_none old new (Err NotARegister) holds meets why = fails_not old new holds (meets name) why.0
       blames_none old new (Err (NewerVersion found)) holds meets why = newer_not found old new holds why
@@ -173,7 +173,7 @@ module _ (name : TableName) (t : Stored) (within : IsWithin name t.version) wher
       module _ {T : Type 0} (Says : Part name → T → Type 0) (respects : (c d : Part name) (x : T) → IsLike name c d → Says c x → Says d x)
           (one : (rows : List Row) (c d : Part name) → ShowsRows name rows c → ShowsRows name rows d → c ≡ d) where
         abbrev IsPassed : State → State → T → Type 0
-        IsPassed old new found = (c : Part name) × ShowsAll (check_text name) (λ rows. ShowsRows name rows c) old new × MeetsTest name (with_part name c t) × Says c found
+        IsPassed old new found = (c : Part name) × ShowsAll (check_text name) (λ rows. ShowsRows name rows c) old new × MeetsCheck name (with_part name c t) × Says c found
 
         told : (old new : State) (q : Result T CheckError) → HoldsStored t old.now → IfOk q (IsPassed old new) → IfOk q (Says (part name t))
         told old new (Err e) holds passed = tt
@@ -182,9 +182,9 @@ module _ (name : TableName) (t : Stored) (within : IsWithin name t.version) wher
             let same = one passed.1.rows passed.0 it.c passed.1.holds it.shows in
             respects it.c (part name t) x it.like (subst (λ c. Says c x) same passed.3)
 
-        pub tests_by : (old new : State) (q : Result T CheckError) → (HasCleanDisk new → IfOk q (IsPassed old new)) → (HasCleanDisk new → IfErr q (IsReasonAt name t old new)) → Survives old new (λ _. ⊥)
-            → TestsBy name t Says old new q
-        tests_by old new q passed refused survives = record {
+        pub checks_table : (old new : State) (q : Result T CheckError) → (HasCleanDisk new → IfOk q (IsPassed old new)) → (HasCleanDisk new → IfErr q (IsReasonAt name t old new)) → Survives old new (λ _. ⊥)
+            → ChecksTable name t Says old new q
+        checks_table old new q passed refused survives = record {
           passed = passed;
           refused = refused;
           told = λ clean holds meets. told old new q holds (passed clean);

@@ -16,7 +16,7 @@ use Rattle.moment_core.specs.Moment.{IsMoment}
 use Rattle.register_store.specs.declared.table.TableName.TheVariants.{Meta}
 use Rattle.register_store.specs.Tables.{Layout, fresh, meta, place_of, Counts, counts_row}
 use Rattle.register_store.specs.Schema.{schema_with, rows_of}
-use Rattle.register_store.specs.Making.{Makes, Always, with_counts}
+use Rattle.register_store.specs.TableChanges.{Makes, Always, with_counts}
 use Rattle.register_store.proofs.Actions.{idle, shows_all}
 use Rattle.sqlite_resolve.specs.Compile.{first}
 use Rattle.register_store.proofs.Meanings.{Sets, classes, placed, sets}
@@ -34,7 +34,7 @@ shown = col 1 0 ∷ lit Null ∷ col 1 2 ∷ col 0 0 ∷ col 0 1 ∷ []
 sets_counts : (l : Layout) → Sets (schema_with l) (meta l) (place_of Meta) counts_text
     (plain_query (l.tree Meta) passes (col 1 0 ∷ shown))
 unfolding everything first
-sets_counts l = record { p = _; name = _; sets = _; test = _; d = _; parsed = refl; untimed = refl; is = refl; named = refl; there = refl; drafted = refl; same = refl; from = refl; accepted = refl }
+sets_counts l = record { p = _; name = _; sets = _; check = _; d = _; parsed = refl; untimed = refl; is = refl; named = refl; there = refl; drafted = refl; same = refl; from = refl; accepted = refl }
 
 module _ (latest key_count : ℕ) where
   abbrev pub params : Cells

@@ -28,22 +28,23 @@ use Rattle.sqlite_value.specs.declared.keys.Key as sorted_by
 use Rattle.sql_steps.proofs.Firsts.{ShowsLeast, gives_first, gives_no_row, ordered_by, out_of, passing}
 use Rattle.sql_steps.proofs.Members.{from_picked, to_picked}
 use Rattle.sql_steps.proofs.Statements.{is_picked}
-use Rattle.row_tests.specs.Showing.{IsQuery}
-use Rattle.row_tests.proofs.Selects.{IsSelect, select_plain}
+use Rattle.row_checks.specs.ShownRows.{IsQuery}
+use Rattle.row_checks.proofs.Selects.{IsSelect, select_plain}
 use Rattle.register_core.specs.declared.key.Key.{Key}
 use Rattle.register_store.specs.declared.error.StoreError.{StoreError}
 use Rattle.register_store.specs.declared.error.StoreError.TheVariants.{Memory, NoRegister}
 use Rattle.register_store.specs.declared.table.TableName.TheVariants.{Keys}
-use Rattle.register_store.specs.KeyWalk.{IsBehind}
-use Rattle.register_store.specs.Reading.{IsRowOf, ReadsBy, ShowsAt, ShowsNone}
+use Rattle.register_store.specs.KeyWalk.{IsAfter}
+use Rattle.register_store.specs.TableReads.{IsRowOf, ReadsBy, ShowsAt, ShowsNone}
 use Rattle.register_store.specs.Schema.{Holds, schema_with}
-use Rattle.register_store.specs.Stops.{HasFirst, IsFirst, IsNumbered, cell_place, stop_cell}
+use Rattle.register_store.specs.DueSearch.{HasFirst, IsFirst, IsNumbered, cell_place, stop_cell}
 use Rattle.register_store.specs.Tables.{Layout, Tables, keys, key_row, numbered}
 use Rattle.register_store.proofs.Asked.{shown_of_table}
 use Rattle.register_store.proofs.Decoding.{same_number, one_key}
 use Rattle.register_store.proofs.Actions.{shows_all}
 use Rattle.register_store.proofs.Meanings.{Asks, IsPlaced, Meant, asks, classes, placed}
 use Rattle.register_store.proofs.KeyFound.{at_number, in_range_at, shows_key}
+use Rattle.register_store.proofs.AnswersRead.{ReadsRow}
 use Rattle.register_store.proofs.RowFound.{answer_read}
 use Rattle.register_store.proofs.Texts.{find_names}
 
@@ -179,15 +180,15 @@ module _ (sql : List ℕ) (query : IsQuery sql) (passes : List Term) (search : I
       (subst (λ (p : Ordering × Ordering). is_lt (ordering_then p.0 (ordering_then p.1 Equal)) ≡ false)
       (λ i. (value_cmp-Int (pos (stop_cell y)) (pos (stop_cell x)) i, value_cmp-Int (pos y.0) (pos x.0) i)) h)
 
-  first_so : (t : Tables) (x y : ℕ × Key) → Has (numbered t.keys) x → Has (numbered t.keys) y → (stop_cell x < stop_cell y) ⊎ ((stop_cell x ≡ stop_cell y) × (x.0 ≤ y.0)) → (y ≡ x) ⊎ IsBehind (cell_place x) (cell_place y)
+  first_so : (t : Tables) (x y : ℕ × Key) → Has (numbered t.keys) x → Has (numbered t.keys) y → (stop_cell x < stop_cell y) ⊎ ((stop_cell x ≡ stop_cell y) × (x.0 ≤ y.0)) → (y ≡ x) ⊎ IsAfter (cell_place x) (cell_place y)
   first_so t x y here there (inl later) = inr (inl later)
   first_so t x y here there (inr (same, high)) = elim (cases_lt x.0 y.0) [
     | inl below ↦ inr (inr (same, below))
     | inr not_below ↦ inl (one_number t x y here there (omega (arith, high, not_below)))
   ]
 
-  module _ (test : ℕ × Key → Bool) (test_is : (x : ℕ × Key) → pick x ≡ test x) where
-    row_is : (old new : State) (t : Tables) → Holds t old.now → (row : Cells) → QueriesRow sql params old new (Ok row) → (x : ℕ × Key) × IsFirst test t x × (row ≡ cells_of x)
+  module _ (check : ℕ × Key → Bool) (check_is : (x : ℕ × Key) → pick x ≡ check x) where
+    row_is : (old new : State) (t : Tables) → Holds t old.now → (row : Cells) → QueriesRow sql params old new (Ok row) → (x : ℕ × Key) × IsFirst check t x × (row ≡ cells_of x)
     row_is old new t holds row h =
         let l = holds.schema.layout in
         let m = due_meant sql passes search l (placed t old.now holds) in
@@ -199,9 +200,9 @@ module _ (sql : List ℕ) (query : IsQuery sql) (passes : List Term) (search : I
           x,
           record {
             there = came.1;
-            passes = sym (test_is x) ∙ came.2;
+            passes = sym (check_is x) ∙ came.2;
             first = λ y there is.
-                let after = it.first (key_row y) (goes_to (numbered t.keys) y there (test_is y ∙ is)) in
+                let after = it.first (key_row y) (goes_to (numbered t.keys) y there (check_is y ∙ is)) in
                 first_so t x y came.1 there (compared x y
                 (subst (λ (r : Cells). is_lt (output_cmp (ordered_by 0 passes shown order)
                 (out_of 0 passes shown order params (key_row y)) (out_of 0 passes shown order params r)) ≡ false)
@@ -210,16 +211,16 @@ module _ (sql : List ℕ) (query : IsQuery sql) (passes : List Term) (search : I
           it.is ∙ ap (λ (r : Cells). eval_all shown (params ∷ r ∷ [])) came.3,
         )
 
-    none_is : (old new : State) (t : Tables) → Holds t old.now → QueriesRow sql params old new (Err QueryReturnedNoRows) → HasFirst test t None
+    none_is : (old new : State) (t : Tables) → Holds t old.now → QueriesRow sql params old new (Err QueryReturnedNoRows) → HasFirst check t None
     none_is old new t holds h x there is =
         let l = holds.schema.layout in
         let m = due_meant sql passes search l (placed t old.now holds) in
         let given = gives_no_row (l.tree Keys) passes shown order params sql old new _ holds.schema.is names m.is
         m.plain m.unlisted (shows_all old.now.trees (l.tree Keys)) h in
         let none = subst (λ rs. passing (l.tree Keys) passes shown order params rs ≡ []) (holds.shown Keys) given in
-        subst (λ rs. Has rs (key_row x)) none (goes_to (numbered t.keys) x there (test_is x ∙ is))
+        subst (λ rs. Has rs (key_row x)) none (goes_to (numbered t.keys) x there (check_is x ∙ is))
 
-    each : (t : Tables) (old : State) → Holds t old.now → (x : ℕ × Key) → IsFirst test t x → IsNumbered x × ShowsAt (cells_of x) x
+    each : (t : Tables) (old : State) → Holds t old.now → (x : ℕ × Key) → IsFirst check t x → IsNumbered x × ShowsAt (cells_of x) x
     each t old holds x is =
         let at = at_number 1 t.keys x is.there in
         let own = in_range_at t.keys at.0 x.1 at.2 (holds.in_range Keys) in
@@ -231,6 +232,5 @@ module _ (sql : List ℕ) (query : IsQuery sql) (passes : List Term) (search : I
         let number : y.0 ≡ x.0 = same_number _ y.0 x.0 theirs.number mine.number in
         λ i. (number i, key i)
 
-    pub due_read : (old new : State) (r : Result Cells Error) (q : Result (Option (ℕ × Key)) StoreError) → IfOk q (IsRowOf ShowsAt r) → IfErr q (λ error. error ≢ Memory)
-        → IfErr q (λ error. error ≡ NoRegister → ShowsNone IsNumbered ShowsAt r) → (HasCleanDisk new → QueriesRow sql params old new r) → Survives old new (CommitsShowing sql params old) → ReadsBy (HasFirst test) old new q
-    due_read = answer_read IsNumbered ShowsAt cells_of sql query params (IsFirst test) (λ t. HasFirst test t None) row_is none_is each same (HasFirst test) (λ t x is. is) (λ t none. none)
+    pub due_read : ReadsRow IsNumbered ShowsAt sql params (HasFirst check)
+    due_read = answer_read IsNumbered ShowsAt cells_of sql query params (IsFirst check) (λ t. HasFirst check t None) row_is none_is each same (HasFirst check) (λ t x is. is) (λ t none. none)

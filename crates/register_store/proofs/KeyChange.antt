@@ -27,7 +27,7 @@ use Rattle.register_core.specs.Name.{IsName}
 use Rattle.register_store.specs.declared.table.TableName.TheVariants.{Keys}
 use Rattle.register_store.specs.Tables.{Layout, fresh, keys, place_of, AreDates, IsKey, date_cell, key_row, numbered}
 use Rattle.register_store.specs.Schema.{schema_with, Holds, rows_of}
-use Rattle.register_store.specs.Making.{Makes, Always, held_by, where_number, with_key_at}
+use Rattle.register_store.specs.TableChanges.{Makes, Always, held_by, where_number, with_key_at}
 use Rattle.register_store.proofs.Actions.{idle, shows_all}
 use Rattle.sqlite_resolve.specs.Compile.{first}
 use Rattle.register_store.proofs.Meanings.{Sets, classes, placed, sets}
@@ -56,7 +56,7 @@ module _ (sql : List ℕ) (passes shown : List Term) (parts : IsUpdate sql passe
   image_of p = typed.g key_row (λ p. pos p.0) (λ _. refl) (keys (fresh [])) params passes shown set (key_row p)
 
   abbrev pub passes_row : ℕ × Key → Bool
-  passes_row = typed.test key_row (λ p. pos p.0) (λ _. refl) (keys (fresh [])) params passes shown set
+  passes_row = typed.check key_row (λ p. pos p.0) (λ _. refl) (keys (fresh [])) params passes shown set
 
   one : (n : ℕ) (k : Key) (b : Bool) → key_row (cond b (set (n, k)) (n, k)) ≡ key_row (n, cond b (f k) k)
   one n k true = refl
@@ -105,7 +105,7 @@ key_shown = col 1 0 ∷ lit Null ∷ col 1 2 ∷ col 0 1 ∷ col 1 4 ∷ col 0 2
 
 key_parts : IsUpdate key_text differs key_shown
 unfolding everything first
-key_parts l = record { p = _; name = _; sets = _; test = _; d = _; parsed = refl; untimed = refl; is = refl; named = refl; there = refl; drafted = refl; same = refl; from = refl; accepted = refl }
+key_parts l = record { p = _; name = _; sets = _; check = _; d = _; parsed = refl; untimed = refl; is = refl; named = refl; there = refl; drafted = refl; same = refl; from = refl; accepted = refl }
 
 abbrev pub key_params : ℕ → List ℕ → Row → Cells
 key_params number owner row =

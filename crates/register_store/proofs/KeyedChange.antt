@@ -25,7 +25,7 @@ use Rattle.sql_steps.proofs.Statements.{plain_query, is_picked}
 use Rattle.sql_steps.proofs.Stepping.{steps_then, steps_weaker}
 use Rattle.sql_steps.proofs.Written.{Wrote}
 use Rattle.register_core.proofs.Lawful.{all_more}
-use Rattle.register_store.specs.Making.{Makes, Always}
+use Rattle.register_store.specs.TableChanges.{Makes, Always}
 use Rattle.register_store.specs.Schema.{Holds, schema_with}
 use Rattle.register_store.specs.Tables.{AreApart, Layout, ShowsKeyed, Tables}
 use Rattle.register_store.proofs.Actions.{shows_all}
@@ -41,7 +41,7 @@ pub record IsSetTable {A : Type 0} (key_of : A → ℕ) (row_of cells_of : A →
     (entries : Tables → List A) (with_entries : List A → Tables → Tables) (table_in : Layout → Table) (at : ℕ)
     (clear_text add_text : List ℕ) (terms : List Term) (width : ℕ) : Type 1 where
   pub rowid_is : (a : A) → rowid (row_of a) ≡ Int (pos (key_of a))
-  pub test_is : (n : ℕ) (a : A) → is_picked (number_params n) 0 has_number ids_shown (row_of a) ≡ key_of a == n
+  pub check_is : (n : ℕ) (a : A) → is_picked (number_params n) 0 has_number ids_shown (row_of a) ≡ key_of a == n
   pub there : (l : Layout) → slice_get (schema_with l).tables at ≡ Some (record (table_in l) { is_counted = false })
   pub idle : (l : Layout) → AreApart l → (olds news : List Cells)
       → works (schema_with l) Enforced 0 (table_in l).tree olds news ≡ []
@@ -90,7 +90,7 @@ module _ {A : Type 0} {key_of : A → ℕ} {row_of cells_of : A → Cells} {IsOn
       table.holds_with (filter (is_other n) (entries t)) t old.now new.now _ holds wrote
       (all-filter IsOne (is_other n) (entries t) (table.in_range t old.now holds))
       (keyed_left row_of key_of table.rowid_is (λ r. not (is_picked (number_params n) 0 has_number ids_shown r))
-      (is_other n) (λ a. ap not (table.test_is n a)) (entries t) rows shown)
+      (is_other n) (λ a. ap not (table.check_is n a)) (entries t) rows shown)
 
   pub puts_in : (a : A) → IsOne a → (old new : State) (count : ℕ) → Executes add_text (cells_of a) old new (Ok count)
       → Makes (HasNone (key_of a)) (more a) old.now new.now

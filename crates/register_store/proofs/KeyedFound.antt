@@ -26,9 +26,10 @@ use Rattle.register_store.specs.declared.error.StoreError.TheVariants.{Memory, N
 use Rattle.register_store.specs.declared.table.TableName.{TableName}
 use Rattle.register_store.specs.Tables.{ShowsKeyed, Tables}
 use Rattle.register_store.specs.Schema.{Holds, rows_of}
-use Rattle.register_store.specs.Reading.{IsRowOf, ReadsBy, ShowsNone}
+use Rattle.register_store.specs.TableReads.{IsRowOf, ReadsBy, ShowsNone}
 use Rattle.register_store.proofs.KeyedRows.{one_row}
 use Rattle.register_store.proofs.Readings.{IsSearch}
+use Rattle.register_store.proofs.AnswersRead.{ReadsRow}
 use Rattle.register_store.proofs.RowFound.{answer_read, none_is, row_is}
 use Rattle.register_store.proofs.Texts.{has_number}
 
@@ -42,7 +43,7 @@ pub record IsKeyed {A X : Type 0} (key_of : A → ℕ) (value_of : A → X) (row
     (IsOne : X → Type 0) (ShowsOne : Cells → X → Type 0) (shown : List Term) (name : TableName)
     (entries : Tables → List A) : Type 0 where
   pub rowid_is : (a : A) → rowid (row_of a) ≡ Int (pos (key_of a))
-  pub test_is : (n : ℕ) (a : A) → is_picked (number_params n) 0 has_number shown (row_of a) ≡ key_of a == n
+  pub check_is : (n : ℕ) (a : A) → is_picked (number_params n) 0 has_number shown (row_of a) ≡ key_of a == n
   pub shown_is : (n : ℕ) (a : A) → eval_all shown (number_params n ∷ row_of a ∷ []) ≡ cells (value_of a)
   pub value_is : (a b : A) → row_of a ≡ row_of b → value_of a ≡ value_of b
   pub shows : (x : X) → IsOne x → ShowsOne (cells x) x
@@ -65,8 +66,8 @@ module _ {A X : Type 0} {key_of : A → ℕ} {value_of : A → X} {row_of : A �
   abbrev pub value_at : Tables → Option X
   value_at t = option_map value_of (find is_its (entries t))
 
-  abbrev test : Cells → Bool
-  test = is_picked (number_params n) 0 has_number shown
+  abbrev check : Cells → Bool
+  check = is_picked (number_params n) 0 has_number shown
 
   abbrev row_shown : Cells → Cells
   row_shown r = eval_all shown (number_params n ∷ r ∷ [])
@@ -76,15 +77,15 @@ module _ {A X : Type 0} {key_of : A → ℕ} {value_of : A → X} {row_of : A �
       (map cells (its_values t))
   picks t old holds =
       let rows = rows_of holds.schema.layout name old.now in
-      let passing : filter test (map row_of (entries t)) ≡ map row_of (filter is_its (entries t)) =
-      filter-map test row_of (entries t) ∙ ap (map row_of) (filter_same (λ a. test (row_of a)) is_its (entries t)
-      (all_of (λ a. test (row_of a) ≡ is_its a) (keyed.test_is n) (entries t))) in
-      let right : map row_shown (filter test (map row_of (entries t))) ≡ map cells (its_values t) =
+      let passing : filter check (map row_of (entries t)) ≡ map row_of (filter is_its (entries t)) =
+      filter-map check row_of (entries t) ∙ ap (map row_of) (filter_same (λ a. check (row_of a)) is_its (entries t)
+      (all_of (λ a. check (row_of a) ≡ is_its a) (keyed.check_is n) (entries t))) in
+      let right : map row_shown (filter check (map row_of (entries t))) ≡ map cells (its_values t) =
       ap (map row_shown) passing ∙ map-map row_shown row_of (filter is_its (entries t))
       ∙ shown_each (filter is_its (entries t)) ∙ sym (map-map cells value_of (filter is_its (entries t))) in
       subst (IsPermutation (picked (number_params n) 0 has_number shown rows)) right
       (IsPermutation-map row_shown _ _
-      (filter_permutation test rows (map row_of (entries t)) (keyed.table_shows t old.now holds).rows_are))
+      (filter_permutation check rows (map row_of (entries t)) (keyed.table_shows t old.now holds).rows_are))
     where
       shown_each : (sets : List A) → map (λ a. row_shown (row_of a)) sets ≡ map (λ a. cells (value_of a)) sets
       shown_each [] = refl
@@ -97,13 +98,13 @@ module _ {A X : Type 0} {key_of : A → ℕ} {value_of : A → X} {row_of : A �
   first_at (x ∷ xs) set h is = elim (cases_Bool (is_its x)) [
     | inl here ↦ (x, ap (λ (b : Bool). cond b (Some x) (find is_its xs)) here, inl refl, here)
     | inr past ↦
-        let rest = first_at xs set (behind past h) is in
+        let rest = first_at xs set (after past h) is in
         (rest.0, ap (λ (b : Bool). cond b (Some x) (find is_its xs)) past ∙ rest.1, inr rest.2, rest.3)
   ]
     where
-      behind : is_its x ≡ false → Has (x ∷ xs) set → Has xs set
-      behind past (inl same) = absurd (let both : true ≡ false = sym is ∙ ap is_its same ∙ past in cc)
-      behind past (inr there) = there
+      after : is_its x ≡ false → Has (x ∷ xs) set → Has xs set
+      after past (inl same) = absurd (let both : true ≡ false = sym is ∙ ap is_its same ∙ past in cc)
+      after past (inr there) = there
 
   none_at : (sets : List A) → map value_of (filter is_its sets) ≡ [] → find is_its sets ≡ None
   none_at [] none = refl
@@ -155,12 +156,7 @@ module _ {A X : Type 0} {key_of : A → ℕ} {value_of : A → X} {row_of : A �
       its_values picks each same (λ t found. Unit {0}) (λ t found among. tt) old new t holds h in
       ap (option_map value_of) (none_at (entries t) none)
 
-  pub value_read : (old new : State) (r : Result Cells Error) (q : Result (Option X) StoreError)
-      → IfOk q (IsRowOf ShowsOne r) → IfErr q (λ error. error ≢ Memory)
-      → IfErr q (λ error. error ≡ NoRegister → ShowsNone IsOne ShowsOne r)
-      → (HasCleanDisk new → QueriesRow sql (number_params n) old new r)
-      → Survives old new (CommitsShowing sql (number_params n) old)
-      → ReadsBy (λ t found. found ≡ value_at t) old new q
+  pub value_read : ReadsRow IsOne ShowsOne sql (number_params n) (λ t found. found ≡ value_at t)
   value_read = answer_read IsOne ShowsOne cells sql search_is.query (number_params n) IsSought
       (λ t. value_at t ≡ None) its_row no_row (λ t old holds x sought. each t old holds x sought.1) same
       (λ t found. found ≡ value_at t) (λ t x sought. sym sought.0) (λ t none. sym none)

@@ -86,14 +86,14 @@ pub record Sets (s : Schema) (table : Table) (at : ℕ) (sql : List ℕ) (q : Qu
   pub p : Parsed
   pub name : List ℕ
   pub sets : List (List ℕ × Expr)
-  pub test : Option Expr
+  pub check : Option Expr
   pub d : Draft
   pub parsed : first sql ≡ Ok p
   pub untimed : p.formats ≡ []
-  pub is : p.statement ≡ written.Update name sets test []
+  pub is : p.statement ≡ written.Update name sets check []
   pub named : target s name ≡ Ok at
   pub there : table_at s at ≡ Ok table
-  pub drafted : updated s at table sets test ≡ Ok d
+  pub drafted : updated s at table sets check ≡ Ok d
   pub same : query_of d ≡ q
   pub from : (query_of d).from ≡ inner table.tree end
   pub accepted : accepts_classes (query_of d) (Some (row_classes table)) ≡ true
@@ -102,14 +102,14 @@ pub record Sets (s : Schema) (table : Table) (at : ℕ) (sql : List ℕ) (q : Qu
 pub record Takes (s : Schema) (table : Table) (at : ℕ) (sql : List ℕ) (q : Query) : Type 0 where
   pub p : Parsed
   pub name : List ℕ
-  pub test : Option Expr
+  pub check : Option Expr
   pub d : Draft
   pub parsed : first sql ≡ Ok p
   pub untimed : p.formats ≡ []
-  pub is : p.statement ≡ written.Delete name test []
+  pub is : p.statement ≡ written.Delete name check []
   pub named : target s name ≡ Ok at
   pub there : table_at s at ≡ Ok table
-  pub drafted : deleted s at table test ≡ Ok d
+  pub drafted : deleted s at table check ≡ Ok d
   pub same : query_of d ≡ q
   pub from : (query_of d).from ≡ inner table.tree end
   pub accepted : accepts_classes (query_of d) (Some (row_classes table)) ≡ true

@@ -32,7 +32,7 @@ use Rattle.register_store.specs.declared.custody.RoleChange.TheVariants.{Given, 
 use Rattle.register_store.specs.Roles.{change_text, with_role_changed}
 use Rattle.register_store.specs.Tables.{custodian, approval, to_custodian, place_of, table_of, Layout, Tables, ShowsEntries, Shows, IsNamed, IsInRange, content, name_cells}
 use Rattle.register_store.specs.Schema.{schema_with, Holds, rows_of}
-use Rattle.register_store.specs.Making.{Makes, Always, without_custodian, without_approval, without_approvals, without_name}
+use Rattle.register_store.specs.TableChanges.{Makes, Always, without_custodian, without_approval, without_approvals, without_name}
 use Rattle.register_store.proofs.Actions.{idle, custodian_drops, shows_all}
 use Rattle.register_store.proofs.EachTable.{each, content_with}
 use Rattle.sqlite_resolve.specs.Compile.{first}
@@ -40,7 +40,7 @@ use Rattle.register_store.proofs.Meanings.{Takes, classes, placed, takes}
 use Rattle.register_store.proofs.Frame.{holds_with, rows_kept}
 use Rattle.register_store.proofs.NameAdded.{adds_name}
 use Rattle.register_store.proofs.EntryRows.{entry_of, shows_filtered}
-use Rattle.register_store.proofs.NameTests.{at_key, at_name, places, key_past, key_is, name_past, name_is, same_cells, agree_same, loses_name}
+use Rattle.register_store.proofs.NameChecks.{at_key, at_name, places, key_past, key_is, name_past, name_is, same_cells, agree_same, loses_name}
 
 -- the text takes rows that pass out of the table at this place
 abbrev IsDelete : List ℕ → TableName → List Term → Type 0
@@ -49,7 +49,7 @@ IsDelete sql name passes = (l : Layout) → Takes (schema_with l) (table_of l na
 
 -- ---- approvals alone
 
--- the approvals of which the test holds go
+-- the approvals of which the check holds go
 module _ (sql : List ℕ) (params : Cells) (at : List Term) (parts : IsDelete sql Approval at) (q : KeyName → Bool)
     (past : (r : Cells) → is_picked params 0 at ids_shown r ≡ is_picked params 0 at ids_shown (Null ∷ drop 1 r))
     (each : (entry : KeyName) → is_picked params 0 at ids_shown (Null ∷ name_cells entry) ≡ q entry) where
@@ -70,7 +70,7 @@ module _ (sql : List ℕ) (params : Cells) (at : List Term) (parts : IsDelete sq
 
 approval_parts : IsDelete (change_text (Taken role.Approver)) Approval at_name
 unfolding everything first
-approval_parts l = record { p = _; name = _; test = _; d = _; parsed = refl; untimed = refl; is = refl; named = refl; there = refl; drafted = refl; same = refl; from = refl; accepted = refl }
+approval_parts l = record { p = _; name = _; check = _; d = _; parsed = refl; untimed = refl; is = refl; named = refl; there = refl; drafted = refl; same = refl; from = refl; accepted = refl }
 
 removes_approval : (key : ℕ) (name : List ℕ) (old new : State) (count : ℕ) → Executes (change_text (Taken role.Approver)) (name_cells (key_name key name)) old new (Ok count) → Makes Always (without_approval key name) old.now new.now
 removes_approval key name = drops_approvals (change_text (Taken role.Approver)) (name_cells (key_name key name)) at_name approval_parts (is_key_name key name)
@@ -81,7 +81,7 @@ approvals_text = codes "DELETE FROM approval WHERE key_no = ?1"
 
 approvals_parts : IsDelete approvals_text Approval at_key
 unfolding everything first
-approvals_parts l = record { p = _; name = _; test = _; d = _; parsed = refl; untimed = refl; is = refl; named = refl; there = refl; drafted = refl; same = refl; from = refl; accepted = refl }
+approvals_parts l = record { p = _; name = _; check = _; d = _; parsed = refl; untimed = refl; is = refl; named = refl; there = refl; drafted = refl; same = refl; from = refl; accepted = refl }
 
 pub removes_approvals : (key : ℕ) (old new : State) (count : ℕ) → Executes approvals_text (Int (pos key) ∷ []) old new (Ok count) → Makes Always (without_approvals key) old.now new.now
 removes_approvals key = drops_approvals approvals_text (Int (pos key) ∷ []) at_key approvals_parts (is_at key)
@@ -94,7 +94,7 @@ two_places same = absurd (omega (arith, same))
 
 custodian_parts : IsDelete (change_text (Taken role.Custodian)) Custodian at_name
 unfolding everything first
-custodian_parts l = record { p = _; name = _; test = _; d = _; parsed = refl; untimed = refl; is = refl; named = refl; there = refl; drafted = refl; same = refl; from = refl; accepted = refl }
+custodian_parts l = record { p = _; name = _; check = _; d = _; parsed = refl; untimed = refl; is = refl; named = refl; there = refl; drafted = refl; same = refl; from = refl; accepted = refl }
 
 parent_is : (l : Layout) → parent_key (schema_with l).tables to_custodian ≡ Some (l.tree Custodian, places, plain)
 unfolding same_name joined
@@ -139,8 +139,8 @@ module _ (key : ℕ) (name : List ℕ) where
   past : (r : Cells) → passing r ≡ passing (Null ∷ drop 1 r)
   past = name_past 0 ids_shown key name
 
-  same_test : (r x : Cells) → drop 1 r ≡ drop 1 x → passing r ≡ passing x
-  same_test r x same = past r ∙ ap (λ cells. passing (Null ∷ cells)) same ∙ sym (past x)
+  same_check : (r x : Cells) → drop 1 r ≡ drop 1 x → passing r ≡ passing x
+  same_check r x same = past r ∙ ap (λ cells. passing (Null ∷ cells)) same ∙ sym (past x)
 
   module _ (db : Database) (t : Tables) (holds : Holds t db) where
     from_custodian : (r : Cells) → Has (rows_of holds.schema.layout Approval db) r → passing r ≡ true
@@ -151,7 +151,7 @@ module _ (key : ℕ) (name : List ℕ) where
         let x = approver db t holds r h in
         let a = entry_of name_cells t.approvals (rows_of l Approval db) (holds.shown Approval) r h in
         let of_x = sym x.2 ∙ a.1 in
-        (x.0, x.1, sym (same_test r x.0 x.2) ∙ is, loses_name x.0 a.0 of_x, agree_same r x.0 a.0 a.1 of_x)
+        (x.0, x.1, sym (same_check r x.0 x.2) ∙ is, loses_name x.0 a.0 of_x, agree_same r x.0 a.0 a.1 of_x)
 
     of_custodian : (r x : Cells) → Has (rows_of holds.schema.layout Approval db) r
         → Has (rows_of holds.schema.layout Custodian db) x → passing x ≡ true → agree plain places r places x ≡ true
@@ -160,7 +160,7 @@ module _ (key : ℕ) (name : List ℕ) where
         let l = holds.schema.layout in
         let a = entry_of name_cells t.approvals (rows_of l Approval db) (holds.shown Approval) r h in
         let b = entry_of name_cells t.custodians (rows_of l Custodian db) (holds.shown Custodian) x k in
-        same_test r x (same_cells r x a.0 b.0 a.1 b.1 agrees) ∙ is
+        same_check r x (same_cells r x a.0 b.0 a.1 b.1 agrees) ∙ is
 
   without : (entries : List KeyName) (rows : List Cells) → ShowsEntries name_cells entries rows → ShowsEntries name_cells (without_name key name entries) (filter (λ r. not (passing r)) rows)
   without entries rows shows = shows_filtered name_cells (λ r. not (passing r))

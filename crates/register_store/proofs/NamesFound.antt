@@ -11,7 +11,7 @@ use Rattle.sqlite.specs.State.{State, HasCleanDisk, Shown, IsUnchanged, Survives
 use Rattle.sqlite.specs.Term.{Term, col, eval_all}
 use Rattle.sqlite_tied.specs.Compute.{everything}
 use Rattle.sqlite_resolve.specs.Compile.{first}
-use Rattle.row_tests.proofs.Selects.{IsSelect, select_plain}
+use Rattle.row_checks.proofs.Selects.{IsSelect, select_plain}
 use Rattle.sqlite_rules.proofs.ListLemmas.{all_has}
 use Rattle.sqlite_trees.proofs.ListLemmas.{all-filter, map-map}
 use Rattle.sql_steps.proofs.SameRows.{has_map, map_has}
@@ -28,13 +28,13 @@ use Rattle.register_store.specs.declared.custody.Role.TheVariants as role
 use Rattle.register_store.specs.declared.table.TableName.{TableName}
 use Rattle.register_store.specs.declared.table.TableName.TheVariants.{Custodian, Approval}
 use Rattle.register_store.specs.Roles.{names_of, select_text}
-use Rattle.register_store.specs.Reading.{AreNamesOf, HasNoName, HoldsWhereOpen, IsOpenStill, ReadsBy}
+use Rattle.register_store.specs.TableReads.{AreNamesOf, HasNoName, HoldsWhereOpen, IsOpenStill, ReadsBy}
 use Rattle.register_store.specs.Tables.{Layout, Tables, table_of, AreNames, IsNamed, ShowsEntries, name_cells}
 use Rattle.register_store.specs.Schema.{schema_with, Holds, rows_of}
 use Rattle.register_store.proofs.Actions.{shows_all}
 use Rattle.register_store.proofs.Meanings.{Asks, asks, classes, placed}
 use Rattle.register_store.proofs.EntryRows.{picks_entries}
-use Rattle.register_store.proofs.NameTests.{at_key, key_past, key_is}
+use Rattle.register_store.proofs.NameChecks.{at_key, key_past, key_is}
 use Rattle.register_store.proofs.OpenQueries.{open_still, shown_same}
 use Rattle.register_store.proofs.Readings.{IsSearch, fails_refused, fails_unchanged, reads_by}
 

@@ -27,7 +27,7 @@ clear_need_text = codes "DELETE FROM quorum WHERE key_no = ?1"
 takes_need : (l : Layout) → Takes (schema_with l) (table_of l Quorum) (place_of Quorum) clear_need_text
     (plain_query (l.tree Quorum) has_number ids_shown)
 unfolding everything first
-takes_need l = record { p = _; name = _; test = _; d = _; parsed = refl; untimed = refl; is = refl; named = refl; there = refl; drafted = refl; same = refl; from = refl; accepted = refl }
+takes_need l = record { p = _; name = _; check = _; d = _; parsed = refl; untimed = refl; is = refl; named = refl; there = refl; drafted = refl; same = refl; from = refl; accepted = refl }
 
 abbrev pub need_text : List ℕ
 need_text = codes "INSERT INTO quorum (key_no, need) VALUES (?1, ?2)"
@@ -47,7 +47,7 @@ pub needs_table : IsSetTable (λ (set : KeyNeed). set.key) need_row need_params 
     need_terms 3
 needs_table = record {
   rowid_is = λ set. refl;
-  test_is = λ n set. rw (equal_numbers set.key n) (and-true (set.key == n));
+  check_is = λ n set. rw (equal_numbers set.key n) (and-true (set.key == n));
   there = λ l. refl;
   idle = λ l apart. idle l apart Quorum refl 0;
   clears = λ l at. takes (schema_with l) (table_of l Quorum) (classes l at Quorum) _ _ _ (takes_need l);

@@ -12,7 +12,7 @@ use Rattle.register_core.specs.Settings.{KeyNeed}
 use Rattle.sql_steps.proofs.Statements.{plain_query}
 use Rattle.register_store.specs.declared.table.TableName.TheVariants.{Quorum}
 use Rattle.register_store.specs.Tables.{Layout, Tables, need_row, table_of}
-use Rattle.register_store.specs.Reading.{ShowsNeed}
+use Rattle.register_store.specs.TableReads.{ShowsNeed}
 use Rattle.register_store.proofs.KeyedFound.{IsKeyed}
 use Rattle.register_store.specs.Schema.{schema_with}
 use Rattle.register_store.proofs.Meanings.{Asks}
@@ -48,7 +48,7 @@ pub needs_keyed : IsKeyed (λ (set : KeyNeed). set.key) (λ set. set.need) need_
     Quorum (λ (t : Tables). t.needs)
 needs_keyed = record {
   rowid_is = λ set. refl;
-  test_is = λ n set. rw (equal_numbers set.key n) (and-true (set.key == n));
+  check_is = λ n set. rw (equal_numbers set.key n) (and-true (set.key == n));
   shown_is = λ n set. refl;
   value_is = same_need;
   shows = λ need is. record { cell = refl; in_range = is };

@@ -23,7 +23,7 @@ use Rattle.sqlite_schema.specs.declared.schema.Index.{Index}
 use Rattle.sqlite_schema.specs.Names.{table_named, index_named, view_named}
 use Rattle.sqlite_syntax.specs.declared.statement.Parsed.{Parsed}
 use Rattle.sqlite_tied.specs.Compute.{everything}
-use Rattle.sql_steps.specs.Creating.{Created}
+use Rattle.sql_steps.specs.CreatedTables.{Created}
 use Rattle.sql_steps.proofs.Creating.{makes}
 use Rattle.register_store.specs.declared.table.TableName.{TableName}
 use Rattle.register_store.specs.declared.table.TableName.TheVariants.{Meta, Keys, Custodian, Approval, Request, Period, Quorum}

@@ -1,4 +1,4 @@
--- From the tests and the migration to what an opening does.
+-- From the checks and the migration to what an opening does.
 use Rattle.std.proofs.Common.{◌≡◌, inl, inr, Result, Ok, Err, sym, ap, subst, ◌∙◌, refl, arith}
 use Rattle.std.specs.Prelude.{IsErrAnd}
 use Rattle.sqlite.specs.Effect.{Database as Db}
@@ -14,13 +14,13 @@ use Rattle.register_store.specs.declared.error.CheckError.TheVariants.{NotARegis
 use Rattle.register_store.specs.declared.error.CreateError.{CreateError}
 use Rattle.register_store.specs.declared.error.CreateError.TheVariants.{HasTables, Database as Refused}
 use Rattle.register_store.specs.declared.found.Found.{Found}
-use Rattle.register_store.specs.Checking.{BlamesNone, ChecksBy, IsReason, Passes}
+use Rattle.register_store.specs.CheckedTables.{BlamesNone, ChecksBy, IsReason, Passes}
 use Rattle.register_store.specs.Migration.{FindsNewBy, HasNewTable, Migrates}
-use Rattle.register_store.specs.Opening.{ChangesNothing, HasCommittedIn, IsRefusal, MigratesTo, OpensBy, migration_error}
+use Rattle.register_store.specs.OpenedTables.{ChangesNothing, HasCommittedIn, IsRefusal, MigratesTo, OpensBy, migration_error}
 use Rattle.register_store.specs.Schema.{HoldsIn}
 use Rattle.register_store.specs.Stored.{HoldsStored, Stored}
 use Rattle.register_store.specs.Tables.{Tables}
-use Rattle.register_store.specs.Tests.{MeetsTests, tested}
+use Rattle.register_store.specs.OpeningChecks.{MeetsChecks, checked}
 use Rattle.register_store.proofs.Checked.{passed_on, version_of}
 use Rattle.register_store.proofs.NoneNew.{none_new}
 
@@ -40,7 +40,7 @@ unchanged_back a b same = (
 passes_before : (t : Stored) (a b : State) → Passes t a b → Passes t a a
 passes_before t a b it =
     let back = unchanged_back a b it.same in
-    record { passed = passed_on (tested t.version) t a b a it.passed back; same = unchanged_then a b a it.same back }
+    record { passed = passed_on (checked t.version) t a b a it.passed back; same = unchanged_then a b a it.same back }
 
 had_on : (v : Version) (t : Tables) (a b : State) → HasCommittedIn v t a → IsUnchanged a b → HasCommittedIn v t b
 had_on v t a b had same = record {
@@ -66,7 +66,7 @@ as_refusal a b (NewerVersion found) why = why
 as_refusal a b Memory why = why
 as_refusal a b (Database error) why = tt
 
--- the tests failed
+-- the checks failed
 pub check_fails : (a b : State) (e : CheckError) (q : Result Found CheckError) → IsErrAnd q (λ x. x ≡ e)
     → ChecksBy a b (Err e) → OpensBy a b q
 check_fails a b e (Ok y) is checks = absurd is
@@ -110,7 +110,7 @@ module _ {A : Type 0} (a b d : State) (found : Found) (first : found.version ≡
   early : HasCleanDisk d → HasCleanDisk b
   early clean = let stop = did.stop in omega (arith, stop.clean, clean)
 
-  -- the tests changed nothing
+  -- the checks changed nothing
   same : HasCleanDisk d → b.now ≡ a.now
   same clean = (checks.passed (early clean)).1.same.0.now_is
 
@@ -130,11 +130,11 @@ module _ {A : Type 0} (a b d : State) (found : Found) (first : found.version ≡
   stops = survives_then a b d (λ _. ⊥) (λ trees. (db : Db) × Migrates b.now db × (trees ≡ db.trees)) (MigratesTo a)
       (λ clean db none. absurd none) taken checks.survives did.stop
 
-  own_first : HasCleanDisk d → (t : Stored) → HoldsStored t a.now → MeetsTests t → t.version ≡ First
+  own_first : HasCleanDisk d → (t : Stored) → HoldsStored t a.now → MeetsChecks t → t.version ≡ First
   own_first clean t holds meets = sym (version_of found t (checks.counted (early clean) t holds meets)) ∙ first
 
   -- it holds none of this program's version
-  stops_current : (t : Stored) → t.version ≡ Second → HoldsStored t a.now → MeetsTests t → Survives a d (λ _. ⊥)
+  stops_current : (t : Stored) → t.version ≡ Second → HoldsStored t a.now → MeetsChecks t → Survives a d (λ _. ⊥)
   stops_current t own holds meets = record {
     clean = stops.clean;
     shield = stops.shield;
@@ -218,7 +218,7 @@ first_fails a b d found first checks e did there (Err x) is = subst (λ x. Opens
     kept (Refused error) there nothing = absurd nothing
 
     none : (e : CreateError) → TransactsBy {T = Unit {0}} Migrates b d (Err e) → (e ≡ HasTables → FindsNewBy b d)
-        → HasCleanDisk d → (t : Stored) → HoldsStored t a.now → MeetsTests t → BlamesNone (migration_error e)
+        → HasCleanDisk d → (t : Stored) → HoldsStored t a.now → MeetsChecks t → BlamesNone (migration_error e)
     none HasTables did there clean t holds meets =
         let own = own_first a b d found first checks (Err HasTables) did clean t holds meets in
         let now = same a b d found first checks (Err HasTables) did clean in

@@ -28,7 +28,7 @@ clear_period_text = codes "DELETE FROM period WHERE kind = ?1"
 takes_period : (l : Layout) → Takes (schema_with l) (table_of l Period) (place_of Period) clear_period_text
     (plain_query (l.tree Period) has_number ids_shown)
 unfolding everything first
-takes_period l = record { p = _; name = _; test = _; d = _; parsed = refl; untimed = refl; is = refl; named = refl; there = refl; drafted = refl; same = refl; from = refl; accepted = refl }
+takes_period l = record { p = _; name = _; check = _; d = _; parsed = refl; untimed = refl; is = refl; named = refl; there = refl; drafted = refl; same = refl; from = refl; accepted = refl }
 
 abbrev pub period_text : List ℕ
 period_text = codes "INSERT INTO period (kind, originator, recipient) VALUES (?1, ?2, ?3)"
@@ -51,7 +51,7 @@ pub periods_table : IsSetTable of_period period_row period_params IsSetPeriod (�
     period_text period_terms 4
 periods_table = record {
   rowid_is = λ set. refl;
-  test_is = λ n set. rw (equal_numbers (of_period set) n) (and-true (of_period set == n));
+  check_is = λ n set. rw (equal_numbers (of_period set) n) (and-true (of_period set == n));
   there = λ l. refl;
   idle = λ l apart. idle l apart Period refl 0;
   clears = λ l at. takes (schema_with l) (table_of l Period) (classes l at Period) _ _ _ (takes_period l);

@@ -13,7 +13,7 @@ use Rattle.register_core.specs.Settings.{TypePeriod}
 use Rattle.sql_steps.proofs.Statements.{plain_query}
 use Rattle.register_store.specs.declared.table.TableName.TheVariants.{Period}
 use Rattle.register_store.specs.Tables.{Layout, Tables, period_row, table_of}
-use Rattle.register_store.specs.Reading.{ShowsPeriod}
+use Rattle.register_store.specs.TableReads.{ShowsPeriod}
 use Rattle.register_store.proofs.KeyedFound.{IsKeyed}
 use Rattle.register_store.specs.Schema.{schema_with}
 use Rattle.register_store.proofs.Meanings.{Asks}
@@ -61,7 +61,7 @@ pub periods_keyed : IsKeyed (λ (set : TypePeriod). key_type_code set.kind) (λ 
     IsPeriod ShowsPeriod period_shown Period (λ (t : Tables). t.periods)
 periods_keyed = record {
   rowid_is = λ set. refl;
-  test_is = λ n set. rw (equal_numbers (key_type_code set.kind) n) (and-true (key_type_code set.kind == n));
+  check_is = λ n set. rw (equal_numbers (key_type_code set.kind) n) (and-true (key_type_code set.kind == n));
   shown_is = λ n set. refl;
   value_is = same_period;
   shows = λ p is. record { originator = refl; recipient = refl; in_range = is };

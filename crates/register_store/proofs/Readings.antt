@@ -8,15 +8,15 @@ use Rattle.sqlite.specs.Term.{Term}
 use Rattle.sqlite.proofs.Callers.{unchanged_then}
 use Rattle.sqlite.proofs.StateLemmas.{survives_then}
 use Rattle.sql_steps.proofs.Statements.{plain_query}
-use Rattle.row_tests.specs.Showing.{IsQuery}
-use Rattle.row_tests.proofs.RowByRow.{commits_none}
-use Rattle.row_tests.proofs.Selects.{select_plain}
+use Rattle.row_checks.specs.ShownRows.{IsQuery}
+use Rattle.row_checks.proofs.RowByRow.{commits_none}
+use Rattle.row_checks.proofs.Selects.{select_plain}
 use Rattle.register_store.specs.declared.error.StoreError.{StoreError}
 use Rattle.register_store.specs.declared.error.StoreError.TheVariants.{Memory, NoRegister}
 use Rattle.sqlite_trees.specs.declared.store.Store.{Ghosts}
 use Rattle.register_store.specs.declared.counted.Counted.{Counted}
 use Rattle.register_store.proofs.Meanings.{Asks, IsPlaced, Meant, asks, classes}
-use Rattle.register_store.specs.Reading.{seen, CallsOver, HoldsWhereOpen, IsOpenStill, KeepsSight, ReadFails, ReadsBy}
+use Rattle.register_store.specs.TableReads.{seen, CallsOver, HoldsWhereOpen, IsOpenStill, KeepsSight, ReadFails, ReadsBy}
 use Rattle.register_store.specs.Tables.{Layout, Tables, fresh, table_of}
 use Rattle.register_store.specs.declared.table.TableName.{TableName}
 use Rattle.register_store.specs.Schema.{schema_with, Holds}
@@ -47,7 +47,7 @@ pub fails_refused : {A : Type 0} (r : Result A StoreError) (old new : State) →
 fails_refused (Ok x) old new other registered = tt
 fails_refused (Err error) old new other registered = record { unchanged = λ is. absurd (other is); registered = registered }
 
--- what changes nothing leaves nothing new behind a stop
+-- what changes nothing leaves nothing new after a stop
 pub survives_none : (s : State) → Survives s s (λ _. ⊥)
 survives_none s = record {
   clean = omega arith;

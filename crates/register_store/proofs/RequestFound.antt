@@ -26,11 +26,12 @@ use Rattle.register_store.specs.declared.error.StoreError.TheVariants.{Memory, N
 use Rattle.register_store.specs.declared.table.TableName.TheVariants.{Request}
 use Rattle.register_store.specs.Tables.{Layout, Tables, request_cells, state_cell, table_of}
 use Rattle.register_store.specs.Schema.{schema_with, Holds, rows_of}
-use Rattle.register_store.specs.Reading.{HasRequest, IsRowOf, ReadsBy, ShowsNone, ShowsRequest}
+use Rattle.register_store.specs.TableReads.{HasRequest, IsRowOf, ReadsBy, ShowsNone, ShowsRequest}
 use Rattle.register_store.proofs.Decoding.{same_request}
 use Rattle.register_store.proofs.EntryRows.{picks_entries}
 use Rattle.register_store.proofs.Meanings.{Asks}
 use Rattle.register_store.proofs.Readings.{IsSearch, search_by}
+use Rattle.register_store.proofs.AnswersRead.{ReadsRow}
 use Rattle.register_store.proofs.RowFound.{row_read}
 
 -- ---- the text
@@ -110,9 +111,7 @@ module _ (caller : List ℕ) (number : ℕ) where
         },
       )
 
-  pub request_read : (old new : State) (r : Result Cells Error) (q : Result (Option KeptReply) StoreError) → IfOk q (IsRowOf ShowsOne r) → IfErr q (λ error. error ≢ Memory)
-      → IfErr q (λ error. error ≡ NoRegister → ShowsNone IsKeptReply ShowsOne r) → (HasCleanDisk new → QueriesRow search_text params old new r) → Survives old new (CommitsShowing search_text params old)
-      → ReadsBy (HasRequest caller number) old new q
+  pub request_read : ReadsRow IsKeptReply ShowsOne search_text params (HasRequest caller number)
   request_read = row_read IsKeptReply ShowsOne answer_cells search_text Request under answer_shown answer_names
       search_is params matching picks each
       (λ k other is own shows. same_request caller number (answer_cells k) other k shows.cells own.cells) (HasRequest caller number) (λ t found among. among)

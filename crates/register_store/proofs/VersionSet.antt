@@ -46,7 +46,7 @@ shown = col 1 0 ∷ lit Null ∷ col 0 0 ∷ col 1 3 ∷ col 1 4 ∷ []
 
 sets_version : (l : Layout) → Sets (schema_with l) (meta l) (place_of Meta) version_text (plain_query (l.tree Meta) passes (col 1 0 ∷ shown))
 unfolding everything first
-sets_version l = record { p = _; name = _; sets = _; test = _; d = _; parsed = refl; untimed = refl; is = refl; named = refl; there = refl; drafted = refl; same = refl; from = refl; accepted = refl }
+sets_version l = record { p = _; name = _; sets = _; check = _; d = _; parsed = refl; untimed = refl; is = refl; named = refl; there = refl; drafted = refl; same = refl; from = refl; accepted = refl }
 
 -- a row of meta with its version
 abbrev enc : Version × Counts → Cells

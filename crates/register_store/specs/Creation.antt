@@ -7,7 +7,7 @@ use Rattle.sqlite.specs.Schema.{Schema}
 use Rattle.sqlite.specs.State.{State, HasCleanDisk, Survives}
 use Rattle.sqlite_trees.specs.declared.store.Store.{Ghosts}
 use Rattle.sqlite_resolve.specs.declared.compiled.Compiled.{Compiled}
-use Rattle.sql_steps.specs.Creating.{Creates, Indexes}
+use Rattle.sql_steps.specs.CreatedTables.{Creates, Indexes}
 use Rattle.register_store.specs.declared.key_index.KeyIndex.{KeyIndex}
 use Rattle.register_store.specs.declared.table.TableName.{TableName}
 use Rattle.register_store.specs.Tables.{fresh, all_tables, keys, table_of, place_of, count_text, no_rows}

@@ -53,7 +53,7 @@ IsRegister = IsRegisterIn current
 -- ---- the indexes of keys that a new register has
 
 -- An index of keys by their states, and then by further columns. Columns are counted from the rowid, which is the
--- number and has 0: the state is 5. Its tree comes behind those of the tables.
+-- number and has 0: the state is 5. Its tree comes after those of the tables.
 abbrev pub state_index : List ℕ → ℕ → List ℕ → Index
 state_index name place columns = record {
   name = name;
@@ -65,7 +65,7 @@ state_index name place columns = record {
 }
 
 -- by the date of activation, by that of deactivation, and by that of the stop of protection with the number
--- behind it
+-- after it
 abbrev pub index_of : KeyIndex → Index
 index_of Activation = state_index (codes "keys_by_activation") 0 (7 ∷ [])
 index_of Deactivation = state_index (codes "keys_by_deactivation") 1 (9 ∷ [])

@@ -25,7 +25,7 @@ fn has_new<S: Alter>(tx: &mut Transaction<'_, S>) -> Result<bool, Error>
     has_meaning(tx, TableName::Quorum.count_sql())
 }
 
-/// Makes one of the two, empty, behind the tables that stand before it.
+/// Makes one of the two, empty, after the tables that stand before it.
 fn make_next<S: Alter>(tx: &mut Transaction<'_, S>, table: TableName) -> Result<usize, Error>
     requires { table_count First ≤ place_of table }
     ensures same_reference { tx.new.conn.ghost_name ≡ tx.old.conn.ghost_name }

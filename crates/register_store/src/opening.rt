@@ -1,6 +1,6 @@
 //! Opening the tables of a file.
 ghost use Rattle.std.specs.Prelude.{◌≡◌, false};
-ghost use Rattle.register_store.specs.Opening.{OpensTables};
+ghost use Rattle.register_store.specs.OpenedTables.{OpensTables};
 
 use crate::checking::check;
 use crate::error::CheckError;
@@ -10,7 +10,7 @@ use register_core::Version;
 use sqlite::{Alter, Connection};
 use std::alloc::Global;
 
-/// Puts the tables of a file to the tests of their version, and takes those of the first version to the second. Gives the
+/// Puts the tables of a file to the checks of their version, and takes those of the first version to the second. Gives the
 /// version that they had, and what they count.
 ///
 /// # Errors

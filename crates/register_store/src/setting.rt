@@ -1,23 +1,23 @@
 //! What is set beside the keys themselves: the usage periods of types, and how many approvals the destruction of a key
 //! needs.
-ghost use Rattle.std.specs.Prelude.{◌≡◌, ◌≢◌, IfOk, IfErr, MatchOption};
+ghost use Rattle.std.specs.Prelude.{◌≡◌, MatchOption};
 ghost use Rattle.sql_steps.specs.Steps.{StepsBy};
-ghost use Rattle.period_core.specs.Period.{IsPeriod, Period as UsagePeriod};
-ghost use Rattle.register_core.specs.Quorum.{IsQuorum};
-ghost use Rattle.register_store.specs.Counting.{Takes};
-ghost use Rattle.register_store.specs.Making.{Makes, Always, HasNoNeed};
-ghost use Rattle.register_store.specs.Making.{more_need, with_need_set, without_need};
-ghost use Rattle.register_store.specs.Making.{HasNoPeriod, more_period, with_period_set};
-ghost use Rattle.register_store.specs.Making.{without_period};
-ghost use Rattle.register_store.specs.Reading.{Calls, HasNeed, HasPeriod, IsRowOf, KeepsSight, Reads};
-ghost use Rattle.register_store.specs.Reading.{ShowsNeed, ShowsNone, ShowsPeriod, seen};
+ghost use Rattle.period_core.specs.Period.{Period as UsagePeriod};
+ghost use Rattle.register_store.specs.StepCount.{Takes};
+ghost use Rattle.register_store.specs.TableChanges.{Makes, Always, HasNoNeed};
+ghost use Rattle.register_store.specs.TableChanges.{more_need, with_need_set, without_need};
+ghost use Rattle.register_store.specs.TableChanges.{HasNoPeriod, more_period, with_period_set};
+ghost use Rattle.register_store.specs.TableChanges.{without_period};
+ghost use Rattle.register_store.specs.TableReads.{Calls, HasNeed, HasPeriod, KeepsSight, Reads};
+ghost use Rattle.register_store.specs.TableReads.{ShowsPeriod, seen};
 
+use crate::answer::read_answer;
 use crate::cell::{months_in, need_in};
 use crate::counted::{Counted, Inside, StepCount};
 use crate::error::StoreError;
 use period_core::{KeyType, Period};
 use register_core::Quorum;
-use sqlite::{Alter, Error, Row, params};
+use sqlite::{Alter, Row, params};
 
 /// Takes out the period of the type, if one was set.
 fn clear_period<T: Inside>(
@@ -125,23 +125,6 @@ pub(crate) fn set_need<T: Inside>(
     add_need(tx, steps, key, need)
 }
 
-/// The need of the answer to the search for one, `None` where there is no row.
-fn need_of(answer: Result<Row, Error>) -> Result<Option<Quorum>, StoreError>
-    ensures row { IfOk result (IsRowOf ShowsNeed answer) }
-    ensures failed { IfErr result (λ error. error ≢ StoreError.Memory) }
-    ensures unregistered { IfErr result (λ error. error ≡ StoreError.NoRegister
-        → ShowsNone IsQuorum ShowsNeed answer) }
-{
-    match answer {
-        Ok(row) => match need_in(&row, 0) {
-            Some(need) => Ok(Some(need)),
-            None => Err(StoreError::NoRegister),
-        },
-        Err(Error::QueryReturnedNoRows) => Ok(None),
-        Err(error) => Err(StoreError::Database(error)),
-    }
-}
-
 /// How many approvals the destruction of the key with this number needs, or `None` where its owner set no number. It
 /// changes nothing.
 ///
@@ -155,7 +138,8 @@ pub fn find_need<S: Alter>(
     ensures counted { Calls 2 connection.old connection.new }
     ensures reads { Reads S.Store (HasNeed key) connection.old connection.new result }
 {
-    need_of(connection.query_row("SELECT need FROM quorum WHERE key_no = ?1", params![key]))
+    let answer = connection.query_row("SELECT need FROM quorum WHERE key_no = ?1", params![key]);
+    read_answer(answer, |row| need_in(row, 0))
 }
 
 /// The period in the first two cells.
@@ -164,23 +148,6 @@ fn period_in(row: &Row) -> Option<Period>
         (ShowsPeriod row.now) }
 {
     Period::new(months_in(row, 0)?, months_in(row, 1)?)
-}
-
-/// The period of the answer to the search for one, `None` where there is no row.
-fn period_of(answer: Result<Row, Error>) -> Result<Option<Period>, StoreError>
-    ensures row { IfOk result (IsRowOf ShowsPeriod answer) }
-    ensures failed { IfErr result (λ error. error ≢ StoreError.Memory) }
-    ensures unregistered { IfErr result (λ error. error ≡ StoreError.NoRegister
-        → ShowsNone IsPeriod ShowsPeriod answer) }
-{
-    match answer {
-        Ok(row) => match period_in(&row) {
-            Some(period) => Ok(Some(period)),
-            None => Err(StoreError::NoRegister),
-        },
-        Err(Error::QueryReturnedNoRows) => Ok(None),
-        Err(error) => Err(StoreError::Database(error)),
-    }
 }
 
 /// The usage period that is set for the type, or `None` where none is. It changes nothing.
@@ -195,8 +162,9 @@ pub fn find_period<S: Alter>(
     ensures sight { KeepsSight (seen S.Store connection.old) (seen S.Store connection.new) }
     ensures reads { Reads S.Store (HasPeriod kind) connection.old connection.new result }
 {
-    period_of(connection.query_row(
+    let answer = connection.query_row(
         "SELECT originator, recipient FROM period WHERE kind = ?1",
         params![u32::from(kind.code())],
-    ))
+    );
+    read_answer(answer, period_in)
 }

@@ -27,11 +27,11 @@ module _ {A : Type 0} (enc : A → Row) (number : A → ℤ) (rowid_is : (a : A)
   abbrev pub shown : List Term
   shown = col 1 0 ∷ more
 
-  abbrev pub test : A → Bool
-  test a = is_picked params table.tree passes shown (enc a)
+  abbrev pub check : A → Bool
+  check a = is_picked params table.tree passes shown (enc a)
 
   abbrev pub updated : A → A
-  updated a = cond (test a) (f a) a
+  updated a = cond (check a) (f a) a
 
   abbrev pub g : Row → Row
   g r = cast_row table (drop 1 (eval_all shown (env_of params table.tree passes shown r)))
@@ -87,12 +87,12 @@ module _ {A : Type 0} (enc : A → Row) (number : A → ℤ) (rowid_is : (a : A)
 
     all_each : (xs : List A) → map (changed_by p g) (map enc xs) ≡ map enc (map updated xs)
     all_each [] = refl
-    all_each (a ∷ xs) = ap (λ r. r ∷ map (changed_by p g) (map enc xs)) (each a (test a)) ∙ ap (λ rs. enc (updated a) ∷ rs) (all_each xs)
+    all_each (a ∷ xs) = ap (λ r. r ∷ map (changed_by p g) (map enc xs)) (each a (check a)) ∙ ap (λ rs. enc (updated a) ∷ rs) (all_each xs)
 
     abbrev news : List Row
     news = map (λ s. cast_row table (drop 1 s)) answer
 
-    -- each row is changed exactly where the test holds
+    -- each row is changed exactly where the check holds
     pub changes_each : edited db (edit_of db table (ids_of answer) Given 1 answer) ≡ map enc (map updated items)
     changes_each =
         ap (put_all (without_all rows (ids_of answer))) news_are

@@ -93,14 +93,14 @@ take-written held new part count filled more k is_filled is_more long is_new =
     fits in
     let cut : min (count + length part) (length new) ≡ filled + more = omega arith in
     let left = sym (take_min (count + length part) new) ∙ ap (λ n. take n new) cut ∙ written in
-    let front : take filled held ≡ take count held = ap (λ n. take n held) is_filled ∙ take_min count held in
-    let front_length : length (take count held) ≡ filled = length-take count held ∙ sym is_filled in
+    let prefix : take filled held ≡ take count held = ap (λ n. take n held) is_filled ∙ take_min count held in
+    let prefix_length : length (take count held) ≡ filled = length-take count held ∙ sym is_filled in
     let room : length held ≡ length (take count held) + (length held - filled) = omega arith in
     let less : min (length held - filled) (length part) ≡ more = omega arith in
     let right = ap (λ n. take n (take count held ++ part)) room
     ∙ take-append-add (take count held) part (length held - filled) in
     let tail = sym (take_min (length held - filled) part) ∙ ap (λ n. take n part) less in
-    left ∙ ap (λ l. l ++ take more part) front ∙ sym (right ∙ ap (λ l. take count held ++ l) tail)
+    left ∙ ap (λ l. l ++ take more part) prefix ∙ sym (right ∙ ap (λ l. take count held ++ l) tail)
 
 -- ---- what a cutter holds
 
@@ -194,7 +194,7 @@ pub record Begun (max_length : ℕ) (before after : Option (List ℕ)) (cut : Cu
   pub counted : cut.line_length ≡ length so_far
   pub kept : cut.line ≡ take max_length so_far
 
--- the front of the unread bytes was consumed
+-- the prefix of the unread bytes was consumed
 Consumes-unread : (known : Option (List ℕ)) (unread part rest : List ℕ) → unread ≡ part ++ rest
     → Consumes (prepend_known unread known) (prepend_known rest known) part
 Consumes-unread None unread part rest e = tt
@@ -224,9 +224,9 @@ pub CutsLine-at_line_feed : {max_length : ℕ} (before known : Option (List ℕ)
     → CutsLine max_length before (prepend_known new.unread known) new (so_far ++ part)
 CutsLine-at_line_feed {max_length} before known old new so_far part begun unbroken split more =
     let its_end : List ℕ = line_feed ∷ [] in
-    let front : old.unread ≡ (part ++ its_end) ++ new.unread = split ∙ sym (append_assoc part its_end new.unread) in
+    let prefix : old.unread ≡ (part ++ its_end) ++ new.unread = split ∙ sym (append_assoc part its_end new.unread) in
     let consumed = Consumes-trans before _ _ so_far (part ++ its_end) begun.consumed
-    (Consumes-unread known old.unread (part ++ its_end) new.unread front) in
+    (Consumes-unread known old.unread (part ++ its_end) new.unread prefix) in
     record {
       unbroken = HasNoLineFeed-append so_far part begun.unbroken unbroken;
       consumed = subst (Consumes before (prepend_known new.unread known)) (sym (append_assoc so_far part its_end))

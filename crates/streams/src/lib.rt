@@ -3,7 +3,7 @@
 //!
 //! A caller lends [`Lines::next`] its watched reader again and again. After each [`Next::Line`] it
 //! asks [`Lines::line`] for the line, and after [`Next::End`] [`Lines::length`] for how many bytes
-//! stood behind the last one. It writes what it has to say by [`Watched::write_flushed`].
+//! stood after the last one. It writes what it has to say by [`Watched::write_flushed`].
 #![tactic(auto)]
 
 mod lines;

@@ -148,7 +148,7 @@ impl<const MAX_LENGTH: usize> Lines<MAX_LENGTH> {
         self.line_length = 0;
     }
 
-    fn unread(&self) -> &[u8]
+    fn unread_bytes(&self) -> &[u8]
         ensures { result.now ≡ self.now.unread }
     {
         &self.piece[self.start..self.end]
@@ -218,14 +218,14 @@ impl<const MAX_LENGTH: usize> Lines<MAX_LENGTH> {
         ensures none { OnFalse result (HasNoLineFeed self.old.unread
             × (self.new.unread ≡ []) × Extends MAX_LENGTH self.old self.new self.old.unread) }
     {
-        match find_line_feed(self.unread()) {
+        match find_line_feed(self.unread_bytes()) {
             Some(at) => {
                 self.take_part(at);
                 self.skip_one();
                 true
             }
             None => {
-                let all = self.unread().len();
+                let all = self.unread_bytes().len();
                 self.take_part(all);
                 false
             }

@@ -62,7 +62,7 @@ impl<T> Watched<T> {
     }
 
     /// Whether a turn has failed, other than by an interruption.
-    pub fn failed(&self) -> bool
+    pub fn has_failed(&self) -> bool
         ensures { result ≡ self.now.failed }
     {
         self.failed
@@ -76,7 +76,7 @@ impl<T> Watched<T> {
     }
 
     /// The interrupted turns since the last turn that was not interrupted.
-    pub fn idle(&self) -> u64
+    pub fn idle_turns(&self) -> u64
         ensures { result ≡ self.now.idle }
     {
         self.idle

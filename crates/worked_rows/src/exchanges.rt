@@ -10,7 +10,7 @@ pub struct WorkedExchange {
     /// The request lines that came before.
     pub lines: &'static str,
     pub steps: &'static [Step],
-    /// The latest moment, in seconds, and the number of keys behind them.
+    /// The latest moment, in seconds, and the number of keys after them.
     pub stands: (u64, u32),
 }
 

@@ -222,7 +222,7 @@ pub static CUSTODY: [WorkedRow; 6] = [
     },
 ];
 
-/// A destruction behind a compromise, and one whose need is set.
+/// A destruction after a compromise, and one whose need is set.
 #[rattlefmt::skip]
 pub static DESTRUCTION: [WorkedRow; 2] = [
     WorkedRow {

@@ -46,7 +46,7 @@ pub fn custody() -> &'static [WorkedRow] {
     &keys::CUSTODY
 }
 
-/// A destruction behind a compromise, and one whose need is set.
+/// A destruction after a compromise, and one whose need is set.
 pub fn destruction() -> &'static [WorkedRow] {
     &keys::DESTRUCTION
 }

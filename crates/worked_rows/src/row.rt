@@ -10,7 +10,7 @@ pub type Exchange = (&'static str, &'static str);
 pub struct WorkedRow {
     pub name: &'static str,
     pub lines: &'static [Exchange],
-    /// What stands behind the last LF of the input, which is no line.
+    /// What stands after the last LF of the input, which is no line.
     pub rest: &'static str,
     /// Key 1 after the run.
     pub shown: Option<Shown>,
@@ -23,7 +23,7 @@ pub struct Shown {
     /// Activation, Protect Stop, Deactivation, Destroy, Compromise and Compromise Occurrence, in
     /// seconds.
     pub dates: [Option<u64>; 6],
-    /// The custodians in order, each with a space behind the name.
+    /// The custodians in order, each with a space after the name.
     pub custodians: &'static str,
     /// Those whose approval stands, likewise.
     pub approvals: &'static str,

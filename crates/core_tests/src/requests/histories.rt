@@ -45,7 +45,7 @@ const NEEDING: [Row; 4] = [
     ("107 bob 5 destroy 1", "ok 1 Destroyed 107\n"),
 ];
 
-/// The office sets the period of a type before a key of it is registered, and behind that another.
+/// The office sets the period of a type before a key of it is registered, and after that another.
 #[rattlefmt::skip]
 const PERIODS_SET: [Row; 5] = [
     ("100 office 1 set-period data-encryption 12 36", "ok 0 - 100\n"),
@@ -73,7 +73,7 @@ fn accepted_of(
         .collect(alloc)
 }
 
-/// Compares the answers to the lines with the replies beside them. Key 1 as it stands behind those
+/// Compares the answers to the lines with the replies beside them. Key 1 as it stands after those
 /// that are accepted.
 fn key_after(rt: &impl Abort, alloc: Global, rows: &[Row]) -> Result<Option<Held>, AllocError> {
     let items: Vec<Option<Request>> = rows
@@ -90,7 +90,7 @@ fn key_after(rt: &impl Abort, alloc: Global, rows: &[Row]) -> Result<Option<Held
 }
 
 /// The same of the lines of [`APPROVED`] and of those that follow.
-fn key_behind(rt: &impl Abort, alloc: Global, following: &[Row]) -> Result<Held, Fail> {
+fn held_after(rt: &impl Abort, alloc: Global, following: &[Row]) -> Result<Held, Fail> {
     let mut rows = APPROVED.to_vec(alloc)?;
     rows.extend_from_slice(following)?;
     Ok(key_after(rt, alloc, &rows)?.ok_or("a key")?)
@@ -124,7 +124,7 @@ fn is_key(
 
 #[test]
 fn destruction(rt: HostRuntime) -> Result<(), Fail> {
-    let key = key_behind(&rt, rt.alloc(), &DESTROYED)?;
+    let key = held_after(&rt, rt.alloc(), &DESTROYED)?;
     let after = State::DestroyedCompromised;
     assert!(rt; is_key(&key, after, Some(108), Some(109), &["cat", "dan"]));
     Ok(())
@@ -132,7 +132,7 @@ fn destruction(rt: HostRuntime) -> Result<(), Fail> {
 
 #[test]
 fn compromise(rt: HostRuntime) -> Result<(), Fail> {
-    let key = key_behind(&rt, rt.alloc(), &COMPROMISED)?;
+    let key = held_after(&rt, rt.alloc(), &COMPROMISED)?;
     assert!(rt; is_key(&key, State::Compromised, None, Some(105), &[]));
     assert_eq!(rt; key.row.dates.compromise_occurrence, Moment::new(50));
     Ok(())
@@ -141,16 +141,16 @@ fn compromise(rt: HostRuntime) -> Result<(), Fail> {
 /// What was asked for last counts, and two where nothing was.
 #[test]
 fn needs(rt: HostRuntime) -> Result<(), Fail> {
-    assert_eq!(rt; key_behind(&rt, rt.alloc(), &COMPROMISED)?.need, 2);
-    let asked = key_behind(&rt, rt.alloc(), NEEDING.get(..1).ok_or("a row")?)?;
+    assert_eq!(rt; held_after(&rt, rt.alloc(), &COMPROMISED)?.need, 2);
+    let asked = held_after(&rt, rt.alloc(), NEEDING.get(..1).ok_or("a row")?)?;
     assert_eq!(rt; asked.need, 3);
-    let key = key_behind(&rt, rt.alloc(), &NEEDING)?;
+    let key = held_after(&rt, rt.alloc(), &NEEDING)?;
     assert_eq!(rt; key.need, 2);
     assert!(rt; is_key(&key, State::Destroyed, Some(107), None, &["cat", "dan"]));
     Ok(())
 }
 
-/// The dates that a key has stay, whatever period is set behind them.
+/// The dates that a key has stay, whatever period is set after them.
 #[test]
 fn periods(rt: HostRuntime) -> Result<(), Fail> {
     let key = key_after(&rt, rt.alloc(), &PERIODS_SET)?.ok_or("a key")?;

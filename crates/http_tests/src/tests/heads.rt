@@ -120,12 +120,12 @@ const REJECTED_POSTS: [(&str, Rejection); 12] = [
     ("Content-Length: 18\r\nCaller: ann\r\nRequest-Number: 1\r\nrequest-number: 1\r\n", BAD),
 ];
 
-/// What stands behind `Content-Length:` where it is bad: no length, or another than the body has.
+/// What stands after `Content-Length:` where it is bad: no length, or another than the body has.
 const BAD_LENGTHS: [&str; 9] = [
     "", " +18", " -18", " 1 8", " 18, 18", " 0x12", " 19", " 17", " 0",
 ];
 
-/// What stands behind `Caller:` where it is bad.
+/// What stands after `Caller:` where it is bad.
 const BAD_CALLERS: [&str; 4] = [
     "",
     " a b",
@@ -133,7 +133,7 @@ const BAD_CALLERS: [&str; 4] = [
     " a234567890b234567890c234567890d234567890e234567890f234567890g2345",
 ];
 
-/// What stands behind `Request-Number:` where it is bad.
+/// What stands after `Request-Number:` where it is bad.
 const BAD_NUMBERS: [&str; 6] = [
     "",
     " 0",

@@ -44,10 +44,10 @@ fn of_length(alloc: Global, length: usize) -> Result<String, AllocError> {
     Ok(head)
 }
 
-/// Whether an input that ends behind so many bytes of a head is bad.
-fn is_bad_front(alloc: Global, head: &[u8], taken: usize) -> bool {
+/// Whether an input that ends after so many bytes of a head is bad.
+fn is_bad_prefix(alloc: Global, head: &[u8], taken: usize) -> bool {
     match head.get(..taken) {
-        Some(front) => is_rejected(alloc, front, Rejection::BadRequest),
+        Some(prefix) => is_rejected(alloc, prefix, Rejection::BadRequest),
         None => false,
     }
 }
@@ -62,7 +62,7 @@ fn a_head_has_8192_bytes(rt: HostRuntime) -> Result<(), AllocError> {
     assert!(rt;
         asked_of(rt.alloc(), OneByte(more.as_bytes())) == Some(Asked::Reject(Rejection::TooLarge))
     );
-    assert!(rt; is_bad_front(rt.alloc(), more.as_bytes(), 8191));
+    assert!(rt; is_bad_prefix(rt.alloc(), more.as_bytes(), 8191));
     Ok(())
 }
 
@@ -83,7 +83,7 @@ fn filled_asks(alloc: Global, length: usize, filled: usize) -> Result<Option<Ask
     Ok(asked_of(alloc, head.as_bytes().chain(body)))
 }
 
-/// What a POST asks for whose body is an advance with spaces behind it, of this length.
+/// What a POST asks for whose body is an advance with spaces after it, of this length.
 fn padded_asks(alloc: Global, length: usize) -> Result<Option<Asked>, AllocError> {
     let mut input = announced(alloc, length)?;
     let end = input.len().saturating_add(length);
@@ -116,7 +116,7 @@ fn a_body_of_open_brackets_is_bad(rt: HostRuntime) -> Result<(), AllocError> {
     Ok(())
 }
 
-/// Behind the bytes of a request each read fails.
+/// After the bytes of a request each read fails.
 #[test]
 fn no_more_is_read_than_a_request_has(rt: HostRuntime) -> Result<(), AllocError> {
     let get = b"GET /keys/1 HTTP/1.1\r\nHost: localhost\r\n\r\n";

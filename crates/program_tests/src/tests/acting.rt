@@ -7,7 +7,7 @@ use std::alloc::Global;
 use std::io::{Read, Write};
 use std::test::Fail;
 
-/// The program's own name, and these words behind it.
+/// The program's own name, and these words after it.
 fn words_of(alloc: Global, given: &[&str]) -> Result<Vec<String>, Fail> {
     let mut words = Vec::new(alloc);
     words.push(format!(in alloc; "keyreg")?)?;
@@ -73,7 +73,7 @@ fn edit_by<F: Files>(rt: &HostRuntime, files: F, file: &str, statement: &str) ->
         return Err(Fail::from("no connection"));
     };
     connection.execute(statement, &[])?;
-    F::copy_log(connection.into_store());
+    F::checkpoint(connection.into_store());
     Ok(())
 }
 

@@ -166,7 +166,7 @@ fn a_bad_value_is_named(rt: HostRuntime) {
     assert!(rt; faults.as_slice() == b"keyreg: BadValue\n".as_slice());
 }
 
-/// Whether a failed read ends the program with status 4, behind the lines before it.
+/// Whether a failed read ends the program with status 4, after the lines before it.
 fn is_failed_read_told(rt: &HostRuntime) -> Result<bool, Fail> {
     let mut output = Vec::new(rt.alloc());
     let mut faults = Vec::new(rt.alloc());

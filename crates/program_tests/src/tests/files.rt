@@ -91,7 +91,7 @@ fn is_left(rt: &HostRuntime, file: &str, faults: &str) -> Result<bool, Fail> {
     Ok(is_refused && fs::read(rt, file)?.as_slice() == before.as_slice())
 }
 
-/// Whether the register behind this statement is refused with this name, and its file left byte for byte.
+/// Whether the register after this statement is refused with this name, and its file left byte for byte.
 fn is_left_behind(
     rt: &HostRuntime,
     file: &str,
@@ -103,7 +103,7 @@ fn is_left_behind(
     is_left(rt, file, faults)
 }
 
-/// A statement behind which the register of *defaults* is not refused, or its file is changed, if there is one.
+/// A statement after which the register of *defaults* is not refused, or its file is changed, if there is one.
 fn edit_not_left(
     rt: &HostRuntime,
     file: &str,
@@ -229,12 +229,12 @@ fn wrong_life(rt: &HostRuntime, file: &str) -> Result<Option<u8>, Fail> {
 /// Whether the register in the file is at moment 400, and its key 1 still that of *defaults*.
 fn is_lived(rt: &HostRuntime, file: &str) -> Result<bool, Fail> {
     let run = ["run", "--file", file];
-    let behind = b"refused 3 MomentBehind latest=400\n";
+    let after = b"refused 3 MomentBehind latest=400\n";
     let export = ["export", "--file", file];
     let key =
         b"number,type,owner,activation,protect_stop,deactivation,state,initial,destroyed,compromised,occurrence,purpose\n1,data-encryption,bob,1970-01-01T00:00:00Z,1972-01-01T00:00:00Z,1975-01-01T00:00:00Z,Active,1970-01-01T00:01:40Z,,,,payroll disks\n";
     Ok(
-        does(rt, &run, b"399 zed 9 advance\n", 0, behind.as_slice(), "")?
+        does(rt, &run, b"399 zed 9 advance\n", 0, after.as_slice(), "")?
             && does(
                 rt,
                 &run,

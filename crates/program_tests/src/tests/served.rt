@@ -77,8 +77,8 @@ enum Silent {
     Stays,
 }
 
-/// How many seconds a silent client and the one behind it take, of which the second is served.
-fn seconds_behind(rt: &HostRuntime, silent: Silent) -> Result<Option<u64>, Fail> {
+/// How many seconds a silent client and the one after it take, of which the second is served.
+fn seconds_after(rt: &HostRuntime, silent: Silent) -> Result<Option<u64>, Fail> {
     let mut desk = create_in_memory(rt.alloc())?;
     let listener = listen(rt, 0)?;
     let first = sent(rt, &listener, b"")?;
@@ -101,7 +101,7 @@ fn seconds_behind(rt: &HostRuntime, silent: Silent) -> Result<Option<u64>, Fail>
 /// A client that leaves without a word counts, and the next one is served.
 #[test]
 fn a_client_that_leaves_is_served_too(rt: HostRuntime) -> Result<(), Fail> {
-    assert!(rt; seconds_behind(&rt, Silent::Leaves)?.is_some());
+    assert!(rt; seconds_after(&rt, Silent::Leaves)?.is_some());
     Ok(())
 }
 
@@ -116,7 +116,7 @@ fn without_a_moment_nothing_is_served(rt: HostRuntime) -> Result<(), Fail> {
 /// A client that sends nothing and stays holds up the next one for its ten seconds alone.
 #[test]
 fn a_silent_client_is_left(rt: HostRuntime) -> Result<(), Fail> {
-    let seconds = seconds_behind(&rt, Silent::Stays)?;
+    let seconds = seconds_after(&rt, Silent::Stays)?;
     assert!(rt; seconds.is_some_and(|seconds| (9..20).contains(&seconds)));
     Ok(())
 }
@@ -125,8 +125,8 @@ fn a_silent_client_is_left(rt: HostRuntime) -> Result<(), Fail> {
 const ADVANCE_AGAIN: &str =
     "POST /requests HTTP/1.1\r\nHost: localhost\r\nCaller: ann\r\nRequest-Number: 2\r\nContent-Length: 18\r\n\r\n{\"kind\":\"advance\"}";
 
-/// The register's latest moment behind two connections, each served at the moment that is told once it is accepted.
-fn latest_behind_two(rt: &HostRuntime) -> Result<u64, Fail> {
+/// The register's latest moment after two connections, each served at the moment that is told once it is accepted.
+fn latest_after_two(rt: &HostRuntime) -> Result<u64, Fail> {
     let mut desk = create_in_memory(rt.alloc())?;
     let listener = listen(rt, 0)?;
     let first = sent(rt, &listener, ADVANCE.as_bytes())?;
@@ -140,7 +140,7 @@ fn latest_behind_two(rt: &HostRuntime) -> Result<u64, Fail> {
 
 #[test]
 fn each_connection_has_its_own_moment(rt: HostRuntime) -> Result<(), Fail> {
-    assert_eq!(rt; latest_behind_two(&rt)?, 101);
+    assert_eq!(rt; latest_after_two(&rt)?, 101);
     Ok(())
 }
 

@@ -1,8 +1,8 @@
 use Rattle.std.proofs.Common.{◌∙◌, ap}
 use Rattle.std.proofs.lemmas.Result.{IfOk-weaker}
-use Rattle.http_messages.specs.Answer.{json_reply}
+use Rattle.http_messages.specs.AnswerText.{json_reply}
 use Rattle.http_messages.specs.AnswerValue.{refusal_data}
-use Rattle.http_messages.specs.Reply.{reply_bytes}
+use Rattle.http_messages.specs.HttpReply.{reply_bytes}
 use Rattle.http_messages.proofs.answer_text.refused_text.Goals as goal
 
 pub returns : goal.returns

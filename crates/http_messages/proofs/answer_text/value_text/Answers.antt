@@ -1,6 +1,6 @@
 use Rattle.std.proofs.Common.{List, ℕ, None, ◌∙◌, ap}
 use Rattle.std.proofs.lemmas.Result.{IfOk-weaker}
-use Rattle.http_messages.specs.Reply.{reply_bytes}
+use Rattle.http_messages.specs.HttpReply.{reply_bytes}
 use Rattle.http_messages.proofs.answer_text.value_text.Goals as goal
 
 pub returns : goal.returns

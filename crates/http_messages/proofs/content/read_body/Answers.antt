@@ -7,7 +7,7 @@ use Rattle.http_messages.proofs.content.read_body.Goals as goal
 pub reads-init : goal.reads-init
 reads-init g c =
     let (all, few) =
-    held_first c.args.behind.now _ c.extend_from_slice.new.self.items c.args.length c.min-held.result
+    held_first c.args.after.now _ c.extend_from_slice.new.self.items c.args.length c.min-held.result
     c.in-Ok.ensures.items c.new-body.ensures.items c.min-held.ensures in
     record { got = ([], Consumes-nil _, all, refl); few = few; counted = omega arith; bounded = λ e. e }
 

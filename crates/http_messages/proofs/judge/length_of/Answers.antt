@@ -6,7 +6,7 @@ use Rattle.std.proofs.lemmas.List.{take_more}
 use Rattle.std.proofs.lemmas.List.Elements.{All-append}
 use Rattle.httparse.proofs.ChunkLemmas.{digits_value_after_push}
 use Rattle.httparse.specs.Grammar.{AllPass}
-use Rattle.http_messages.specs.Exchange.{max_body_length}
+use Rattle.http_messages.specs.Asked.{max_body_length}
 use Rattle.http_messages.proofs.judge.length_of.Goals as goal
 
 -- a digit more, under the limit

@@ -1,6 +1,6 @@
 use Rattle.std.proofs.Common.{◌≡◌, sym, subst, string_bytes}
 use Rattle.std.specs.Prelude.{IfOk}
-use Rattle.http_messages.specs.Reply.{reply_bytes, not_allowed}
+use Rattle.http_messages.specs.HttpReply.{reply_bytes, not_allowed}
 use Rattle.http_messages.specs.Rejection.{reply_of}
 use Rattle.http_messages.proofs.reply.rejection_text.Goals as goal
 

@@ -7,20 +7,20 @@ use Rattle.moment_core.proofs.calendar.day_after_months.Goals as goal
 
 -- the later date has the parts of the civil date so many months on
 parts : (c : goal.After-days_since_min) (of : Civil) → HasParts c.args.date of
-    → HasParts c.clamped-later.result (months_on of c.args.months)
+    → HasParts c.clamp_day-later.result (months_on of c.args.months)
 parts c of has =
     let total = total_is c.args.date of c.args.months c.year_of.result c.from.result _ has c.year_of.ensures
     c.from.ensures (ap (λ (n : ℕ). c.year_of.result * 12 + c.from.result + n) c.from-2.ensures) in
-    later_parts c.args.date c.clamped-later.result of c.args.months _ has total c.clamped-later.ensures.year
-    c.clamped-later.ensures.month c.clamped-later.ensures.day
+    later_parts c.args.date c.clamp_day-later.result of c.args.months _ has total c.clamp_day-later.ensures.year
+    c.clamp_day-later.ensures.month c.clamp_day-later.ensures.day
 
 pub overflow_sub-days_since_min : goal.overflow_sub-days_since_min
 overflow_sub-days_since_min c =
-    let day = number_is c.clamped-later.result (months_on c.requires.0 c.args.months)
+    let day = number_is c.clamp_day-later.result (months_on c.requires.0 c.args.months)
     (parts c c.requires.0 c.requires.1) in
     omega (arith, signed_arith, day, c.days_since_min.ensures.value)
 
 pub returns-clause-day : goal.returns-clause-day
 returns-clause-day c of has =
-    let day = number_is c.clamped-later.result (months_on of c.args.months) (parts c.before of has) in
+    let day = number_is c.clamp_day-later.result (months_on of c.args.months) (parts c.before of has) in
     omega (arith, signed_arith, day, c.days_since_min.ensures.value, c.from-3.ensures)

@@ -4,7 +4,7 @@ use Rattle.period_core.specs.Period.{Period}
 use Rattle.register_core.specs.declared.request.Request.{Request}
 use Rattle.register_core.specs.Effect.{period_after}
 use Rattle.register_core.specs.History.{set_period}
-use Rattle.register_core.proofs.Histories.{next_front}
+use Rattle.register_core.proofs.Histories.{next_prefix}
 use Rattle.plain_register.proofs.history.period.Goals as goal
 
 pub loop-request-preserved : goal.loop-request-preserved
@@ -16,4 +16,4 @@ loop-request-preserved c =
     c.period_with-set.ensures
     ∙ ap (λ (before : Option Period). period_after c.args.kind before q.command) c.loop-request.invariant
     ∙ sym (fold-append step None (take i h) (q ∷ []))
-    ∙ sym (ap (λ g. set_period g c.args.kind) (next_front h i q c.loop-request-test.true c.request-item.is))
+    ∙ sym (ap (λ g. set_period g c.args.kind) (next_prefix h i q c.loop-request-test.true c.request-item.is))

@@ -1,7 +1,7 @@
 use Rattle.std.proofs.Common.{◌≡◌, ◌≢◌, List, Option, Some, None, IfSome, IfNone, ℕ}
 use Rattle.register_core.specs.declared.command_kind.CommandKind.{CommandKind}
 use Rattle.register_core.specs.CommandKind.{command_kind_text}
-use Rattle.register_core.specs.Reading.{kind_at}
+use Rattle.register_core.specs.RequestLine.{kind_at}
 use Rattle.register_core.proofs.FieldReading.{is_read}
 use Rattle.register_core.proofs.Readers.{kind_reader}
 use Rattle.register_core.proofs.field.command_kind_of.Goals as goal

@@ -1,5 +1,5 @@
 use Rattle.std.proofs.Common.{Some, None, inl, refl, sym, ◌∙◌}
-use Rattle.register_http.specs.Answering.{record_reply}
+use Rattle.register_http.specs.ActionReply.{record_reply}
 use Rattle.register_http.proofs.ActingLemmas.{went_reading, acts_text, question_ends, found_text}
 use Rattle.register_http.proofs.acting.show.Goals as goal
 

@@ -1,5 +1,5 @@
 use Rattle.std.proofs.Common.{Some, None, inl, refl, sym, ◌∙◌}
-use Rattle.http_messages.specs.Answer.{usage_reply}
+use Rattle.http_messages.specs.AnswerText.{usage_reply}
 use Rattle.register_http.proofs.ActingLemmas.{went_reading, acts_text, question_ends, found_text}
 use Rattle.register_http.proofs.acting.usage.Goals as goal
 

@@ -1,14 +1,14 @@
 use Rattle.std.proofs.Common.{ap, ◌∙◌}
 use Rattle.streams.specs.declared.watched.Watched.{Watched}
 use Rattle.register_http.proofs.ItemLemmas.{leaves_one, was_clean}
-use Rattle.register_http.proofs.ServingLemmas.{served_behind}
+use Rattle.register_http.proofs.ServingLemmas.{served_after}
 use Rattle.register_http.proofs.exchanging.exchange_by.Goals as goal
 
 pub returns-clause-exchanges : goal.returns-clause-exchanges
 returns-clause-exchanges g c = record {
   asked = c.ask-asking.result.asked;
   asks = λ bytes known. c.ask-asking.ensures.asks bytes (ap (λ (r : Watched g.row.R.Denot). g.R.Read.remaining r.inner) c.begin.ensures ∙ known);
-  serves = served_behind g.S.Store c.args.moment c.args.desk.now c.serve_asked-served.new.desk c.ask-asking.result.asked _ (g.W.Write.contents c.args.writer.now.inner) (g.W.Write.contents c.serve_asked-served.new.writer.inner)
+  serves = served_after g.S.Store c.args.moment c.args.desk.now c.serve_asked-served.new.desk c.ask-asking.result.asked _ (g.W.Write.contents c.args.writer.now.inner) (g.W.Write.contents c.serve_asked-served.new.writer.inner)
       c.serve_asked-served.result c.ask-asking.result.read (ap (λ (w : Watched g.row.W.Denot). g.W.Write.contents w.inner) c.begin-2.ensures) c.serve_asked-served.ensures.serves;
 }
 

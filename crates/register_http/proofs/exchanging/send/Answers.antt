@@ -7,7 +7,7 @@ returns-in-Err-clause-sends g c =
     let reply = c.args.reply.now in
     record {
       part = take n reply;
-      front = (drop n reply, take-append-drop n reply);
+      prefix = (drop n reply, take-append-drop n reply);
       wrote = c.in-Err.ensures.part;
       counted = sym (length-take-le n reply c.in-Err.ensures.bound);
       whole = inr refl;

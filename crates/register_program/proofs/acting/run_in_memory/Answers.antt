@@ -1,6 +1,6 @@
 use Rattle.std.proofs.Common.{[]}
 use Rattle.sqlite.proofs.Callers.{memory_is_clean}
-use Rattle.register_desk.specs.Leaving.{connection_of}
+use Rattle.register_desk.specs.Desk.{connection_of}
 use Rattle.register_program.proofs.acting.run_in_memory.Goals as goal
 
 pub returns : goal.returns

@@ -4,8 +4,8 @@ use Rattle.key_rows.specs.DueRows.{AreListed}
 use Rattle.key_rows.specs.Report.{horizon, report_text}
 use Rattle.register_core.specs.History.{period}
 use Rattle.register_desk.specs.declared.desk.Desk.{Desk}
-use Rattle.register_desk.specs.Leaving.{ChangesNothing, IsClean}
-use Rattle.register_desk.specs.Rows.{AreAll, all_rows}
+use Rattle.register_desk.specs.Desk.{ChangesNothing, IsClean}
+use Rattle.register_desk.specs.KeyRows.{AreAll, all_rows}
 use Rattle.register_report.proofs.ListedRows.{EndsAt, report_rows}
 use Rattle.register_report.proofs.WholeTable.{puts_all, puts_none}
 use Rattle.register_report.proofs.exporting.put_listed_keys.Goals.{then-are_none, else-are_none}

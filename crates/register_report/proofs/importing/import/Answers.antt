@@ -4,20 +4,20 @@ use Rattle.register_desk.specs.Run.{RunsOver}
 use Rattle.register_desk.specs.Lives.{LivesSome}
 use Rattle.register_desk.proofs.Found.{leaves_next}
 use Rattle.register_report.specs.Import.{ImportsBroken}
-use Rattle.register_report.proofs.HeaderLemmas.{begins_so, no_header_lives, no_header_over, no_header_refused, reads_input, rows_behind}
+use Rattle.register_report.proofs.HeaderLemmas.{begins_so, no_header_lives, no_header_over, no_header_refused, reads_input, rows_after}
 use Rattle.register_report.proofs.ImportLemmas.{broken_so, clean_so, lives_so, over_so, texts_so, uses_so}
 use Rattle.register_report.proofs.importing.import.Goals as goal
 
--- ---- behind the header row
+-- ---- after the header row
 
 pub returns-in-Ok-clause-agrees : goal.returns-in-Ok-clause-agrees
 returns-in-Ok-clause-agrees g c h bytes items stands clean known has =
     let reads = reads_input g.R.Read.remaining c.from_reader-reader.result c.args.reader bytes (search rules)
     c.from_reader-reader.ensures.state c.from_reader-reader.ensures.source known in
-    let behind = rows_behind reads c.skip_header.new.reader has.rows c.in-Ok.ensures.reads has.has in
+    let after = rows_after reads c.skip_header.new.reader has.rows c.in-Ok.ensures.reads has.has in
     let over = over_so g.S.Store g.R.Read.remaining c.args.moment c.args.caller.now c.args.first
     c.skip_header.new.reader (g.W.Write.contents c.begin.new.self.inner) _ c.args.desk.now
-    c.serve_rows.new.desk c.serve_rows.result.replies behind items has.each h stands clean
+    c.serve_rows.new.desk c.serve_rows.result.replies after items has.each h stands clean
     c.serve_rows.result.end c.serve_rows.ensures.serves in
     subst (λ (old : Option (List ℕ)). RunsOver g.S.Store h items [] c.serve_rows.result.end
     c.serve_rows.result.replies old (g.W.Write.contents c.serve_rows.new.writer.inner)
@@ -45,20 +45,20 @@ pub returns-in-Ok-clause-uses : goal.returns-in-Ok-clause-uses
 returns-in-Ok-clause-uses g c bytes items known has is =
     let reads = reads_input g.R.Read.remaining c.from_reader-reader.result c.args.reader bytes (search rules)
     c.from_reader-reader.ensures.state c.from_reader-reader.ensures.source known in
-    let behind = rows_behind reads c.skip_header.new.reader has.rows c.in-Ok.ensures.reads has.has in
+    let after = rows_after reads c.skip_header.new.reader has.rows c.in-Ok.ensures.reads has.has in
     uses_so g.S.Store g.R.Read.remaining c.args.moment c.args.caller.now c.args.first
     c.skip_header.new.reader (g.W.Write.contents c.begin.new.self.inner) _ c.args.desk.now
-    c.serve_rows.new.desk c.serve_rows.result.replies behind items has.each
+    c.serve_rows.new.desk c.serve_rows.result.replies after items has.each
     c.serve_rows.result.end c.serve_rows.ensures.serves is
 
 pub returns-in-Ok-clause-broken : goal.returns-in-Ok-clause-broken
 returns-in-Ok-clause-broken g c bytes items broken known has =
     let reads = reads_input g.R.Read.remaining c.from_reader-reader.result c.args.reader bytes (search rules)
     c.from_reader-reader.ensures.state c.from_reader-reader.ensures.source known in
-    let behind = rows_behind reads c.skip_header.new.reader has.rows c.in-Ok.ensures.reads has.has in
+    let after = rows_after reads c.skip_header.new.reader has.rows c.in-Ok.ensures.reads has.has in
     let runs = broken_so g.S.Store g.R.Read.remaining c.args.moment c.args.caller.now c.args.first
     c.skip_header.new.reader (g.W.Write.contents c.begin.new.self.inner) _ c.args.desk.now
-    c.serve_rows.new.desk c.serve_rows.result.replies behind items has.each broken
+    c.serve_rows.new.desk c.serve_rows.result.replies after items has.each broken
     c.serve_rows.result.end c.serve_rows.ensures.desk c.serve_rows.ensures.serves in
     subst (λ (old : Option (List ℕ)). ImportsBroken items c.serve_rows.result.end
     c.serve_rows.result.replies old (g.W.Write.contents c.serve_rows.new.writer.inner))
@@ -68,10 +68,10 @@ pub returns-in-Ok-clause-texts : goal.returns-in-Ok-clause-texts
 returns-in-Ok-clause-texts g c bytes rows known has =
     let reads = reads_input g.R.Read.remaining c.from_reader-reader.result c.args.reader bytes (search rules)
     c.from_reader-reader.ensures.state c.from_reader-reader.ensures.source known in
-    let behind = rows_behind reads c.skip_header.new.reader rows c.in-Ok.ensures.reads has in
+    let after = rows_after reads c.skip_header.new.reader rows c.in-Ok.ensures.reads has in
     texts_so g.S.Store g.R.Read.remaining c.args.moment c.args.caller.now c.args.first
     c.skip_header.new.reader _ _ c.args.desk.now c.serve_rows.new.desk
-    c.serve_rows.result.replies behind c.serve_rows.result.end c.serve_rows.ensures.serves
+    c.serve_rows.result.replies after c.serve_rows.result.end c.serve_rows.ensures.serves
 
 pub returns-in-Ok-clause-without : goal.returns-in-Ok-clause-without
 returns-in-Ok-clause-without g c bytes known without =

@@ -1,5 +1,5 @@
 use Rattle.std.proofs.Common.{◌≡◌, ◌∙◌, ap, arith, inl, inr, refl, subst}
-use Rattle.register_report.specs.Serving.{ExplainsEnd}
+use Rattle.register_report.specs.ImportProgress.{ExplainsEnd}
 use Rattle.csv.specs.Records.{fields_of}
 use Rattle.register_desk.specs.declared.end.End.{End}
 use Rattle.register_desk.specs.declared.end.End.TheVariants.{ReadFault, WriteFault}

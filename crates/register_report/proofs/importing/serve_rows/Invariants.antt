@@ -3,10 +3,10 @@ use Rattle.csv.specs.Reading.{Ready, default_config, is_flexible, reader_config,
 use Rattle.csv.specs.declared.reader.Trim.TheVariants as trim
 use Rattle.register_core.specs.declared.line.TheConstants.{MAX_REPLY_LENGTH}
 use Rattle.streams.specs.declared.watched.TheConstants.{MAX_IDLE_TURNS}
-use Rattle.register_desk.specs.Leaving.{GoesOn}
+use Rattle.register_desk.specs.Desk.{GoesOn}
 use Rattle.register_desk.specs.Run.{Wrote}
 use Rattle.register_report.specs.declared.importing.TheConstants.{MAX_ROWS}
-use Rattle.register_report.specs.Serving.{ServedRows}
+use Rattle.register_report.specs.ImportProgress.{ServedRows}
 use Rattle.register_report.proofs.importing.serve_rows.Given as goal
 
 abbrev pub invariant-loop-row : goal.invariant-loop-row

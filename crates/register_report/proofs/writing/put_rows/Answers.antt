@@ -1,6 +1,6 @@
 use Rattle.std.proofs.Common.{◌≡◌, ◌+◌, true, false, refl, ap, subst, ◌∙◌, arith}
 use Rattle.std.specs.Prelude.{OnSome}
-use Rattle.register_desk.specs.Rows.{GoOn}
+use Rattle.register_desk.specs.KeyRows.{GoOn}
 use Rattle.register_report.specs.Table.{lists}
 use Rattle.register_report.proofs.RowsWritten.{Next, at_most_one, none_so_far, one_if, one_more, part_of_line, rows_passed_on}
 use Rattle.register_report.proofs.writing.put_rows.Goals.{then-branch, else-branch}

@@ -1,5 +1,5 @@
 use Rattle.std.proofs.Common.{◌≡◌, ◌≤◌}
-use Rattle.register_desk.specs.Rows.{GoOn}
+use Rattle.register_desk.specs.KeyRows.{GoOn}
 use Rattle.register_report.proofs.RowsWritten.{SoFar}
 use Rattle.register_report.proofs.writing.put_rows.Given as goal
 

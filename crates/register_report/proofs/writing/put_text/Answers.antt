@@ -16,6 +16,6 @@ returns-in-Err-clause-puts g c =
         fault = λ is. c.in-Err.ensures.err;
         bounded = c.in-Err.ensures.bounded;
       };
-      front = (drop taken text, take-append-drop taken text);
+      prefix = (drop taken text, take-append-drop taken text);
       whole = tt;
     }

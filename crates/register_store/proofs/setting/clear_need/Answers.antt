@@ -1,5 +1,5 @@
 use Rattle.sql_steps.proofs.Stepping.{runs}
-use Rattle.register_store.specs.Making.{Makes, Always, without_need}
+use Rattle.register_store.specs.TableChanges.{Makes, Always, without_need}
 use Rattle.register_store.proofs.KeyedChange.{takes_out}
 use Rattle.register_store.proofs.KeyedFound.{number_params}
 use Rattle.register_store.proofs.NeedChange.{clear_need_text, needs_table}

@@ -1,6 +1,6 @@
 use Rattle.period_core.specs.KeyType.{key_type_code}
 use Rattle.sql_steps.proofs.Stepping.{runs}
-use Rattle.register_store.specs.Making.{Makes, Always, without_period}
+use Rattle.register_store.specs.TableChanges.{Makes, Always, without_period}
 use Rattle.register_store.proofs.KeyedChange.{takes_out}
 use Rattle.register_store.proofs.KeyedFound.{number_params}
 use Rattle.register_store.proofs.PeriodChange.{clear_period_text, periods_table}

@@ -2,7 +2,7 @@
 use Rattle.std.proofs.Common.{◌≡◌, ◌-◌, ◌≤◌}
 use Rattle.std.specs.Io.KnownBytes.{Consumes}
 use Rattle.http_messages.specs.declared.head.TheConstants.{MAX_EXCHANGE_READS}
-use Rattle.http_messages.proofs.head.Front.find_head.Given as goal
+use Rattle.http_messages.proofs.head.Prefix.find_head.Given as goal
 
 abbrev pub invariant-reads : goal.invariant-reads
 invariant-reads g l = record {

@@ -1,6 +1,6 @@
 use Rattle.std.proofs.Common.{◌≤◌, ◌++◌, length, take, rules, ap, ◌∙◌, length-take-le}
-use Rattle.http_messages.proofs.Fronts.{take-refilled}
-use Rattle.http_messages.proofs.head.Front.refill.Goals as goal
+use Rattle.http_messages.proofs.Prefixes.{take-refilled}
+use Rattle.http_messages.proofs.head.Prefix.refill.Goals as goal
 
 pub returns-clause-bytes : goal.returns-clause-bytes
 returns-clause-bytes g c =

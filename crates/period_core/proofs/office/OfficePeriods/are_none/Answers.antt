@@ -14,9 +14,9 @@ none_so (Some p) is = absurd cc
 
 pub returns : goal.returns
 returns c =
-    let test : KeyType → Bool = λ kind. is_none (set_in c.args.self.now kind) in
-    let tested : c.are_none_of.result ≡ list_all test types = c.are_none_of.ensures in (
+    let check : KeyType → Bool = λ kind. is_none (set_in c.args.self.now kind) in
+    let checked : c.are_none_of.result ≡ list_all check types = c.are_none_of.ensures in (
       λ is kind. none_so (set_in c.args.self.now kind)
-          (each (λ kind. test kind ≡ true) (AllPass-from_list_all test types (sym tested ∙ is)) kind),
-      λ none. tested ∙ list_all-from_AllPass test types (λ i other within. ap is_none (none _)),
+          (each (λ kind. check kind ≡ true) (AllPass-from_list_all check types (sym checked ∙ is)) kind),
+      λ none. checked ∙ list_all-from_AllPass check types (λ i other within. ap is_none (none _)),
     )

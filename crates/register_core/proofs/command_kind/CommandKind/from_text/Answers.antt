@@ -2,7 +2,7 @@ use Rattle.std.proofs.Common.{◌≢◌}
 use Rattle.std.specs.Prelude.{All, IfNone, Option, Some, None}
 use Rattle.register_core.specs.declared.command_kind.CommandKind.{CommandKind}
 use Rattle.register_core.specs.CommandKind.{command_kind_text}
-use Rattle.register_core.specs.Reading.{command_kinds}
+use Rattle.register_core.specs.RequestLine.{command_kinds}
 use Rattle.register_core.proofs.Readers.{each_kind}
 use Rattle.register_core.proofs.command_kind.CommandKind.from_text.Goals as goal
 

@@ -1,5 +1,5 @@
 use Rattle.std.proofs.Common.{refl}
-use Rattle.register_store.specs.Reading.{HasPeriod}
+use Rattle.register_store.specs.TableReads.{HasPeriod}
 use Rattle.register_desk.proofs.Readings.{found_by, sees_nothing}
 use Rattle.register_desk.proofs.desk.Desk.find_set.Goals as goal
 

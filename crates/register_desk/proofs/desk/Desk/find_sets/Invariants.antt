@@ -1,5 +1,5 @@
 use Rattle.std.proofs.Common.{◌≡◌}
-use Rattle.register_desk.specs.Leaving.{ChangesNothing, IsClean, IsWhole}
+use Rattle.register_desk.specs.Desk.{ChangesNothing, IsClean, IsWhole}
 use Rattle.register_desk.specs.Register.{Sees}
 use Rattle.register_store.specs.Tables.{Tables}
 use Rattle.register_desk.proofs.Sets.{AreSet}

@@ -1,7 +1,7 @@
 use Rattle.std.proofs.Common.{Option, refl, sym, ap, ◌∙◌}
 use Rattle.std.specs.Prelude.{unwrap_or}
 use Rattle.period_core.specs.Period.{Period, periods}
-use Rattle.register_store.specs.Reading.{HasPeriod}
+use Rattle.register_store.specs.TableReads.{HasPeriod}
 use Rattle.register_desk.proofs.Readings.{found_in, read_failed, read_well}
 use Rattle.register_desk.proofs.desk.Desk.look_up_period.Goals as goal
 

@@ -1,7 +1,7 @@
 use Rattle.std.proofs.Common.{ℕ, Option, refl, sym, ap, ◌∙◌}
 use Rattle.std.specs.Prelude.{unwrap_or}
 use Rattle.register_core.specs.Quorum.{min_approvals}
-use Rattle.register_store.specs.Reading.{HasNeed}
+use Rattle.register_store.specs.TableReads.{HasNeed}
 use Rattle.register_desk.proofs.Readings.{found_in, read_failed, read_well}
 use Rattle.register_desk.proofs.desk.Desk.need.Goals as goal
 
@@ -11,7 +11,7 @@ returns-in-Ok-clause-reads g c =
 
 pub returns-in-Ok-clause-found : goal.returns-in-Ok-clause-found
 returns-in-Ok-clause-found g c t sees clean =
-    c.needed.ensures ∙ ap (λ (set : Option ℕ). unwrap_or set min_approvals)
+    c.need_of.ensures ∙ ap (λ (set : Option ℕ). unwrap_or set min_approvals)
     (found_in g.S.Store (HasNeed c.args.number) c.args.self.now c.find_need.new.connection c.in-Ok.found c.requires
     c.in-Ok.ensures.reads t sees clean)
 

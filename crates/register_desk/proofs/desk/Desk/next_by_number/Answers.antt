@@ -1,16 +1,16 @@
 use Rattle.std.proofs.Common.{◌+◌, Some, refl, sym, ap, ◌∙◌, arith}
 use Rattle.std.specs.Option.{option_map}
-use Rattle.register_store.specs.Reading.{HasRow}
+use Rattle.register_store.specs.TableReads.{HasRow}
 use Rattle.register_desk.specs.Register.{tables}
-use Rattle.register_desk.specs.Rows.{row_of}
+use Rattle.register_desk.specs.KeyRows.{row_of}
 use Rattle.register_desk.proofs.Grows.{keys_counted}
 use Rattle.register_desk.proofs.Readings.{found_in, sees_nothing}
-use Rattle.register_desk.proofs.RowWalk.{none_behind}
+use Rattle.register_desk.proofs.RowWalk.{none_after}
 use Rattle.register_desk.proofs.desk.Desk.next_by_number.Goals as goal
 
 pub returns-then-last-self-clause-next : goal.returns-then-last-self-clause-next
 returns-then-last-self-clause-next g c h stands whole clean =
-    none_behind (tables h) c.args.last c.args.self.now.keys (keys_counted h ∙ sym stands.keys_are) (omega arith)
+    none_after (tables h) c.args.last c.args.self.now.keys (keys_counted h ∙ sym stands.keys_are) (omega arith)
 
 pub returns-in-Some-clause-next : goal.returns-in-Some-clause-next
 returns-in-Some-clause-next g c h stands whole clean =

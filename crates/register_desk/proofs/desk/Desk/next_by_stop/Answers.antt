@@ -1,7 +1,7 @@
 use Rattle.std.proofs.Common.{◌≡◌, Some, refl, ap, subst, ◌∙◌}
 use Rattle.register_store.specs.KeyWalk.{HasNextDue}
 use Rattle.register_desk.specs.Register.{tables}
-use Rattle.register_desk.specs.Rows.{row_of}
+use Rattle.register_desk.specs.KeyRows.{row_of}
 use Rattle.register_desk.proofs.Readings.{found_in, sees_nothing}
 use Rattle.register_desk.proofs.desk.Desk.next_by_stop.Goals as goal
 

@@ -1,6 +1,6 @@
 use Rattle.std.proofs.Common.{rules, ◌∙◌}
 use Rattle.register_core.proofs.Settled.{periods_are}
-use Rattle.register_desk.specs.Leaving.{IsWhole}
+use Rattle.register_desk.specs.Desk.{IsWhole}
 use Rattle.register_desk.specs.Register.{tables}
 use Rattle.register_desk.proofs.desk.Desk.office_periods.Goals as goal
 

@@ -1,0 +1,33 @@
+-- What a look for a head finds in the bytes that were read.
+use Rattle.std.specs.Prelude.{◌≡◌, ℕ, ◌<◌, ◌⊎◌, List, [], length, Option}
+use Rattle.std.specs.Io.KnownBytes.{IsAtEnd}
+use Rattle.httparse.specs.declared.spans.HeaderSpan.{HeaderSpan}
+use Rattle.httparse.specs.declared.spans.RequestSpans.{RequestSpans}
+use Rattle.httparse.specs.Grammar.{RequestHead, HasNoRequest, NeverHasRequest, MayBecomeRequest}
+use Rattle.httparse.specs.Spans.{IsRequestAt, IsRequestWithin}
+use Rattle.http_messages.specs.Head.{max_head_length, HasManyLines}
+use Rattle.http_messages.specs.declared.head.Found.{Found}
+use Rattle.http_messages.specs.declared.head.Found.TheVariants.{Whole, Nothing, Bad, TooLarge}
+
+-- the bytes read begin with the head h, and the spans are its parts
+pub record FindsHead (bytes : List ℕ) (headers : List HeaderSpan) (spans : RequestSpans) : Type 0 where
+  pub h : RequestHead
+  pub at : IsRequestAt bytes headers spans h
+  pub within : IsRequestWithin bytes headers spans
+
+-- the bytes read are the prefix of no head, or the whole input, which breaks off
+abbrev pub FindsBad : List ℕ → Option (List ℕ) → Type 0
+FindsBad bytes left =
+    NeverHasRequest bytes ⊎ HasManyLines bytes
+    ⊎ ((0 < length bytes) × (length bytes < max_head_length) × HasNoRequest bytes × IsAtEnd left)
+
+pub record FindsLarge (bytes : List ℕ) : Type 0 where
+  pub full : length bytes ≡ max_head_length
+  pub none : HasNoRequest bytes
+  pub may : MayBecomeRequest bytes
+
+abbrev pub Finds : List ℕ → List HeaderSpan → Option (List ℕ) → Found → Type 0
+Finds bytes headers left (Whole spans) = FindsHead bytes headers spans
+Finds bytes headers left Nothing = (bytes ≡ []) × IsAtEnd left
+Finds bytes headers left Bad = FindsBad bytes left
+Finds bytes headers left TooLarge = FindsLarge bytes

@@ -1,0 +1,132 @@
+-- What the calls of a desk leave.
+use Rattle.std.specs.Prelude.{◌≡◌, ◌⊎◌, ◌≤◌, ℕ, true, false, List, length, None, Result, MatchResult}
+use Rattle.std.specs.Prelude.{IsTrue}
+use Rattle.sqlite_trees.specs.declared.store.Store.{Ghosts}
+use Rattle.sqlite.specs.State.{HasCleanDisk}
+use Rattle.sqlite.specs.Held.{Held as Connection}
+use Rattle.register_core.specs.declared.answer.Answer.{Answer}
+use Rattle.register_core.specs.declared.answer.Answer.TheVariants.{Accepted, Repeated, Refused}
+use Rattle.register_core.specs.declared.change.Change.{Change}
+use Rattle.register_core.specs.declared.reply.Reply.{Reply}
+use Rattle.register_core.specs.declared.request.Request.{Request}
+use Rattle.register_core.specs.Decision.{change_by, reply_to}
+use Rattle.register_core.specs.KeptReply.{kept_with}
+use Rattle.register_core.specs.Verdict.{judge}
+use Rattle.register_store.specs.Tables.{Tables}
+use Rattle.register_store.specs.TableReads.{Calls, seen}
+use Rattle.register_desk.specs.TablesView.{key_needed, period_over}
+use Rattle.register_desk.specs.declared.desk.Desk.{Desk}
+use Rattle.register_desk.specs.declared.end.End.{End}
+use Rattle.register_desk.specs.declared.end.End.TheVariants.{Memory, Store, Broken, ReadFault, WriteFault, BadHeader}
+use Rattle.register_desk.specs.Register.{IsOver, Sees, Leaves, LeavesOneOf, LeavesEitherOf}
+use Rattle.register_store.specs.AcceptedRequest.{with_request}
+
+module _ {S : Type 0} {g : Ghosts S} where
+  -- no call of the database was refused
+  abbrev pub IsWhole : Desk S g → Type 0
+  IsWhole desk = desk.is_broken ≡ false
+
+  -- one was, and no call uses the database any more
+  abbrev pub IsBroken : Desk S g → Type 0
+  IsBroken desk = desk.is_broken ≡ true
+
+  abbrev pub connection_of : Desk S g → Connection S
+  connection_of desk = desk.connection.connection
+
+  -- ---- ends
+
+  -- each end comes of one kind of desk and leaves one
+  abbrev pub EndsBy : Desk S g → Desk S g → End → Type 0
+  EndsBy old new Memory = IsWhole old × IsWhole new
+  EndsBy old new Store = IsWhole old × IsBroken new
+  EndsBy old new Broken = IsBroken old × (new ≡ old)
+  EndsBy old new ReadFault = ⊥
+  EndsBy old new WriteFault = ⊥
+  EndsBy old new BadHeader = ⊥
+
+  -- a call that went on to its end: a whole desk stays whole, and a broken one is as it was
+  pub record GoesOn (old new : Desk S g) : Type 0 where
+    pub whole : IsWhole old → IsWhole new
+    pub broken : IsBroken old → new ≡ old
+
+  -- a call that uses the database: an answer comes of a whole desk and leaves it whole, and an end as it says
+  abbrev pub Ends : {T : Type 0} → Desk S g → Desk S g → Result T End → Type 0
+  Ends old new result = MatchResult result (λ _. IsWhole old × IsWhole new) (EndsBy old new)
+
+-- the steps that the database has taken for the desk
+abbrev pub steps_of : {S : Type 0} {g : Ghosts S} → Desk S g → ℕ
+steps_of desk = desk.connection.steps
+
+-- at most this many of them between the one and the other
+abbrev pub TakesSteps : {S : Type 0} {g : Ghosts S} → ℕ → Desk S g → Desk S g → Type 0
+TakesSteps most old new = Calls most old.connection new.connection
+
+-- the disk has given back what was written
+abbrev pub IsClean : {S : Type 0} → (g : Ghosts S) → Desk S g → Type 0
+IsClean g desk = HasCleanDisk (seen g desk.connection)
+
+-- and the connection is open: no fault has shut it
+abbrev pub IsOpen : {S : Type 0} → (g : Ghosts S) → Desk S g → Type 0
+IsOpen g desk = IsClean g desk → IsTrue (seen g desk.connection).is_open
+
+-- the latest moment that the desk knows of, and how many keys
+abbrev pub latest_of : {S : Type 0} {g : Ghosts S} → Desk S g → ℕ
+latest_of desk = desk.latest
+
+abbrev pub keys_of : {S : Type 0} {g : Ghosts S} → Desk S g → ℕ
+keys_of desk = desk.keys
+
+-- a reply that is given again is no later than that moment, and of no key beyond
+abbrev pub RepeatsWithin : ℕ → ℕ → Answer → Type 0
+RepeatsWithin latest keys (Accepted reply) = Unit {0}
+RepeatsWithin latest keys (Repeated first) = (first.moment ≤ latest) × (first.key ≤ keys)
+RepeatsWithin latest keys (Refused refusal) = Unit {0}
+
+-- ---- what stands, and what a stop leaves
+
+-- a stop leaves the register of one of these two histories
+abbrev pub LeavesEither : {S : Type 0} → (g : Ghosts S) → List Request → List Request → Desk S g → Type 0
+LeavesEither g h other desk = LeavesOneOf h other (seen g desk.connection)
+
+-- a decision that rests on what these tables count, and hold of the key that the request names, accepts it with this
+-- change and this reply
+pub record AcceptsOver (t : Tables) (q : Request) (change : Change) (reply : Reply) : Type 0 where
+  pub accepted : judge t.counts.latest (length t.keys) (period_over t) (key_needed t q) q ≡ None
+  pub change_is : change ≡ change_by (period_over t) (key_needed t q) q
+  pub reply_is : reply ≡ reply_to (length t.keys) q.moment change
+
+-- The request was accepted with this reply: the desk is over what the change makes of the tables, and its row is kept.
+pub record IsOverWithRequest {S : Type 0} (g : Ghosts S) (t : Tables) (q : Request) (reply : Reply)
+    (desk : Desk S g) : Type 0 where
+  pub change : Change
+  pub decision : AcceptsOver t q change reply
+  pub over : IsOver g desk (with_request (length t.keys) change (kept_with q reply) t)
+
+-- after an answer to the request, the desk is over the tables that it was over, but for an acceptance
+abbrev pub IsOverAfter : {S : Type 0} → (g : Ghosts S) → Tables → Request → Answer → Desk S g → Type 0
+IsOverAfter g t q (Accepted reply) desk = IsOverWithRequest g t q reply desk
+IsOverAfter g t q (Repeated first) desk = IsOver g desk t
+IsOverAfter g t q (Refused refusal) desk = IsOver g desk t
+
+-- the request is to be accepted, and a stop leaves these tables or what its change makes of them
+pub record LeavesAccepted {S : Type 0} (g : Ghosts S) (t : Tables) (q : Request) (desk : Desk S g) : Type 0 where
+  pub change : Change
+  pub reply : Reply
+  pub decision : AcceptsOver t q change reply
+  pub leaves : LeavesEitherOf t (with_request (length t.keys) change (kept_with q reply) t) (seen g desk.connection)
+
+-- a stop leaves these tables, or them with the request where that is to be accepted
+abbrev pub LeavesWithRequest : {S : Type 0} → (g : Ghosts S) → Tables → Request → Desk S g → Type 0
+LeavesWithRequest g t q desk = Leaves t (seen g desk.connection) ⊎ LeavesAccepted g t q desk
+
+-- the latest moment and the number of keys are as they were
+pub record KeepsCounts {S : Type 0} {g : Ghosts S} (old new : Desk S g) : Type 0 where
+  pub latest : new.latest ≡ old.latest
+  pub keys : new.keys ≡ old.keys
+
+-- the call changed nothing: whatever tables the desk saw it sees, and a stop leaves them as before
+pub record ChangesNothing {S : Type 0} (g : Ghosts S) (old new : Desk S g) : Type 0 where
+  pub clean : IsClean g new → IsClean g old
+  pub counts : KeepsCounts old new
+  pub rows : (t : Tables) → Sees g t old → Sees g t new
+  pub stop : (t : Tables) → Sees g t old → IsWhole old → IsClean g new → Leaves t (seen g new.connection)

@@ -1,0 +1,23 @@
+-- What the private calls of a desk say of one another.
+use Rattle.std.specs.Prelude.{◌≡◌, ℕ, List, [], Option}
+use Rattle.std.specs.List.{cons_option}
+use Rattle.sqlite_trees.specs.declared.store.Store.{Ghosts}
+use Rattle.register_core.specs.declared.kept_reply.KeptReply.{KeptReply}
+use Rattle.register_core.specs.declared.request.Request.{Request}
+use Rattle.register_core.specs.KeptReply.{kept, kept_under}
+use Rattle.register_desk.specs.declared.desk.Desk.{Desk}
+use Rattle.register_desk.specs.Desk.{KeepsCounts}
+
+module _ {S : Type 0} {g : Ghosts S} where
+  -- the connection, the latest moment and the number of keys are as they were
+  pub record KeepsAll (old new : Desk S g) : Type 0 where
+    pub connection : new.connection ≡ old.connection
+    pub counts : KeepsCounts old new
+
+-- nothing is kept under the request's caller and number
+abbrev pub IsNew : List Request → Request → Type 0
+IsNew h q = kept_under q.caller q.number (kept h) ≡ []
+
+-- what is kept under a caller and a number, if anything is
+abbrev pub IsKeptUnder : List Request → List ℕ → ℕ → Option KeptReply → Type 0
+IsKeptUnder h caller number found = kept_under caller number (kept h) ≡ cons_option found []

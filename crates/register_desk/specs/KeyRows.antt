@@ -1,0 +1,100 @@
+-- Keys that are given one at a time: all of them by number, or those that are due for rotation.
+use Rattle.std.specs.Option.{option_map}
+use Rattle.std.specs.Prelude.{◌≡◌, ℕ, ◌+◌, List, [], ◌∷◌, ◌++◌, length, map, take, Option, None, Some}
+use Rattle.sqlite_trees.specs.declared.store.Store.{Ghosts}
+use Rattle.key_rows.specs.declared.key_row.KeyRow.{KeyRow}
+use Rattle.key_rows.specs.DueRows.{AreDue, AreFirstDue, stop_of}
+use Rattle.register_core.specs.declared.key.Key.{Key}
+use Rattle.register_core.specs.declared.request.Request.{Request}
+use Rattle.register_store.specs.declared.key_walk.DuePlace.{DuePlace}
+use Rattle.register_store.specs.KeyWalk.{HasNextDue, next_tie}
+use Rattle.register_store.specs.TableChanges.{key_at}
+use Rattle.register_store.specs.Tables.{Tables, numbered}
+use Rattle.register_desk.specs.declared.rows.KeyRows.{KeyRows}
+use Rattle.register_desk.specs.declared.rows.Progress.TheVariants.{Going, Ended, Broken}
+use Rattle.register_desk.specs.declared.rows.Walk.{Walk}
+use Rattle.register_desk.specs.declared.rows.Walk.TheVariants.{ByNumber, ByStop}
+use Rattle.register_desk.specs.Register.{tables}
+
+-- ---- the rows of tables
+
+abbrev pub row_of : ℕ × Key → KeyRow
+row_of x = record { number = x.0; kind = x.1.kind; owner = x.1.owner; purpose = x.1.purpose; row = x.1.row }
+
+-- those of all keys, by number
+abbrev pub rows_of : Tables → List KeyRow
+rows_of t = map row_of (numbered t.keys)
+
+abbrev pub all_rows : List Request → List KeyRow
+all_rows h = rows_of (tables h)
+
+-- ---- which rows are given: all by number, or the due ones up to a moment
+
+-- these are the first of them
+abbrev pub AreSoFar : Option ℕ → List KeyRow → List KeyRow → Type 0
+AreSoFar None all given = given ≡ take (length given) all
+AreSoFar (Some until) all given = AreFirstDue all until given
+
+-- and these are all of them
+abbrev pub AreAll : Option ℕ → List KeyRow → List KeyRow → Type 0
+AreAll None all given = given ≡ all
+AreAll (Some until) all given = AreDue all until given
+
+-- ---- how far they are
+
+abbrev pub due_until : Walk → Option ℕ
+due_until (ByNumber last) = None
+due_until (ByStop until last tie) = Some until
+
+-- before the first row that is due
+abbrev pub first_place : DuePlace
+first_place = record { stop = 0; number = 0 }
+
+abbrev pub place_of_row : KeyRow → DuePlace
+place_of_row r = record { stop = stop_of r; number = r.number }
+
+-- the place of the last of these rows
+abbrev pub last_place : DuePlace → List KeyRow → DuePlace
+last_place place [] = place
+last_place place (r ∷ rows) = last_place (place_of_row r) rows
+
+-- the walk is after these rows, and no further
+abbrev pub IsAfterRows : Walk → List KeyRow → Type 0
+IsAfterRows (ByNumber last) given = last ≡ length given
+IsAfterRows (ByStop until last tie) given = last ≡ last_place first_place given
+
+abbrev pub after_row : Walk → KeyRow → Walk
+after_row (ByNumber last) r = ByNumber r.number
+after_row (ByStop until last tie) r = ByStop until (place_of_row r) (next_tie last (stop_of r))
+
+-- the row after the walk's last, or none where there is none
+abbrev pub HasNextRow : Walk → Tables → Option KeyRow → Type 0
+HasNextRow (ByNumber last) t found = found ≡ option_map (λ k. row_of (last + 1, k)) (key_at t.keys (last + 1))
+HasNextRow (ByStop until last tie) t None = HasNextDue until last t None
+HasNextRow (ByStop until last tie) t (Some row) = (x : ℕ × Key) × (row ≡ row_of x) × HasNextDue until last t (Some x)
+
+module _ {S : Type 0} {g : Ghosts S} where
+  -- the rows go on, came to their end, or are broken by a call that the database refused
+  abbrev pub GoOn : KeyRows S g → Type 0
+  GoOn rows = rows.progress ≡ Going
+
+  abbrev pub AreEnded : KeyRows S g → Type 0
+  AreEnded rows = rows.progress ≡ Ended
+
+  abbrev pub AreBroken : KeyRows S g → Type 0
+  AreBroken rows = rows.progress ≡ Broken
+
+  -- None for all rows, or the moment up to which rows are due
+  abbrev pub until_of : KeyRows S g → Option ℕ
+  until_of rows = due_until rows.walk
+
+  -- of all these rows, these were given so far; where the end is reached, they are all that are to be given
+  pub record HaveGiven (rows : KeyRows S g) (all given : List KeyRow) : Type 0 where
+    pub so_far : AreSoFar (until_of rows) all given
+    pub after : IsAfterRows rows.walk given
+    pub ended : AreEnded rows → AreAll (until_of rows) all given
+
+  -- what comes of the next row, or of none
+  abbrev pub GiveNext : KeyRows S g → List KeyRow → List KeyRow → Option KeyRow → Type 0
+  GiveNext rows all given None = HaveGiven rows all given × AreEnded rows
+  GiveNext rows all given (Some row) = HaveGiven rows all (given ++ row ∷ [])

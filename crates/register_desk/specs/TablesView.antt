@@ -1,0 +1,62 @@
+-- A key by itself, and what a decision sees over tables, of a key and of the usage periods, whatever history these are of
+-- if any.
+use Rattle.std.specs.Prelude.{◌≡◌, ℕ, nat_lt, [], length, Option, None, IfSome, unwrap_or, if◌then◌else◌}
+use Rattle.std.specs.Option.{option_and_then, option_map}
+use Rattle.period_core.specs.declared.key_type.KeyType.{KeyType}
+use Rattle.period_core.specs.Period.{Period, periods}
+use Rattle.register_core.specs.declared.key.Key.{Key}
+use Rattle.register_core.specs.declared.request.Command.{Command}
+use Rattle.register_core.specs.declared.request.Request.{Request}
+use Rattle.register_core.specs.declared.view.Held.{Held}
+use Rattle.register_core.specs.declared.view.View.{View}
+use Rattle.register_core.specs.CommandRule.{looks_at_custody, needs_approvals}
+use Rattle.register_core.specs.Quorum.{min_approvals}
+use Rattle.register_core.specs.Settings.{need_at, period_at}
+use Rattle.register_core.specs.Need.{needed_type}
+use Rattle.register_core.specs.Subject.{named}
+use Rattle.register_store.specs.TableChanges.{key_at}
+use Rattle.register_store.specs.TableReads.{loaded}
+use Rattle.register_store.specs.Tables.{Tables}
+
+-- how many approvals the destruction of a key needs
+abbrev pub need_over : Tables → ℕ → ℕ
+need_over t number = unwrap_or (need_at number t.needs) min_approvals
+
+-- the same where a decision on the command looks at it, and else the least
+abbrev pub need_for : Tables → Command → ℕ → ℕ
+need_for t c number = if needs_approvals c then need_over t number else min_approvals
+
+-- the key, with nobody in its custody
+abbrev pub without_custody : Key → Held
+without_custody k = record {
+  kind = k.kind;
+  owner = k.owner;
+  row = k.row;
+  need = min_approvals;
+  custodians = [];
+  approvals = [];
+}
+
+-- the key with this number, with its custody where a decision on the command looks at that
+abbrev pub key_for : Tables → Command → ℕ → Option Held
+key_for t c number =
+    if looks_at_custody c
+    then option_map (λ key. (loaded number (need_for t c number) t key).0) (key_at t.keys number)
+    else option_map without_custody (key_at t.keys number)
+
+-- that of the key which the request names; nothing where its moment is after the latest, which refuses it whatever the
+-- key is
+abbrev pub key_needed : Tables → Request → Option Held
+key_needed t q =
+    if nat_lt q.moment t.counts.latest then None else option_and_then (key_for t q.command) (named q.command)
+
+-- the usage period of a type: the one that is set, or the table's of this register
+abbrev pub period_over : Tables → KeyType → Period
+period_over t kind = unwrap_or (period_at kind t.periods) (periods kind)
+
+-- the view has what a decision on the request sees over these tables
+pub record IsViewOver (t : Tables) (q : Request) (view : View) : Type 0 where
+  pub latest_is : view.latest ≡ t.counts.latest
+  pub keys_are : view.keys ≡ length t.keys
+  pub period_is : IfSome (needed_type view.key q.command) (λ kind. view.period ≡ period_over t kind)
+  pub key_is : view.key ≡ key_needed t q

@@ -1,0 +1,201 @@
+//! Applying requests: each is accepted, repeated or refused.
+
+use crate::desk::Desk;
+use crate::end::End;
+use register_core::{Accept, Answer, KeptReply, Name, Refusal, Request, RequestNumber, decide};
+use register_store::{StoreError, commit_request, find_request, keys_after};
+use sqlite::Alter;
+
+impl<S: Alter> Desk<S> {
+    ghost use Rattle.std.specs.Prelude.{◌≡◌, ◌≢◌, List, [], Ok, IfOk, IfErr, true, ◌≤◌, ◌+◌, ◌∷◌};
+    ghost use Rattle.std.specs.Prelude.{Some, OnOk, OnErr, IfSome};
+    ghost use Rattle.register_core.specs.Fold.{history};
+    ghost use Rattle.register_core.specs.declared.request.Request.{Request};
+    ghost use Rattle.register_store.specs.TableChanges.{Makes};
+    ghost use Rattle.register_store.specs.TableReads.{seen};
+    ghost use Rattle.register_store.specs.Tables.{Tables};
+    ghost use Rattle.register_desk.specs.Desk.{IsBroken, IsClean, IsWhole, keys_of, latest_of};
+    ghost use Rattle.register_desk.specs.Desk.{ChangesNothing, Ends, IsOpen, IsOverAfter};
+    ghost use Rattle.register_desk.specs.Desk.{KeepsCounts, LeavesEither, LeavesWithRequest};
+    ghost use Rattle.register_desk.specs.Desk.{RepeatsWithin, TakesSteps};
+    ghost use Rattle.register_desk.specs.DeskCalls.{IsKeptUnder, IsNew};
+    ghost use Rattle.register_desk.specs.Register.{IsOver, StandsFor, tables};
+    ghost use Rattle.sql_steps.specs.Steps.{TransactsBy};
+    ghost use Rattle.register_core.specs.Answer.{UnlessAccepted};
+    ghost use Rattle.register_core.specs.KeptReply.{kept_with};
+    ghost use Rattle.register_core.specs.Request.{IsRequest, has_text};
+    ghost use Rattle.register_core.specs.Verdict.{answer};
+    ghost use Rattle.register_core.specs.declared.reply.Reply.{Reply};
+    ghost use Rattle.register_store.specs.Change.{made_count};
+    ghost use Rattle.register_store.specs.AcceptedRequest.{CanTake, with_request};
+
+    /// Applies a request: it is accepted, and then acts and is kept, or refused, and then changes nothing. A request that
+    /// comes again, whatever its moment, repeats its first reply and changes nothing. A value that is no line's request,
+    /// as an occurrence with a reason that is no compromise, is [`Refusal::BadLine`].
+    ///
+    /// # Errors
+    /// [`End::Store`] where the database refused, which breaks the desk: the register is as before or has the whole
+    /// request. [`End::Memory`] where memory gave out outside a transaction; nothing changed, and the desk goes on.
+    /// [`End::Broken`] on a broken desk; nothing changed.
+    pub fn apply(&mut self, request: &Request) -> Result<Answer, End>
+        ensures ends { Ends self.old self.new result }
+        ensures clean { IsClean S.Store self.new → IsClean S.Store self.old }
+        // The answer is the verdict over the history that the desk stands for.
+        ensures answer { (h : List Request) → StandsFor S.Store self.old h → IsRequest request.now
+            → IsClean S.Store self.new → IfOk result (λ given. given ≡ answer h request.now) }
+        ensures no_request { has_text request.now.command ≡ false → IsWhole self.old
+            → result ≡ Ok (Answer.Refused Refusal.BadLine) }
+        // The desk then stands for the history with the request at its end, if that was accepted.
+        ensures stands { (h : List Request) → StandsFor S.Store self.old h → IsRequest request.now
+            → IsClean S.Store self.new
+            → OnOk result (StandsFor S.Store self.new (history h (Some request.now ∷ []))) }
+        ensures err { (h : List Request) → StandsFor S.Store self.old h
+            → OnErr result (StandsFor S.Store self.new h) }
+        // The connection is open, so that what stands is seen in full.
+        ensures opened { has_text request.now.command ≡ true → OnOk result (IsOpen S.Store self.new) }
+        // A reply that is given again is one of this register's, whatever the tables hold.
+        ensures within { IfOk result (RepeatsWithin (latest_of self.old) (keys_of self.old)) }
+        // A repeat and a refusal change nothing, nor does an end other than 31, whatever the tables hold.
+        ensures nothing { IfOk result (λ given.
+            UnlessAccepted given (ChangesNothing S.Store self.old self.new)) }
+        ensures unchanged { IfErr result (λ end. end ≢ End.Store
+            → ChangesNothing S.Store self.old self.new) }
+        // After the end 31 a stop leaves the register without the request, or with it where it is to be accepted.
+        ensures store { (h : List Request) → StandsFor S.Store self.old h → IsRequest request.now
+            → IsClean S.Store self.new → IfErr result (λ end. end ≡ End.Store
+            → LeavesEither S.Store h (history h (Some request.now ∷ [])) self.new) }
+        // Over tables of no history too, an accepted request makes one change of them, and nothing else does.
+        ensures over { (t : Tables) → IsOver S.Store self.old t → IsRequest request.now
+            → IsClean S.Store self.new
+            → IfOk result (λ given. IsOverAfter S.Store t request.now given self.new) }
+        ensures over_still { (t : Tables) → IsOver S.Store self.old t
+            → OnErr result (IsOver S.Store self.new t) }
+        ensures tables { (t : Tables) → IsOver S.Store self.old t → IsRequest request.now
+            → IsClean S.Store self.new → IfErr result (λ end. end ≡ End.Store
+            → LeavesWithRequest S.Store t request.now self.new) }
+        // However many keys there are.
+        ensures steps { (h : List Request) → StandsFor S.Store self.old h
+            → IsClean S.Store self.new → TakesSteps 51 self.old self.new }
+    {
+        if self.is_broken {
+            return Err(End::Broken);
+        }
+        if !request.command.has_text() {
+            return Ok(Answer::Refused(Refusal::BadLine));
+        }
+        match self.find_kept(&request.caller, request.number)? {
+            Some(before) => Ok(before.answer_again(&request.command)),
+            None => self.apply_new(request),
+        }
+    }
+
+    /// Applies a request that does not come again.
+    fn apply_new(&mut self, request: &Request) -> Result<Answer, End>
+        requires whole { IsWhole self.old }
+        requires opened { IsOpen S.Store self.old }
+        ensures opened { OnOk result (IsOpen S.Store self.new) }
+        ensures new { IfOk result (λ given. (first : Reply) → given ≢ Answer.Repeated first) }
+        ensures ends { Ends self.old self.new result }
+        ensures clean { IsClean S.Store self.new → IsClean S.Store self.old }
+        ensures answer { (h : List Request) → StandsFor S.Store self.old h → IsNew h request.now
+            → IsClean S.Store self.new → IfOk result (λ given. given ≡ answer h request.now) }
+        ensures stands { (h : List Request) → StandsFor S.Store self.old h → IsNew h request.now
+            → IsRequest request.now → IsClean S.Store self.new
+            → OnOk result (StandsFor S.Store self.new (history h (Some request.now ∷ []))) }
+        ensures err { (h : List Request) → StandsFor S.Store self.old h
+            → OnErr result (StandsFor S.Store self.new h) }
+        ensures nothing { IfOk result (λ given.
+            UnlessAccepted given (ChangesNothing S.Store self.old self.new)) }
+        ensures unchanged { IfErr result (λ end. end ≢ End.Store
+            → ChangesNothing S.Store self.old self.new) }
+        ensures store { (h : List Request) → StandsFor S.Store self.old h → IsNew h request.now
+            → IsRequest request.now → IsClean S.Store self.new → IfErr result (λ end. end ≡ End.Store
+            → LeavesEither S.Store h (history h (Some request.now ∷ [])) self.new) }
+        ensures over { (t : Tables) → IsOver S.Store self.old t → IsRequest request.now
+            → IsClean S.Store self.new
+            → IfOk result (λ given. IsOverAfter S.Store t request.now given self.new) }
+        ensures over_still { (t : Tables) → IsOver S.Store self.old t
+            → OnErr result (IsOver S.Store self.new t) }
+        ensures tables { (t : Tables) → IsOver S.Store self.old t → IsRequest request.now
+            → IsClean S.Store self.new → IfErr result (λ end. end ≡ End.Store
+            → LeavesWithRequest S.Store t request.now self.new) }
+        ensures steps { (h : List Request) → StandsFor S.Store self.old h
+            → IsClean S.Store self.new → TakesSteps 49 self.old self.new }
+    {
+        let view = self.view_for(request)?;
+        match decide(&view, request) {
+            Err(refusal) => Ok(Answer::Refused(refusal)),
+            Ok(accept) => {
+                self.accept(request, &accept)?;
+                Ok(Answer::Accepted(accept.reply))
+            }
+        }
+    }
+
+    /// Makes the change of an accepted request, and keeps the request with its reply.
+    fn accept(&mut self, request: &Request, accept: &Accept) -> Result<(), End>
+        requires whole { IsWhole self.old }
+        requires later { self.old.latest ≤ accept.now.reply.moment }
+        requires room { self.old.keys + made_count accept.now.change ≤ max_keys }
+        ensures written { let kept = kept_with request.now accept.now.reply in
+            TransactsBy (Makes (CanTake self.old.keys self.old.latest kept)
+            (with_request self.old.keys accept.now.change kept))
+            (seen S.Store self.old.connection) (seen S.Store self.new.connection) result }
+        ensures steps { TakesSteps 9 self.old self.new }
+        ensures latest { OnOk result (self.new.latest ≡ accept.now.reply.moment) }
+        ensures keys { OnOk result
+            (self.new.keys ≡ self.old.keys + made_count accept.now.change) }
+        ensures whole { OnOk result (IsWhole self.new) }
+        ensures end { IfErr result (λ end. end ≡ End.Store) }
+        ensures err { OnErr result (KeepsCounts self.old self.new × IsBroken self.new) }
+    {
+        let change = &accept.change;
+        let kept = KeptReply::new(request, accept.reply);
+        match commit_request(&mut self.connection, self.keys, self.latest, change, &kept) {
+            Ok(()) => {
+                self.keys = keys_after(self.keys, change);
+                self.latest = kept.reply.moment;
+                Ok(())
+            }
+            Err(_) => {
+                self.is_broken = true;
+                Err(End::Store)
+            }
+        }
+    }
+
+    /// What is kept under the caller and the number, if anything is.
+    fn find_kept(&mut self, caller: &Name, number: RequestNumber) -> Result<Option<KeptReply>, End>
+        requires { IsWhole self.old }
+        ensures ends { Ends self.old self.new result }
+        ensures reads { ChangesNothing S.Store self.old self.new }
+        ensures steps { TakesSteps 2 self.old self.new }
+        ensures opened { OnOk result (IsOpen S.Store self.new) }
+        ensures kept { (h : List Request) → StandsFor S.Store self.old h → IsClean S.Store self.new
+            → IfOk result (IsKeptUnder h caller.now number) }
+        ensures within { IfOk result (λ found. IfSome found (λ kept.
+            (kept.reply.moment ≤ latest_of self.old) × (kept.reply.key ≤ keys_of self.old))) }
+    {
+        match self.load_kept(caller, number)? {
+            Some(kept) if kept.reply.is_within(self.latest, self.keys) => Ok(Some(kept)),
+            Some(_) => Err(self.end_by(StoreError::NoRegister)),
+            None => Ok(None),
+        }
+    }
+
+    /// What is kept under the caller and the number as it stands in the tables.
+    fn load_kept(&mut self, caller: &Name, number: RequestNumber) -> Result<Option<KeptReply>, End>
+        requires { IsWhole self.old }
+        ensures ends { Ends self.old self.new result }
+        ensures reads { ChangesNothing S.Store self.old self.new }
+        ensures steps { TakesSteps 2 self.old self.new }
+        ensures opened { OnOk result (IsOpen S.Store self.new) }
+        ensures kept { (h : List Request) → StandsFor S.Store self.old h → IsClean S.Store self.new
+            → IfOk result (IsKeptUnder h caller.now number) }
+    {
+        match find_request(&mut self.connection, caller, number) {
+            Ok(found) => Ok(found),
+            Err(error) => Err(self.end_by(error)),
+        }
+    }
+}

@@ -1,0 +1,125 @@
+//! The keys of a desk, one row at a time: all, or those that are due for rotation.
+
+use crate::desk::Desk;
+use crate::end::End;
+use crate::rows::{KeyRows, Progress, Walk, key_row};
+use key_rows::KeyRow;
+use moment_core::Moment;
+use register_store::{DuePlace, StoreError, Tie, each_due, each_key};
+use sqlite::Alter;
+
+impl<S: Alter> Desk<S> {
+    ghost use Rattle.std.specs.Prelude.{◌≡◌, List, [], IfOk, IfErr, Some, None};
+    ghost use Rattle.register_core.specs.declared.request.Request.{Request};
+    ghost use Rattle.register_desk.specs.Desk.{IsBroken, IsClean, IsWhole, ChangesNothing};
+    ghost use Rattle.register_desk.specs.Register.{StandsFor, tables};
+    ghost use Rattle.std.specs.Borrow.{sem};
+    ghost use Rattle.key_rows.specs.declared.key_row.KeyRow.{KeyRow};
+    ghost use Rattle.register_desk.specs.LentDesk.{LendsRows};
+    ghost use Rattle.register_desk.specs.KeyRows.{GoOn, HasNextRow, HaveGiven, until_of};
+
+    /// The keys as of the latest accepted moment, by number, one row at a time.
+    ///
+    /// # Errors
+    /// [`End::Broken`] on a broken desk; nothing changed.
+    pub fn keys(&mut self) -> Result<KeyRows<'_, S>, End>
+        ensures* lends { sem 𝓛 (LendsRows S.row S.Store self.entry result) }
+        ensures same_reference { IfOk result (λ rows. rows.desk.ghost_name ≡ self.entry.ghost_name) }
+        ensures same { IfOk result (λ rows. rows.desk.now ≡ self.old) }
+        ensures begins { IfOk result (λ rows. GoOn rows × (until_of rows ≡ None)
+            × ((all : List KeyRow) → HaveGiven rows all [])) }
+        ensures whole { IfOk result (λ rows. IsWhole self.old) }
+        ensures broken { IfErr result (λ end. (end ≡ End.Broken) × IsBroken self.old) }
+    {
+        if self.is_broken {
+            return Err(End::Broken);
+        }
+        Ok(self.rows(Walk::ByNumber(0)))
+    }
+
+    /// The Active keys with a Protect Stop Date up to `until`, by that date and then by number, one row at a time.
+    ///
+    /// # Errors
+    /// [`End::Broken`] on a broken desk; nothing changed.
+    pub fn due(&mut self, until: Moment) -> Result<KeyRows<'_, S>, End>
+        ensures* lends { sem 𝓛 (LendsRows S.row S.Store self.entry result) }
+        ensures same_reference { IfOk result (λ rows. rows.desk.ghost_name ≡ self.entry.ghost_name) }
+        ensures same { IfOk result (λ rows. rows.desk.now ≡ self.old) }
+        ensures begins { IfOk result (λ rows. GoOn rows × (until_of rows ≡ Some until)
+            × ((all : List KeyRow) → HaveGiven rows all [])) }
+        ensures whole { IfOk result (λ rows. IsWhole self.old) }
+        ensures broken { IfErr result (λ end. (end ≡ End.Broken) × IsBroken self.old) }
+    {
+        if self.is_broken {
+            return Err(End::Broken);
+        }
+        let stop = Moment::new(0).unwrap();
+        let first = DuePlace { stop, number: 0 };
+        Ok(self.rows(Walk::ByStop(until, first, Tie::Alone)))
+    }
+
+    /// Lends the desk to rows.
+    fn rows(&mut self, walk: Walk) -> KeyRows<'_, S>
+        ensures same_reference { result.desk.ghost_name ≡ self.entry.ghost_name }
+        ensures same { result.desk.now ≡ self.old }
+        ensures walk { result.walk ≡ walk }
+        ensures goes_on { GoOn result }
+    {
+        KeyRows {
+            desk: self,
+            walk,
+            progress: Progress::Going,
+        }
+    }
+
+    /// The next row of a walk, or `None` after the last.
+    pub(crate) fn next_row(&mut self, walk: Walk) -> Result<Option<KeyRow>, StoreError>
+        ensures reads { ChangesNothing S.Store self.old self.new }
+        ensures mark { self.new.is_broken ≡ self.old.is_broken }
+        ensures next { (h : List Request) → StandsFor S.Store self.old h → IsWhole self.old
+            → IsClean S.Store self.new → IfOk result (HasNextRow walk (tables h)) }
+    {
+        match walk {
+            Walk::ByNumber(last) => self.next_by_number(last),
+            Walk::ByStop(until, last, tie) => self.next_by_stop(until, last, tie),
+        }
+    }
+
+    /// The row of the key after the one with this number, or `None` after the last.
+    fn next_by_number(&mut self, last: u32) -> Result<Option<KeyRow>, StoreError>
+        ensures reads { ChangesNothing S.Store self.old self.new }
+        ensures mark { self.new.is_broken ≡ self.old.is_broken }
+        ensures next { (h : List Request) → StandsFor S.Store self.old h → IsWhole self.old
+            → IsClean S.Store self.new → IfOk result (HasNextRow (Walk.ByNumber last) (tables h)) }
+    {
+        if last >= self.keys {
+            return Ok(None);
+        }
+        match each_key(&mut self.connection, last)? {
+            Some(key) => Ok(Some(key_row(last + 1, key))),
+            None => Ok(None),
+        }
+    }
+
+    /// The row of the first key that is due after this place, or `None` after the last.
+    fn next_by_stop(
+        &mut self,
+        until: Moment,
+        last: DuePlace,
+        tie: Tie,
+    ) -> Result<Option<KeyRow>, StoreError>
+        ensures reads { ChangesNothing S.Store self.old self.new }
+        ensures mark { self.new.is_broken ≡ self.old.is_broken }
+        ensures next { (h : List Request) → StandsFor S.Store self.old h → IsWhole self.old
+            → IsClean S.Store self.new
+            → IfOk result (HasNextRow (Walk.ByStop until last tie) (tables h)) }
+    {
+        match each_due(&mut self.connection, until, last, tie)? {
+            Some((number, key)) => match u32::try_from(number) {
+                Ok(number) => Ok(Some(key_row(number, key))),
+                Err(_) => Err(StoreError::NoRegister),
+            },
+            None => Ok(None),
+        }
+    }
+}

@@ -1,0 +1,243 @@
+//! Looking up what a decision rests on.
+ghost use Rattle.std.specs.Prelude.{◌≡◌, unwrap_or};
+ghost use Rattle.period_core.specs.Period.{periods};
+ghost use Rattle.register_core.specs.Quorum.{min_approvals};
+ghost use Rattle.register_desk.specs.TablesView.{without_custody};
+
+use crate::desk::Desk;
+use crate::end::End;
+use period_core::{KeyType, Period, period_of};
+use register_core::{
+    Command, Held, Key, MIN_APPROVALS, Names, Purpose, Quorum, Request, View, needed_type,
+};
+use register_store::{StoreError, find_need, find_period, find_row, load_key};
+use sqlite::Alter;
+use std::alloc::Global;
+
+impl<S: Alter> Desk<S> {
+    ghost use Rattle.std.specs.Prelude.{◌≡◌, ◌≢◌, List, Err, IfOk, OnOk, IfSome, length};
+    ghost use Rattle.register_core.specs.History.{period};
+    ghost use Rattle.register_core.specs.declared.request.Request.{Request};
+    ghost use Rattle.register_store.specs.TableReads.{HasKey, HasRow};
+    ghost use Rattle.register_store.specs.Tables.{Tables};
+    ghost use Rattle.register_desk.specs.Desk.{IsClean, IsWhole, ChangesNothing, Ends, IsOpen};
+    ghost use Rattle.register_desk.specs.Desk.{TakesSteps};
+    ghost use Rattle.register_desk.specs.Register.{StandsFor, Sees};
+    ghost use Rattle.register_core.specs.Decision.{IsRightKey};
+    ghost use Rattle.register_core.specs.Need.{needed_type};
+    ghost use Rattle.register_desk.specs.TablesView.{IsViewOver, key_for, key_needed, need_for};
+    ghost use Rattle.register_desk.specs.TablesView.{need_over, period_over};
+
+    /// What the decision on the request rests on.
+    pub(super) fn view_for(&mut self, request: &Request) -> Result<View, End>
+        requires whole { IsWhole self.old }
+        requires opened { IsOpen S.Store self.old }
+        ensures ends { Ends self.old self.new result }
+        ensures reads { ChangesNothing S.Store self.old self.new }
+        ensures steps { (h : List Request) → StandsFor S.Store self.old h
+            → IsClean S.Store self.new → TakesSteps 40 self.old self.new }
+        ensures opened { OnOk result (IsOpen S.Store self.new) }
+        ensures latest { IfOk result (λ view. view.latest ≡ self.new.latest) }
+        ensures keys { IfOk result (λ view. view.keys ≡ self.new.keys) }
+        ensures right { IfOk result (λ view. IsRightKey view.key view.latest) }
+        ensures found { (t : Tables) → Sees S.Store t self.old → self.old.latest ≡ t.counts.latest
+            → self.old.keys ≡ length t.keys → IsClean S.Store self.new
+            → IfOk result (IsViewOver t request.now) }
+    {
+        let key = self.needed_key(request)?;
+        let period = self.period_for(&key, &request.command)?;
+        Ok(View {
+            latest: self.latest,
+            keys: self.keys,
+            period,
+            key,
+        })
+    }
+
+    /// The usage period of the type that the dates are held to which the command gives; where it gives none, any.
+    fn period_for(&mut self, key: &Option<Held>, command: &Command) -> Result<Period, End>
+        requires { IsWhole self.old }
+        ensures ends { Ends self.old self.new result }
+        ensures reads { ChangesNothing S.Store self.old self.new }
+        ensures steps { TakesSteps 2 self.old self.new }
+        ensures opened { IsOpen S.Store self.old → OnOk result (IsOpen S.Store self.new) }
+        ensures found { (t : Tables) → Sees S.Store t self.old → IsClean S.Store self.new
+            → IfOk result (λ period. IfSome (needed_type key.now command.now) (λ kind.
+            period ≡ period_over t kind)) }
+    {
+        match needed_type(key, command) {
+            Some(kind) => self.look_up_period(kind),
+            None => Ok(period_of(KeyType::DataEncryption)),
+        }
+    }
+
+    /// The usage period of the type, by the tables.
+    pub(super) fn look_up_period(&mut self, kind: KeyType) -> Result<Period, End>
+        requires { IsWhole self.old }
+        ensures ends { Ends self.old self.new result }
+        ensures reads { ChangesNothing S.Store self.old self.new }
+        ensures steps { TakesSteps 2 self.old self.new }
+        ensures opened { OnOk result (IsOpen S.Store self.new) }
+        ensures no_memory { result ≢ Err End.Memory }
+        ensures found { (t : Tables) → Sees S.Store t self.old → IsClean S.Store self.new
+            → IfOk result (λ period. period ≡ period_over t kind) }
+    {
+        match find_period(&mut self.connection, kind) {
+            Ok(found) => Ok(held_to(kind, found)),
+            Err(_) => Err(self.end_by(StoreError::NoRegister)),
+        }
+    }
+
+    /// What the decision on the request needs of the key that it names, as that stands at the latest moment.
+    fn needed_key(&mut self, request: &Request) -> Result<Option<Held>, End>
+        requires whole { IsWhole self.old }
+        requires opened { IsOpen S.Store self.old }
+        ensures ends { Ends self.old self.new result }
+        ensures reads { ChangesNothing S.Store self.old self.new }
+        ensures steps { (h : List Request) → StandsFor S.Store self.old h
+            → IsClean S.Store self.new → TakesSteps 38 self.old self.new }
+        ensures opened { OnOk result (IsOpen S.Store self.new) }
+        ensures right { IfOk result (λ key. IsRightKey key self.old.latest) }
+        ensures found { (t : Tables) → Sees S.Store t self.old → self.old.latest ≡ t.counts.latest
+            → IsClean S.Store self.new → IfOk result (λ key. key ≡ key_needed t request.now) }
+    {
+        if request.moment < self.latest {
+            return Ok(None);
+        }
+        let Some(number) = request.command.key() else {
+            return Ok(None);
+        };
+        match self.load_for(&request.command, number)? {
+            Some(held) if held.row.is_right_at(self.latest) => Ok(Some(held)),
+            Some(_) => Err(self.end_by(StoreError::NoRegister)),
+            None => Ok(None),
+        }
+    }
+
+    /// The key with this number as it stands in the tables, with its custody where a decision on the command looks at it.
+    fn load_for(&mut self, command: &Command, number: u32) -> Result<Option<Held>, End>
+        requires { IsWhole self.old }
+        ensures ends { Ends self.old self.new result }
+        ensures reads { ChangesNothing S.Store self.old self.new }
+        ensures steps { (h : List Request) → StandsFor S.Store self.old h
+            → IsClean S.Store self.new → TakesSteps 38 self.old self.new }
+        ensures opened { OnOk result (IsOpen S.Store self.new) }
+        ensures found { (t : Tables) → Sees S.Store t self.old → IsClean S.Store self.new
+            → IfOk result (λ key. key ≡ key_for t command.now number) }
+    {
+        if command.looks_at_custody() {
+            let need = self.need_for(command, number)?;
+            return match self.load(number, need)? {
+                Some((held, _)) => Ok(Some(held)),
+                None => Ok(None),
+            };
+        }
+        match self.find(number)? {
+            Some(key) => Ok(Some(without_custody(self.alloc, key))),
+            None => Ok(None),
+        }
+    }
+
+    /// The row of the key with this number as it stands in the tables.
+    pub(super) fn find(&mut self, number: u32) -> Result<Option<Key>, End>
+        requires { IsWhole self.old }
+        ensures ends { Ends self.old self.new result }
+        ensures reads { ChangesNothing S.Store self.old self.new }
+        ensures steps { TakesSteps 2 self.old self.new }
+        ensures opened { OnOk result (IsOpen S.Store self.new) }
+        ensures no_memory { result ≢ Err End.Memory }
+        ensures found { (t : Tables) → Sees S.Store t self.old → IsClean S.Store self.new
+            → IfOk result (HasRow number t) }
+    {
+        match find_row(&mut self.connection, number) {
+            Ok(found) => Ok(found),
+            Err(_) => Err(self.end_by(StoreError::NoRegister)),
+        }
+    }
+
+    /// How many approvals the destruction of the key with this number needs, by the tables.
+    pub(super) fn need(&mut self, number: u32) -> Result<u8, End>
+        requires { IsWhole self.old }
+        ensures ends { Ends self.old self.new result }
+        ensures reads { ChangesNothing S.Store self.old self.new }
+        ensures steps { TakesSteps 2 self.old self.new }
+        ensures opened { OnOk result (IsOpen S.Store self.new) }
+        ensures found { (t : Tables) → Sees S.Store t self.old → IsClean S.Store self.new
+            → IfOk result (λ need. need ≡ need_over t number) }
+    {
+        match find_need(&mut self.connection, number) {
+            Ok(found) => Ok(need_of(found)),
+            Err(_) => Err(self.end_by(StoreError::NoRegister)),
+        }
+    }
+
+    /// The same where a decision on the command looks at it, and else the least.
+    fn need_for(&mut self, command: &Command, number: u32) -> Result<u8, End>
+        requires { IsWhole self.old }
+        ensures ends { Ends self.old self.new result }
+        ensures reads { ChangesNothing S.Store self.old self.new }
+        ensures steps { TakesSteps 2 self.old self.new }
+        ensures found { (t : Tables) → Sees S.Store t self.old → IsClean S.Store self.new
+            → IfOk result (λ need. need ≡ need_for t command.now number) }
+    {
+        if command.needs_approvals() {
+            self.need(number)
+        } else {
+            Ok(MIN_APPROVALS)
+        }
+    }
+
+    /// The key with this number as it stands in the tables where its destruction needs so many approvals, with its
+    /// purpose.
+    pub(super) fn load(&mut self, number: u32, need: u8) -> Result<Option<(Held, Purpose)>, End>
+        ensures ends { Ends self.old self.new result }
+        ensures reads { ChangesNothing S.Store self.old self.new }
+        ensures steps { (h : List Request) → StandsFor S.Store self.old h
+            → IsClean S.Store self.new → TakesSteps 36 self.old self.new }
+        ensures opened { OnOk result (IsOpen S.Store self.new) }
+        ensures found { (t : Tables) → Sees S.Store t self.old → IsClean S.Store self.new
+            → IfOk result (HasKey number need t) }
+    {
+        if self.is_broken {
+            return Err(End::Broken);
+        }
+        match load_key(self.alloc, &mut self.connection, number, need) {
+            Ok(found) => Ok(found),
+            Err(error) => Err(self.end_by(error)),
+        }
+    }
+}
+
+/// The key, with nobody in its custody.
+fn without_custody(alloc: Global, key: Key) -> Held
+    ensures { result ≡ without_custody key }
+{
+    Held {
+        kind: key.kind,
+        owner: key.owner,
+        row: key.row,
+        need: MIN_APPROVALS,
+        custodians: Names::from_vec(Vec::new(alloc)),
+        approvals: Names::from_vec(Vec::new(alloc)),
+    }
+}
+
+/// How many approvals a destruction needs where this is set for its key, if anything is.
+fn need_of(set: Option<Quorum>) -> u8
+    ensures { result ≡ unwrap_or set min_approvals }
+{
+    match set {
+        Some(need) => need.get(),
+        None => MIN_APPROVALS,
+    }
+}
+
+/// The usage period of the type, where this is set for it, if anything is.
+fn held_to(kind: KeyType, set: Option<Period>) -> Period
+    ensures { result ≡ unwrap_or set (periods kind) }
+{
+    match set {
+        Some(period) => period,
+        None => period_of(kind),
+    }
+}

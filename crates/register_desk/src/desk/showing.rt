@@ -1,0 +1,127 @@
+//! What a desk tells of one key, and of the periods that the office set.
+
+use crate::desk::Desk;
+use crate::end::End;
+use crate::record::Record;
+use lifecycle_core::{Usage, usage};
+use period_core::{KeyType, OfficePeriods, Period};
+use register_store::{StoreError, find_period};
+use sqlite::Alter;
+
+impl<S: Alter> Desk<S> {
+    ghost use Rattle.std.specs.Prelude.{◌≡◌, ◌≢◌, List, Err, IfOk, IfErr};
+    ghost use Rattle.register_core.specs.History.{period, set_period};
+    ghost use Rattle.register_core.specs.declared.request.Request.{Request};
+    ghost use Rattle.register_store.specs.Tables.{Tables};
+    ghost use Rattle.register_desk.specs.Desk.{IsBroken, IsClean, IsWhole, ChangesNothing, Ends};
+    ghost use Rattle.register_desk.specs.Register.{StandsFor, Sees};
+    ghost use Rattle.period_core.specs.declared.key_type.KeyType.{KeyType};
+    ghost use Rattle.register_desk.specs.Shown.{usage, shown};
+    ghost use Rattle.period_core.specs.Office.{set_in};
+    ghost use Rattle.register_core.specs.Settings.{period_at};
+
+    /// The key with this number as of the latest accepted moment, or `None` where there is none. It changes nothing.
+    ///
+    /// # Errors
+    /// [`End::Store`] where the database refused or the row is one that no register holds, which breaks the desk;
+    /// [`End::Memory`] where memory gave out, and the desk goes on; [`End::Broken`] on a broken desk.
+    pub fn show(&mut self, number: u32) -> Result<Option<Record>, End>
+        ensures ends { Ends self.old self.new result }
+        ensures reads { ChangesNothing S.Store self.old self.new }
+        ensures shown { (h : List Request) → StandsFor S.Store self.old h → IsClean S.Store self.new
+            → IfOk result (λ found. found ≡ shown h number) }
+    {
+        if self.is_broken {
+            return Err(End::Broken);
+        }
+        let need = self.need(number)?;
+        match self.load(number, need)? {
+            Some((held, purpose)) => Ok(Some(Record::new(number, held, purpose))),
+            None => Ok(None),
+        }
+    }
+
+    /// The usage period that keys of the type are held to from now on: the one that the office set last, or this
+    /// register's own. It changes nothing.
+    ///
+    /// # Errors
+    /// As [`show`](Desk::show), but never [`End::Memory`].
+    pub fn period(&mut self, kind: KeyType) -> Result<Period, End>
+        ensures ends { Ends self.old self.new result }
+        ensures reads { ChangesNothing S.Store self.old self.new }
+        ensures no_memory { result ≢ Err End.Memory }
+        ensures found { (h : List Request) → StandsFor S.Store self.old h → IsClean S.Store self.new
+            → IfOk result (λ found. found ≡ period h kind) }
+    {
+        if self.is_broken {
+            return Err(End::Broken);
+        }
+        self.look_up_period(kind)
+    }
+
+    /// What the office set for each type. It changes nothing, and the desk goes on where the database refuses it.
+    ///
+    /// # Errors
+    /// [`End::Store`] where the database refused; [`End::Broken`] on a broken desk.
+    pub fn office_periods(&mut self) -> Result<OfficePeriods, End>
+        ensures reads { ChangesNothing S.Store self.old self.new }
+        ensures mark { self.new.is_broken ≡ self.old.is_broken }
+        ensures refused { IsWhole self.old → IfErr result (λ end. end ≡ End.Store) }
+        ensures broken { IsBroken self.old → (result ≡ Err End.Broken) × (self.new ≡ self.old) }
+        ensures found { (h : List Request) → StandsFor S.Store self.old h → IsClean S.Store self.new
+            → IfOk result (λ set. (kind : KeyType) → set_in set kind ≡ set_period h kind) }
+    {
+        if self.is_broken {
+            return Err(End::Broken);
+        }
+        match self.find_sets() {
+            Ok(periods) => Ok(periods),
+            Err(_) => Err(End::Store),
+        }
+    }
+
+    /// What the office set for each type, by the tables.
+    fn find_sets(&mut self) -> Result<OfficePeriods, StoreError>
+        ensures reads { ChangesNothing S.Store self.old self.new }
+        ensures mark { self.new.is_broken ≡ self.old.is_broken }
+        ensures found { (t : Tables) → Sees S.Store t self.old → IsWhole self.old → IsClean S.Store self.new
+            → IfOk result (λ set. (kind : KeyType) → set_in set kind ≡ period_at kind t.periods) }
+    {
+        let mut periods = OfficePeriods::NONE;
+        'kinds: for kind in KeyType::ALL {
+            periods.set(kind, self.find_set(kind)?);
+        }
+        Ok(periods)
+    }
+
+    /// What the office set for the type, by the tables.
+    fn find_set(&mut self, kind: KeyType) -> Result<Option<Period>, StoreError>
+        ensures reads { ChangesNothing S.Store self.old self.new }
+        ensures mark { self.new.is_broken ≡ self.old.is_broken }
+        ensures found { (t : Tables) → Sees S.Store t self.old → IsWhole self.old → IsClean S.Store self.new
+            → IfOk result (λ set. set ≡ period_at kind t.periods) }
+    {
+        find_period(&mut self.connection, kind)
+    }
+
+    /// What the key with this number may be used for at the latest accepted moment, or `None` where there is no such
+    /// key. It changes nothing.
+    ///
+    /// # Errors
+    /// As [`show`](Desk::show), but never [`End::Memory`].
+    pub fn usage(&mut self, number: u32) -> Result<Option<Usage>, End>
+        ensures ends { Ends self.old self.new result }
+        ensures reads { ChangesNothing S.Store self.old self.new }
+        ensures no_memory { result ≢ Err End.Memory }
+        ensures used { (h : List Request) → StandsFor S.Store self.old h → IsClean S.Store self.new
+            → IfOk result (λ found. found ≡ usage h number) }
+    {
+        if self.is_broken {
+            return Err(End::Broken);
+        }
+        match self.find(number)? {
+            Some(key) => Ok(Some(usage(&key.row.dates, self.latest))),
+            None => Ok(None),
+        }
+    }
+}

@@ -1,0 +1,95 @@
+-- What each call over the register in files says of what it came to. The files hold `found` before the call; what is
+-- said of files that it left is said of sound ones.
+use Rattle.std.specs.Prelude.{◌≡◌, ℕ, List, [], Option, Some, Result, IfOk, IfErr}
+use Rattle.sqlite_trees.specs.declared.store.Store.{Ghosts}
+use Rattle.sqlite_trees.specs.View.{IsClean as IsCleanStore}
+use Rattle.sqlite.specs.Recovery.{Image}
+use Rattle.key_rows.specs.declared.key_row.KeyRow.{KeyRow}
+use Rattle.key_rows.specs.DueRows.{AreListed}
+use Rattle.key_rows.specs.Export.{export_text}
+use Rattle.key_rows.specs.Report.{horizon, report_text}
+use Rattle.register_core.specs.declared.request.Request.{Request}
+use Rattle.register_core.specs.Fold.{IsLawful}
+use Rattle.register_core.specs.History.{latest, period}
+use Rattle.register_desk.specs.DatabaseFiles.{HoldsRegister}
+use Rattle.register_desk.specs.Input.{HasItems}
+use Rattle.register_desk.specs.KeyRows.{all_rows}
+use Rattle.register_files.specs.declared.register_file.Life.{Life}
+use Rattle.register_files.specs.declared.register_file.Refused.{Refused}
+use Rattle.register_files.specs.declared.values.Terms.{Terms}
+use Rattle.register_files.specs.Life.{EndsUnbegun, LeadsOnTo, LeavesInFiles, LivesOver, LivesSome}
+use Rattle.register_files.specs.Life.{Refuses, RefusesMaking, ServesInFiles, WritesOut}
+use Rattle.register_report.specs.ImportRows.{BeginsWithHeader, HasRowItems}
+
+module _ {S : Type 0} (g : Ghosts S) (may_leave : S → Image → Type 0) (found : Image) where
+  -- the call came to a life, of which this is said
+  abbrev pub OnLife : Result (Life S) (Refused S) → (Life S → Type 0) → Type 0
+  OnLife result said = IfOk result (λ life. IsCleanStore (g.view life.store) → said life)
+
+  -- A refusal has its cause in what the files hold, and a stop leaves what they held.
+  abbrev pub OnRefusal : Result (Life S) (Refused S) → Type 0
+  OnRefusal result = IfErr result (Refuses g may_leave found)
+
+  pub record MakesRegister (result : Result S (Refused S)) : Type 0 where
+    -- Where the file was empty, whatever a stop leaves in the files holds the register of no request.
+    pub leaves : found.db ≡ [] → IfOk result (λ store. IsCleanStore (g.view store)
+        → LeavesInFiles [] [] (may_leave store))
+    -- A table of a register that is there is the one reason to refuse a database, and is as it was.
+    pub refuses : IfErr result (RefusesMaking g may_leave found)
+
+  -- whatever the reader tells of its bytes, and standard input tells none
+  pub record LivesAnyway (old new : Option (List ℕ)) (result : Result (Life S) (Refused S)) : Type 0 where
+    -- There are items that it was a run over.
+    pub some : (h : List Request) → IsLawful h → HoldsRegister h found
+        → OnLife result (λ life. LivesSome g h life.outcome old new (may_leave life.store))
+    -- Whatever a stop leaves in the files holds the register after a life of as many items as were answered, or one
+    -- more.
+    pub leads : OnLife result (λ life. LeadsOnTo found life.outcome (may_leave life.store))
+    pub refuses : OnRefusal result
+
+  -- of request lines
+  pub record RunsLines (input : Option (List ℕ)) (old new : Option (List ℕ))
+      (result : Result (Life S) (Refused S)) : Type 0 where
+    -- Where the files held the register of a history, what is written is the lines of the answers, and whatever a stop
+    -- leaves in the files holds the register of the items that were answered, or of one more.
+    pub lives : (h : List Request) (bytes : List ℕ) (items : List (Option Request)) (rest : List ℕ)
+        → IsLawful h → HoldsRegister h found → input ≡ Some bytes → HasItems bytes items rest
+        → OnLife result (λ life. LivesOver g h items rest life.outcome old new (may_leave life.store))
+    pub anyway : LivesAnyway old new result
+
+  -- of the rows of a table, on these terms
+  pub record ImportsRows (terms : Terms) (input : Option (List ℕ)) (old new : Option (List ℕ))
+      (result : Result (Life S) (Refused S)) : Type 0 where
+    -- Where the files held the register of a history, it is a run over the items of the rows after the header row.
+    pub lives : (h : List Request) (bytes : List ℕ) (items : List (Option Request))
+        → IsLawful h → HoldsRegister h found → input ≡ Some bytes
+        → HasRowItems terms.moment terms.caller terms.first bytes items
+        → OnLife result (λ life. LivesOver g h items [] life.outcome old new (may_leave life.store))
+    -- Without the header row nothing is registered.
+    pub without : (h : List Request) (bytes : List ℕ)
+        → IsLawful h → HoldsRegister h found → input ≡ Some bytes → (BeginsWithHeader bytes → ⊥)
+        → OnLife result (λ life. EndsUnbegun h life.outcome old new (may_leave life.store))
+    pub anyway : LivesAnyway old new result
+
+  pub record Exports (old new : Option (List ℕ)) (result : Result (Life S) (Refused S)) : Type 0 where
+    -- Where the files held the register of a history, its export is written, and they hold it still.
+    pub lives : (h : List Request) → IsLawful h → HoldsRegister h found
+        → OnLife result (λ life. WritesOut h (export_text (all_rows h)) life.outcome old new (may_leave life.store))
+    pub refuses : OnRefusal result
+
+  -- for this number of days
+  pub record Reports (days : ℕ) (old new : Option (List ℕ)) (result : Result (Life S) (Refused S)) : Type 0 where
+    -- Where the files held the register of a history, its report is written, and they hold it still.
+    pub lives : (h : List Request) (rows : List KeyRow)
+        → IsLawful h → HoldsRegister h found → AreListed (all_rows h) (horizon (latest h) days) (period h) rows
+        → OnLife result (λ life.
+        WritesOut h (report_text (latest h) (horizon (latest h) days) rows) life.outcome old new (may_leave life.store))
+    pub refuses : OnRefusal result
+
+  -- of so many exchanges at most
+  pub record ServesExchanges (most : ℕ) (result : Result (Life S) (Refused S)) : Type 0 where
+    -- Where the files held the register of a history, whatever a stop leaves in them holds that of at most one item
+    -- more for each exchange.
+    pub lives : (h : List Request) → IsLawful h → HoldsRegister h found
+        → OnLife result (λ life. ServesInFiles h most (may_leave life.store))
+    pub refuses : OnRefusal result

@@ -1,0 +1,43 @@
+-- What is read of an answer by a reader that tells what a row shows.
+use Rattle.std.proofs.Common.{◌≡◌, ◌≢◌, Option, None, Some, Result, Ok, Err, IfOk, IfErr, MatchOption, ¬◌, absurd, refl, sym, subst, List}
+use Rattle.sqlite.specs.Order.{Row}
+use Rattle.sqlite.specs.State.{State, HasCleanDisk, QueriesRow, Survives, CommitsShowing}
+use Rattle.sqlite.specs.declared.error.Error.{Error}
+use Rattle.sqlite.specs.declared.error.Error.TheVariants.{QueryReturnedNoRows}
+use Rattle.register_store.specs.declared.error.StoreError.{StoreError}
+use Rattle.register_store.specs.declared.error.StoreError.TheVariants.{Memory, NoRegister}
+use Rattle.register_store.specs.Tables.{Tables}
+use Rattle.register_store.specs.TableReads.{AnswersBy, IsRowOf, ReadsBy, ShowsNone, given_of, given_without}
+
+-- the result is what the answer's row shows; it is no want of memory, and no register's row is refused
+pub record Tells {A : Type 0} (IsOne : A → Type 0) (ShowsOne : Row → A → Type 0) (answer : Result Row Error)
+    (result : Result (Option A) StoreError) : Type 0 where
+  pub row : IfOk result (IsRowOf ShowsOne answer)
+  pub failed : IfErr result (λ error. error ≢ Memory)
+  pub registered : IfErr result (λ error. error ≡ NoRegister → ShowsNone IsOne ShowsOne answer)
+
+-- what is made of the answer to this text, which tells so, is found so
+abbrev pub ReadsRow : {A : Type 0} → (A → Type 0) → (Row → A → Type 0) → List ℕ → Row → (Tables → Option A → Type 0) → Type 0
+ReadsRow {A} IsOne ShowsOne sql params Found = (old new : State) (answer : Result Row Error) (result : Result (Option A) StoreError)
+    → Tells IsOne ShowsOne answer result
+    → (HasCleanDisk new → QueriesRow sql params old new answer) → Survives old new (CommitsShowing sql params old)
+    → ReadsBy Found old new result
+
+-- a reader that gives what a row shows, and of a row that shows none gives nothing
+pub tells : {A : Type 0} {Gives : Row → Option A → Type 0} {IsOne : A → Type 0} {ShowsOne : Row → A → Type 0}
+    → ((row : Row) (given : Option A) → Gives row given → MatchOption given ((x : A) → IsOne x → ¬ ShowsOne row x) (ShowsOne row))
+    → (answer : Result Row Error) (result : Result (Option A) StoreError) → AnswersBy Gives answer result
+    → Tells IsOne ShowsOne answer result
+tells {A} {Gives} {IsOne} {ShowsOne} reads (Ok row) result gives =
+    subst (Tells IsOne ShowsOne (Ok row)) (sym gives.2.1) (of_row gives.0 (reads row gives.0 gives.1))
+  where
+    of_row : (given : Option A) → MatchOption given ((x : A) → IsOne x → ¬ ShowsOne row x) (ShowsOne row)
+        → Tells IsOne ShowsOne (Ok row) (given_of given)
+    of_row (Some x) shows = record { row = (x, refl, shows); failed = tt; registered = tt }
+    of_row None none = record { row = tt; failed = λ is. absurd cc; registered = λ is. none }
+tells {A} {Gives} {IsOne} {ShowsOne} reads (Err error) result gives =
+    subst (Tells IsOne ShowsOne (Err error)) (sym gives) (without error)
+  where
+    without : (error : Error) → Tells IsOne ShowsOne (Err error) (given_without error)
+    without QueryReturnedNoRows = record { row = (refl, refl); failed = tt; registered = tt }
+    without error = record { row = tt; failed = λ is. absurd cc; registered = λ is. absurd cc }

@@ -1,0 +1,50 @@
+-- The check of the table of approvals.
+use Rattle.std.proofs.Common.{ℕ, List, [], ◌∷◌, arith}
+use Rattle.std.specs.List.{AllByRecursion}
+use Rattle.std.specs.Global.{Vec}
+use Rattle.sqlite.specs.Effect.{Database as Db}
+use Rattle.sqlite.specs.Order.{Row}
+use Rattle.row_checks.proofs.Each.{show_same}
+use Rattle.register_store.specs.declared.table.TableName.TheVariants.{Approval}
+use Rattle.register_store.specs.CheckedTables.{ShowsName}
+use Rattle.register_store.specs.Stored.{HoldsStored, Stored}
+use Rattle.register_store.specs.Tables.{IsNamed, name_cells}
+use Rattle.register_store.specs.CheckedRows.{IsListed, KnowsCustodians}
+use Rattle.register_store.specs.OpeningChecks.{IsCustodian}
+use Rattle.register_store.proofs.Actions.{shows_all}
+use Rattle.register_store.proofs.Asked.{AnswersTo, ShowsOwn, in_both, shown_of_table}
+use Rattle.register_store.proofs.CustodiansChecked.{names_past, one_name, own_row}
+use Rattle.register_store.proofs.EntriesShown.{all_permuted, own_entries}
+use Rattle.register_store.proofs.EntriesChecked.{AreChecked}
+
+own_approvals : (t : Stored) (db : Db) (rows : List Row) (holds : HoldsStored t db)
+    → AnswersTo holds.schema.layout Approval db rows → ShowsOwn Approval t rows
+own_approvals t db rows holds sure =
+    let it = own_entries name_cells ShowsName IsNamed (holds.schema.layout.tree Approval) (shown_of_table Approval)
+    names_past own_row db t.tables.approvals rows (holds.in_range Approval) (holds.shown Approval)
+    (shows_all db.trees (holds.schema.layout.tree Approval)) sure in
+    record { c = it.0; shows = it.2; like = it.1; meets = all_permuted (IsCustodian t.tables.custodians) t.tables.approvals it.0 it.1 }
+
+all_as : {A : Type 0} (P Q : A → Type 0) → ((x : A) → P x → Q x) → (xs : List A) → AllByRecursion P xs → AllByRecursion Q xs
+all_as P Q turn [] all = tt
+all_as P Q turn (x ∷ xs) all = (turn x all.0, all_as P Q turn xs all.1)
+
+-- the check asks of each that its name is in the key's list
+pub are_checked : (t : Stored) (lists : Vec (Vec (List ℕ))) → KnowsCustodians t.tables.custodians lists
+    → AreChecked Approval ShowsName (IsListed lists.items) t
+are_checked t lists knows = record {
+  within = in_both Approval (omega arith) t.version;
+  own = own_approvals t;
+  one = show_same ShowsName one_name;
+  taken = λ rows it. (
+    it.values,
+    it.shown,
+    all_as (IsListed lists.items) (IsCustodian t.tables.custodians) (λ entry. (knows entry).0) it.values it.each,
+  );
+  given = λ rows met. record {
+    values = met.0;
+    shown = met.1;
+    each = all_as (IsCustodian t.tables.custodians) (IsListed lists.items) (λ entry. (knows entry).1) met.0 met.2;
+  };
+  no_newer = λ rows none. none;
+}

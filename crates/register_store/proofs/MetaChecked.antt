@@ -1,0 +1,183 @@
+-- The check of the table meta.
+use Rattle.std.proofs.Common.{◌≡◌, ◌≤◌, inl, inr, ℕ, Option, None, Some, Result, Ok, Err, List, [], ◌∷◌, ◌++◌, IfOk, IfErr, IsErrAnd, sym, ap, subst, ◌∙◌, refl, arith}
+use Rattle.sqlite.specs.Effect.{Database as Db}
+use Rattle.sqlite.specs.Order.{Row, column}
+use Rattle.sqlite.specs.Program.{overlay}
+use Rattle.sqlite.specs.State.{State, HasCleanDisk, IsUnchanged, Survives}
+use Rattle.sqlite.specs.Tree.{IsTable}
+use Rattle.row_checks.specs.EachRow.{ShowEach}
+use Rattle.row_checks.specs.declared.error.RowsError.{RowsError}
+use Rattle.row_checks.specs.declared.error.RowsError.TheVariants.{NoMeaning, Refused, Memory, Database}
+use Rattle.row_checks.specs.ShownRows.{HasNoMeaning, ShowsAll, ShowsFirst}
+use Rattle.register_store.specs.declared.found.Found.{Found}
+use Rattle.register_store.specs.declared.error.CheckError.{CheckError}
+use Rattle.register_store.specs.declared.error.CheckError.TheVariants.{NewerVersion, NotARegister}
+use Rattle.register_store.specs.declared.meta_check.MetaRow.{MetaRow}
+use Rattle.register_store.specs.declared.meta_check.MetaRow.TheVariants.{Newer, Counts as CountsKeys}
+use Rattle.register_store.specs.declared.table.TableName.TheVariants.{Meta}
+use Rattle.register_core.specs.Verdict.{max_keys}
+use Rattle.register_core.specs.declared.version.Version.{Version}
+use Rattle.register_core.specs.declared.version.Version.TheVariants.{First, Second}
+use Rattle.register_core.specs.Version.{version_number}
+use Rattle.register_store.specs.CheckedTables.{HasNewer, IsOdd, IsReasonAt, ShowsCounts, ShowsNewer, ShowsRows, ChecksTable}
+use Rattle.register_store.specs.CheckedTables.{check_error, check_text, mark_of}
+use Rattle.register_store.specs.Schema.{rows_of}
+use Rattle.register_store.specs.Stored.{HoldsStored, Stored, mark, with_part}
+use Rattle.register_store.specs.Tables.{Counts, counts_row_in, version}
+use Rattle.register_store.specs.OpeningChecks.{MeetsCheck}
+use Rattle.register_store.specs.CheckedRows.{HasMeta, IsCounts, RefusesMeta, counts_in}
+use Rattle.register_store.proofs.Actions.{shows_all}
+use Rattle.register_store.proofs.Asked.{AnswersTo, IsWithin, ShowsOwn, in_both, shown_of_table, shown_own, checks_table}
+use Rattle.register_store.proofs.Decoding.{same_number}
+use Rattle.register_store.proofs.Ordered.{in_order, shown_of}
+
+-- ---- a register's own row
+
+abbrev the_row : Version → Counts → Row
+the_row v counts = shown_of 0 (shown_of_table Meta) (counts_row_in v counts)
+
+pub meta_within : (t : Stored) → IsWithin Meta t.version
+meta_within t = in_both Meta (omega arith) t.version
+
+pub own_meta : (t : Stored) (db : Db) (rows : List Row) (holds : HoldsStored t db)
+    → AnswersTo holds.schema.layout Meta db rows → ShowsOwn Meta t rows
+own_meta t db rows holds sure =
+    let table : IsTable (rows_of holds.schema.layout Meta db) = subst IsTable (sym (holds.shown Meta)) (tt, tt) in
+    let is : rows ≡ the_row t.version t.tables.counts ∷ [] = in_order (holds.schema.layout.tree Meta) (shown_of_table Meta)
+    (overlay db.trees []) rows (subst IsTable (sym (shows_all db.trees (holds.schema.layout.tree Meta))) table)
+    sure ∙ ap (Rattle.std.specs.Prelude.map (shown_of 0 (shown_of_table Meta)))
+    (shows_all db.trees (holds.schema.layout.tree Meta) ∙ holds.shown Meta) in
+    record {
+      c = mark t;
+      shows = subst (λ rs. ShowEach ShowsCounts rs (mark t ∷ [])) (sym is) (record { id = refl; version_is = refl; latest = refl; key_count = refl; moment = holds.in_range Meta }, tt);
+      like = refl;
+      meets = λ meets. meets;
+    }
+
+known_below : (v : Version) → version_number v ≤ version
+known_below First = omega arith
+known_below Second = omega arith
+
+-- its version is one that this program knows
+pub newer_not : (t : Stored) (found : ℕ) (old new : State) → HoldsStored t old.now → HasNewer found old new → ⊥
+newer_not t found old new holds newer =
+    let it = shown_own Meta t (meta_within t) (own_meta t) old new holds newer.shown in
+    let shows = subst (λ rows. ShowEach ShowsCounts rows (it.c ∷ [])) newer.shown.holds it.shows in
+    let above = newer.newer.above in
+    let same = same_number (column newer.row 1) found (version_number it.c.0) newer.newer.version_is shows.0.version_is in
+    absurd (omega (arith, above, same, known_below it.c.0))
+
+same_version : (a b : Version) → version_number a ≡ version_number b → a ≡ b
+same_version First First e = refl
+same_version Second Second e = refl
+same_version First Second e = absurd (omega (arith, e))
+same_version Second First e = absurd (omega (arith, e))
+
+one_counts : (row : Row) (a b : Version × Counts) → ShowsCounts row a → ShowsCounts row b → a ≡ b
+one_counts row a b x y = λ i. (
+  same_version a.0 b.0 (same_number _ _ _ x.version_is y.version_is) i,
+  record { latest = same_number _ _ _ x.latest y.latest i; key_count = same_number _ _ _ x.key_count y.key_count i },
+)
+
+one_meta : (rows : List Row) (c d : Version × Counts) → ShowsRows Meta rows c → ShowsRows Meta rows d → c ≡ d
+one_meta [] c d x y = absurd x
+one_meta (row ∷ rows) c d x y = one_counts row c d x.0 y.0
+
+-- ---- what was read
+
+-- a second row
+pub two_refused : (told : Option MetaRow) (rows : List Row) (row : Row) → Rattle.std.specs.Prelude.IsSome told
+    → HasMeta told rows → RefusesMeta (rows ++ row ∷ [])
+two_refused None rows row some taken = absurd (cc)
+two_refused (Some one) rows row some taken =
+    subst (λ rs. RefusesMeta (rs ++ row ∷ [])) (sym taken.1) (record {
+      uncounted = λ tail told shows few. shows.1;
+      no_newer = λ tail newer. let one_row = newer.2 in absurd cc;
+    })
+
+-- one row, which counts no keys and is of no later version
+pub one_refused : (row : Row) → ((told : Version × Counts) → told.1.key_count ≤ max_keys → ¬ ShowsCounts row told)
+    → ((found : ℕ) → ¬ ShowsNewer row found) → RefusesMeta (row ∷ [])
+one_refused row none own = record {
+  uncounted = λ tail told shows few. none told few shows.0;
+  no_newer = λ tail newer. let same : row ≡ newer.0 = cc in
+      own newer.1 (subst (λ r. ShowsNewer r newer.1) (sym same) newer.3);
+}
+
+module _ (t : Stored) (old new : State) (survives : Survives old new (λ _. ⊥)) where
+  abbrev Checked : Result Found CheckError → Type 0
+  Checked q = ChecksTable Meta t IsCounts old new q
+
+  checked : (q : Result Found CheckError) → (HasCleanDisk new
+      → IfOk q (λ found. (c : Version × Counts) × ShowsAll (check_text Meta) (λ rows. ShowsRows Meta rows c) old new
+      × MeetsCheck Meta (with_part Meta c t) × IsCounts c found))
+      → (HasCleanDisk new → IfErr q (IsReasonAt Meta t old new)) → Checked q
+  checked q passed refused = checks_table Meta t (meta_within t) (own_meta t) (newer_not t) IsCounts (λ c d x like says. says ∙ like)
+      one_meta old new q passed refused survives
+
+  -- all rows were read
+  counts_told : (told : MetaRow) → (HasCleanDisk new → ShowsAll (check_text Meta) (HasMeta (Some told)) old new)
+      → Checked (counts_in told)
+  counts_told (CountsKeys found) all = checked (Ok found)
+      (λ clean. let it = all clean in (
+        mark_of found,
+        record {
+          rows = it.rows;
+          shown = it.shown;
+          holds = subst (λ rows. ShowEach ShowsCounts rows (mark_of found ∷ [])) (sym it.holds.1)
+              (it.holds.2.0, tt);
+          same = it.same;
+        },
+        it.holds.2.1,
+        refl,
+      )) (λ clean. tt)
+  counts_told (Newer found) all = checked (Err (NewerVersion found)) (λ clean. tt)
+      (λ clean. let it = all clean in record {
+        row = it.holds.0;
+        shown = record { rows = it.rows; shown = it.shown; holds = it.holds.1; same = it.same };
+        newer = it.holds.2;
+      })
+
+  pub meta_told : (told : MetaRow) (q : Result Found CheckError) → q ≡ counts_in told
+      → (HasCleanDisk new → ShowsAll (check_text Meta) (HasMeta (Some told)) old new) → Checked q
+  meta_told told q is all = subst Checked (sym is) (counts_told told all)
+
+  -- no rows are those of no register
+  no_rows : (rows : List Row) → rows ≡ [] → IsOdd Meta t rows
+  no_rows rows none = record {
+    fails = λ c shows meets. subst (λ rs. ShowsRows Meta rs c) none shows;
+    no_newer = λ newer. let one_row : rows ≡ newer.0 ∷ [] = newer.2 in absurd cc;
+  }
+
+  odd : (rows : List Row) → RefusesMeta rows → (tail : List Row) → IsOdd Meta t (rows ++ tail)
+  odd rows refuses tail = record {
+    fails = λ c shows meets. refuses.uncounted tail c shows meets;
+    no_newer = refuses.no_newer tail;
+  }
+
+  pub meta_none : (HasCleanDisk new → ShowsAll (check_text Meta) (HasMeta None) old new) → Checked (Err NotARegister)
+  meta_none all = checked (Err NotARegister) (λ clean. tt)
+      (λ clean. let it = all clean in (
+        inr (inr (record { rows = it.rows; shown = it.shown; holds = no_rows it.rows it.holds; same = it.same })),
+        it.same,
+      ))
+
+  -- the rows do not pass, or were not read
+  reason : (error : RowsError) → (error ≡ NoMeaning → HasNoMeaning (check_text Meta) old new)
+      → (error ≡ Refused → ShowsFirst (check_text Meta) RefusesMeta old new) → (error ≡ Memory → IsUnchanged old new)
+      → IsReasonAt Meta t old new (check_error error)
+  reason NoMeaning meaning refused memory = let it = meaning refl in (inl it, it.same)
+  reason Refused meaning refused memory =
+      let it = refused refl in
+      (inr (inl (record { rows = it.rows; shown = it.shown; holds = odd it.rows it.holds; same = it.same })), it.same)
+  reason Memory meaning refused memory = memory refl
+  reason (Database error) meaning refused memory = tt
+
+  pub meta_fails : (error : RowsError) (q : Result Found CheckError) → IsErrAnd q (λ e. e ≡ check_error error)
+      → (HasCleanDisk new → error ≡ NoMeaning → HasNoMeaning (check_text Meta) old new)
+      → (HasCleanDisk new → error ≡ Refused → ShowsFirst (check_text Meta) RefusesMeta old new)
+      → (HasCleanDisk new → error ≡ Memory → IsUnchanged old new) → Checked q
+  meta_fails error (Ok found) is meaning refused memory = absurd is
+  meta_fails error (Err e) is meaning refused memory =
+      subst (λ e. Checked (Err e)) (sym is) (checked (Err (check_error error)) (λ clean. tt)
+      (λ clean. reason error (meaning clean) (refused clean) (memory clean)))

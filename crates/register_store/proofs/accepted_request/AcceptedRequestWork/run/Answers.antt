@@ -1,0 +1,24 @@
+use Rattle.std.proofs.Common.{Ok}
+use Rattle.sql_steps.specs.Steps.{Then}
+use Rattle.sql_steps.proofs.Stepping.{steps_then, steps_weaker}
+use Rattle.register_core.specs.KeptReply.{IsKeptReply}
+use Rattle.register_store.specs.TableChanges.{Makes, AreRightAt, HasKeys, with_keys_advanced, with_recorded}
+use Rattle.register_store.specs.Change.{with_change}
+use Rattle.register_store.specs.AcceptedRequest.{CanTake, with_request}
+use Rattle.register_store.proofs.Requests.{makes_request}
+use Rattle.register_store.proofs.accepted_request.AcceptedRequestWork.run.Goals as goal
+
+pub returns-clause-made : goal.returns-clause-made
+returns-clause-made g c =
+    let kept = c.args.self.now.kept.now in
+    let a = g.T.Inside.sees c.args.tx.now in
+    let b = g.T.Inside.sees c.advance_due.new.tx in
+    let d = g.T.Inside.sees c.write_change.new.tx in
+    let e = g.T.Inside.sees c.record_request.new.tx in
+    let Moves = Makes (AreRightAt c.args.self.now.latest) (with_keys_advanced kept.reply.moment) in
+    let Changes = Makes (HasKeys c.args.self.now.keys) (with_change c.args.self.now.change.now) in
+    let Records = Makes (λ _. IsKeptReply kept) (with_recorded kept c.keys_after-keys.result) in
+    let two = steps_then (λ _. Moves) (λ _. Changes) a b d c.in_ok-advance_due.field-0 (Ok c.in_ok-write_change.field-0) c.in_ok-advance_due.ensures.advanced c.in_ok-write_change.ensures.written in
+    let all = steps_then (λ _. Then Moves Changes) (λ _. Records) a d e c.in_ok-write_change.field-0 c.record_request.result two c.record_request.ensures.recorded in
+    steps_weaker (λ _. Then (Then Moves Changes) Records) (λ _. Makes (CanTake c.args.self.now.keys c.args.self.now.latest kept) (with_request c.args.self.now.keys c.args.self.now.change.now kept)) a e c.record_request.result
+    (λ _ old new. makes_request c.args.self.now.keys c.args.self.now.latest c.keys_after-keys.result c.args.self.now.change.now kept c.keys_after-keys.ensures old new) all

@@ -1,0 +1,46 @@
+-- The searches for the next key that is due, each for the first of the keys that pass its check.
+use Rattle.std.specs.Prelude.{◌≡◌, ◌⊎◌, ◌==◌, ◌&&◌, ◌||◌, ℕ, nat_le, not, Bool, true, Option, None, Some}
+use Rattle.sqlite_rules.specs.Lists.{Has}
+use Rattle.lifecycle_core.specs.declared.state.State.TheVariants.{Active}
+use Rattle.lifecycle_core.specs.State.{state_code}
+use Rattle.register_core.specs.declared.key.Key.{Key}
+use Rattle.register_store.specs.declared.key_walk.DuePlace.{DuePlace}
+use Rattle.register_store.specs.KeyWalk.{IsAfter}
+use Rattle.register_store.specs.Tables.{IsKey, Tables, date_cell, numbered}
+
+-- a numbered key that a register may hold
+abbrev pub IsNumbered : ℕ × Key → Type 0
+IsNumbered x = IsKey x.1
+
+abbrev pub stop_cell : ℕ × Key → ℕ
+stop_cell x = date_cell x.1.row.dates.protect_stop
+
+abbrev pub is_active : ℕ × Key → Bool
+is_active x = state_code x.1.row.state == state_code Active
+
+-- Active, with this Protect Stop Date up to that moment, and a higher number
+abbrev pub is_same : ℕ → DuePlace → ℕ × Key → Bool
+is_same until last x = is_active x && ((stop_cell x == last.stop) && (nat_le (stop_cell x) until && not (nat_le x.0 last.number)))
+
+-- Active, with a later Protect Stop Date up to that moment
+abbrev pub is_later : ℕ → ℕ → ℕ × Key → Bool
+is_later until stop x = is_active x && (not (nat_le (stop_cell x) stop) && nat_le (stop_cell x) until)
+
+-- Active, with this Protect Stop Date and a higher number or with a later date, up to that moment
+abbrev pub is_past : ℕ → DuePlace → ℕ × Key → Bool
+is_past until last x =
+    is_active x && (nat_le last.stop (stop_cell x) && (nat_le (stop_cell x) until && (not (nat_le (stop_cell x) last.stop) || not (nat_le x.0 last.number))))
+
+-- the place of a key by its cells
+abbrev pub cell_place : ℕ × Key → DuePlace
+cell_place x = record { stop = stop_cell x; number = x.0 }
+
+pub record IsFirst (check : ℕ × Key → Bool) (t : Tables) (x : ℕ × Key) : Type 0 where
+  pub there : Has (numbered t.keys) x
+  pub passes : check x ≡ true
+  pub first : (y : ℕ × Key) → Has (numbered t.keys) y → check y ≡ true → (y ≡ x) ⊎ IsAfter (cell_place x) (cell_place y)
+
+-- the first of the keys that pass the check, by Protect Stop and number, or none where none passes
+abbrev pub HasFirst : (ℕ × Key → Bool) → Tables → Option (ℕ × Key) → Type 0
+HasFirst check t None = (x : ℕ × Key) → Has (numbered t.keys) x → check x ≡ true → ⊥
+HasFirst check t (Some x) = IsFirst check t x

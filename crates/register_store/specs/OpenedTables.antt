@@ -1,0 +1,106 @@
+-- Opening the tables of a file: the checks of their version, and then this program's version.
+use Rattle.std.specs.Prelude.{◌≡◌, ◌⊎◌, Result, IfOk, IfErr, IsTrue}
+use Rattle.sqlite.specs.Effect.{Database}
+use Rattle.sqlite.specs.Held.{Held as Connection, state}
+use Rattle.sqlite.specs.State.{State, HasCleanDisk, IsUnchanged, Survives}
+use Rattle.sqlite.specs.Tree.{Trees}
+use Rattle.sqlite_trees.specs.declared.store.Store.{Ghosts}
+use Rattle.register_core.specs.declared.version.Version.{Version}
+use Rattle.register_core.specs.declared.version.Version.TheVariants.{First, Second}
+use Rattle.register_core.specs.Version.{current}
+use Rattle.register_store.specs.declared.error.CheckError.{CheckError}
+use Rattle.register_store.specs.declared.error.CheckError.TheVariants.{NotARegister, NewerVersion, Memory, Database as Stopped}
+use Rattle.register_store.specs.declared.error.CreateError.{CreateError}
+use Rattle.register_store.specs.declared.error.CreateError.TheVariants.{HasTables, Database as Refused}
+use Rattle.register_store.specs.declared.found.Found.{Found}
+use Rattle.register_store.specs.CheckedTables.{BlamesNone, FailsOne, HasNewer, Passes, mark_of}
+use Rattle.register_store.specs.Migration.{HasNewTable, Migrates}
+use Rattle.register_store.specs.Schema.{HoldsIn}
+use Rattle.register_store.specs.Stored.{HoldsStored, Stored, mark}
+use Rattle.register_store.specs.Tables.{Counts, Tables}
+use Rattle.register_store.specs.OpeningChecks.{MeetsChecks}
+
+-- ---- what a file holds
+
+-- the connection is open and sees these tables in this version, which are committed
+pub record HasCommittedIn (version : Version) (t : Tables) (s : State) : Type 0 where
+  pub is_open : IsTrue s.is_open
+  pub holds : HoldsIn version t s.now
+  pub committed : s.committed ≡ s.now
+
+-- a stop leaves these tables in this version
+abbrev pub LeavesIn : Version → Tables → State → Type 0
+LeavesIn version t s = (trees : Trees) → s.may_leave trees → (db : Database) × HoldsIn version t db × (trees ≡ db.trees)
+
+-- or in one of the two
+abbrev pub LeavesEither : Tables → State → Type 0
+LeavesEither t s =
+    (trees : Trees) → s.may_leave trees
+    → (db : Database) × (HoldsIn First t db ⊎ HoldsIn Second t db) × (trees ≡ db.trees)
+
+-- ---- why it is not opened
+
+-- tables of the first version pass, and a table is there that the second adds
+pub record HasBoth (old new : State) : Type 0 where
+  pub t : Stored
+  pub passes : Passes t old old
+  pub first : t.version ≡ First
+  pub there : HasNewTable old.now.schema
+
+-- the refusal of a migration
+abbrev pub migration_error : CreateError → CheckError
+migration_error HasTables = NotARegister
+migration_error (Refused error) = Stopped error
+
+abbrev pub IsRefusal : State → State → CheckError → Type 0
+IsRefusal old new NotARegister = FailsOne old new ⊎ HasBoth old new
+IsRefusal old new (NewerVersion found) = HasNewer found old new
+IsRefusal old new Memory = IsUnchanged old new
+IsRefusal old new (Stopped error) = Unit {0}
+
+-- ---- what an opening does
+
+-- what passed the checks, in the state before, since they change nothing; tables of this program's version stay as they are
+pub record Opens (old new : State) (found : Version × Counts) : Type 0 where
+  pub t : Stored
+  pub passes : Passes t old old
+  pub mark_is : found ≡ mark t
+  pub unchanged : t.version ≡ current → IsUnchanged old new
+
+-- the tables stand in this program's version, committed
+pub record IsOpened (t : Stored) (new : State) (found : Version × Counts) : Type 0 where
+  pub has : HasCommittedIn current t.tables new
+  pub mark_is : found ≡ mark t
+
+-- what a database is taken to, where what it shows passes the checks of the first version
+pub record MigratesTo (old : State) (trees : Trees) : Type 0 where
+  pub t : Stored
+  pub passes : Passes t old old
+  pub first : t.version ≡ First
+  pub db : Database
+  pub migrates : Migrates old.now db
+  pub trees_are : trees ≡ db.trees
+
+-- the refusal changes nothing
+abbrev pub ChangesNothing : CheckError → Type 0
+ChangesNothing (Stopped error) = ⊥
+ChangesNothing error = Unit {0}
+
+-- Where it succeeds, what is shown passed the checks of its version; a refusal has its reason. Tables that are committed in
+-- a version and meet its checks are not refused, and stand in this program's version after it. A stop leaves what it left
+-- before, or the tables taken to this program's version, where they pass the checks of the first; no such thing where they
+-- are of this program's, or after a refusal that changes nothing.
+pub record OpensBy (old new : State) (result : Result Found CheckError) : Type 0 where
+  pub passed : HasCleanDisk new → IfOk result (λ found. Opens old new (mark_of found))
+  pub refused : HasCleanDisk new → IfErr result (IsRefusal old new)
+  pub opened : HasCleanDisk new → (t : Stored) → HasCommittedIn t.version t.tables old → MeetsChecks t
+      → IfOk result (λ found. IsOpened t new (mark_of found))
+  pub blames_none : HasCleanDisk new → (t : Stored) → HoldsStored t old.now → MeetsChecks t → IfErr result BlamesNone
+  pub stop : Survives old new (MigratesTo old)
+  pub stop_refused : IfErr result (λ error. ChangesNothing error → Survives old new (λ _. ⊥))
+  pub stop_current : (t : Stored) → t.version ≡ current → HoldsStored t old.now → MeetsChecks t
+      → Survives old new (λ _. ⊥)
+  pub clean : HasCleanDisk new → HasCleanDisk old
+
+abbrev pub OpensTables : {S : Type 0} → (g : Ghosts S) → Connection S → Connection S → Result Found CheckError → Type 0
+OpensTables g old new result = OpensBy (state g old) (state g new) result

@@ -1,0 +1,152 @@
+//! The check of the table of keys.
+ghost use Rattle.std.specs.Prelude.{◌≡◌, ◌↔◌, ◌==◌, false, suc, MatchOption, IsTrue, IsSome};
+ghost use Rattle.sqlite.specs.Held.{state};
+ghost use Rattle.sqlite.specs.State.{Survives};
+ghost use Rattle.register_core.specs.declared.key.Key.{Key};
+ghost use Rattle.register_store.specs.declared.table.TableName.TheVariants.{Keys};
+ghost use Rattle.register_store.specs.Stored.{Stored, mark};
+ghost use Rattle.register_store.specs.OpeningChecks.{ArePast, DatesFit, IsSoundAt};
+ghost use Rattle.register_store.specs.CheckedTables.{ShowsNumbered, ChecksTable, mark_of};
+ghost use Rattle.register_store.specs.CheckedRows.{AreOwners, owners_where};
+
+use crate::cell::number_in;
+use crate::error::CheckError;
+use crate::found::Found;
+use crate::key_row::key_in;
+use lifecycle_core::Dates;
+use moment_core::Moment;
+use period_core::{KeyType, are_in_order, fits, is_not_after, period_of};
+use register_core::{Key, Name, Version};
+use row_checks::{RowCheck, check_rows};
+use sqlite::{Alter, Connection, Row};
+use std::alloc::{AllocError, Global};
+
+/// Whether the second date is set where the first is.
+fn is_set_with(first: Option<Moment>, second: Option<Moment>) -> bool
+    ensures { IsTrue result ↔ (IsSome first → IsSome second) }
+{
+    first.is_none() || second.is_some()
+}
+
+/// Whether the dates are those of a key whose latest request was at this moment or before.
+fn are_past(dates: &Dates, latest: Moment) -> bool
+    ensures { IsTrue result ↔ ArePast latest dates.now }
+{
+    dates.initial <= latest
+        && is_not_after(dates.destroy, Some(latest))
+        && is_not_after(dates.compromise, Some(latest))
+        && dates.compromise_occurrence.is_some() == dates.compromise.is_some()
+        && is_not_after(dates.compromise_occurrence, dates.compromise)
+}
+
+/// Whether the dates are those of a key of this type, as the version has it.
+fn dates_fit(version: Version, kind: KeyType, dates: &Dates) -> bool
+    ensures { IsTrue result ↔ DatesFit version kind dates.now }
+{
+    match version {
+        Version::First => fits(period_of(kind), dates),
+        Version::Second => are_in_order(dates),
+    }
+}
+
+/// Whether a register of this version may hold the key at its latest moment.
+fn is_sound(version: Version, key: &Key, latest: Moment) -> bool
+    ensures { IsTrue result ↔ IsSoundAt version latest key.now }
+{
+    let dates = &key.row.dates;
+    dates_fit(version, key.kind, dates)
+        && is_set_with(dates.activation, dates.protect_stop)
+        && is_set_with(dates.activation, dates.deactivation)
+        && are_past(dates, latest)
+        && key.row.is_right_at(latest)
+}
+
+/// The key with this number that the row shows, where a register with these counts may hold it.
+fn sound_key_in(row: &Row, number: u32, found: Found) -> Option<Key>
+    ensures { MatchOption result
+        ((k : Key) → ShowsNumbered row.now (number, k) → ¬ IsSoundAt found.version found.latest k)
+        (λ k. ShowsNumbered row.now (number, k) × IsSoundAt found.version found.latest k) }
+{
+    let shown = number_in(row, 11)?;
+    let key = key_in(row)?;
+    if shown == u64::from(number) && is_sound(found.version, &key, found.latest) {
+        Some(key)
+    } else {
+        None
+    }
+}
+
+/// The owners of the keys so far, which are numbered from 1 and are as many as meta counts at most.
+#[derive(Drop)]
+struct KeyCheck {
+    found: Found,
+    count: u32,
+    owners: Vec<Name>,
+}
+
+impl RowCheck for KeyCheck {
+    ghost use Rattle.std.specs.Prelude.{◌≡◌};
+    ghost use Rattle.register_store.specs.CheckedRows.{HasKeys, RefusesKeys};
+
+    ghost has_taken = { λ first check rows. (check.found ≡ first.found)
+        × HasKeys first.found check.count check.owners.items rows };
+
+    ghost refuses = { λ first check rows. RefusesKeys first.found rows };
+
+    fn take(&mut self, row: &Row) -> Result<bool, AllocError> {
+        if self.count >= self.found.keys {
+            return Ok(false);
+        }
+        let number = self.count + 1;
+        let Some(key) = sound_key_in(row, number, self.found) else {
+            return Ok(false);
+        };
+        self.owners.push(key.owner)?;
+        self.count = number;
+        Ok(true)
+    }
+}
+
+/// The owners, where there are as many keys as meta counts.
+fn all_owners(check: KeyCheck) -> Result<Vec<Name>, CheckError>
+    ensures { result ≡ owners_where (check.count == check.found.keys) check.owners }
+{
+    if check.count == check.found.keys {
+        Ok(check.owners)
+    } else {
+        Err(CheckError::NotARegister)
+    }
+}
+
+/// Puts the table of keys to its check, with what meta counts. Gives the keys' owners. It changes nothing.
+///
+/// # Errors
+/// As the check of all tables.
+pub(crate) fn check_keys<S: Alter>(
+    alloc: Global,
+    connection: &mut Connection<S>,
+    found: Found,
+) -> Result<Vec<Name>, CheckError>
+    requires { connection.old.in_transaction ≡ false }
+    ensures idle { connection.new.in_transaction ≡ false }
+    ensures checks { (t : Stored) → mark_of found ≡ mark t → ChecksTable Keys t AreOwners
+        (state S.Store connection.old) (state S.Store connection.new) result }
+    ensures survives { Survives (state S.Store connection.old)
+        (state S.Store connection.new) (λ _. ⊥) }
+{
+    let mut check = KeyCheck {
+        found,
+        count: 0,
+        owners: Vec::new(alloc),
+    };
+    let read = check_rows(
+        connection,
+        "SELECT kind, owner, purpose, state, initial, activation, protect_stop, deactivation, destroyed, compromised, \
+        occurrence, number FROM keys ORDER BY number",
+        &mut check,
+    );
+    match read {
+        Ok(()) => all_owners(check),
+        Err(error) => Err(CheckError::from(error)),
+    }
+}

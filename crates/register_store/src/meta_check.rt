@@ -1,0 +1,131 @@
+//! The check of the table meta.
+ghost use Rattle.std.specs.Prelude.{◌≡◌, ◌≤◌, ℕ, [], ◌∷◌, false, MatchOption};
+ghost use Rattle.sqlite.specs.Held.{state};
+ghost use Rattle.sqlite.specs.State.{Survives};
+ghost use Rattle.register_core.specs.Verdict.{max_keys};
+ghost use Rattle.register_store.specs.declared.table.TableName.TheVariants.{Meta};
+ghost use Rattle.register_core.specs.declared.version.Version.{Version};
+ghost use Rattle.register_store.specs.Tables.{Counts};
+ghost use Rattle.register_store.specs.Stored.{Stored};
+ghost use Rattle.register_store.specs.CheckedTables.{ShowsCounts, ShowsNewer, ChecksTable, mark_of};
+ghost use Rattle.register_store.specs.CheckedRows.{IsCounts, RefusesMeta, TellsMeta};
+
+use crate::cell::{key_number_in, moment_in, number_in};
+use crate::error::CheckError;
+use crate::found::Found;
+use register_core::{MAX_KEYS, Version};
+use row_checks::{RowCheck, check_rows};
+use sqlite::{Alter, Connection, Row};
+use std::alloc::AllocError;
+
+/// The version in the row of the register's own, where it is above this program's.
+fn newer_in(row: &Row) -> Option<u64>
+    ensures { MatchOption result ((found : ℕ) → ¬ ShowsNewer row.now found) (ShowsNewer row.now) }
+{
+    match (number_in(row, 0), number_in(row, 1)) {
+        (Some(1), Some(found)) if found > u64::from(Version::CURRENT.number()) => Some(found),
+        _ => None,
+    }
+}
+
+/// The version in the row, and what it counts, where this program knows the version.
+fn found_in(row: &Row) -> Option<Found>
+    ensures { MatchOption result
+        ((told : Version × Counts) → told.1.key_count ≤ max_keys → ¬ ShowsCounts row.now told)
+        (λ found. ShowsCounts row.now (mark_of found) × (found.keys ≤ max_keys)) }
+{
+    let (Some(1), Some(number)) = (number_in(row, 0), number_in(row, 1)) else {
+        return None;
+    };
+    let version = Version::of_number(number)?;
+    let latest = moment_in(row, 2)?;
+    let keys = key_number_in(row, 3)?;
+    if keys <= MAX_KEYS {
+        Some(Found {
+            version,
+            latest,
+            keys,
+        })
+    } else {
+        None
+    }
+}
+
+/// What a row of meta tells.
+#[derive(Clone, Copy)]
+enum MetaRow {
+    /// What it counts, under a version that this program knows.
+    Counts(Found),
+    /// A later version. Nothing else of such a row is looked at.
+    Newer(u64),
+}
+
+impl MetaRow {
+    ghost use Rattle.register_store.specs.CheckedRows.{counts_in};
+
+    /// What the row counts, or why it is refused.
+    fn counts(&self) -> Result<Found, CheckError>
+        ensures { result ≡ counts_in self.now }
+    {
+        match *self {
+            MetaRow::Counts(found) => Ok(found),
+            MetaRow::Newer(found) => Err(CheckError::NewerVersion { found }),
+        }
+    }
+}
+
+/// What the row tells, where it is a register's.
+fn meta_row_in(row: &Row) -> Option<MetaRow>
+    ensures { MatchOption result (RefusesMeta (row.now ∷ [])) (TellsMeta row.now) }
+{
+    match newer_in(row) {
+        Some(found) => Some(MetaRow::Newer(found)),
+        None => found_in(row).map(MetaRow::Counts),
+    }
+}
+
+/// The one row of meta.
+#[derive(Drop)]
+struct MetaCheck {
+    told: Option<MetaRow>,
+}
+
+impl RowCheck for MetaCheck {
+    ghost use Rattle.register_store.specs.CheckedRows.{HasMeta};
+
+    ghost has_taken = { λ first check rows. HasMeta check.told rows };
+
+    ghost refuses = { λ first check rows. RefusesMeta rows };
+
+    fn take(&mut self, row: &Row) -> Result<bool, AllocError> {
+        if self.told.is_some() {
+            return Ok(false);
+        }
+        self.told = meta_row_in(row);
+        Ok(self.told.is_some())
+    }
+}
+
+/// Puts the table meta to its check. Gives the version and what it counts. It changes nothing.
+///
+/// # Errors
+/// [`CheckError::NewerVersion`] where the version is above this program's, and else as the check of all tables.
+pub(crate) fn check_meta<S: Alter>(connection: &mut Connection<S>) -> Result<Found, CheckError>
+    requires { connection.old.in_transaction ≡ false }
+    ensures idle { connection.new.in_transaction ≡ false }
+    ensures checks { (t : Stored) → ChecksTable Meta t IsCounts
+        (state S.Store connection.old) (state S.Store connection.new) result }
+    ensures survives { Survives (state S.Store connection.old)
+        (state S.Store connection.new) (λ _. ⊥) }
+{
+    let mut check = MetaCheck { told: None };
+    check_rows(
+        connection,
+        "SELECT id, version, latest, key_count FROM meta ORDER BY id",
+        &mut check,
+    )?;
+    match check.told {
+        Some(told) => told.counts(),
+        None => Err(CheckError::NotARegister),
+    }
+}

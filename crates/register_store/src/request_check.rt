@@ -1,0 +1,89 @@
+//! The check of the table of requests.
+ghost use Rattle.std.specs.Prelude.{◌≡◌, ◌↔◌, false, MatchOption, IsTrue};
+ghost use Rattle.sqlite.specs.Held.{state};
+ghost use Rattle.sqlite.specs.State.{Survives};
+ghost use Rattle.register_core.specs.declared.kept_reply.KeptReply.{KeptReply};
+ghost use Rattle.register_store.specs.declared.table.TableName.TheVariants.{Request};
+ghost use Rattle.register_store.specs.Stored.{Stored, mark};
+ghost use Rattle.register_store.specs.OpeningChecks.{IsReplyOf};
+ghost use Rattle.register_store.specs.CheckedTables.{ShowsKept, ChecksTable, mark_of};
+ghost use Rattle.register_store.specs.CheckedRows.{IsAny};
+
+use crate::cell::{name_in, request_number_in};
+use crate::error::CheckError;
+use crate::found::Found;
+use crate::request_row::request_in;
+use register_core::KeptReply;
+use row_checks::{RowCheck, check_rows};
+use sqlite::{Alter, Connection, Row};
+use std::alloc::AllocError;
+
+/// What the row shows of a request, by its first four cells with its caller and its number.
+fn kept_in(row: &Row) -> Option<KeptReply>
+    ensures { MatchOption result
+        ((k : KeptReply) → ¬ ShowsKept row.now k) (ShowsKept row.now) }
+{
+    let caller = name_in(row, 4)?;
+    let number = request_number_in(row, 5)?;
+    request_in(row, &caller, number)
+}
+
+/// Whether a register of this version, with these counts, may have given the reply.
+fn is_reply_of(kept: &KeptReply, found: Found) -> bool
+    ensures { IsTrue result ↔ IsReplyOf (mark_of found) kept.now }
+{
+    kept.reply.is_within(found.latest, found.keys) && found.version.knows(&kept.command)
+}
+
+/// Each request by itself.
+#[derive(Drop)]
+struct RequestCheck {
+    found: Found,
+}
+
+impl RowCheck for RequestCheck {
+    ghost use Rattle.std.specs.Prelude.{◌≡◌};
+    ghost use Rattle.register_store.specs.CheckedTables.{ShowsKept, mark_of};
+    ghost use Rattle.register_store.specs.CheckedRows.{HasShown, RefusesEach};
+    ghost use Rattle.register_store.specs.OpeningChecks.{IsReplyOf};
+
+    ghost has_taken = { λ first check rows. (check.found ≡ first.found)
+        × HasShown ShowsKept (IsReplyOf (mark_of first.found)) rows };
+
+    ghost refuses = { λ first check rows.
+        RefusesEach ShowsKept (IsReplyOf (mark_of first.found)) rows };
+
+    fn take(&mut self, row: &Row) -> Result<bool, AllocError> {
+        let Some(kept) = kept_in(row) else {
+            return Ok(false);
+        };
+        Ok(is_reply_of(&kept, self.found))
+    }
+}
+
+/// Puts the table of requests to its check, with what meta counts. It changes nothing.
+///
+/// # Errors
+/// As the check of all tables.
+pub(crate) fn check_requests<S: Alter>(
+    connection: &mut Connection<S>,
+    found: Found,
+) -> Result<(), CheckError>
+    requires { connection.old.in_transaction ≡ false }
+    ensures idle { connection.new.in_transaction ≡ false }
+    ensures checks { (t : Stored) → mark_of found ≡ mark t → ChecksTable Request t IsAny
+        (state S.Store connection.old) (state S.Store connection.new) result }
+    ensures survives { Survives (state S.Store connection.old)
+        (state S.Store connection.new) (λ _. ⊥) }
+{
+    let mut check = RequestCheck { found };
+    let read = check_rows(
+        connection,
+        "SELECT command, key_no, state, moment, caller, number FROM request",
+        &mut check,
+    );
+    match read {
+        Ok(()) => Ok(()),
+        Err(error) => Err(CheckError::from(error)),
+    }
+}

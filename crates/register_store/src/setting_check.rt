@@ -1,0 +1,160 @@
+//! The checks of the tables of what is set: periods and needs.
+ghost use Rattle.std.specs.Prelude.{◌≡◌, ◌↔◌, false, MatchOption, IsTrue};
+ghost use Rattle.sqlite.specs.Held.{state};
+ghost use Rattle.sqlite.specs.State.{Survives};
+ghost use Rattle.register_core.specs.Settings.{KeyNeed, TypePeriod};
+ghost use Rattle.register_core.specs.declared.version.Version.TheVariants.{Second};
+ghost use Rattle.register_store.specs.CheckedTables.{ShowsKeyNeed, ShowsTypePeriod, ChecksTable};
+ghost use Rattle.register_store.specs.CheckedTables.{counts_of, mark_of};
+ghost use Rattle.register_store.specs.Stored.{Stored, mark};
+ghost use Rattle.register_store.specs.CheckedRows.{IsAny, key_need, type_period};
+ghost use Rattle.register_store.specs.OpeningChecks.{IsNeedOf};
+ghost use Rattle.register_store.specs.declared.table.TableName.TheVariants as table;
+
+use crate::cell::{kind_in, months_in, need_in, number_in};
+use crate::error::CheckError;
+use crate::found::Found;
+use period_core::{KeyType, Period};
+use register_core::Quorum;
+use row_checks::{RowCheck, check_rows};
+use sqlite::{Alter, Connection, Row};
+use std::alloc::AllocError;
+
+/// A type with the period that is set for it, as a row shows them.
+#[derive(Clone, Copy)]
+struct PeriodRow {
+    kind: KeyType,
+    period: Period,
+}
+
+/// A key with the need that is set for it, as a row shows them.
+#[derive(Clone, Copy)]
+struct NeedRow {
+    key: u64,
+    need: Quorum,
+}
+
+/// The period of a type that the row shows.
+fn period_in(row: &Row) -> Option<PeriodRow>
+    ensures { MatchOption result ((set : TypePeriod) → ¬ ShowsTypePeriod row.now set)
+        (λ shown. ShowsTypePeriod row.now (type_period shown.kind shown.period)) }
+{
+    let kind = kind_in(row, 0)?;
+    let originator = months_in(row, 1)?;
+    let recipient = months_in(row, 2)?;
+    match Period::new(originator, recipient) {
+        Some(period) => Some(PeriodRow { kind, period }),
+        None => None,
+    }
+}
+
+/// The need of a key that the row shows.
+fn need_row_in(row: &Row) -> Option<NeedRow>
+    ensures { MatchOption result ((set : KeyNeed) → ¬ ShowsKeyNeed row.now set)
+        (λ shown. ShowsKeyNeed row.now (key_need shown.key shown.need)) }
+{
+    let key = number_in(row, 0)?;
+    let need = need_in(row, 1)?;
+    Some(NeedRow { key, need })
+}
+
+/// Each period by itself. Nothing is kept of them.
+#[derive(Drop)]
+struct PeriodCheck {}
+
+impl RowCheck for PeriodCheck {
+    ghost use Rattle.register_store.specs.CheckedTables.{ShowsTypePeriod};
+    ghost use Rattle.register_store.specs.CheckedRows.{HasShown, IsAnyPeriod, RefusesEach};
+
+    ghost has_taken = { λ first check rows. HasShown ShowsTypePeriod IsAnyPeriod rows };
+
+    ghost refuses = { λ first check rows. RefusesEach ShowsTypePeriod IsAnyPeriod rows };
+
+    fn take(&mut self, row: &Row) -> Result<bool, AllocError> {
+        match period_in(row) {
+            Some(_) => Ok(true),
+            None => Ok(false),
+        }
+    }
+}
+
+/// Puts the table of periods of the second version to its check. It changes nothing.
+///
+/// # Errors
+/// As the check of all tables.
+pub(crate) fn check_periods<S: Alter>(connection: &mut Connection<S>) -> Result<(), CheckError>
+    requires { connection.old.in_transaction ≡ false }
+    ensures idle { connection.new.in_transaction ≡ false }
+    ensures checks { (t : Stored) → t.version ≡ Second → ChecksTable table.Period t IsAny
+        (state S.Store connection.old) (state S.Store connection.new) result }
+    ensures survives { Survives (state S.Store connection.old)
+        (state S.Store connection.new) (λ _. ⊥) }
+{
+    let mut check = PeriodCheck {};
+    let read = check_rows(
+        connection,
+        "SELECT kind, originator, recipient FROM period",
+        &mut check,
+    );
+    match read {
+        Ok(()) => Ok(()),
+        Err(error) => Err(CheckError::from(error)),
+    }
+}
+
+/// Whether a register with these counts may have the need.
+fn is_need_of(shown: NeedRow, found: Found) -> bool
+    ensures { IsTrue result ↔ IsNeedOf (counts_of found) (key_need shown.key shown.need) }
+{
+    shown.key > 0 && shown.key <= u64::from(found.keys)
+}
+
+/// Each need by itself, with what meta counts.
+#[derive(Drop)]
+struct NeedCheck {
+    found: Found,
+}
+
+impl RowCheck for NeedCheck {
+    ghost use Rattle.std.specs.Prelude.{◌≡◌};
+    ghost use Rattle.register_store.specs.CheckedTables.{ShowsKeyNeed, counts_of};
+    ghost use Rattle.register_store.specs.CheckedRows.{HasShown, RefusesEach};
+    ghost use Rattle.register_store.specs.OpeningChecks.{IsNeedOf};
+
+    ghost has_taken = { λ first check rows. (check.found ≡ first.found)
+        × HasShown ShowsKeyNeed (IsNeedOf (counts_of first.found)) rows };
+
+    ghost refuses = { λ first check rows.
+        RefusesEach ShowsKeyNeed (IsNeedOf (counts_of first.found)) rows };
+
+    fn take(&mut self, row: &Row) -> Result<bool, AllocError> {
+        let Some(shown) = need_row_in(row) else {
+            return Ok(false);
+        };
+        Ok(is_need_of(shown, self.found))
+    }
+}
+
+/// Puts the table of needs of the second version to its check, with what meta counts. It changes nothing.
+///
+/// # Errors
+/// As the check of all tables.
+pub(crate) fn check_needs<S: Alter>(
+    connection: &mut Connection<S>,
+    found: Found,
+) -> Result<(), CheckError>
+    requires { connection.old.in_transaction ≡ false }
+    ensures idle { connection.new.in_transaction ≡ false }
+    ensures checks { (t : Stored) → t.version ≡ Second → mark_of found ≡ mark t →
+        ChecksTable table.Quorum t IsAny
+        (state S.Store connection.old) (state S.Store connection.new) result }
+    ensures survives { Survives (state S.Store connection.old)
+        (state S.Store connection.new) (λ _. ⊥) }
+{
+    let mut check = NeedCheck { found };
+    let read = check_rows(connection, "SELECT key_no, need FROM quorum", &mut check);
+    match read {
+        Ok(()) => Ok(()),
+        Err(error) => Err(CheckError::from(error)),
+    }
+}

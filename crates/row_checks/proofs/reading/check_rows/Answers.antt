@@ -1,0 +1,78 @@
+use Rattle.std.proofs.Common.{◌≡◌, [], Err, OnOk, rules}
+use Rattle.sqlite.specs.Held.{Held, state}
+use Rattle.sqlite.specs.State.{HasCleanDisk, IsUnchanged, Survives}
+use Rattle.row_checks.specs.declared.error.RowsError.TheVariants.{Memory, Refused}
+use Rattle.sqlite.proofs.Callers.{unchanged_then}
+use Rattle.sqlite.proofs.StateLemmas.{survives_then}
+use Rattle.row_checks.proofs.RowByRow.{commits_none, no_meaning, carry, at_start, first_from, met_from}
+use Rattle.row_checks.specs.ShownRows.{ShowsAll, ShowsFirst}
+use Rattle.row_checks.proofs.reading.check_rows.Goals as goal
+
+pub returns-in-Ok-clause-met : goal.returns-in-Ok-clause-met
+returns-in-Ok-clause-met g c =
+    let sql = c.args.sql.now in
+    let first = state g.S.Store c.args.connection.now in
+    let begun = c.in-Ok.ensures in
+    let last = c.take_rows.new.rows.conn.now in
+    let P : Held g.row.S.Denot → Type 0 = λ h. HasCleanDisk (state g.S.Store h) → g.T.RowCheck.has_taken c.args.check.now c.args.check.now [] → OnOk c.take_rows.result (ShowsAll sql (g.T.RowCheck.has_taken c.args.check.now c.take_rows.new.check) first (state g.S.Store h)) in
+    let it : P last = λ clean taken. met_from c.take_rows.result sql (g.T.RowCheck.has_taken c.args.check.now c.take_rows.new.check) first (state g.S.Store c.in-Ok.rows.conn.now) (state g.S.Store last) c.requires.query (at_start g.S.Store sql c.args.connection.now c.in-Ok.rows.conn.now last c.requires.query begun.begun c.take_rows.ensures.survives clean) (λ given. c.take_rows.ensures.met clean given taken) in
+    let eq : c.connection-1.given.0 ≡ last = search rules in carry P c.connection-1.given.0 last eq it
+
+pub returns-in-Err-SqlInputError-clause-meaning : goal.returns-in-Err-SqlInputError-clause-meaning
+returns-in-Err-SqlInputError-clause-meaning g c clean is =
+    let refused = rw (c.in-Err-SqlInputError.is, c.in-Err-SqlInputError.field-0-is) at c.query.follows.holds-at-none in
+    no_meaning c.args.sql.now [] _ _ _ c.requires.query (refused.err clean)
+
+pub returns-in-Err-SqlInputError-clause-survives : goal.returns-in-Err-SqlInputError-clause-survives
+returns-in-Err-SqlInputError-clause-survives g c =
+    let refused = rw (c.in-Err-SqlInputError.is) at c.query.follows.holds-at-none in
+    commits_none c.args.sql.now [] _ _ c.requires.query refused.survives
+
+pub returns-in-Err : goal.returns-in-Err
+returns-in-Err g c =
+    let refused = rw (c.in-Err.is) at c.query.follows.holds-at-none in
+    record {
+      idle = refused.mode c.requires.idle;
+      met = λ clean begun. tt;
+      meaning = λ clean is. absurd (cc);
+      refused = λ clean begun is. absurd (cc);
+      memory = λ clean is. absurd (cc);
+      survives = commits_none c.args.sql.now [] _ _ c.requires.query refused.survives;
+    }
+
+pub returns-in-Ok-clause-survives : goal.returns-in-Ok-clause-survives
+returns-in-Ok-clause-survives g c =
+    let first = state g.S.Store c.args.connection.now in
+    let mid = state g.S.Store c.in-Ok.rows.conn.now in
+    let last = c.take_rows.new.rows.conn.now in
+    let eq : c.connection-1.given.0 ≡ last = search rules in
+    let P : Held g.row.S.Denot → Type 0 = λ h. Survives first (state g.S.Store h) (λ _. ⊥) in
+    carry P c.connection-1.given.0 last eq
+    (survives_then first mid (state g.S.Store last) (λ _. ⊥) (λ _. ⊥) (λ _. ⊥) (λ _ _ none. none) (λ _ _ none. none) (commits_none c.args.sql.now [] first mid c.requires.query c.in-Ok.ensures.survives) c.take_rows.ensures.survives)
+
+pub returns-in-Ok-clause-memory : goal.returns-in-Ok-clause-memory
+returns-in-Ok-clause-memory g c =
+    let sql = c.args.sql.now in
+    let first = state g.S.Store c.args.connection.now in
+    let mid = c.in-Ok.rows.conn.now in
+    let last = c.take_rows.new.rows.conn.now in
+    let eq : c.connection-1.given.0 ≡ last = search rules in
+    let P : Held g.row.S.Denot → Type 0 = λ h. HasCleanDisk (state g.S.Store h) → c.take_rows.result ≡ Err Memory → IsUnchanged first (state g.S.Store h) in
+    let it : P last = λ clean is.
+    let start = at_start g.S.Store sql c.args.connection.now mid last c.requires.query c.in-Ok.ensures.begun c.take_rows.ensures.survives clean in
+    unchanged_then first (state g.S.Store mid) (state g.S.Store last) start.1 (c.take_rows.ensures.memory clean start.0 is) in
+    carry P c.connection-1.given.0 last eq it
+
+pub returns-in-Ok-clause-refused : goal.returns-in-Ok-clause-refused
+returns-in-Ok-clause-refused g c =
+    let sql = c.args.sql.now in
+    let first = state g.S.Store c.args.connection.now in
+    let mid = c.in-Ok.rows.conn.now in
+    let last = c.take_rows.new.rows.conn.now in
+    let refuses = g.T.RowCheck.refuses c.args.check.now c.take_rows.new.check in
+    let eq : c.connection-1.given.0 ≡ last = search rules in
+    let P : Held g.row.S.Denot → Type 0 = λ h. HasCleanDisk (state g.S.Store h) → g.T.RowCheck.has_taken c.args.check.now c.args.check.now [] → c.take_rows.result ≡ Err Refused → ShowsFirst sql refuses first (state g.S.Store h) in
+    let it : P last = λ clean taken is.
+    let start = at_start g.S.Store sql c.args.connection.now mid last c.requires.query c.in-Ok.ensures.begun c.take_rows.ensures.survives clean in
+    first_from sql refuses first (state g.S.Store mid) (state g.S.Store last) start.1 (c.take_rows.ensures.refused clean start.0 taken is) in
+    carry P c.connection-1.given.0 last eq it

@@ -1,0 +1,2 @@
+pub mod ShownRows
+pub mod EachRow
