@@ -32,7 +32,7 @@ const OUT_OF_USE: Usage = Usage {
 /// Whether the key of this number is shown in this state, or as none.
 fn is_in_state(desk: &mut Desk<MemStore>, number: u32, state: Option<State>) -> Result<bool, Fail> {
     match desk.show(number)? {
-        Some(record) => Ok(state == Some(record.row.state)),
+        Some(record) => Ok(state == Some(record.key.row.state)),
         None => Ok(state.is_none()),
     }
 }
@@ -65,12 +65,13 @@ pub fn are_keys_shown(alloc: Global) -> Result<bool, Fail> {
 
 /// Whether the key is that of *defaults*, in what the worked rows do not compare.
 fn is_key_of_defaults(record: &Record) -> bool {
-    let (owner, purpose) = (Some(record.owner), Some(record.purpose));
-    record.number == 1
-        && record.kind == KeyType::DataEncryption
+    let key = &record.key;
+    let (owner, purpose) = (Some(key.owner), Some(key.purpose));
+    key.number == 1
+        && key.kind == KeyType::DataEncryption
         && owner == Name::new(b"bob")
         && purpose == Purpose::new(b"payroll disks")
-        && record.row.dates.initial.seconds() == 100
+        && key.row.dates.initial.seconds() == 100
 }
 
 /// Whether the key of *defaults* is shown whole.

@@ -94,7 +94,7 @@ pub fn is_table_imported_once(alloc: Global) -> Result<bool, Fail> {
         return Ok(false);
     }
     match desk.show(1)? {
-        Some(record) => Ok(record.purpose.text() == "disks, payroll"),
+        Some(record) => Ok(record.key.purpose.text() == "disks, payroll"),
         None => Ok(false),
     }
 }

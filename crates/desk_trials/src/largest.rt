@@ -47,7 +47,7 @@ fn is_shown(desk: &mut Desk<MemStore>) -> Result<bool, Fail> {
         Some(record) => Ok(
             record.custodians.len() == 16
                 && record.approvals.len() == 16
-                && record.purpose.text() == PURPOSE,
+                && record.key.purpose.text() == PURPOSE,
         ),
         None => Ok(false),
     }

@@ -125,8 +125,8 @@ fn is_shown(alloc: Global, row: &WorkedRow, shown: &Shown) -> Result<bool, Fail>
         return Ok(false);
     };
     Ok(
-        record.row.state == shown.state
-            && seconds(&record.row.dates) == shown.dates
+        record.key.row.state == shown.state
+            && seconds(&record.key.row.dates) == shown.dates
             && joined(alloc, record.custodians.as_slice())?.as_str() == shown.custodians
             && joined(alloc, record.approvals.as_slice())?.as_str() == shown.approvals,
     )

@@ -1,7 +1,7 @@
 -- What answers a body answers the input that it stands in.
 use Rattle.std.proofs.Common.{◌≡◌, ◌≢◌, ℕ, ◌+◌, ◌≤◌, List, [], ◌++◌, length, take, min, Option, Some, None}
 use Rattle.std.proofs.Common.{sym, ap, subst, ◌∙◌, arith, append_assoc, length-append, length-take}
-use Rattle.std.specs.Prelude.{IsUtf8}
+use Rattle.std.specs.Prelude.{IfOk, IsSomeAnd, IsUtf8, Ok}
 use Rattle.std.specs.Io.KnownBytes.{Consumes, IsAtEnd}
 use Rattle.std.proofs.lemmas.List.{take-append-le, append-nil, take_min}
 use Rattle.serde_json.specs.Data.{Data}
@@ -11,12 +11,13 @@ use Rattle.register_core.specs.Request.{IsCommand}
 use Rattle.http_messages.specs.CommandValue.{command_data}
 use Rattle.httparse.specs.Grammar.{RequestHead}
 use Rattle.http_messages.specs.declared.asked.Asked.{Asked}
+use Rattle.http_messages.specs.declared.asking.Asking.{Asking}
 use Rattle.http_messages.specs.declared.asked.Asked.TheVariants.{Reject, Apply}
 use Rattle.http_messages.specs.declared.asked.Rejection.TheVariants.{BadRequest}
-use Rattle.http_messages.specs.declared.judge.Post as post
-use Rattle.http_messages.specs.declared.judge.Judged.TheVariants as Judged
-use Rattle.http_messages.specs.Judged.{Judges}
-use Rattle.http_messages.specs.Asked.{AsksBody, AsksAfter, cut_short, no_command, command, sent}
+use Rattle.http_messages.specs.declared.post.Post as post
+use Rattle.http_messages.specs.declared.route.Route.TheVariants.{Requests}
+use Rattle.http_messages.specs.Post.{IsFor, Says}
+use Rattle.http_messages.specs.Asked.{AsksBody, AsksAfter, cut_short, lines_of, no_command, command, sent}
 use Rattle.http_messages.specs.Asked as rule
 
 one_value : (v w : Data) → Some v ≡ Some w → v ≡ w
@@ -80,9 +81,16 @@ body_is n after more left rest e within =
 
 -- ---- what a head asks for
 
-pub head_posts : (h : RequestHead) (after left : List ℕ) (p : post.Post) (a : Asked)
-    → Judges h (Judged.Post p) → AsksBody p.length p.sender.caller p.sender.number (after ++ left) a
-    → AsksAfter h (after ++ left) a
-head_posts h after left p a (host, path, method, says) asks =
+pub head_asks : (h : RequestHead) (rest : List ℕ) (a : Asked) (o : Asking)
+    → o ≡ record { read = 0; asked = Ok (Some a) } → AsksAfter h rest a
+    → IfOk o.asked (λ asked. IsSomeAnd asked (AsksAfter h rest))
+head_asks h rest a o e asks =
+    subst (λ (o : Asking). IfOk o.asked (λ asked. IsSomeAnd asked (AsksAfter h rest))) (sym e) asks
+
+pub head_posts : (h : RequestHead) (after left : List ℕ) (p : post.Post) (o : Option Asked) → IsFor h Requests
+    → Says (lines_of h) p → IsSomeAnd o (AsksBody p.length p.sender.caller p.sender.number (after ++ left))
+    → IsSomeAnd o (AsksAfter h (after ++ left))
+head_posts h after left p None is says asks = asks
+head_posts h after left p (Some a) is says asks =
     let whole = sent p.length p.sender.number p.sender.caller a says.plain says.length says.short says.sender asks in
-    rule.post a host path method whole
+    rule.post a is.host is.target is.method whole

@@ -2,7 +2,7 @@
 use Rattle.std.proofs.Common.{◌≡◌, ℕ, ◌+◌, ◌-◌, ◌≤◌, inl, inr, List, ◌++◌, length, take, drop}
 use Rattle.std.proofs.Common.{Option, Some, None, refl, sym, ap, subst, ◌∙◌, arith, append_assoc}
 use Rattle.std.proofs.Common.{length-append, length-take, Result, Ok, Err}
-use Rattle.std.specs.Prelude.{IfOk, IfErr}
+use Rattle.std.specs.Prelude.{IfOk, IsSomeAnd}
 use Rattle.std.specs.Io.KnownBytes.{Consumes}
 use Rattle.std.proofs.Math.Seq.{take-append-add}
 use Rattle.std.proofs.lemmas.List.{append-nil, length-map}
@@ -101,12 +101,18 @@ left_known None new more left e p = absurd (cc)
 left_known (Some xs) None more left e p = absurd p
 left_known (Some xs) (Some ys) more left e p = (ys, refl, some_is left xs (sym e) ∙ p)
 
+-- what is asked after a head is asked
+some_asked : (input : List ℕ) (h : RequestHead) (rest : List ℕ) → HasHead input h rest → (o : Option Asked)
+    → IsSomeAnd o (AsksAfter h rest) → AsksFor input o
+some_asked input h rest head (Some a) asks = whole_head h rest a head asks
+some_asked input h rest head None asks = absurd asks
+
 pub whole_asked : (old new : Option (List ℕ)) (input bytes shown : List ℕ) (headers : List HeaderSpan)
-    (spans : RequestSpans) (r : Result Asked AskFault) → old ≡ Some input → Consumes old new bytes
+    (spans : RequestSpans) (r : Result (Option Asked) AskFault) → old ≡ Some input → Consumes old new bytes
     → length bytes ≤ max_head_length → length headers ≡ max_headers → FindsHead bytes headers spans → shown ≡ bytes
     → ((h : RequestHead) (left : List ℕ) → IsRequestAt shown headers spans h → new ≡ Some left
-    → IfOk r (AsksAfter h (drop spans.len shown ++ left)))
-    → IfOk r (Asks input)
+    → IfOk r (λ o. IsSomeAnd o (AsksAfter h (drop spans.len shown ++ left))))
+    → IfOk r (AsksFor input)
 whole_asked old new input bytes shown headers spans r known took short room found same asks =
     let (rest, left, whole) = left_known old new bytes input known took in
     let head : HasHead input found.h (drop spans.len bytes ++ rest) =
@@ -116,18 +122,8 @@ whole_asked old new input bytes shown headers spans r known took short room foun
     let after : drop spans.len shown ++ rest ≡ drop spans.len bytes ++ rest =
     ap (λ b. drop spans.len b ++ rest) same in
     IfOk-weaker r _ _
-    (λ a asked. whole_head found.h (drop spans.len bytes ++ rest) a head
-    (subst (λ b. AsksAfter found.h b a) after asked))
+    (λ o asked. some_asked input found.h _ head o (subst (λ b. IsSomeAnd o (AsksAfter found.h b)) after asked))
     (asks found.h rest at left)
-
--- what is asked after a head is asked
-pub some_asks : (input : List ℕ) (r : Result Asked AskFault) (s : Result (Option Asked) AskFault)
-    → IfOk r (λ a. s ≡ Ok (Some a)) → IfOk r (Asks input) → IfErr r (λ fault. s ≡ Err fault)
-    → IfOk s (AsksFor input)
-some_asks input (Ok a) s is asks err =
-    subst (λ (t : Result (Option Asked) AskFault). IfOk t (AsksFor input)) (sym is) asks
-some_asks input (Err fault) s is asks err =
-    subst (λ (t : Result (Option Asked) AskFault). IfOk t (AsksFor input)) (sym err) tt
 
 -- what is asked where nothing is read after the head
 pub unread_asks : (input : List ℕ) (a : Asked) (o : Asking) → o ≡ record { read = 0; asked = Ok (Some a) }

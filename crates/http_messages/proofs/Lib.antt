@@ -1,7 +1,7 @@
 pub mod Prefixes
 pub mod Routing
 pub mod Lines
-pub mod Judging
+pub mod HeadChecked
 pub mod Answering
 pub mod Inputs
 pub mod HeadLaws

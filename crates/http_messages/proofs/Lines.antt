@@ -4,7 +4,7 @@ use Rattle.std.proofs.Common.{length, take, get_or, refl, ap, ◌∙◌}
 use Rattle.std.proofs.lemmas.List.{take_more, map-append, append-nil}
 use Rattle.httparse.specs.declared.spans.HeaderSpan.{HeaderSpan}
 use Rattle.httparse.specs.Spans.{header_bytes}
-use Rattle.http_messages.specs.HeaderFields.{is_named, values_of}
+use Rattle.http_messages.specs.HeaderFields.{Lines, is_named, values_of}
 
 abbrev one_value : Bool → List ℕ → List (List ℕ)
 one_value v value = cond v (value ∷ []) []
@@ -18,28 +18,26 @@ prefix_cond : (v : Bool) (x : List ℕ) (xs ys : List (List ℕ))
 prefix_cond true x xs ys = refl
 prefix_cond false x xs ys = refl
 
-values_of-more : (name : List ℕ) (lines : List (List ℕ × List ℕ)) (line : List ℕ × List ℕ)
+values_of-more : (name : List ℕ) (lines : Lines) (line : List ℕ × List ℕ)
     → values_of name (lines ++ line ∷ []) ≡ values_of name lines ++ one_value (is_named name line.0) line.1
 values_of-more name [] line = refl
 values_of-more name (l ∷ lines) line =
     ap (λ vs. cond (is_named name l.0) (l.1 ∷ vs) vs) (values_of-more name lines line)
     ∙ prefix_cond (is_named name l.0) l.1 (values_of name lines) (one_value (is_named name line.0) line.1)
 
-module _ (name prefix : List ℕ) (headers : List HeaderSpan) (i : ℕ) (d : HeaderSpan) (h : i < length headers) where
-  abbrev line : List ℕ × List ℕ
-  line = header_bytes prefix (get_or headers i d)
+module _ (name : List ℕ) (lines : Lines) (line : List ℕ × List ℕ) where
+  pub line_hit : is_named name line.0 ≡ true → values_of name (lines ++ line ∷ []) ≡ values_of name lines ++ line.1 ∷ []
+  line_hit hit = values_of-more name lines line ∙ ap (λ v. values_of name lines ++ one_value v line.1) hit
 
-  abbrev so_far : ℕ → List (List ℕ)
-  so_far n = values_of name (map (header_bytes prefix) (take n headers))
+  pub line_missed : is_named name line.0 ≡ false → values_of name (lines ++ line ∷ []) ≡ values_of name lines
+  line_missed miss =
+      values_of-more name lines line ∙ ap (λ v. values_of name lines ++ one_value v line.1) miss
+      ∙ append-nil (values_of name lines)
 
-  step : so_far (i + 1) ≡ so_far i ++ one_value (is_named name line.0) line.1
-  step =
-      ap (λ hs. values_of name (map (header_bytes prefix) hs)) (take_more headers i d h)
-      ∙ ap (values_of name) (map-append (header_bytes prefix) (take i headers) (get_or headers i d ∷ []))
-      ∙ values_of-more name (map (header_bytes prefix) (take i headers)) line
-
-  pub value_more : is_named name line.0 ≡ true → so_far (i + 1) ≡ so_far i ++ line.1 ∷ []
-  value_more hit = step ∙ ap (λ v. so_far i ++ one_value v line.1) hit
-
-  pub value_none : is_named name line.0 ≡ false → so_far (i + 1) ≡ so_far i
-  value_none miss = step ∙ ap (λ v. so_far i ++ one_value v line.1) miss ∙ append-nil (so_far i)
+-- the lines of one header more
+pub lines_more : (prefix : List ℕ) (headers : List HeaderSpan) (i : ℕ) (d : HeaderSpan) → i < length headers
+    → map (header_bytes prefix) (take (i + 1) headers)
+    ≡ map (header_bytes prefix) (take i headers) ++ header_bytes prefix (get_or headers i d) ∷ []
+lines_more prefix headers i d h =
+    ap (map (header_bytes prefix)) (take_more headers i d h)
+    ∙ map-append (header_bytes prefix) (take i headers) (get_or headers i d ∷ [])

@@ -2,7 +2,7 @@
 use Rattle.std.proofs.Common.{◌≡◌, Bool, false, ℕ, List, [], ◌∷◌, Option, Some, None, refl}
 use Rattle.std.specs.Prelude.{◌||◌}
 use Rattle.serde_json.specs.Written.{has_float}
-use Rattle.key_rows.specs.declared.key_row.KeyRow.{KeyRow}
+use Rattle.key_rows.specs.declared.record.Record.{Record}
 use Rattle.http_messages.specs.CommandValue.{date_data}
 use Rattle.http_messages.specs.AnswerValue.{names_data, key_data}
 
@@ -17,11 +17,11 @@ names_have_none (name ∷ names) = names_have_none names
 either : (a b : Bool) → a ≡ false → b ≡ false → (a || b) ≡ false
 either a b e f = rw (e, f) refl
 
-pub key_has_none : (key : KeyRow) (need : ℕ) (custodians approvals : List (List ℕ))
-    → has_float (key_data key need custodians approvals) ≡ false
-key_has_none key need custodians approvals =
-    either _ _ (dates_have_none key.row.dates.activation) (either _ _ (names_have_none approvals)
-    (either _ _ (dates_have_none key.row.dates.compromise) (either _ _ (names_have_none custodians)
+pub key_has_none : (shown : Record) → has_float (key_data shown) ≡ false
+key_has_none shown =
+    let key = shown.key in
+    either _ _ (dates_have_none key.row.dates.activation) (either _ _ (names_have_none shown.approvals)
+    (either _ _ (dates_have_none key.row.dates.compromise) (either _ _ (names_have_none shown.custodians)
     (either _ _ (dates_have_none key.row.dates.deactivation) (either _ _ (dates_have_none key.row.dates.destroy)
     (either _ _ (dates_have_none key.row.dates.compromise_occurrence)
     (either _ _ (dates_have_none key.row.dates.protect_stop) refl)))))))

@@ -8,7 +8,7 @@ use Rattle.std.proofs.lemmas.Fmt.{decimal_injective}
 use Rattle.httparse.specs.Grammar.{RequestHead}
 use Rattle.matchit.specs.Seek.{first}
 use Rattle.matchit.specs.Router.{RouteOf}
-use Rattle.http_messages.specs.declared.route.Place.{Place}
+use Rattle.http_messages.specs.declared.route.RoutePattern.{RoutePattern}
 use Rattle.http_messages.specs.declared.route.Route.{Route}
 use Rattle.http_messages.specs.declared.route.Route.TheVariants.{Requests, Show, Usage}
 use Rattle.register_core.specs.declared.request.Command.{Command}
@@ -16,9 +16,10 @@ use Rattle.http_messages.specs.declared.asked.Asked.{Asked}
 use Rattle.http_messages.specs.declared.asked.Asked.TheVariants.{Reject, Apply}
 use Rattle.http_messages.specs.declared.asked.Rejection.TheVariants.{MethodNotAllowed}
 use Rattle.http_messages.specs.HeadLaws.{IsLeftOpen}
-use Rattle.http_messages.specs.Route.{IsRoute, IsRouteOf, route_text, place_of, method_of, routes}
+use Rattle.http_messages.specs.Route.{IsRoute, IsRouteOf, route_text, pattern_of, method_of, routes}
 use Rattle.http_messages.specs.CommandBody.{IsBodyOf}
-use Rattle.http_messages.specs.Asked.{Lines, Announces, IsFrom, Asks, AsksAfter, AsksPost}
+use Rattle.http_messages.specs.HeaderFields.{Lines}
+use Rattle.http_messages.specs.Asked.{Announces, IsFrom, Asks, AsksAfter, AsksPost}
 use Rattle.http_messages.specs.Asked.{AsksBody, bad_head, large_head, whole_head, no_host}
 use Rattle.http_messages.specs.Asked.{no_path, no_method, show, usage, post, encoded, no_length}
 use Rattle.http_messages.specs.Asked.{bad_length, large_body, no_sender, sent, cut_short}
@@ -29,15 +30,15 @@ use Rattle.http_messages.proofs.HeadLaws.{one_head, whole_not_bad, whole_not_lar
 
 -- ---- routes
 
-some_row : (a b : RouteOf Place) → Some a ≡ Some b → a ≡ b
+some_row : (a b : RouteOf RoutePattern) → Some a ≡ Some b → a ≡ b
 some_row a b e = cc
 
 one_place : (target : List ℕ) (r s : Route) → IsRoute r → IsRoute s → target ≡ route_text r
-    → target ≡ route_text s → place_of r ≡ place_of s
+    → target ≡ route_text s → pattern_of r ≡ pattern_of s
 one_place target r s p q e f =
     let both : Some (row_of r) ≡ Some (row_of s) =
     sym (finds_route r p) ∙ ap (first routes) (sym e ∙ f) ∙ finds_route s q in
-    sym (value_is r) ∙ ap (λ (w : RouteOf Place). w.value) (some_row (row_of r) (row_of s) both) ∙ value_is s
+    sym (value_is r) ∙ ap (λ (w : RouteOf RoutePattern). w.value) (some_row (row_of r) (row_of s) both) ∙ value_is s
 
 one_number : (m n : ℕ) (back : List ℕ) → m < 2 ^ 64 → n < 2 ^ 64
     → codes "/keys/" ++ (decimal m ++ back) ≡ codes "/keys/" ++ (decimal n ++ back) → m ≡ n

@@ -17,9 +17,9 @@ use Rattle.matchit.specs.Seek.{first, seek, step, own, or_else, param_step, long
 use Rattle.matchit.specs.Seek.{has_slash, cuts, better, with_suffix}
 use Rattle.http_messages.specs.declared.route.Route.{Route}
 use Rattle.http_messages.specs.declared.route.Route.TheVariants.{Requests, Show, Usage}
-use Rattle.http_messages.specs.declared.route.Place.{Place}
+use Rattle.http_messages.specs.declared.route.RoutePattern.{RoutePattern}
 use Rattle.register_core.specs.Request.{IsKeyNumber}
-use Rattle.http_messages.specs.Route.{IsRoute, route_text, place_of, routes, key_row, usage_row, requests_row}
+use Rattle.http_messages.specs.Route.{IsRoute, route_text, pattern_of, routes, key_row, usage_row, requests_row}
 
 abbrev pub IsDigit : ℕ → Type 0
 IsDigit b = (48 ≤ b) × (b < 58)
@@ -292,7 +292,7 @@ cut_back field back rest e miss =
 -- ---- the routes of the router
 
 -- the row of a route
-abbrev pub row_of : Route → RouteOf Place
+abbrev pub row_of : Route → RouteOf RoutePattern
 row_of Requests = requests_row
 row_of (Show key) = key_row
 row_of (Usage key) = usage_row
@@ -313,7 +313,7 @@ finds_route (Usage key) p =
     to_keys usage_row key_row requests_row (decimal key ++ codes "/usage")
     ∙ seek-usage usage_row key_row requests_row (decimal key) text.1 text.0
 
-pub value_is : (r : Route) → (row_of r).value ≡ place_of r
+pub value_is : (r : Route) → (row_of r).value ≡ pattern_of r
 value_is Requests = refl
 value_is (Show key) = refl
 value_is (Usage key) = refl
@@ -336,17 +336,17 @@ utf8_of_route (Usage key) p =
     (IsUtf8-append (decimal key) (codes "/usage") (digits_text key p) (codes "/usage", (refl, refl)))
 
 -- the row that is found for the text of a route has its place
-pub place_found : (r : Route) (rs : RowsOf (RouteOf Place)) (text : List ℕ) (row : RouteOf Place) → IsRoute r
+pub place_found : (r : Route) (rs : RowsOf (RouteOf RoutePattern)) (text : List ℕ) (row : RouteOf RoutePattern) → IsRoute r
     → rs ≡ routes → text ≡ route_text r
-    → first rs text ≡ Some row → row.value ≡ place_of r
+    → first rs text ≡ Some row → row.value ≡ pattern_of r
 place_found r rs text row p same e found =
     let wanted = finds_route r p in
     let here : first rs text ≡ first routes (route_text r) = ap (λ w. first w text) same ∙ ap (first routes) e in
     let one : row ≡ row_of r = some_is row (row_of r) (sym found ∙ here ∙ wanted) in
-    ap (λ (w : RouteOf Place). w.value) one ∙ value_is r
+    ap (λ (w : RouteOf RoutePattern). w.value) one ∙ value_is r
 
 -- some row is found for the text of a route
-pub some_found : (r : Route) (rs : RowsOf (RouteOf Place)) (text : List ℕ) → IsRoute r → rs ≡ routes
+pub some_found : (r : Route) (rs : RowsOf (RouteOf RoutePattern)) (text : List ℕ) → IsRoute r → rs ≡ routes
     → text ≡ route_text r → first rs text ≡ None → ⊥
 some_found r rs text p same e none =
     let wanted = finds_route r p in

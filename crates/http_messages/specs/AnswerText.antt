@@ -1,13 +1,13 @@
 -- The replies with which the register answers, as JSON. The statuses are RFC 9110's, section 15;
 -- which refusal has which is this register's own.
-use Rattle.std.specs.Prelude.{ℕ, List, None, Result, Ok, Err}
+use Rattle.std.specs.Prelude.{ℕ, None, Result, Ok, Err}
 use Rattle.serde_json.specs.Data.{Data}
 use Rattle.serde_json.specs.Written.{compact_text}
 use Rattle.lifecycle_core.specs.declared.usage_types.Usage.{Usage}
 use Rattle.register_core.specs.declared.reply.Reply as core
 use Rattle.register_core.specs.declared.reply.Refusal.{Refusal}
 use Rattle.register_core.specs.declared.reply.Refusal.TheVariants.{BadLine, UnknownKey}
-use Rattle.key_rows.specs.declared.key_row.KeyRow.{KeyRow}
+use Rattle.key_rows.specs.declared.record.Record.{Record}
 use Rattle.http_messages.specs.AnswerValue.{key_data, refusal_data, reply_data, usage_data}
 use Rattle.http_messages.specs.HttpReply.{Reply}
 
@@ -31,5 +31,5 @@ abbrev pub usage_reply : Usage → Reply
 usage_reply usage = json_reply 200 (usage_data usage)
 
 -- to the question for a key
-abbrev pub key_reply : KeyRow → ℕ → List (List ℕ) → List (List ℕ) → Reply
-key_reply key need custodians approvals = json_reply 200 (key_data key need custodians approvals)
+abbrev pub key_reply : Record → Reply
+key_reply shown = json_reply 200 (key_data shown)

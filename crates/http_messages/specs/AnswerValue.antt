@@ -11,7 +11,7 @@ use Rattle.register_core.specs.declared.reply.Refusal.{Refusal}
 use Rattle.register_core.specs.declared.reply.Refusal.TheVariants.{MomentBehind, WrongState}
 use Rattle.register_core.specs.declared.reply.Refusal.TheVariants.{PeriodTooLong, ApprovalsMissing}
 use Rattle.register_core.specs.Reply.{refusal_name, refusal_number}
-use Rattle.key_rows.specs.declared.key_row.KeyRow.{KeyRow}
+use Rattle.key_rows.specs.declared.record.Record.{Record}
 use Rattle.serde_json.specs.Data.{Data, null, boolean, string, array, object, Members, member, no_members}
 use Rattle.serde_json.specs.View.{items_of}
 use Rattle.http_messages.specs.CommandValue.{number_data, date_data}
@@ -80,17 +80,18 @@ date_members dates =
     (member (codes "protect_stop") (date_data dates.protect_stop) no_members))))))
 
 -- a key, how many approvals its destruction needs, its custodians, and the names whose approvals stand
-abbrev pub key_data : KeyRow → ℕ → List (List ℕ) → List (List ℕ) → Data
-key_data key need custodians approvals =
+abbrev pub key_data : Record → Data
+key_data shown =
+    let key = shown.key in
     let dates = key.row.dates in
     object (member (codes "activation") (date_data dates.activation)
-    (member (codes "approvals") (names_data approvals)
+    (member (codes "approvals") (names_data shown.approvals)
     (member (codes "compromised") (date_data dates.compromise)
-    (member (codes "custodians") (names_data custodians)
+    (member (codes "custodians") (names_data shown.custodians)
     (member (codes "deactivation") (date_data dates.deactivation)
     (member (codes "destroyed") (date_data dates.destroy)
     (member (codes "initial") (number_data dates.initial)
-    (member (codes "need") (number_data need)
+    (member (codes "need") (number_data shown.need)
     (member (codes "number") (number_data key.number)
     (member (codes "occurrence") (date_data dates.compromise_occurrence)
     (member (codes "owner") (string key.owner)

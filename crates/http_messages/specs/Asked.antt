@@ -8,7 +8,7 @@ use Rattle.http_messages.specs.Head.{HasHead, HasBadHead, HasLargeHead}
 use Rattle.http_messages.specs.Route.{IsRouteOf, method_of}
 use Rattle.register_core.specs.Name.{IsName}
 use Rattle.register_core.specs.Number.{IsNumber}
-use Rattle.http_messages.specs.HeaderFields.{values_of, IsLength}
+use Rattle.http_messages.specs.HeaderFields.{Lines, values_of, IsLength}
 use Rattle.http_messages.specs.CommandBody.{IsBodyOf}
 use Rattle.http_messages.specs.declared.asked.Asked.{Asked}
 use Rattle.http_messages.specs.declared.asked.Asked.TheVariants.{Reject, ShowKey, ShowUsage, Apply}
@@ -19,10 +19,7 @@ use Rattle.http_messages.specs.declared.route.Route.{Route}
 use Rattle.http_messages.specs.declared.route.Route.TheVariants.{Requests, Show, Usage}
 use Rattle.register_core.specs.declared.request.Command.{Command}
 
--- the names and the values of header lines
-abbrev pub Lines : Type 0
-Lines = List (List ℕ × List ℕ)
-
+-- the names and the values of a head's header lines
 abbrev pub lines_of : RequestHead → Lines
 lines_of h = map name_and_value h.fields
 

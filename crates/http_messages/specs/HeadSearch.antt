@@ -6,8 +6,8 @@ use Rattle.httparse.specs.declared.spans.RequestSpans.{RequestSpans}
 use Rattle.httparse.specs.Grammar.{RequestHead, HasNoRequest, NeverHasRequest, MayBecomeRequest}
 use Rattle.httparse.specs.Spans.{IsRequestAt, IsRequestWithin}
 use Rattle.http_messages.specs.Head.{max_head_length, HasManyLines}
-use Rattle.http_messages.specs.declared.head.Found.{Found}
-use Rattle.http_messages.specs.declared.head.Found.TheVariants.{Whole, Nothing, Bad, TooLarge}
+use Rattle.http_messages.specs.declared.head.HeadSearch.{HeadSearch}
+use Rattle.http_messages.specs.declared.head.HeadSearch.TheVariants.{Whole, Nothing, Bad, TooLarge}
 
 -- the bytes read begin with the head h, and the spans are its parts
 pub record FindsHead (bytes : List ℕ) (headers : List HeaderSpan) (spans : RequestSpans) : Type 0 where
@@ -26,7 +26,7 @@ pub record FindsLarge (bytes : List ℕ) : Type 0 where
   pub none : HasNoRequest bytes
   pub may : MayBecomeRequest bytes
 
-abbrev pub Finds : List ℕ → List HeaderSpan → Option (List ℕ) → Found → Type 0
+abbrev pub Finds : List ℕ → List HeaderSpan → Option (List ℕ) → HeadSearch → Type 0
 Finds bytes headers left (Whole spans) = FindsHead bytes headers spans
 Finds bytes headers left Nothing = (bytes ≡ []) × IsAtEnd left
 Finds bytes headers left Bad = FindsBad bytes left

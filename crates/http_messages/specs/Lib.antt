@@ -7,7 +7,7 @@ pub mod CommandBody
 pub mod HttpReply
 pub mod Asked
 pub mod Rejection
-pub mod Judged
+pub mod Post
 pub mod Content
 pub mod HeadLaws
 pub mod AnswerValue

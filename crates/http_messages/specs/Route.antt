@@ -5,8 +5,8 @@ use Rattle.matchit.specs.Router.{RouteOf}
 use Rattle.register_core.specs.Request.{IsKeyNumber}
 use Rattle.http_messages.specs.declared.route.Route.{Route}
 use Rattle.http_messages.specs.declared.route.Route.TheVariants.{Requests, Show, Usage}
-use Rattle.http_messages.specs.declared.route.Place.{Place}
-use Rattle.http_messages.specs.declared.route.Place.TheVariants as place
+use Rattle.http_messages.specs.declared.route.RoutePattern.{RoutePattern}
+use Rattle.http_messages.specs.declared.route.RoutePattern.TheVariants as kept
 
 -- the target that a route is spelled by
 abbrev pub route_text : Route → List ℕ
@@ -30,28 +30,28 @@ method_of Requests = codes "POST"
 method_of (Show key) = codes "GET"
 method_of (Usage key) = codes "GET"
 
--- the place that the router keeps for a route
-abbrev pub place_of : Route → Place
-place_of Requests = place.Requests
-place_of (Show key) = place.Key
-place_of (Usage key) = place.Usage
+-- the pattern that the router keeps for a route
+abbrev pub pattern_of : Route → RoutePattern
+pattern_of Requests = kept.Requests
+pattern_of (Show key) = kept.Key
+pattern_of (Usage key) = kept.Usage
 
 -- the rows of the router
-abbrev pub key_row : RouteOf Place
+abbrev pub key_row : RouteOf RoutePattern
 key_row =
-    record { pattern = codes "/keys/" ++ 256 ∷ []; text = codes "/keys/{n}"; names = (7, 8) ∷ []; value = place.Key }
+    record { pattern = codes "/keys/" ++ 256 ∷ []; text = codes "/keys/{n}"; names = (7, 8) ∷ []; value = kept.Key }
 
-abbrev pub usage_row : RouteOf Place
+abbrev pub usage_row : RouteOf RoutePattern
 usage_row =
     record {
       pattern = codes "/keys/" ++ 256 ∷ codes "/usage";
       text = codes "/keys/{n}/usage";
       names = (7, 8) ∷ [];
-      value = place.Usage;
+      value = kept.Usage;
     }
 
-abbrev pub requests_row : RouteOf Place
-requests_row = record { pattern = codes "/requests"; text = codes "/requests"; names = []; value = place.Requests }
+abbrev pub requests_row : RouteOf RoutePattern
+requests_row = record { pattern = codes "/requests"; text = codes "/requests"; names = []; value = kept.Requests }
 
-abbrev pub routes : RowsOf (RouteOf Place)
+abbrev pub routes : RowsOf (RouteOf RoutePattern)
 routes = (usage_row.pattern, usage_row) ∷ (key_row.pattern, key_row) ∷ (requests_row.pattern, requests_row) ∷ []

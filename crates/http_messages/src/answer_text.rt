@@ -10,9 +10,9 @@ ghost use Rattle.http_messages.specs.HttpReply.{reply_bytes};
 use crate::answer_value::{key_value, refusal_value, reply_value, usage_value};
 use crate::reply::reply_text;
 use http::StatusCode;
-use key_rows::KeyRow;
+use key_rows::Record;
 use lifecycle_core::Usage;
-use register_core::{Names, Refusal, Reply};
+use register_core::{Refusal, Reply};
 use serde_json::Value;
 use std::alloc::{AllocError, Global};
 
@@ -82,16 +82,9 @@ pub fn usage_text(alloc: Global, usage: &Usage) -> Result<String, AllocError>
 ///
 /// # Errors
 /// Memory gave out.
-pub fn key_text(
-    alloc: Global,
-    key: &KeyRow,
-    need: u8,
-    custodians: &Names,
-    approvals: &Names,
-) -> Result<String, AllocError>
-    ensures { IfOk result (λ s.
-        string_bytes s ≡ reply_bytes (key_reply key.now need custodians.now approvals.now)) }
+pub fn key_text(alloc: Global, shown: &Record) -> Result<String, AllocError>
+    ensures { IfOk result (λ s. string_bytes s ≡ reply_bytes (key_reply shown.now)) }
 {
-    let value = key_value(alloc, key, need, custodians, approvals)?;
+    let value = key_value(alloc, shown)?;
     value_text(alloc, StatusCode::OK, &value)
 }

@@ -8,10 +8,10 @@ ghost use Rattle.http_messages.specs.AnswerValue.{state_data, reply_data, refusa
 ghost use Rattle.http_messages.specs.AnswerValue.{usage_data, names_data, date_members};
 ghost use Rattle.http_messages.specs.AnswerValue.{key_data, name_data, refused_members};
 
-use key_rows::KeyRow;
+use key_rows::Record;
 use lifecycle_core::{Dates, State, Usage};
 use moment_core::Moment;
-use register_core::{Name, Names, Refusal, Reply};
+use register_core::{Name, Refusal, Reply};
 use serde_json::{Map, Value, json, put};
 use std::alloc::{AllocError, Global};
 
@@ -174,19 +174,19 @@ fn date_members(alloc: Global, dates: &Dates) -> Result<Map<String, Value>, Allo
 }
 
 /// A key, how many approvals its destruction needs, its custodians, and the names whose approvals stand.
-pub(crate) fn key_value(
-    alloc: Global,
-    key: &KeyRow,
-    need: u8,
-    custodians: &Names,
-    approvals: &Names,
-) -> Result<Value, AllocError>
-    ensures { IfOk result (λ v. view v ≡ key_data key.now need custodians.now approvals.now) }
+pub(crate) fn key_value(alloc: Global, shown: &Record) -> Result<Value, AllocError>
+    ensures { IfOk result (λ v. view v ≡ key_data shown.now) }
 {
+    let key = &shown.key;
     let mut members = date_members(alloc, &key.row.dates)?;
-    put_names(&mut members, alloc, "approvals", approvals.as_slice())?;
-    put_names(&mut members, alloc, "custodians", custodians.as_slice())?;
-    put(&mut members, alloc, "need", Value::from(need))?;
+    put_names(&mut members, alloc, "approvals", shown.approvals.as_slice())?;
+    put_names(
+        &mut members,
+        alloc,
+        "custodians",
+        shown.custodians.as_slice(),
+    )?;
+    put(&mut members, alloc, "need", Value::from(shown.need))?;
     put(&mut members, alloc, "number", Value::from(key.number))?;
     put_text(&mut members, alloc, "owner", key.owner.text())?;
     put_text(&mut members, alloc, "purpose", key.purpose.text())?;

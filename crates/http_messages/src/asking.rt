@@ -1,21 +1,25 @@
 //! Reads what an input asks for. The register is not asked here.
-ghost use Rattle.std.specs.Prelude.{◌≡◌, ◌+◌, ◌<◌, ◌≤◌, ◌^◌, ◌++◌, ℕ, List, []};
-ghost use Rattle.std.specs.Prelude.{length, take, drop, Some, Ok, Err, IfOk, IfErr, IfSome};
+ghost use Rattle.std.specs.Prelude.{◌≡◌, ◌↔◌, ◌+◌, ◌<◌, ◌≤◌, ◌^◌, ◌++◌, ℕ, List, [], length, map};
+ghost use Rattle.std.specs.Prelude.{take, drop, Some, Ok, Err, IfOk, IfErr, IfSome, IsSomeAnd, IsTrue};
 ghost use Rattle.httparse.specs.Grammar.{RequestHead};
-ghost use Rattle.httparse.specs.Spans.{IsRequestAt, IsRequestWithin};
+ghost use Rattle.httparse.specs.Spans.{IsRequestAt, IsRequestWithin, header_bytes};
 ghost use Rattle.streams.specs.Watched.{IsFaulted};
 ghost use Rattle.http_messages.specs.CommandBody.{IsInRange};
 ghost use Rattle.http_messages.specs.Content.{HasRead};
-ghost use Rattle.http_messages.specs.Asked.{AsksFor, AsksBody, AsksAfter};
-ghost use Rattle.http_messages.specs.Judged.{Judges};
+ghost use Rattle.http_messages.specs.Asked.{AsksFor, AsksBody, AsksAfter, HasHost};
+ghost use Rattle.http_messages.specs.HeaderFields.{AreGathered, Lines};
+ghost use Rattle.http_messages.specs.Post.{IsFor};
+ghost use Rattle.http_messages.specs.Route.{routes};
 
 use crate::asked::{AskFault, Asked, Rejection, Sent};
 use crate::command_value::command_of;
 use crate::content::{BodyRead, read_body, value_of};
-use crate::head::{Found, MAX_EXCHANGE_READS, MAX_HEADERS, Prefix};
-use crate::judge::{Judged, Post, judge};
-use crate::route::Routes;
+use crate::fields::{HeaderFields, Values};
+use crate::head::{HeadSearch, MAX_EXCHANGE_READS, MAX_HEADERS, Prefix};
+use crate::post::{Post, post_of};
+use crate::route::{Route, RoutePattern, Routes, method_text, route_of};
 use httparse::spans::{EMPTY_HEADER_SPAN, HeaderSpan, RequestSpans};
+use matchit::Router;
 use std::alloc::Global;
 use std::io::Read;
 use streams::{ReadFault, Watched};
@@ -36,92 +40,100 @@ impl Asking {
     {
         Asking { read: 0, asked }
     }
-}
 
-/// What came of reading what stands after a head.
-#[derive(Clone, Copy)]
-struct BodyAsking {
-    read: usize,
-    asked: Result<Asked, AskFault>,
-}
-
-impl BodyAsking {
-    /// Where nothing is read.
-    fn unread(asked: Result<Asked, AskFault>) -> Self
-        ensures { result ≡ record { read = 0; asked = asked } }
+    /// Where this is rejected, and nothing is read.
+    fn rejected(rejection: Rejection) -> Self
+        ensures { result ≡ record { read = 0; asked = Ok (Some (Asked.Reject rejection)) } }
     {
-        BodyAsking { read: 0, asked }
+        Asking::unread(Ok(Some(Asked::Reject(rejection))))
     }
 }
 
 /// What a body asks for whose head said this.
-fn ask_body(alloc: Global, post: Post, body: &[u8]) -> Result<Asked, AskFault>
+fn ask_body(alloc: Global, post: Post, body: &[u8]) -> Result<Option<Asked>, AskFault>
     ensures asks { (after : List ℕ) (n : ℕ) → n ≤ length after → body.now ≡ take n after →
-        IfOk result (AsksBody n post.sender.caller post.sender.number after) }
-    ensures in_range { IfOk result IsInRange }
+        IfOk result (λ o. IsSomeAnd o (AsksBody n post.sender.caller post.sender.number after)) }
+    ensures in_range { IfOk result (λ o. IfSome o IsInRange) }
     ensures err { IfErr result (λ fault. fault ≡ AskFault.Memory) }
 {
     match value_of(alloc, body) {
         Ok(Some(value)) => match command_of(&value) {
-            Some(command) => Ok(Asked::Apply(Sent {
+            Some(command) => Ok(Some(Asked::Apply(Sent {
                 caller: post.sender.caller,
                 number: post.sender.number,
                 command,
-            })),
-            None => Ok(Asked::Reject(Rejection::BadRequest)),
+            }))),
+            None => Ok(Some(Asked::Reject(Rejection::BadRequest))),
         },
-        Ok(None) => Ok(Asked::Reject(Rejection::BadRequest)),
+        Ok(None) => Ok(Some(Asked::Reject(Rejection::BadRequest))),
         Err(fault) => Err(fault),
     }
 }
 
 /// What a POST asks for whose head said this, with these bytes after its head already read.
-fn ask_post<R: Read>(alloc: Global, after: &[u8], post: Post, reader: &mut Watched<R>) -> BodyAsking
+fn ask_post<R: Read>(alloc: Global, after: &[u8], post: Post, reader: &mut Watched<R>) -> Asking
     ensures asks { (left : List ℕ) → R.remaining reader.old.inner ≡ Some left →
-        IfOk result.asked (AsksBody post.length post.sender.caller post.sender.number
-        (after.now ++ left)) }
+        IfOk result.asked (λ o. IsSomeAnd o (AsksBody post.length post.sender.caller
+        post.sender.number (after.now ++ left))) }
     ensures read { HasRead (R.remaining reader.old.inner) (R.remaining reader.new.inner)
         result.read }
     ensures few { result.read < 2 ^ 32 }
-    ensures in_range { IfOk result.asked IsInRange }
+    ensures in_range { IfOk result.asked (λ o. IfSome o IsInRange) }
     ensures fault { IfErr result.asked (λ fault. fault ≡ AskFault.ReadFault
         → IsFaulted reader.new.failed MAX_EXCHANGE_READS reader.new.turns) }
     ensures bounded { reader.old.turns ≤ MAX_EXCHANGE_READS → reader.new.turns ≤ MAX_EXCHANGE_READS }
 {
     let BodyRead { read, body } = read_body(alloc, after, post.length as usize, reader);
     match body {
-        Ok(Some(body)) => BodyAsking {
+        Ok(Some(body)) => Asking {
             read,
             asked: ask_body(alloc, post, &body),
         },
-        Ok(None) => BodyAsking {
+        Ok(None) => Asking {
             read,
-            asked: Ok(Asked::Reject(Rejection::BadRequest)),
+            asked: Ok(Some(Asked::Reject(Rejection::BadRequest))),
         },
-        Err(fault) => BodyAsking {
+        Err(fault) => Asking {
             read,
             asked: Err(fault),
         },
     }
 }
 
-/// What the head asks for whose parts these are.
-fn judge_routed(
-    alloc: Global,
-    routes: &mut Routes,
-    bytes: &[u8],
+/// Whether a head of this version has the Host that it must have.
+fn has_host(minor: u8, fields: &HeaderFields<'_>) -> bool
+    ensures { (lines : Lines) → AreGathered lines fields.now → IsTrue result ↔ HasHost minor lines }
+{
+    minor != 1 || matches!(fields.host, Values::One(_))
+}
+
+/// The route that the head is for whose parts these are, or why it is for none.
+fn check_head(
+    router: &Router<RoutePattern>,
+    prefix: &[u8],
     headers: &[HeaderSpan],
     spans: RequestSpans,
-) -> Result<Judged, AskFault>
-    requires { IsRequestWithin bytes.now headers.now spans }
-    ensures judges { (h : RequestHead) → IsRequestAt bytes.now headers.now spans h
-        → IfOk result (Judges h) }
-    ensures err { IfErr result (λ fault. fault ≡ AskFault.Memory) }
+    fields: &HeaderFields<'_>,
+) -> Result<Route, Rejection>
+    requires routes { router.now ≡ routes }
+    requires within { IsRequestWithin prefix.now headers.now spans }
+    requires gathered { AreGathered
+        (map (header_bytes prefix.now) (take spans.headers headers.now)) fields.now }
+    ensures ok { (h : RequestHead) → IsRequestAt prefix.now headers.now spans h
+        → IfOk result (IsFor h) }
+    ensures err { (h : RequestHead) → IsRequestAt prefix.now headers.now spans h
+        → IfErr result (λ r. (rest : List ℕ) → AsksAfter h rest (Asked.Reject r)) }
 {
-    match routes.router(alloc) {
-        Ok(router) => Ok(judge(router, bytes, headers, spans)),
-        Err(fault) => Err(fault),
+    if !has_host(spans.version, fields) {
+        return Err(Rejection::BadRequest);
     }
+    let Some(route) = route_of(router, spans.path.of(prefix)) else {
+        return Err(Rejection::NoRoute);
+    };
+    if spans.method.of(prefix) != method_text(route).as_bytes() {
+        return Err(Rejection::MethodNotAllowed(route));
+    }
+    Ok(route)
 }
 
 /// What a head asks for that stands whole at the start of what was read.
@@ -132,36 +144,35 @@ fn ask_head<R: Read>(
     headers: &[HeaderSpan],
     spans: RequestSpans,
     reader: &mut Watched<R>,
-) -> BodyAsking
+) -> Asking
     requires { IsRequestWithin bytes.now headers.now spans }
     ensures asks { (h : RequestHead) (left : List ℕ) → IsRequestAt bytes.now headers.now spans h
         → R.remaining reader.old.inner ≡ Some left
-        → IfOk result.asked (AsksAfter h (drop spans.len bytes.now ++ left)) }
+        → IfOk result.asked (λ o. IsSomeAnd o (AsksAfter h (drop spans.len bytes.now ++ left))) }
     ensures read { HasRead (R.remaining reader.old.inner) (R.remaining reader.new.inner)
         result.read }
     ensures few { result.read < 2 ^ 32 }
-    ensures in_range { IfOk result.asked IsInRange }
+    ensures in_range { IfOk result.asked (λ o. IfSome o IsInRange) }
     ensures fault { IfErr result.asked (λ fault. fault ≡ AskFault.ReadFault
         → IsFaulted reader.new.failed MAX_EXCHANGE_READS reader.new.turns) }
     ensures bounded { reader.old.turns ≤ MAX_EXCHANGE_READS → reader.new.turns ≤ MAX_EXCHANGE_READS }
 {
-    match judge_routed(alloc, routes, bytes, headers, spans) {
-        Ok(Judged::Rejected(rejection)) => BodyAsking::unread(Ok(Asked::Reject(rejection))),
-        Ok(Judged::Show(key)) => BodyAsking::unread(Ok(Asked::ShowKey(key))),
-        Ok(Judged::Usage(key)) => BodyAsking::unread(Ok(Asked::ShowUsage(key))),
-        Ok(Judged::Post(post)) => ask_post(alloc, &bytes[spans.len..], post, reader),
-        Err(fault) => BodyAsking::unread(Err(fault)),
-    }
-}
-
-/// Something is asked for where a head stands.
-fn some_asked(asked: Result<Asked, AskFault>) -> Result<Option<Asked>, AskFault>
-    ensures ok { IfOk asked (λ a. result ≡ Ok (Some a)) }
-    ensures err { IfErr asked (λ fault. result ≡ Err fault) }
-{
-    match asked {
-        Ok(asked) => Ok(Some(asked)),
-        Err(fault) => Err(fault),
+    let fields = HeaderFields::gather(bytes, &headers[..spans.headers]);
+    let router = match routes.router(alloc) {
+        Ok(router) => router,
+        Err(fault) => return Asking::unread(Err(fault)),
+    };
+    let route = match check_head(router, bytes, headers, spans, &fields) {
+        Ok(route) => route,
+        Err(rejection) => return Asking::rejected(rejection),
+    };
+    match route {
+        Route::Show(key) => Asking::unread(Ok(Some(Asked::ShowKey(key)))),
+        Route::Usage(key) => Asking::unread(Ok(Some(Asked::ShowUsage(key)))),
+        Route::Requests => match post_of(&fields) {
+            Ok(post) => ask_post(alloc, &bytes[spans.len..], post, reader),
+            Err(rejection) => Asking::rejected(rejection),
+        },
     }
 }
 
@@ -187,15 +198,11 @@ fn ask_after<R: Read>(
     let mut headers = [EMPTY_HEADER_SPAN; MAX_HEADERS];
     match prefix.find_head(&mut headers, reader) {
         Err(ReadFault) => Asking::unread(Err(AskFault::ReadFault)),
-        Ok(Found::Nothing) => Asking::unread(Ok(None)),
-        Ok(Found::Bad) => Asking::unread(Ok(Some(Asked::Reject(Rejection::BadRequest)))),
-        Ok(Found::TooLarge) => Asking::unread(Ok(Some(Asked::Reject(Rejection::TooLarge)))),
-        Ok(Found::Whole(spans)) => {
-            let after = ask_head(alloc, routes, prefix.bytes(), &headers, spans, reader);
-            Asking {
-                read: after.read,
-                asked: some_asked(after.asked),
-            }
+        Ok(HeadSearch::Nothing) => Asking::unread(Ok(None)),
+        Ok(HeadSearch::Bad) => Asking::rejected(Rejection::BadRequest),
+        Ok(HeadSearch::TooLarge) => Asking::rejected(Rejection::TooLarge),
+        Ok(HeadSearch::Whole(spans)) => {
+            ask_head(alloc, routes, prefix.bytes(), &headers, spans, reader)
         }
     }
 }

@@ -20,7 +20,7 @@ pub const MAX_EXCHANGE_READS: u64 = 80_000;
 
 /// What stands at the start of the input.
 #[derive(Clone, Copy)]
-pub(crate) enum Found {
+pub(crate) enum HeadSearch {
     /// A whole head, with its parts.
     Whole(RequestSpans),
     /// Not one byte.
@@ -96,7 +96,7 @@ impl Prefix {
         &mut self,
         headers: &mut [HeaderSpan; MAX_HEADERS],
         reader: &mut Watched<R>,
-    ) -> Result<Found, ReadFault>
+    ) -> Result<HeadSearch, ReadFault>
         requires { self.old ≡ [] }
         ensures found { IfOk result (Finds self.new headers.new (R.remaining reader.new.inner)) }
         ensures bytes { Consumes (R.remaining reader.old.inner) (R.remaining reader.new.inner)
@@ -110,18 +110,18 @@ impl Prefix {
     {
         'reads: loop {
             match parse_request(self.bytes(), headers) {
-                Ok(Status::Complete(spans)) => return Ok(Found::Whole(spans)),
+                Ok(Status::Complete(spans)) => return Ok(HeadSearch::Whole(spans)),
                 Ok(Status::Partial) => {}
-                Err(_) => return Ok(Found::Bad),
+                Err(_) => return Ok(HeadSearch::Bad),
             }
             if self.bytes().len() == MAX_HEAD_LENGTH {
-                return Ok(Found::TooLarge);
+                return Ok(HeadSearch::TooLarge);
             }
             if self.refill(reader)? == 0 {
                 if self.bytes().is_empty() {
-                    return Ok(Found::Nothing);
+                    return Ok(HeadSearch::Nothing);
                 }
-                return Ok(Found::Bad);
+                return Ok(HeadSearch::Bad);
             }
         }
     }

@@ -16,9 +16,9 @@ mod command_value;
 mod content;
 mod fields;
 mod head;
-mod judge;
 pub mod laws;
 mod members;
+mod post;
 mod reply;
 mod route;
 
@@ -26,6 +26,6 @@ pub use answer_text::{key_text, outcome_text, usage_text};
 pub use asked::{AskFault, Asked, Rejection, Sent};
 pub use asking::{Asking, ask};
 pub use head::{MAX_EXCHANGE_READS, MAX_HEAD_LENGTH, MAX_HEADERS};
-pub use judge::MAX_BODY_LENGTH;
+pub use post::MAX_BODY_LENGTH;
 pub use reply::rejection_text;
 pub use route::{Route, Routes};

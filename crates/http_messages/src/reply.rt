@@ -5,7 +5,7 @@ ghost use Rattle.http_messages.specs.HttpReply.{reply_bytes};
 ghost use Rattle.http_messages.specs.Rejection.{reply_of};
 
 use crate::asked::Rejection;
-use crate::judge::method_text;
+use crate::route::method_text;
 use http::StatusCode;
 use std::alloc::{AllocError, Global};
 

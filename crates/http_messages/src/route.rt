@@ -1,7 +1,7 @@
 //! What is asked for, by the target of a request.
 ghost use Rattle.std.specs.Prelude.{◌≡◌, ◌≢◌, ◌<◌, ◌^◌, ◌++◌, ℕ, List, decimal, IfOk, IfErr, IfSome, IfNone};
 ghost use Rattle.std.specs.Option.{ForSome};
-ghost use Rattle.http_messages.specs.Route.{routes, route_text, place_of, IsRoute, IsRouteOf};
+ghost use Rattle.http_messages.specs.Route.{routes, route_text, method_of, pattern_of, IsRoute, IsRouteOf};
 ghost use Rattle.register_core.specs.Request.{IsKeyNumber};
 
 use crate::asked::AskFault;
@@ -18,22 +18,22 @@ pub enum Route {
     Usage(u32),
 }
 
-/// A route without the number of its key.
+/// A route without the number of its key: what the router keeps for each pattern.
 #[derive(Clone, Copy)]
-pub(crate) enum Place {
+pub(crate) enum RoutePattern {
     Requests,
     Key,
     Usage,
 }
 
 /// The router of the three routes.
-fn make_router(alloc: Global) -> Result<Router<Place>, InsertError>
+fn make_router(alloc: Global) -> Result<Router<RoutePattern>, InsertError>
     ensures { IfOk result (λ router. router ≡ routes) }
 {
     let mut router = Router::new(alloc);
-    router.insert("/requests", Place::Requests)?;
-    router.insert("/keys/{n}", Place::Key)?;
-    router.insert("/keys/{n}/usage", Place::Usage)?;
+    router.insert("/requests", RoutePattern::Requests)?;
+    router.insert("/keys/{n}", RoutePattern::Key)?;
+    router.insert("/keys/{n}/usage", RoutePattern::Usage)?;
     Ok(router)
 }
 
@@ -41,7 +41,7 @@ fn make_router(alloc: Global) -> Result<Router<Place>, InsertError>
 /// needed, and made again where memory gave out.
 #[derive(Drop)]
 pub struct Routes {
-    router: Option<Router<Place>>,
+    router: Option<Router<RoutePattern>>,
     ghost made: { ForSome router (λ r. r ≡ routes) },
 }
 
@@ -54,7 +54,7 @@ impl Routes {
     }
 
     /// The router.
-    pub(crate) fn router(&mut self, alloc: Global) -> Result<&Router<Place>, AskFault>
+    pub(crate) fn router(&mut self, alloc: Global) -> Result<&Router<RoutePattern>, AskFault>
         ensures ok { IfOk result (λ router. router.now ≡ routes) }
         ensures err { IfErr result (λ fault. fault ≡ AskFault.Memory) }
     {
@@ -84,7 +84,7 @@ fn key_number(field: &[u8]) -> Option<u32>
 }
 
 /// What stands between the prefix and the back.
-fn between<'t>(target: &'t [u8], prefix: &[u8], back: &[u8]) -> Option<&'t [u8]>
+fn field_between<'t>(target: &'t [u8], prefix: &[u8], back: &[u8]) -> Option<&'t [u8]>
     ensures found { IfSome result (λ field. target.now ≡ prefix.now ++ (field.now ++ back.now)) }
     ensures none { IfNone result ((field : List ℕ) →
         target.now ≢ prefix.now ++ (field ++ back.now)) }
@@ -99,13 +99,13 @@ fn between<'t>(target: &'t [u8], prefix: &[u8], back: &[u8]) -> Option<&'t [u8]>
 }
 
 /// The number of a key that stands between the prefix and the back.
-fn number_between(target: &[u8], prefix: &[u8], back: &[u8]) -> Option<u32>
+fn key_between(target: &[u8], prefix: &[u8], back: &[u8]) -> Option<u32>
     ensures found { IfSome result (λ n.
         (target.now ≡ prefix.now ++ (decimal n ++ back.now)) × IsKeyNumber n) }
     ensures none { IfNone result ((n : ℕ) → IsKeyNumber n →
         target.now ≢ prefix.now ++ (decimal n ++ back.now)) }
 {
-    match between(target, prefix, back) {
+    match field_between(target, prefix, back) {
         Some(field) => match key_number(field) {
             Some(number) => Some(number),
             None => None,
@@ -114,10 +114,10 @@ fn number_between(target: &[u8], prefix: &[u8], back: &[u8]) -> Option<u32>
     }
 }
 
-/// The place to which the router leads the target.
-fn place_at(router: &Router<Place>, target: &[u8]) -> Option<Place>
+/// The pattern to which the router leads the target.
+fn pattern_at(router: &Router<RoutePattern>, target: &[u8]) -> Option<RoutePattern>
     requires { router.now ≡ routes }
-    ensures { (r : Route) → IsRoute r → target.now ≡ route_text r → result ≡ Some (place_of r) }
+    ensures { (r : Route) → IsRoute r → target.now ≡ route_text r → result ≡ Some (pattern_of r) }
 {
     let Ok(text) = str::from_utf8(target) else {
         return None;
@@ -128,25 +128,25 @@ fn place_at(router: &Router<Place>, target: &[u8]) -> Option<Place>
     }
 }
 
-/// The route of this place that the target spells.
-fn route_at(place: Place, target: &[u8]) -> Option<Route>
+/// The route of this pattern that the target spells.
+fn route_at(pattern: RoutePattern, target: &[u8]) -> Option<Route>
     ensures found { IfSome result (λ r. IsRoute r × (target.now ≡ route_text r)) }
-    ensures none { IfNone result ((r : Route) → IsRoute r → place_of r ≡ place →
+    ensures none { IfNone result ((r : Route) → IsRoute r → pattern_of r ≡ pattern →
         target.now ≢ route_text r) }
 {
-    match place {
-        Place::Requests => {
+    match pattern {
+        RoutePattern::Requests => {
             if target == b"/requests".as_slice() {
                 Some(Route::Requests)
             } else {
                 None
             }
         }
-        Place::Key => match number_between(target, b"/keys/", b"") {
+        RoutePattern::Key => match key_between(target, b"/keys/", b"") {
             Some(number) => Some(Route::Show(number)),
             None => None,
         },
-        Place::Usage => match number_between(target, b"/keys/", b"/usage") {
+        RoutePattern::Usage => match key_between(target, b"/keys/", b"/usage") {
             Some(number) => Some(Route::Usage(number)),
             None => None,
         },
@@ -154,12 +154,23 @@ fn route_at(place: Place, target: &[u8]) -> Option<Route>
 }
 
 /// The route that the target spells.
-pub(crate) fn route_of(router: &Router<Place>, target: &[u8]) -> Option<Route>
+pub(crate) fn route_of(router: &Router<RoutePattern>, target: &[u8]) -> Option<Route>
     requires { router.now ≡ routes }
     ensures { IsRouteOf target.now result }
 {
-    match place_at(router, target) {
-        Some(place) => route_at(place, target),
+    match pattern_at(router, target) {
+        Some(pattern) => route_at(pattern, target),
         None => None,
+    }
+}
+
+/// The method that the route takes.
+pub(crate) fn method_text(route: Route) -> &'static str
+    ensures { result.now ≡ method_of route }
+{
+    match route {
+        Route::Requests => "POST",
+        Route::Show(_) => "GET",
+        Route::Usage(_) => "GET",
     }
 }

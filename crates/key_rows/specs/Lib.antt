@@ -1,4 +1,5 @@
 pub mod DueRows
+pub mod Record
 pub mod Export
 pub mod RowWriter
 pub mod Report

@@ -13,8 +13,10 @@ mod date_text;
 mod export;
 mod key_row;
 pub mod laws;
+mod record;
 mod report;
 
 pub use export::{export_header, export_row};
 pub use key_row::KeyRow;
+pub use record::Record;
 pub use report::{horizon, is_listed, last_moment, report_head, report_line, report_total};

@@ -5,7 +5,6 @@ use Rattle.register_core.specs.declared.reply.Refusal.TheVariants.{UnknownKey}
 use Rattle.register_core.specs.Answer.{outcome}
 use Rattle.register_core.specs.Fold.{history}
 use Rattle.register_core.specs.Verdict.{answer}
-use Rattle.register_desk.specs.declared.record.Record.{Record}
 use Rattle.register_desk.specs.Shown.{shown, usage}
 use Rattle.http_messages.specs.declared.asked.Asked.{Asked}
 use Rattle.http_messages.specs.declared.asked.Asked.TheVariants.{Reject, ShowKey, ShowUsage, Apply}
@@ -37,14 +36,9 @@ abbrev pub found_reply : {T : Type 0} → (T → Reply) → Option T → Reply
 found_reply reply None = outcome_reply (Err UnknownKey)
 found_reply reply (Some found) = reply found
 
-abbrev pub record_reply : Record → Reply
-record_reply key =
-    key_reply (record { number = key.number; kind = key.kind; owner = key.owner; purpose = key.purpose; row = key.row })
-    key.need key.custodians key.approvals
-
 -- the reply of the register of this history
 abbrev pub reply_to : List Request → ℕ → Asked → Reply
 reply_to h moment (Reject rejection) = reply_of rejection
-reply_to h moment (ShowKey key) = found_reply record_reply (shown h key)
+reply_to h moment (ShowKey key) = found_reply key_reply (shown h key)
 reply_to h moment (ShowUsage key) = found_reply usage_reply (usage h key)
 reply_to h moment (Apply sent) = outcome_reply (outcome (answer h (request_at moment sent)))

@@ -6,13 +6,12 @@ ghost use Rattle.http_messages.specs.AnswerText.{outcome_reply};
 ghost use Rattle.register_core.specs.Request.{IsRequest};
 ghost use Rattle.register_core.specs.declared.reply.Refusal.TheVariants.{UnknownKey};
 ghost use Rattle.register_http.specs.Action.{Acts, IsTextOf};
-ghost use Rattle.register_http.specs.ActionReply.{record_reply, request_at};
+ghost use Rattle.register_http.specs.ActionReply.{request_at};
 
 use http_messages::{Asked, Sent, key_text, outcome_text, rejection_text, usage_text};
-use key_rows::KeyRow;
 use moment_core::Moment;
 use register_core::{Refusal, Request};
-use register_desk::{Desk, End, Record};
+use register_desk::{Desk, End};
 use sqlite::Alter;
 use std::alloc::{AllocError, Global};
 
@@ -34,36 +33,12 @@ fn unknown_text(alloc: Global) -> Result<String, AllocError>
     outcome_text(alloc, &Err(Refusal::UnknownKey))
 }
 
-/// The reply that shows a key.
-fn record_text(alloc: Global, shown: Record) -> Result<String, AllocError>
-    ensures { IfOk result (IsTextOf (record_reply shown)) }
-{
-    let Record {
-        number,
-        kind,
-        owner,
-        purpose,
-        row,
-        need,
-        custodians,
-        approvals,
-    } = shown;
-    let key = KeyRow {
-        number,
-        kind,
-        owner,
-        purpose,
-        row,
-    };
-    key_text(alloc, &key, need, &custodians, &approvals)
-}
-
 /// Shows a key.
 fn show<S: Alter>(alloc: Global, desk: &mut Desk<S>, key: u32) -> Result<String, End>
     ensures { (moment : ℕ) → Acts S.Store moment (Asked.ShowKey key) desk.old desk.new result }
 {
     match desk.show(key) {
-        Ok(Some(shown)) => text_or_end(record_text(alloc, shown)),
+        Ok(Some(shown)) => text_or_end(key_text(alloc, &shown)),
         Ok(None) => text_or_end(unknown_text(alloc)),
         Err(end) => Err(end),
     }

@@ -1,6 +1,6 @@
 //! The texts of replies: each status, each refusal, a key and its usage.
 use http_messages::{Rejection, Route, key_text, outcome_text, rejection_text, usage_text};
-use key_rows::KeyRow;
+use key_rows::{KeyRow, Record};
 use lifecycle_core::{Dates, Process, Row, State, Usage};
 use moment_core::Moment;
 use period_core::KeyType;
@@ -203,14 +203,13 @@ const KEY: &str =
 #[test]
 fn a_key_has_its_body(rt: HostRuntime) -> Result<(), Fail> {
     let alloc = rt.alloc();
-    let key = key().ok_or("a key")?;
-    let text = key_text(
-        alloc,
-        &key,
-        3,
-        &names(alloc, &["cat", "dan"])?,
-        &names(alloc, &["cat"])?,
-    )?;
+    let shown = Record {
+        key: key().ok_or("a key")?,
+        need: 3,
+        custodians: names(alloc, &["cat", "dan"])?,
+        approvals: names(alloc, &["cat"])?,
+    };
+    let text = key_text(alloc, &shown)?;
     let body = format!(in alloc;
         "{KEY}\u{fc}\",\"state\":\"Destroyed-Compromised\",\"type\":\"master\"}}"
     )?;

@@ -2,7 +2,7 @@
 
 use crate::desk::Desk;
 use crate::end::End;
-use crate::record::Record;
+use key_rows::Record;
 use lifecycle_core::{Usage, usage};
 use period_core::{KeyType, OfficePeriods, Period};
 use register_store::{StoreError, find_period};

@@ -1,28 +1,29 @@
 use Rattle.std.proofs.Common.{◌+◌, ◌++◌, length, rules, ap, ◌∙◌, length-append}
 use Rattle.std.proofs.KnownBytes.{Consumes-trans}
 use Rattle.http_messages.specs.Asked.{bad_head, large_head}
-use Rattle.http_messages.proofs.Inputs.{bad_input, large_input, whole_asked, some_asks, unread_asks}
+use Rattle.http_messages.proofs.Inputs.{bad_input, large_input, whole_asked, unread_asks}
 use Rattle.http_messages.proofs.asking.ask_after.Goals as goal
 
 pub returns-in-Ok-Bad-clause-asks : goal.returns-in-Ok-Bad-clause-asks
 returns-in-Ok-Bad-clause-asks g c = λ input known.
     let found = rw c.in-Ok-Bad.field-0-is at c.in-Ok-Bad.ensures.found in
-    unread_asks input _ c.unread-in-Ok-Bad.result c.unread-in-Ok-Bad.ensures (bad_head (bad_input _ _ input _ known c.find_head.ensures.bytes c.find_head.ensures.short found))
+    unread_asks input _ c.rejected.result c.rejected.ensures (bad_head (bad_input _ _ input _ known c.find_head.ensures.bytes c.find_head.ensures.short found))
 
 pub returns-in-Ok-TooLarge-clause-asks : goal.returns-in-Ok-TooLarge-clause-asks
 returns-in-Ok-TooLarge-clause-asks g c = λ input known.
     let found = rw c.in-Ok-TooLarge.field-0-is at c.in-Ok-TooLarge.ensures.found in
-    unread_asks input _ c.unread-in-Ok-TooLarge.result c.unread-in-Ok-TooLarge.ensures (large_head (large_input _ _ input _ known c.find_head.ensures.bytes found))
+    unread_asks input _ c.rejected-in-Ok-TooLarge.result c.rejected-in-Ok-TooLarge.ensures (large_head (large_input _ _ input _ known c.find_head.ensures.bytes found))
 
 pub returns-in-Ok-Whole-clause-asks : goal.returns-in-Ok-Whole-clause-asks
 returns-in-Ok-Whole-clause-asks g c = λ input known.
     let found = rw c.in-Ok-Whole.field-0-is at c.in-Ok-Whole.ensures.found in
-    let asked = whole_asked _ _ input c.find_head.new.self c.bytes.result.now c.find_head.new.headers c.in-Ok-Whole.spans c.ask_head-after.result.asked known c.find_head.ensures.bytes c.find_head.ensures.short (search rules) found c.bytes.ensures.value c.ask_head-after.ensures.asks in
-    some_asks input c.ask_head-after.result.asked c.some_asked.result c.some_asked.ensures.ok asked c.some_asked.ensures.err
+    whole_asked _ _ input c.find_head.new.self c.bytes.result.now c.find_head.new.headers c.in-Ok-Whole.spans
+    c.ask_head.result.asked known c.find_head.ensures.bytes c.find_head.ensures.short (search rules) found
+    c.bytes.ensures.value c.ask_head.ensures.asks
 
 pub returns-in-Ok-Whole-clause-read : goal.returns-in-Ok-Whole-clause-read
 returns-in-Ok-Whole-clause-read g c =
-    let (more, took, long) = c.ask_head-after.ensures.read in (
+    let (more, took, long) = c.ask_head.ensures.read in (
       c.find_head.new.self ++ more,
       Consumes-trans _ _ _ _ _ c.find_head.ensures.bytes took,
       length-append c.find_head.new.self more ∙ ap (λ n. length c.find_head.new.self + n) long,

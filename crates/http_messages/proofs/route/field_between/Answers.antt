@@ -1,6 +1,6 @@
 use Rattle.std.proofs.Common.{◌++◌, ap, ◌∙◌}
 use Rattle.http_messages.proofs.Routing.{cut_prefix, prefix_joins, rest_is, back_joins, cut_back}
-use Rattle.http_messages.proofs.route.between.Goals as goal
+use Rattle.http_messages.proofs.route.field_between.Goals as goal
 
 pub returns-in-None-clause-none : goal.returns-in-None-clause-none
 returns-in-None-clause-none c = λ field e. cut_prefix c.args.prefix.now (field ++ c.args.back.now) c.args.target.now e c.in-None.ensures.cases

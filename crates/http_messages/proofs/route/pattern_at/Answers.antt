@@ -1,7 +1,7 @@
 use Rattle.std.proofs.Common.{Some, sym, ap, ◌∙◌, subst}
 use Rattle.std.specs.Prelude.{IsUtf8}
 use Rattle.http_messages.proofs.Routing.{place_found, some_found, utf8_of_route}
-use Rattle.http_messages.proofs.route.place_at.Goals as goal
+use Rattle.http_messages.proofs.route.pattern_at.Goals as goal
 
 pub returns-in_default : goal.returns-in_default
 returns-in_default c = λ r p e. absurd (c.in_default.ensures.cases.0 (subst IsUtf8 (sym e) (utf8_of_route r p)))

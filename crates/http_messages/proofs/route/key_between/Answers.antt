@@ -1,7 +1,7 @@
 use Rattle.std.proofs.Common.{◌≡◌, ◌++◌, sym, ◌∙◌}
 use Rattle.std.specs.Prelude.{decimal}
 use Rattle.std.proofs.lemmas.List.{append_cancel_left, append_cancel_right}
-use Rattle.http_messages.proofs.route.number_between.Goals as goal
+use Rattle.http_messages.proofs.route.key_between.Goals as goal
 
 pub returns-in-None-key_number-clause-none : goal.returns-in-None-key_number-clause-none
 returns-in-None-key_number-clause-none c = λ n p e.

@@ -9,12 +9,11 @@ use Rattle.httparse.specs.declared.spans.HeaderSpan.{HeaderSpan}
 use Rattle.httparse.specs.declared.spans.RequestSpans.{RequestSpans}
 use Rattle.httparse.specs.Spans.{IsRequestAt, header_bytes, span_bytes}
 use Rattle.http_messages.specs.declared.route.Route.{Route}
-use Rattle.http_messages.specs.declared.route.Route.TheVariants.{Requests, Show, Usage}
 use Rattle.http_messages.specs.Route.{IsRouteOf, method_of}
-use Rattle.http_messages.specs.Asked.{Lines, HasHost, lines_of, AsksPost, AsksAfter, no_host}
-use Rattle.http_messages.specs.Asked.{no_path, no_method, show, usage, post}
-use Rattle.http_messages.specs.declared.asked.Asked.{Asked}
-use Rattle.http_messages.specs.declared.asked.Asked.TheVariants.{Reject, ShowKey, ShowUsage}
+use Rattle.http_messages.specs.Asked.{HasHost, lines_of, AsksAfter, no_host, no_path, no_method}
+use Rattle.http_messages.specs.HeaderFields.{Lines}
+use Rattle.http_messages.specs.Post.{IsFor}
+use Rattle.http_messages.specs.declared.asked.Asked.TheVariants.{Reject}
 use Rattle.http_messages.specs.declared.asked.Rejection.TheVariants.{BadRequest, NoRoute, MethodNotAllowed}
 
 differ : (xs ys : List ℕ) → true ≡ not (bytes_eq xs ys) → xs ≢ ys
@@ -45,10 +44,6 @@ module _ (prefix : List ℕ) (headers : List HeaderSpan) (spans : RequestSpans) 
       → IsRouteOf h.target o
   route_is target o e p = subst (λ t. IsRouteOf t o) (e ∙ at.path) p
 
-  route_leads : (target : List ℕ) (r s : Route) → r ≡ s → target ≡ span_bytes prefix spans.path
-      → IsRouteOf target (Some r) → IsRouteOf h.target (Some s)
-  route_leads target r s is e p = subst (λ w. IsRouteOf h.target (Some w)) is (route_is target (Some r) e p)
-
   pub asks_no_host : (v : Bool) (rest : List ℕ) → v ≡ false → (HasHost spans.version lines → IsTrue v)
       → AsksAfter h rest (Reject BadRequest)
   asks_no_host v rest e f = no_host (λ p. let hit = f (host_was p) in no_truth v e hit)
@@ -72,15 +67,6 @@ module _ (prefix : List ℕ) (headers : List HeaderSpan) (spans : RequestSpans) 
       method_is : h.method ≡ method_of r
       method_is = sym (f ∙ at.method) ∙ agree method text same ∙ m
 
-      pub asks_show : (key : ℕ) (rest : List ℕ) → r ≡ Show key → AsksAfter h rest (ShowKey key)
-      asks_show key rest is =
-          show key (host_is p) (route_leads target r (Show key) is e q) (method_is ∙ ap method_of is)
-
-      pub asks_usage : (key : ℕ) (rest : List ℕ) → r ≡ Usage key → AsksAfter h rest (ShowUsage key)
-      asks_usage key rest is =
-          usage key (host_is p) (route_leads target r (Usage key) is e q) (method_is ∙ ap method_of is)
-
-      pub asks_post : (rest : List ℕ) (a : Asked) → r ≡ Requests → AsksPost lines rest a → AsksAfter h rest a
-      asks_post rest a is asked =
-          post a (host_is p) (route_leads target r Requests is e q) (method_is ∙ ap method_of is)
-          (subst (λ ls. AsksPost ls rest a) at.fields asked)
+      -- the head is for the route
+      pub is_for : IsFor h r
+      is_for = record { host = host_is p; target = route_is target (Some r) e q; method = method_is }
