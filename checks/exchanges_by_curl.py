@@ -9,12 +9,19 @@ docs/SPECIFICATION.md; nothing is taken from the program but the second at which
 exchange. Each difference is printed, and a last line says how many exchanges agreed; the status is 1 where not all did. Behind
 each part the file's own tables are read by SQLite and compared too.
 
+Each reply is also held to what docs/openapi.yaml says of its method, target and status: the schema
+of its body and those of its headers, and no other header. A body that is sent as a command has to
+meet the schema of requests there, and one that is refused as none must not. The examples of that
+document have to be those of the specification.
+
 --full    also a register of 1000000 keys, which refuses one more (it takes a minute)
 --ab      also a thousand exchanges of each kind by ApacheBench, where `ab` is installed
 --stalls  also clients that stall before their first byte and within the body, not within the head alone
 --bound   so long a stalled client may hold the next one up; 120 seconds where nothing is said
 
-It needs Linux and curl. Build the program first: ./keyreg </dev/null
+It needs Linux, curl, and Python's jsonschema and PyYAML. `pip install openapi-spec-validator`
+brings both; with Debian's python3-jsonschema and python3-yaml the command is
+/usr/bin/python3 checks/exchanges_by_curl.py. Build the program first: ./keyreg </dev/null
 """
 import argparse
 import http.client
@@ -28,6 +35,7 @@ import sys
 import threading
 import time
 
+from interface import Interface
 from registers import INDEXES, STATES, TABLES, UNSET, VERSION, expect, keyreg
 from rules import (
     BAD, GREATEST_NUMBER, LAST, LENGTH_REQUIRED, MEMBERS, NO_ROUTE, STORE, TOO_LARGE, UNKNOWN, Register, compact, get_reply, line,
@@ -122,6 +130,16 @@ class Ended(Exception):
     """The program ended within a part."""
 
 
+INTERFACE = Interface()
+
+
+def asked_of(given):
+    """The method and the target of a request's bytes, as far as its first line has them."""
+    first = given.lstrip(b"\r\n").split(b"\n")[0].rstrip(b"\r").decode(errors="replace")
+    method, _, rest = first.partition(" ")
+    return method, rest.partition(" ")[0]
+
+
 def parts(given):
     """The lines of a reply's head, and its body."""
     head, _, body = given.partition(b"\r\n\r\n")
@@ -130,10 +148,12 @@ def parts(given):
 
 class Office:
     """A served register beside the register of the rules, which is given what it is given."""
-    sent = agreed = failures = 0
+    sent = agreed = failures = met = 0
 
     def __init__(self, name, served, register=None):
         self.name, self.served, self.register = name, served, register or Register()
+        # The method and the target of the exchange that is held next.
+        self.asked = None
 
     @classmethod
     def fail(cls, told):
@@ -146,6 +166,7 @@ class Office:
         before = int(time.time())
         found = send()
         after = int(time.time())
+        self.meet(name, found)
         trials = []
         for moment in [before] if isinstance(answer, bytes) else range(before, after + 1):
             trial = self.register if isinstance(answer, bytes) else self.register.copy()
@@ -166,13 +187,33 @@ class Office:
         if self.served.has_ended():
             raise Ended
 
+    def meet(self, name, found):
+        """Holds a reply to what docs/openapi.yaml says of it."""
+        if not found:
+            return
+        told = INTERFACE.unmet(*self.asked, found)
+        Office.met += not told
+        if told:
+            self.fail(f"{self.name}, {name}, by docs/openapi.yaml: {told}")
+
+    def give(self, given, **how):
+        """The reply to these bytes."""
+        self.asked = asked_of(given)
+        return self.served.raw(given, **how)
+
     def curl(self, path, *words, given=None):
+        if "--request" in words:
+            method = words[words.index("--request") + 1]
+        else:
+            method = "HEAD" if "--head" in words else "POST" if "--data-binary" in words else "GET"
+        self.asked = (method, path)
         place = f"http://127.0.0.1:{self.served.port}{path}"
         told = ["curl", "--silent", "--include", "--raw", "--http1.1", "--noproxy", "*", "--path-as-is", "--max-time", "60"]
         return subprocess.run([*told, *words, place], input=given, capture_output=True, check=False).stdout
 
     def python(self, method, path, body=None, headers=None):
         """The reply as http.client reads it."""
+        self.asked = (method, path)
         connection = http.client.HTTPConnection("127.0.0.1", self.served.port, timeout=60)
         connection.request(method, path, body, headers or {})
         answer = connection.getresponse()
@@ -188,7 +229,14 @@ class Office:
             return self.curl("/requests", "--header", "Expect:", *words, "--data-binary", "@-", given=body)
         if way == "python":
             return self.python("POST", "/requests", body, told)
-        return self.served.raw(post(body, f"Caller: {caller}", f"Request-Number: {number}"), pieces=1 if way == "bytes" else None)
+        given = post(body, f"Caller: {caller}", f"Request-Number: {number}")
+        return self.give(given, pieces=1 if way == "bytes" else None)
+
+    def is_command(self, body, wanted):
+        """Whether the body is a command by the schema of docs/openapi.yaml, as is wanted."""
+        if INTERFACE.is_command(body) != wanted:
+            told = "no" if wanted else "a"
+            self.fail(f"{self.name}: by docs/openapi.yaml {body[:120]} is {told} command")
 
     def post(self, caller, number, command, said=None, way="curl"):
         """A request with a command; `said` is the number of its refusal, None for one that is accepted."""
@@ -199,6 +247,7 @@ class Office:
             return wanted
 
         body = json.dumps(request_object(command), ensure_ascii=False).encode()
+        self.is_command(body, True)
         self.agree(f"{caller} {number} {command} by {way}", lambda: self.posted(way, caller, number, body), answer)
 
     def get(self, key, way="curl"):
@@ -206,11 +255,11 @@ class Office:
         for of_usage in (False, True):
             path = f"/keys/{key}" + "/usage" * of_usage
             send = {"curl": lambda: self.curl(path), "python": lambda: self.python("GET", path)}.get(
-                way, lambda: self.served.raw(get(path)))
+                way, lambda: self.give(get(path)))
             self.agree(f"GET {path} by {way}", send, lambda register, _: get_reply(register, key, of_usage))
 
     def raw(self, name, given, answer, **how):
-        self.agree(name, lambda: self.served.raw(given, **how), answer)
+        self.agree(name, lambda: self.give(given, **how), answer)
 
     def look_at_tables(self):
         """Ends the program and compares the tables with the rules' register."""
@@ -697,6 +746,7 @@ def bodies():
         office = Office("bodies", served, register)
 
         def refused(name, body):
+            office.is_command(body, False)
             office.raw(f"{name}: {body[:120]}", post(body, *ANN), BAD)
 
         for name, body in [
@@ -750,6 +800,7 @@ def bodies():
         ]:
             fields = ("Caller: bob", f"Request-Number: {number + 1}")
             number += 1
+            office.is_command(body, True)
             office.raw(name, post(body, *fields), accepted("bob", number, command))
             office.raw(f"{name}, again", post(compact(request_object(command)), *fields), accepted("bob", number, command))
         for key in range(1, len(office.register.keys) + 1):
@@ -809,7 +860,9 @@ def refused_store():
             office.get(len(office.register.keys))
             # It acted, or acts now: either way its key is the next, and the same request gives the same reply from here on.
             asked = post(body, "Caller: ann", f"Request-Number: {number}")
-            moment = json.loads(again.raw(asked).partition(b"\r\n\r\n")[2]).get("moment", 0)
+            found = office.give(asked)
+            office.meet("the same request", found)
+            moment = json.loads(found.partition(b"\r\n\r\n")[2]).get("moment", 0)
             expect(begun <= moment <= time.time(), f"{office.name}: a moment of {moment}")
             office.raw("the same request", asked, lambda kept, _: post_reply(kept, moment, "ann", number, command))
             office.get(len(office.register.keys))
@@ -837,6 +890,7 @@ def stalled(bound, all_places):
                 except (socket.timeout, ConnectionResetError):
                     pass
                 found = b"".join(pieces)
+            office.asked = ("GET", "/keys/1")
             office.agree("the next client", lambda: found, get_reply(register, 1, False))
             print(f"a client that stalled {name} held the next one up for {time.monotonic() - begun:.1f} s")
             if found:
@@ -873,7 +927,8 @@ def left_clients():
         connection.sendall(whole)
         connection.close()
         before = int(time.time()) - 1
-        found = served.raw(whole)
+        found = office.give(whole)
+        office.meet("sent again", found)
         moment = json.loads(found.partition(b"\r\n\r\n")[2]).get("moment", 0)
         expect(before <= moment <= time.time(), f"a moment of {moment}")
         office.raw("sent again", whole, lambda kept, _: post_reply(kept, moment, "zed", 1, ("advance",)))
@@ -897,6 +952,7 @@ def several_at_once():
             thread.join()
         told = {place: json.loads(found.partition(b"\r\n\r\n")[2]) for place, found in replies.items()}
         expect(all("key" in one for one in told.values()), f"clients at once: {told}")
+        office.asked = ("POST", "/requests")
         for place in sorted(told, key=lambda place: told[place]["key"]):
             command = ("register", "master", f"owner-{place}", None, None, None, f"key of {place}")
             moment = told[place]["moment"]
@@ -985,6 +1041,11 @@ def main():
     told = words.parse_args()
     expect(shutil.which("curl"), "curl is not installed")
     look_at_rules()
+    wrong, examples = INTERFACE.look_at_examples()
+    for one in wrong:
+        Office.fail(f"docs/openapi.yaml, {one}")
+    right = examples - len(wrong)
+    print(f"{right} of {examples} examples of docs/openapi.yaml are in the specification", flush=True)
     for part in [
         commands, behind, routes_and_methods, heads, lengths_and_callers, bodies, own_end, refused_store, left_clients,
         several_at_once,
@@ -1000,6 +1061,7 @@ def main():
         full()
     if told.ab:
         by_ab()
+    print(f"{Office.met} replies met their schemas of docs/openapi.yaml")
     print(f"{Office.agreed} of {Office.sent} exchanges agreed" + (f"; {Office.failures} differences" if Office.failures else ""))
     sys.exit(1 if Office.failures else 0)
 
