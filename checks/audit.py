@@ -1,0 +1,116 @@
+#!/usr/bin/env python3
+"""Runs each command of docs/AUDIT.md in a folder of its own and compares what it prints with what
+stands there. Then the views of examples/audit.sql are compared with the rules of checks/rules.py:
+each key's state and usage, and what is due with what `keyreg report` writes.
+
+    checks/audit.py [--write]
+
+--write  puts what the commands print into docs/AUDIT.md
+
+It needs SQLite's shell, of version 3.38 or above. Build the program first: ./keyreg </dev/null
+"""
+import argparse
+import os
+import pathlib
+import re
+import subprocess
+import sys
+import tempfile
+
+from registers import PROGRAM, expect, keyreg
+from rules import Register, reply_line
+
+TOP = pathlib.Path(__file__).resolve().parent.parent
+PAGE = TOP / "docs" / "AUDIT.md"
+VIEWS = TOP / "examples" / "audit.sql"
+# A block of commands, and the block of what they print, where they print something.
+BLOCK = re.compile(r"```sh\n(.*?)```\n(?:\n```\n(.*?)```\n)?", re.S)
+# The first block is the copy alone, which the register of the page takes again.
+FIRST = 1
+DAYS = 60
+
+
+def printed(commands, folder):
+    """What the commands of a block print, without the spaces at the ends of lines."""
+    told = {"cwd": folder, "capture_output": True, "text": True, "check": False}
+    done = subprocess.run(["sh", "-e"], input=commands, **told)
+    is_well = done.returncode == 0 and not done.stderr
+    expect(is_well, f"{commands}: status {done.returncode}, {done.stderr}")
+    return "".join(line.rstrip() + "\n" for line in done.stdout.splitlines())
+
+
+def asked(file, question):
+    """The rows of a question over the views."""
+    words = ["sqlite3", "-readonly", "-list", file, f".read {VIEWS}", question]
+    done = subprocess.run(words, capture_output=True, text=True, check=True)
+    return [row.split("|") for row in done.stdout.splitlines()]
+
+
+def date_of(text):
+    return int(text) if text.isdigit() else text if text == "=" else None
+
+
+def command_of(text):
+    """The command of a line's text, as the rules have it."""
+    word, *fields = text.split(" ")
+    if word == "register":
+        kind, owner, *dates = fields[:5]
+        return (word, kind, owner, *map(date_of, dates), " ".join(fields[5:]))
+    dated = {"set": 1, "revoke": 2}.get(word)
+    if dated:
+        return (word, *map(int, fields[:dated]), *map(date_of, fields[dated:]))
+    return (word, *(int(field) if field.isdigit() else field for field in fields))
+
+
+def look_at_views(folder):
+    """The views beside the rules over the same accepted requests, and the program's report."""
+    file = os.path.join(folder, "copy.keyreg")
+    register = Register()
+    columns = "moment, caller, number, command"
+    requests = asked(file, f"SELECT {columns} FROM request ORDER BY moment, rowid")
+    for moment, caller, number, command in requests:
+        reply = reply_line(register, int(moment), caller, int(number), command_of(command))
+        expect(reply.startswith("ok "), f"{command} is refused: {reply}")
+    numbers = range(1, len(register.keys) + 1)
+    wanted = []
+    for number in numbers:
+        usage = register.usage(number)
+        protects = "yes" if usage["protect"] else "no"
+        wanted.append([str(number), register.shown(number)["state"], protects, usage["process"]])
+    found = asked(file, "SELECT number, state, protects, processes FROM standing ORDER BY number")
+    expect(found == wanted, f"standing is {found}, not {wanted}")
+    lines = keyreg(["report", "--file", os.path.join(folder, "office.keyreg"), "--days", str(DAYS)])
+    due = asked(file, "SELECT number, protect_stop, mark, type, owner, purpose FROM due")
+    found = ["  ".join([f"{n:>7}", stop, f"{mark:7}", f"{kind:22}", owner, purpose])
+             for n, stop, mark, kind, owner, purpose in due]
+    expect(found == lines[1:-1], f"due is {found}, not {lines[1:-1]}")
+    return len(requests), len(numbers)
+
+
+def main():
+    words = argparse.ArgumentParser()
+    words.add_argument("--write", action="store_true")
+    writes = words.parse_args().write
+    text = PAGE.read_text(encoding="utf-8")
+    blocks = list(BLOCK.finditer(text))[FIRST:]
+    failures = 0
+    with tempfile.TemporaryDirectory() as folder:
+        os.symlink(TOP / "examples", os.path.join(folder, "examples"))
+        os.symlink(os.path.abspath(PROGRAM), os.path.join(folder, "keyreg"))
+        for block in blocks:
+            found = printed(block[1], folder)
+            if writes:
+                told = f"```sh\n{block[1]}```\n" + (f"\n```\n{found}```\n" if found else "")
+                text = text.replace(block[0], told, 1)
+            elif found != (block[2] or ""):
+                failures += 1
+                print(f"{block[1]}prints\n{found}and not\n{block[2]}", flush=True)
+        requests, keys = look_at_views(folder)
+    if writes:
+        PAGE.write_text(text, encoding="utf-8")
+    print(f"{len(blocks) - failures} of {len(blocks)} blocks of docs/AUDIT.md print what is there; "
+          f"{keys} keys of {requests} requests are as the rules say")
+    sys.exit(1 if failures else 0)
+
+
+main()
