@@ -777,6 +777,8 @@ def bodies():
             refused("register keeps nothing", body_text({**sample, name: '"keep"'}))
         for reason in (1, 4, 5, 6, 7):
             refused("an occurrence without a compromise", compact({"kind": "revoke", "key": 1, "reason": reason, "occurrence": 5}))
+        for reason in (0, 8):
+            refused("no reason", compact({"kind": "revoke", "key": 1, "reason": reason, "occurrence": None}))
         office.get(1)
         # What is another spelling of the same value.
         spare = ("register", "master", "bob", None, 6, 7, "a\u00e9\"\\/b")
