@@ -2,7 +2,8 @@
 """The man page has the commands and options that `--help` shows, and no other: of each command its
 options with the names of their values, in the same order, in the synopsis and in its own section.
 The lines of standard error that it quotes are those of the names that docs/SPECIFICATION.md has.
-Where mandoc or groff is installed, it has nothing to say of the page.
+Where mandoc or groff is installed, it has nothing to say of the page. And examples/keyreg.service
+starts the program with the options of `serve`.
 
     checks/manual.py
 
@@ -18,6 +19,7 @@ from registers import PROGRAM
 
 TOP = pathlib.Path(__file__).resolve().parent.parent
 PAGE = TOP / "docs" / "keyreg.1"
+SERVICE = TOP / "examples" / "keyreg.service"
 HELP = ("h, -help", None)
 OPTION = re.compile(r"^\s+(?:-(\w), )?--([\w-]+)(?: <(\w+)>)?", re.M)
 COMMAND = re.compile(r"^  (\w+)  ", re.M)
@@ -89,6 +91,9 @@ def differences(page):
             if found.get(word) != wanted.get(word):
                 told = f"{found.get(word)}, and --help {wanted.get(word)}"
                 yield f"{name}: {word or 'the program'} has {told}"
+    started = re.search(r"^ExecStart=\S+ serve (.*)", SERVICE.read_text(), re.M)
+    if re.findall(r"-(-\w+) \S+", started[1]) != [name for name, _ in wanted["serve"]]:
+        yield f"examples/keyreg.service has {started[1]}"
     text = (TOP / "docs" / "SPECIFICATION.md").read_text(encoding="utf-8")
     names = {one or other for one, other in NAMED.findall(text)}
     quoted = set(QUOTED.findall(page))
