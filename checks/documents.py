@@ -16,7 +16,9 @@ parts, all where none is named:
     commands   the commands of README.md and docs/OPERATING.md print what stands after them
                (checks/commands.py)
     stale      no document has another number of tables or commands, another bound on steps, a
-               table, an index, a refusal or an end of another name, or another kit than the code has
+               table, an index, a refusal or an end of another name, or another kit than there is
+    pictures   README's picture of the states has the transitions of docs/SPECIFICATION.md, and
+               docs/costs.svg the figures of docs/COSTS.md
 
 The program is the one that ./keyreg builds, or that KEYREG names. Of the crates' specs those count
 that the program stands on.
@@ -356,8 +358,33 @@ def output_faults():
     return faults, f"{count} blocks of commands"
 
 
+# ---- pictures
+
+
+def picture_faults():
+    """That README's states have the transitions of SPECIFICATION, and COSTS its bars."""
+    rows = [cells(line) for _, line in numbered("docs/SPECIFICATION.md")]
+    states = "|".join(re.search(r"The states are ([^.]*)\.", read("docs/SPECIFICATION.md"))[1]
+                      .replace("`", "").replace("\n", " ").split(" (")[0].replace(" and ", ", ")
+                      .split(", "))
+    wanted = {(row[0], row[1], row[2]) for row in rows if len(row) == 4
+              and re.fullmatch(rf"{states}|none", row[1]) and re.fullmatch(states, row[2])}
+    text = read("README.md")
+    names = {short: name for name, short in re.findall(r'state "([\w-]+)" as (\w+)', text)}
+    names["[*]"] = "none"
+    drawn = {(number, names.get(before, before), names.get(after, after))
+             for before, after, number in re.findall(r"(\S+) --> (\w+): (\d+)", text)}
+    faults = [f"README.md: its picture lacks transition {row}" for row in sorted(wanted - drawn)]
+    faults += [f"README.md: no transition {row}" for row in sorted(drawn - wanted)]
+    script = os.path.join(TOP, "bench", "costs_svg.py")
+    if subprocess.run([script, "--check"], stdout=subprocess.DEVNULL, check=False).returncode:
+        faults.append("docs/costs.svg: not that of docs/COSTS.md: bench/costs_svg.py draws it")
+    return faults, f"{len(wanted)} transitions and a picture of costs"
+
+
 PARTS = {"words": missing_words, "promises": promise_faults, "paths": path_faults,
-         "calls": call_faults, "commands": output_faults, "stale": stale_faults}
+         "calls": call_faults, "commands": output_faults, "stale": stale_faults,
+         "pictures": picture_faults}
 
 
 def main():
