@@ -102,11 +102,11 @@ def functions_named(text, owner=""):
     """The functions that `Desk::apply` or `run` names; without a type it may be of this one."""
     path = text.split("::")
     named = by_name().get(path[-1], [])
-    if len(path) > 1 and path[-2] != "laws":
-        return [function for function in named if function.owner == path[-2]]
     if path[-2:-1] == ["laws"]:
         return [function for function in named if function.path.endswith("laws.rt")
-                or "/laws/" in function.path]
+                and path[0] in ("laws", function.crate)]
+    if len(path) > 1:
+        return [function for function in named if function.owner == path[-2]]
     of_owner = [function for function in named if owner and function.owner == owner]
     of_type = [function for function in sources_functions() if function.owner == text]
     return of_owner or of_type or named
@@ -127,7 +127,7 @@ def code_names():
         names |= set(re.findall(r"^\s*(?:pub )?(\w+): ", read(path), re.M))
         for used in re.findall(r"^(?:pub )?use ([^;]*);", read(path), re.M):
             names |= set(re.findall(r"\w+", used))
-    return names | OTHERS
+    return names | OTHERS | {"laws"}
 
 
 def without_brackets(text):
@@ -171,9 +171,14 @@ def cell_faults(cell):
     return faults
 
 
+def is_known(text):
+    is_call = "::" in text and text.split("::")[-1][0].islower() and not text.endswith("::laws")
+    return bool(functions_named(text)) if is_call else text.split("::")[-1] in code_names()
+
+
 def unknown_names(line):
-    return [text for text in QUOTED.findall(line)
-            if re.fullmatch(r"[\w:]+", text) and text.split("::")[-1] not in code_names()]
+    texts = [text for text in QUOTED.findall(line) if re.fullmatch(r"\w+(::\w+)*", text)]
+    return [text for text in texts if not is_known(text)]
 
 
 def promise_faults():
@@ -183,8 +188,8 @@ def promise_faults():
             cell = cells(line)[-1] if cells(line) else ""
             told = cell_faults(cell)
             lists += cell.count(" clause")
-            if document == "docs/PROMISES.md":
-                told += [f"nothing is named `{text}`" for text in unknown_names(line)]
+            looked_at = line if document == "docs/PROMISES.md" else cell if " clause" in cell else ""
+            told += [f"nothing is named `{text}`" for text in unknown_names(looked_at)]
             faults += [f"{document}:{number}: {fault}" for fault in told]
     return faults, f"{lists} lists of clauses in README and PROMISES"
 
