@@ -188,8 +188,8 @@ def promise_faults():
             cell = cells(line)[-1] if cells(line) else ""
             told = cell_faults(cell)
             lists += cell.count(" clause")
-            looked_at = line if document == "docs/PROMISES.md" else cell if " clause" in cell else ""
-            told += [f"nothing is named `{text}`" for text in unknown_names(looked_at)]
+            if document == "docs/PROMISES.md" or " clause" in cell:
+                told += [f"nothing is named `{text}`" for text in unknown_names(line)]
             faults += [f"{document}:{number}: {fault}" for fault in told]
     return faults, f"{lists} lists of clauses in README and PROMISES"
 
