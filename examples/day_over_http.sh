@@ -5,8 +5,8 @@
 #
 #     examples/day_over_http.sh [PORT]
 #
-# The port is 8420 where none is said. The first run of ./keyreg proves and builds it, which takes some minutes; KEYREG names
-# another program.
+# The port is 8420 where none is said. The first run of ./keyreg proves and builds it, which takes about half an hour; KEYREG
+# names another program.
 set -u
 keyreg=${KEYREG:-$(dirname "$0")/../keyreg}
 port=${1:-8420}

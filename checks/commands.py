@@ -1,0 +1,84 @@
+"""What checks/documents.py runs: the commands of a document, each with its output.
+
+A fenced block `sh` and the next fenced block without a language are commands and their output; a
+block `sh` that no such block follows is run by nobody. The blocks of a document are run one after
+the other in one folder, which has a copy of examples/ and checks/version_1.sql, and the program as
+./keyreg. The port 8420 is replaced by a free one. A moment of the clock, within the time of the
+run, stands in the document as 1795541234.
+"""
+import difflib
+import os
+import re
+import shutil
+import socket
+import subprocess
+import tempfile
+import time
+
+from registers import PROGRAM
+from sources import TOP, read
+
+CLOCK, PORT, SECONDS = "1795541234", "8420", 120
+
+
+def blocks(text):
+    """The commands and the outputs of a document, each with the number of its first line."""
+    fences, begun = [], None
+    for number, line in enumerate(text.split("\n"), 1):
+        if begun is None and line.startswith("```"):
+            begun = (number + 1, line[3:].strip(), [])
+        elif begun is not None and line.startswith("```"):
+            fences.append(begun)
+            begun = None
+        elif begun is not None:
+            begun[2].append(line)
+    pairs = zip(fences, fences[1:])
+    return [(number, "\n".join(lines), "\n".join(output[2]))
+            for (number, language, lines), output in pairs if language == "sh" and not output[1]]
+
+
+def free_port():
+    with socket.socket() as listener:
+        listener.bind(("127.0.0.1", 0))
+        return str(listener.getsockname()[1])
+
+
+def furnish(folder):
+    shutil.copytree(os.path.join(TOP, "examples"), os.path.join(folder, "examples"))
+    os.mkdir(os.path.join(folder, "checks"))
+    shutil.copy(os.path.join(TOP, "checks", "version_1.sql"), os.path.join(folder, "checks"))
+    os.symlink(os.path.abspath(PROGRAM), os.path.join(folder, "keyreg"))
+
+
+def printed(commands, folder):
+    """What the commands print on both outputs, moments of the clock as documents have them."""
+    begun = int(time.time())
+    port = free_port()
+    told = {**os.environ, "no_proxy": "*", "TZ": "UTC", "TMPDIR": folder}
+    try:
+        run = subprocess.run(["bash", "-c", commands.replace(PORT, port)], cwd=folder, env=told,
+                             timeout=SECONDS, stdin=subprocess.DEVNULL, stdout=subprocess.PIPE,
+                             stderr=subprocess.STDOUT, text=True)
+        text = run.stdout
+    except subprocess.TimeoutExpired as late:
+        text = f"{(late.stdout or b'').decode()}no end in {SECONDS} seconds"
+    ended = int(time.time())
+    times = range(begun, ended + 1)
+    return re.sub(r"\b\d{10}\b", lambda found: CLOCK if int(found[0]) in times else found[0],
+                  text.replace(port, PORT))
+
+
+def wrong_outputs(document):
+    """A line for each block of commands whose output is another one, and how many there are."""
+    if not os.access(PROGRAM, os.X_OK):
+        return [f"{document}: no program at {PROGRAM}: ./keyreg </dev/null builds it"], 0
+    faults, found = [], blocks(read(document))
+    with tempfile.TemporaryDirectory() as folder:
+        furnish(folder)
+        for number, commands, output in found:
+            got = printed(commands, folder).rstrip("\n").split("\n")
+            lines = difflib.unified_diff(output.rstrip("\n").split("\n"), got, lineterm="", n=0)
+            differs = [line for line in lines if not line.startswith(("---", "+++", "@@"))]
+            if differs:
+                faults.append(f"{document}:{number}: another output: " + " / ".join(differs[:4]))
+    return faults, len(found)
