@@ -293,7 +293,7 @@ def counts_of_code():
     tables = re.search(r"TABLES: \[TableName; (\d+)\]", read("crates/register_store/src/table.rt"))
     kind = read("crates/register_core/src/command_kind.rt")
     kinds = re.search(r"ALL: \[CommandKind; (\d+)\]", kind)
-    steps = re.search(r"StandsFor[^}]*TakesSteps (\d+)", read("crates/register_desk/src/desk.rt"))
+    steps = re.search(r"StandsFor[^}]*TakesSteps (\d+)", read("crates/register_desk/src/desk/applying.rt"))
     return int(tables.group(1)), int(kinds.group(1)), int(steps.group(1))
 
 
