@@ -34,7 +34,7 @@ fn unknown_text(alloc: Global) -> Result<String, AllocError>
 }
 
 /// Shows a key.
-fn show<S: Alter>(alloc: Global, desk: &mut Desk<S>, key: u32) -> Result<String, End>
+fn show_reply<S: Alter>(alloc: Global, desk: &mut Desk<S>, key: u32) -> Result<String, End>
     ensures { (moment : ℕ) → Acts S.Store moment (Asked.ShowKey key) desk.old desk.new result }
 {
     match desk.show(key) {
@@ -45,7 +45,7 @@ fn show<S: Alter>(alloc: Global, desk: &mut Desk<S>, key: u32) -> Result<String,
 }
 
 /// Tells what a key may be used for.
-fn usage<S: Alter>(alloc: Global, desk: &mut Desk<S>, key: u32) -> Result<String, End>
+fn usage_reply<S: Alter>(alloc: Global, desk: &mut Desk<S>, key: u32) -> Result<String, End>
     ensures { (moment : ℕ) → Acts S.Store moment (Asked.ShowUsage key) desk.old desk.new result }
 {
     match desk.usage(key) {
@@ -69,7 +69,7 @@ fn request_at(moment: Moment, sent: &Sent) -> Request
 }
 
 /// Applies what was sent at this moment.
-fn apply<S: Alter>(
+fn apply_reply<S: Alter>(
     alloc: Global,
     desk: &mut Desk<S>,
     moment: Moment,
@@ -90,7 +90,7 @@ fn apply<S: Alter>(
 /// # Errors
 /// [`End::Memory`], [`End::Store`] or [`End::Broken`], as the call of the desk has it; the first
 /// also where memory gave out for the text.
-pub(crate) fn act<S: Alter>(
+pub(crate) fn answer<S: Alter>(
     alloc: Global,
     desk: &mut Desk<S>,
     moment: Moment,
@@ -101,8 +101,8 @@ pub(crate) fn act<S: Alter>(
 {
     match asked {
         Asked::Reject(rejection) => text_or_end(rejection_text(alloc, *rejection)),
-        Asked::ShowKey(key) => show(alloc, desk, *key),
-        Asked::ShowUsage(key) => usage(alloc, desk, *key),
-        Asked::Apply(sent) => apply(alloc, desk, moment, sent),
+        Asked::ShowKey(key) => show_reply(alloc, desk, *key),
+        Asked::ShowUsage(key) => usage_reply(alloc, desk, *key),
+        Asked::Apply(sent) => apply_reply(alloc, desk, moment, sent),
     }
 }

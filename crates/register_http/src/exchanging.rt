@@ -9,7 +9,7 @@ ghost use Rattle.register_http.specs.Exchange.{KeepsWriter, ServesAsked};
 ghost use Rattle.register_http.specs.OneItem.{LeavesOne};
 ghost use Rattle.register_http.specs.SentReply.{Sends, end_reply};
 
-use crate::acting::act;
+use crate::acting::answer;
 use http_messages::{AskFault, Asked, Routes, ask};
 use moment_core::Moment;
 use register_desk::{Desk, End, Finish, MAX_IDLE_TURNS, Outcome, Watched};
@@ -63,7 +63,7 @@ fn send<W: Write>(writer: &mut Watched<W>, reply: &[u8]) -> Sending
 }
 
 /// Does what is asked, and writes the reply.
-fn serve<W: Write, S: Alter>(
+fn send_answer<W: Write, S: Alter>(
     alloc: Global,
     desk: &mut Desk<S>,
     moment: Moment,
@@ -76,7 +76,7 @@ fn serve<W: Write, S: Alter>(
     ensures keeps { KeepsWriter writer.old writer.new result.replies }
     ensures unread { result.read ≡ 0 }
 {
-    match act(alloc, desk, moment, asked) {
+    match answer(alloc, desk, moment, asked) {
         Ok(text) => {
             let sending = send(writer, text.as_bytes());
             Outcome {
@@ -123,8 +123,8 @@ fn silent_outcome(end: Finish) -> Outcome
     }
 }
 
-/// Serves what came of reading.
-fn serve_asked<W: Write, S: Alter>(
+/// Answers what came of reading, and writes the reply.
+fn send_reply<W: Write, S: Alter>(
     alloc: Global,
     desk: &mut Desk<S>,
     moment: Moment,
@@ -141,7 +141,7 @@ fn serve_asked<W: Write, S: Alter>(
     ensures unread { result.read ≡ 0 }
 {
     match asked {
-        Ok(Some(asked)) => serve(alloc, desk, moment, asked, writer),
+        Ok(Some(asked)) => send_answer(alloc, desk, moment, asked, writer),
         Ok(None) => silent_outcome(Finish::AtEnd { rest: 0 }),
         Err(AskFault::Memory) => refuse(End::Memory, writer),
         Err(AskFault::ReadFault) => silent_outcome(Finish::Ended(End::ReadFault)),
@@ -199,7 +199,7 @@ pub fn exchange_by<R: Read, W: Write, S: Alter>(
     reader.begin();
     writer.begin();
     let asking = ask(alloc, routes, reader);
-    let served = serve_asked(alloc, desk, moment, &asking.asked, writer);
+    let served = send_reply(alloc, desk, moment, &asking.asked, writer);
     Outcome {
         read: asking.read as u64,
         written: served.written,

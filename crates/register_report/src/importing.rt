@@ -72,7 +72,7 @@ fn skip_header<R: Read>(reader: &mut Reader<R>, row: &mut StringRecord) -> Resul
 }
 
 /// Serves the rows that come, up to the end of the input or to what ends the import before.
-fn serve_rows<R: Read, W: Write, S: Alter>(
+fn import_rows<R: Read, W: Write, S: Alter>(
     reader: &mut Reader<R>,
     row: &mut StringRecord,
     moment: Moment,
@@ -214,7 +214,7 @@ pub fn import<R: Read + Drop, W: Write, S: Alter>(
         .from_reader(alloc, reader);
     let mut row = StringRecord::new(alloc);
     match skip_header(&mut reader, &mut row) {
-        Ok(()) => serve_rows(&mut reader, &mut row, moment, *caller, first, writer, desk),
+        Ok(()) => import_rows(&mut reader, &mut row, moment, *caller, first, writer, desk),
         Err(end) => Outcome {
             read: 0,
             written: 0,

@@ -17,28 +17,28 @@ returns-in-Ok-clause-agrees g c h bytes items stands clean known has =
     let after = rows_after reads c.skip_header.new.reader has.rows c.in-Ok.ensures.reads has.has in
     let over = over_so g.S.Store g.R.Read.remaining c.args.moment c.args.caller.now c.args.first
     c.skip_header.new.reader (g.W.Write.contents c.begin.new.self.inner) _ c.args.desk.now
-    c.serve_rows.new.desk c.serve_rows.result.replies after items has.each h stands clean
-    c.serve_rows.result.end c.serve_rows.ensures.serves in
-    subst (λ (old : Option (List ℕ)). RunsOver g.S.Store h items [] c.serve_rows.result.end
-    c.serve_rows.result.replies old (g.W.Write.contents c.serve_rows.new.writer.inner)
-    c.serve_rows.new.desk)
+    c.import_rows.new.desk c.import_rows.result.replies after items has.each h stands clean
+    c.import_rows.result.end c.import_rows.ensures.serves in
+    subst (λ (old : Option (List ℕ)). RunsOver g.S.Store h items [] c.import_rows.result.end
+    c.import_rows.result.replies old (g.W.Write.contents c.import_rows.new.writer.inner)
+    c.import_rows.new.desk)
     (ap (λ w. g.W.Write.contents w.inner) c.begin.ensures) over
 
 pub returns-in-Ok-clause-leaves : goal.returns-in-Ok-clause-leaves
 returns-in-Ok-clause-leaves g c h bytes items stands whole clean known has =
-    leaves_next g.S.Store h items c.serve_rows.result.replies c.serve_rows.new.desk clean []
-    c.serve_rows.result.end _ _ c.args.desk.now whole c.serve_rows.ensures.desk
+    leaves_next g.S.Store h items c.import_rows.result.replies c.import_rows.new.desk clean []
+    c.import_rows.result.end _ _ c.args.desk.now whole c.import_rows.ensures.desk
     (returns-in-Ok-clause-agrees g c h bytes items stands clean known has)
 
 pub returns-in-Ok-clause-lives : goal.returns-in-Ok-clause-lives
 returns-in-Ok-clause-lives g c h stands clean =
-    let new = g.W.Write.contents c.serve_rows.new.writer.inner in
+    let new = g.W.Write.contents c.import_rows.new.writer.inner in
     let lives = lives_so g.S.Store g.R.Read.remaining c.args.moment c.args.caller.now c.args.first
     c.skip_header.new.reader (g.W.Write.contents c.begin.new.self.inner) new c.args.desk.now
-    c.serve_rows.new.desk c.serve_rows.result.replies h stands clean c.serve_rows.result.end
-    c.serve_rows.ensures.desk c.serve_rows.ensures.serves in
-    subst (λ (old : Option (List ℕ)). LivesSome g.S.Store h c.serve_rows.result.end
-    c.serve_rows.result.replies old new c.args.desk.now c.serve_rows.new.desk)
+    c.import_rows.new.desk c.import_rows.result.replies h stands clean c.import_rows.result.end
+    c.import_rows.ensures.desk c.import_rows.ensures.serves in
+    subst (λ (old : Option (List ℕ)). LivesSome g.S.Store h c.import_rows.result.end
+    c.import_rows.result.replies old new c.args.desk.now c.import_rows.new.desk)
     (ap (λ w. g.W.Write.contents w.inner) c.begin.ensures) lives
 
 pub returns-in-Ok-clause-uses : goal.returns-in-Ok-clause-uses
@@ -48,8 +48,8 @@ returns-in-Ok-clause-uses g c bytes items known has is =
     let after = rows_after reads c.skip_header.new.reader has.rows c.in-Ok.ensures.reads has.has in
     uses_so g.S.Store g.R.Read.remaining c.args.moment c.args.caller.now c.args.first
     c.skip_header.new.reader (g.W.Write.contents c.begin.new.self.inner) _ c.args.desk.now
-    c.serve_rows.new.desk c.serve_rows.result.replies after items has.each
-    c.serve_rows.result.end c.serve_rows.ensures.serves is
+    c.import_rows.new.desk c.import_rows.result.replies after items has.each
+    c.import_rows.result.end c.import_rows.ensures.serves is
 
 pub returns-in-Ok-clause-broken : goal.returns-in-Ok-clause-broken
 returns-in-Ok-clause-broken g c bytes items broken known has =
@@ -58,10 +58,10 @@ returns-in-Ok-clause-broken g c bytes items broken known has =
     let after = rows_after reads c.skip_header.new.reader has.rows c.in-Ok.ensures.reads has.has in
     let runs = broken_so g.S.Store g.R.Read.remaining c.args.moment c.args.caller.now c.args.first
     c.skip_header.new.reader (g.W.Write.contents c.begin.new.self.inner) _ c.args.desk.now
-    c.serve_rows.new.desk c.serve_rows.result.replies after items has.each broken
-    c.serve_rows.result.end c.serve_rows.ensures.desk c.serve_rows.ensures.serves in
-    subst (λ (old : Option (List ℕ)). ImportsBroken items c.serve_rows.result.end
-    c.serve_rows.result.replies old (g.W.Write.contents c.serve_rows.new.writer.inner))
+    c.import_rows.new.desk c.import_rows.result.replies after items has.each broken
+    c.import_rows.result.end c.import_rows.ensures.desk c.import_rows.ensures.serves in
+    subst (λ (old : Option (List ℕ)). ImportsBroken items c.import_rows.result.end
+    c.import_rows.result.replies old (g.W.Write.contents c.import_rows.new.writer.inner))
     (ap (λ w. g.W.Write.contents w.inner) c.begin.ensures) runs
 
 pub returns-in-Ok-clause-texts : goal.returns-in-Ok-clause-texts
@@ -70,8 +70,8 @@ returns-in-Ok-clause-texts g c bytes rows known has =
     c.from_reader-reader.ensures.state c.from_reader-reader.ensures.source known in
     let after = rows_after reads c.skip_header.new.reader rows c.in-Ok.ensures.reads has in
     texts_so g.S.Store g.R.Read.remaining c.args.moment c.args.caller.now c.args.first
-    c.skip_header.new.reader _ _ c.args.desk.now c.serve_rows.new.desk
-    c.serve_rows.result.replies after c.serve_rows.result.end c.serve_rows.ensures.serves
+    c.skip_header.new.reader _ _ c.args.desk.now c.import_rows.new.desk
+    c.import_rows.result.replies after c.import_rows.result.end c.import_rows.ensures.serves
 
 pub returns-in-Ok-clause-without : goal.returns-in-Ok-clause-without
 returns-in-Ok-clause-without g c bytes known without =
@@ -80,14 +80,14 @@ returns-in-Ok-clause-without g c bytes known without =
     absurd (without (begins_so reads c.skip_header.new.reader c.in-Ok.ensures.reads))
 
 pub returns-in-Ok-clause-uncounted : goal.returns-in-Ok-clause-uncounted
-returns-in-Ok-clause-uncounted g c = c.serve_rows.ensures.uncounted
+returns-in-Ok-clause-uncounted g c = c.import_rows.ensures.uncounted
 
 pub returns-in-Ok-clause-clean : goal.returns-in-Ok-clause-clean
 returns-in-Ok-clause-clean g c clean =
     clean_so g.S.Store g.R.Read.remaining c.args.moment c.args.caller.now c.args.first
-    c.skip_header.new.reader _ _ c.args.desk.now c.serve_rows.new.desk
-    c.serve_rows.result.replies c.serve_rows.result.end
-    c.serve_rows.ensures.serves clean
+    c.skip_header.new.reader _ _ c.args.desk.now c.import_rows.new.desk
+    c.import_rows.result.replies c.import_rows.result.end
+    c.import_rows.ensures.serves clean
 
 -- ---- no header row was read
 

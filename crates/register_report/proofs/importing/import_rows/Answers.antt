@@ -8,7 +8,7 @@ use Rattle.register_desk.proofs.Goings.{goes_then, leaves_going, leaves_stopped,
 use Rattle.register_desk.proofs.ServingLemmas.{wrote_begin, wrote_item, wrote_part}
 use Rattle.register_report.proofs.ServedLemmas.{row_stops, rows_none, rows_then, unread_at}
 use Rattle.register_report.proofs.StreamLemmas.{leaves_sound, unread_leaves, unread_sound}
-use Rattle.register_report.proofs.importing.serve_rows.Goals as goal
+use Rattle.register_report.proofs.importing.import_rows.Goals as goal
 
 pub loop-row-init : goal.loop-row-init
 loop-row-init g c = record {

@@ -1,7 +1,7 @@
 use Rattle.std.proofs.Common.{inl, refl, sym}
 use Rattle.http_messages.specs.declared.asked.Asked.TheVariants.{Reject, ShowKey, ShowUsage}
 use Rattle.register_http.proofs.ActingLemmas.{asked_same, changes_none, went_unasked, acts_text, rejected_text}
-use Rattle.register_http.proofs.acting.act.Goals as goal
+use Rattle.register_http.proofs.acting.answer.Goals as goal
 
 pub returns-in-Reject : goal.returns-in-Reject
 returns-in-Reject g c =
@@ -18,9 +18,9 @@ returns-in-Reject g c =
 pub returns-in-ShowKey : goal.returns-in-ShowKey
 returns-in-ShowKey g c =
     asked_same _ c.args.moment (ShowKey c.in-ShowKey.key) c.args.asked.now _ _ _ (sym c.in-ShowKey.is)
-    (c.show.ensures c.args.moment)
+    (c.show_reply.ensures c.args.moment)
 
 pub returns-in-ShowUsage : goal.returns-in-ShowUsage
 returns-in-ShowUsage g c =
     asked_same _ c.args.moment (ShowUsage c.in-ShowUsage.key) c.args.asked.now _ _ _ (sym c.in-ShowUsage.is)
-    (c.usage.ensures c.args.moment)
+    (c.usage_reply.ensures c.args.moment)

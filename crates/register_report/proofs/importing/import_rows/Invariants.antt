@@ -7,7 +7,7 @@ use Rattle.register_desk.specs.Desk.{GoesOn}
 use Rattle.register_desk.specs.Run.{Wrote}
 use Rattle.register_report.specs.declared.importing.TheConstants.{MAX_ROWS}
 use Rattle.register_report.specs.ImportProgress.{ServedRows}
-use Rattle.register_report.proofs.importing.serve_rows.Given as goal
+use Rattle.register_report.proofs.importing.import_rows.Given as goal
 
 abbrev pub invariant-loop-row : goal.invariant-loop-row
 invariant-loop-row g l = record {
