@@ -7,8 +7,8 @@ use register_store::{StoreError, commit_request, find_request, keys_after};
 use sqlite::Alter;
 
 impl<S: Alter> Desk<S> {
-    ghost use Rattle.std.specs.Prelude.{◌≡◌, ◌≢◌, List, [], Ok, IfOk, IfErr, true, ◌≤◌, ◌+◌, ◌∷◌};
-    ghost use Rattle.std.specs.Prelude.{Some, OnOk, OnErr, IfSome};
+    ghost use Rattle.std.specs.Prelude.{false, ◌≡◌, ◌≢◌, List, [], Ok, IfOk, IfErr, true, ◌≤◌, ◌+◌};
+    ghost use Rattle.std.specs.Prelude.{◌∷◌, Some, OnOk, OnErr, IfSome};
     ghost use Rattle.register_core.specs.Fold.{history};
     ghost use Rattle.register_core.specs.declared.request.Request.{Request};
     ghost use Rattle.register_store.specs.TableChanges.{Makes};
@@ -24,7 +24,7 @@ impl<S: Alter> Desk<S> {
     ghost use Rattle.register_core.specs.Answer.{UnlessAccepted};
     ghost use Rattle.register_core.specs.KeptReply.{kept_with};
     ghost use Rattle.register_core.specs.Request.{IsRequest, has_text};
-    ghost use Rattle.register_core.specs.Verdict.{answer};
+    ghost use Rattle.register_core.specs.Verdict.{answer, max_keys};
     ghost use Rattle.register_core.specs.declared.reply.Reply.{Reply};
     ghost use Rattle.register_store.specs.Change.{made_count};
     ghost use Rattle.register_store.specs.AcceptedRequest.{CanTake, with_request};
