@@ -108,7 +108,7 @@ fn is_deactivating(desk: &mut Desk<MemStore>, command: Command) -> Result<bool, 
 }
 
 /// A reason that is no compromise, with an occurrence or none.
-fn superseded(occurrence: Option<Moment>) -> Command {
+fn superseded_command(occurrence: Option<Moment>) -> Command {
     Command::Revoke {
         key: 1,
         reason: Reason::Superseded,
@@ -119,11 +119,11 @@ fn superseded(occurrence: Option<Moment>) -> Command {
 /// Whether values that no line has are refused, and change nothing.
 pub fn are_values_of_no_line_refused(alloc: Global) -> Result<bool, Fail> {
     let mut desk = desk_after(alloc, defaults())?;
-    let dated = superseded(Some(desk.latest()));
+    let dated = superseded_command(Some(desk.latest()));
     Ok(
         is_of_no_line(&mut desk, dated)?
             && is_of_no_line(&mut desk, Command::Activate { key: 0 })?
             && desk.latest().seconds() == 100
-            && is_deactivating(&mut desk, superseded(None))?,
+            && is_deactivating(&mut desk, superseded_command(None))?,
     )
 }

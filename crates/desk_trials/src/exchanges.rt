@@ -11,7 +11,7 @@ use std::test::Fail;
 use worked_rows::{ADVANCE, ADVANCED, BAD_REQUEST, Step, WorkedExchange, bodies, posts, targets};
 
 /// One exchange at this moment, in seconds.
-pub(crate) fn exchanged<R: Read, W: Write>(
+pub(crate) fn run_exchange<R: Read, W: Write>(
     alloc: Global,
     desk: &mut Desk<MemStore>,
     seconds: u64,
@@ -41,7 +41,7 @@ fn is_replied(alloc: Global, desk: &mut Desk<MemStore>, step: &Step) -> bool {
     let (moment, input, reply) = *step;
     let mut reader = Watched::new(input.as_bytes());
     let mut writer = Watched::new(Vec::new(alloc));
-    let outcome = exchanged(alloc, desk, moment, &mut reader, &mut writer);
+    let outcome = run_exchange(alloc, desk, moment, &mut reader, &mut writer);
     is_whole(outcome, input.len(), reply) && writer.into_inner().as_slice() == reply.as_bytes()
 }
 
@@ -53,7 +53,7 @@ fn is_replied_in_pieces(alloc: Global, desk: &mut Desk<MemStore>, step: &Step) -
         inner: Vec::new(alloc),
         max_bytes: 3,
     }));
-    let outcome = exchanged(alloc, desk, moment, &mut reader, &mut writer);
+    let outcome = run_exchange(alloc, desk, moment, &mut reader, &mut writer);
     let read = input
         .len()
         .saturating_sub(reader.into_inner().inner.0.len());
@@ -125,7 +125,7 @@ fn is_broken_off(alloc: Global, desk: &mut Desk<MemStore>, taken: usize) -> bool
     };
     let mut reader = Watched::new(BrokenAfter(prefix.as_bytes()));
     let mut writer = Watched::new(Vec::new(alloc));
-    let outcome = exchanged(alloc, desk, 100, &mut reader, &mut writer);
+    let outcome = run_exchange(alloc, desk, 100, &mut reader, &mut writer);
     let expected = Outcome {
         read: taken as u64,
         written: 0,
@@ -162,7 +162,7 @@ fn is_troubled(alloc: Global, trouble: Trouble, taken: usize) -> Result<bool, Fa
         },
         max_bytes: 1,
     });
-    let outcome = exchanged(alloc, &mut desk, 100, &mut reader, &mut writer);
+    let outcome = run_exchange(alloc, &mut desk, 100, &mut reader, &mut writer);
     let expected = Outcome {
         read: ADVANCE.len() as u64,
         written: taken as u64,

@@ -30,7 +30,7 @@ pub fn most_rows() -> u64 {
 pub(crate) const AT_END: Finish = Finish::AtEnd { rest: 0 };
 
 /// Imports the table into the desk at this moment, of the caller ann, from this number on.
-fn imported<R: Read + Drop, W: Write>(
+fn run_import<R: Read + Drop, W: Write>(
     alloc: Global,
     desk: &mut Desk<MemStore>,
     (moment, first): (u64, u64),
@@ -55,7 +55,7 @@ pub(crate) fn replies_to<R: Read + Drop>(
     end: Finish,
 ) -> bool {
     let mut writer = Watched::new(Vec::new(alloc));
-    let outcome = imported(alloc, desk, at, table, &mut writer);
+    let outcome = run_import(alloc, desk, at, table, &mut writer);
     let expected = Outcome {
         read: 0,
         written: replies.len() as u64,
@@ -208,7 +208,7 @@ fn is_cut_by_writer(alloc: Global, desk: &mut Desk<MemStore>, table: &[u8]) -> b
         replies: 1,
         end: Finish::Ended(End::WriteFault),
     };
-    imported(alloc, desk, (100, 1), table, &mut writer) == Some(expected)
+    run_import(alloc, desk, (100, 1), table, &mut writer) == Some(expected)
         && writer.has_failed()
         && desk.count() == 2
 }

@@ -1,5 +1,5 @@
 //! A key at the largest sizes: names of 64 bytes, a purpose of 200, and sixteen custodians who all approve of its destruction.
-use crate::exchanges::exchanged;
+use crate::exchanges::run_exchange;
 use crate::fresh_run::run_over;
 use crate::imports::{AT_END, replies_to};
 use register_desk::{Desk, Watched, create_in_memory};
@@ -57,7 +57,7 @@ fn is_shown(desk: &mut Desk<MemStore>) -> Result<bool, Fail> {
 fn is_exchanged(alloc: Global, desk: &mut Desk<MemStore>) -> bool {
     let mut reader = Watched::new(SHOW.as_bytes());
     let mut writer = Watched::new(Vec::new(alloc));
-    let outcome = exchanged(alloc, desk, 100, &mut reader, &mut writer);
+    let outcome = run_exchange(alloc, desk, 100, &mut reader, &mut writer);
     outcome.is_some_and(|outcome| outcome.end == AT_END && outcome.replies == 1)
         && writer
             .into_inner()

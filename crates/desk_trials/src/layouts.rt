@@ -40,14 +40,11 @@ fn with_indexes_between(alloc: Global) -> Result<Option<Desk<MemStore>>, Fail> {
     for sql in &WITH_INDEXES_BETWEEN {
         connection.execute(sql, &[])?;
     }
-    reopened(alloc, connection)
+    reopen(alloc, connection)
 }
 
 /// The desk over the register of the connection, or none where it is refused.
-fn reopened(
-    alloc: Global,
-    connection: Connection<MemStore>,
-) -> Result<Option<Desk<MemStore>>, Fail> {
+fn reopen(alloc: Global, connection: Connection<MemStore>) -> Result<Option<Desk<MemStore>>, Fail> {
     if !connection.is_autocommit() {
         return Ok(None);
     }
@@ -91,7 +88,7 @@ pub fn goes_on_with_indexes_between(alloc: Global) -> Result<bool, Fail> {
         return Ok(false);
     };
     let is_first_told = is_answered(alloc, &mut desk);
-    let Some(mut desk) = reopened(alloc, desk.into_connection())? else {
+    let Some(mut desk) = reopen(alloc, desk.into_connection())? else {
         return Ok(false);
     };
     Ok(is_first_told && is_answered(alloc, &mut desk) && desk.count() == 1)

@@ -111,7 +111,7 @@ pub fn is_empty_database_refused(alloc: Global) -> Result<bool, Fail> {
 }
 
 /// The desk, opened anew.
-fn reopened(alloc: Global, desk: Desk<MemStore>) -> Result<Desk<MemStore>, OpenRefusal> {
+fn reopen(alloc: Global, desk: Desk<MemStore>) -> Result<Desk<MemStore>, OpenRefusal> {
     match Desk::open(alloc, desk.into_connection()) {
         Ok(desk) => Ok(desk),
         Err(unopened) => Err(unopened.refusal),
@@ -160,7 +160,7 @@ pub fn goes_on_without_indexes(alloc: Global) -> Result<bool, Fail> {
 
 /// Runs a hundred lines in a life of their own. Gives the desk as the next life begins with it, or none where the replies
 /// are others.
-fn lived(
+fn run_life(
     alloc: Global,
     mut desk: Desk<MemStore>,
     before: u8,
@@ -168,7 +168,7 @@ fn lived(
     let (lines, replies) = hundred_lines(alloc, before)?;
     let mut output = Vec::new(alloc);
     let _ = run_over(&mut desk, lines.as_bytes(), &mut output);
-    let desk = reopened(alloc, desk)?;
+    let desk = reopen(alloc, desk)?;
     Ok((output.as_slice() == replies.as_bytes()).then_some(desk))
 }
 
@@ -176,7 +176,7 @@ fn lived(
 pub fn act_once_in_lives(alloc: Global) -> Result<bool, Fail> {
     let mut desk = desk_after(alloc, defaults())?;
     for before in [0, 1, 2, 0, 1, 2] {
-        desk = match lived(alloc, desk, before)? {
+        desk = match run_life(alloc, desk, before)? {
             Some(desk) => desk,
             None => return Ok(false),
         };

@@ -109,7 +109,7 @@ fn seconds(dates: &Dates) -> [Option<u64>; 6] {
 }
 
 /// The names, each with a space after it.
-fn joined(alloc: Global, names: &[Name]) -> Result<String, AllocError> {
+fn join(alloc: Global, names: &[Name]) -> Result<String, AllocError> {
     let mut text = String::new(alloc);
     for name in names {
         text.push_str(name.text())?;
@@ -127,8 +127,8 @@ fn is_shown(alloc: Global, row: &WorkedRow, shown: &Shown) -> Result<bool, Fail>
     Ok(
         record.key.row.state == shown.state
             && seconds(&record.key.row.dates) == shown.dates
-            && joined(alloc, record.custodians.as_slice())?.as_str() == shown.custodians
-            && joined(alloc, record.approvals.as_slice())?.as_str() == shown.approvals,
+            && join(alloc, record.custodians.as_slice())?.as_str() == shown.custodians
+            && join(alloc, record.approvals.as_slice())?.as_str() == shown.approvals,
     )
 }
 

@@ -203,7 +203,7 @@ impl Lab {
     }
 
     /// A lab whose requests write to the log before they are committed, since they change more pages than are kept.
-    pub fn spilling(alloc: Global) -> Lab {
+    pub fn with_small_cache(alloc: Global) -> Lab {
         Lab {
             alloc,
             spill_pages: 2,
@@ -211,7 +211,7 @@ impl Lab {
     }
 
     /// Does it over copies of the files; `None` where the connection was refused.
-    pub fn tried<T: Task>(
+    pub fn try_out<T: Task>(
         &self,
         files: &Files<Memory>,
         fault: Fault,
@@ -235,12 +235,12 @@ impl Lab {
     }
 
     /// Does it over files of which no call fails. What comes of it, and the files.
-    pub fn done<T: Task>(
+    pub fn carry_out<T: Task>(
         &self,
         files: &Files<Memory>,
         task: &T,
     ) -> Result<(T::Outcome, Files<Memory>), Fail> {
-        let (outcome, left) = self.tried(files, HONEST, task)?;
+        let (outcome, left) = self.try_out(files, HONEST, task)?;
         match outcome {
             Some(outcome) => Ok((outcome, left.files)),
             None => Err(Fail::from("no connection where no call fails")),
@@ -248,14 +248,14 @@ impl Lab {
     }
 
     /// Does it over the desk of the register in copies of the files.
-    pub fn tried_at_desk<T: DeskTask>(
+    pub fn try_out_at_desk<T: DeskTask>(
         &self,
         files: &Files<Memory>,
         fault: Fault,
         entry: Entry,
         task: &T,
     ) -> Result<(Result<T::Outcome, NoDesk>, Left), Fail> {
-        let (outcome, left) = self.tried(files, fault, &OverDesk { entry, task })?;
+        let (outcome, left) = self.try_out(files, fault, &OverDesk { entry, task })?;
         let reached = match outcome {
             Some(Ok(outcome)) => Ok(outcome),
             Some(Err(refusal)) => Err(NoDesk::Refused(refusal)),
@@ -265,13 +265,13 @@ impl Lab {
     }
 
     /// Does it over the desk of the register in files of which no call fails. What comes of it, and the files.
-    pub fn done_at_desk<T: DeskTask>(
+    pub fn carry_out_at_desk<T: DeskTask>(
         &self,
         files: &Files<Memory>,
         entry: Entry,
         task: &T,
     ) -> Result<(T::Outcome, Files<Memory>), Fail> {
-        let (reached, left) = self.tried_at_desk(files, HONEST, entry, task)?;
+        let (reached, left) = self.try_out_at_desk(files, HONEST, entry, task)?;
         match reached {
             Ok(outcome) => Ok((outcome, left.files)),
             Err(_) => Err(Fail::from("no desk where no call fails")),
@@ -290,7 +290,7 @@ const SELECTED: [&str; 7] = [
 ];
 
 /// The rows of a query as text; none where it is refused.
-fn selected<S: Alter>(
+fn select<S: Alter>(
     alloc: Global,
     connection: &mut Connection<S>,
     sql: &str,
@@ -319,7 +319,7 @@ impl Task for Running<'_> {
         connection.execute_batch(self.statements)?;
         let mut rows = String::new(alloc);
         for sql in &SELECTED {
-            rows.push_str(selected(alloc, &mut connection, sql)?.as_str())?;
+            rows.push_str(select(alloc, &mut connection, sql)?.as_str())?;
         }
         Ok((connection, rows))
     }
@@ -328,17 +328,20 @@ impl Task for Running<'_> {
 impl Lab {
     /// All rows of the register in the files.
     pub fn rows_in(&self, files: &Files<Memory>) -> Result<String, Fail> {
-        Ok(self.done(files, &Running { statements: "" })?.0)
+        Ok(self.carry_out(files, &Running { statements: "" })?.0)
     }
 
     /// The files of a database that these statements make.
     pub fn files_by(&self, statements: &str) -> Result<Files<Memory>, Fail> {
-        Ok(self.done(&no_files(self.alloc), &Running { statements })?.1)
+        Ok(
+            self.carry_out(&no_files(self.alloc), &Running { statements })?
+                .1,
+        )
     }
 
     /// The files of a new register.
     pub fn new_files(&self) -> Result<Files<Memory>, Fail> {
-        let (_, files) = self.done_at_desk(&no_files(self.alloc), Entry::Creation, &Nothing)?;
+        let (_, files) = self.carry_out_at_desk(&no_files(self.alloc), Entry::Creation, &Nothing)?;
         Ok(files)
     }
 }

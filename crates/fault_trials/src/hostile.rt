@@ -1,7 +1,7 @@
 //! Malicious bytes: none of them changes a register.
 use crate::calls::{Call, call_over};
 use crate::files::{DeskTask, Entry, HONEST, Lab, NoDesk, Nothing, file_of};
-use crate::texts::{ADVANCE, IMPORT_HEAD, KEY, Text, joined};
+use crate::texts::{ADVANCE, IMPORT_HEAD, KEY, Text, join};
 use crate::trials::files_with;
 use register_desk::{Desk, OpenRefusal, Watched};
 use register_faults::OneByte;
@@ -91,7 +91,7 @@ impl DeskTask for Giving<'_> {
 
 fn input_of(alloc: Global, hostile: &Hostile) -> Result<Vec<u8>, Fail> {
     let mut input = Vec::new(alloc);
-    input.extend_from_slice(joined(alloc, hostile.head)?.as_bytes())?;
+    input.extend_from_slice(join(alloc, hostile.head)?.as_bytes())?;
     for _ in 0..hostile.count {
         input.extend_from_slice(hostile.piece)?;
     }
@@ -108,7 +108,7 @@ fn is_harmless(
     output: &str,
 ) -> Result<bool, Fail> {
     let before = lab.rows_in(files)?;
-    let (written, left) = lab.done_at_desk(files, Entry::Opening, &Giving { call, input })?;
+    let (written, left) = lab.carry_out_at_desk(files, Entry::Opening, &Giving { call, input })?;
     let is_told = written.is_empty() == output.is_empty() && written.starts_with(output.as_bytes());
     Ok(is_told && lab.rows_in(&left)? == before)
 }
@@ -145,27 +145,27 @@ pub fn prefix_that_harms(alloc: Global) -> Result<Option<usize>, Fail> {
 /// What came of opening files that have no register, and whether the bytes are then as before.
 type Opened = (Result<(), NoDesk>, bool);
 
-fn opened(lab: Lab, files: &Files<Memory>) -> Result<Opened, Fail> {
-    let (entered, left) = lab.tried_at_desk(files, HONEST, Entry::Opening, &Nothing)?;
+fn open(lab: Lab, files: &Files<Memory>) -> Result<Opened, Fail> {
+    let (entered, left) = lab.try_out_at_desk(files, HONEST, Entry::Opening, &Nothing)?;
     let is_same = left.files.db.bytes() == files.db.bytes();
     Ok((entered, is_same))
 }
 
 /// What comes of a file of zeros.
-fn opened_zeros(lab: Lab) -> Result<Opened, Fail> {
+fn open_zeros(lab: Lab) -> Result<Opened, Fail> {
     let mut zeros = Vec::new(lab.alloc);
     zeros.resize(8192, 0)?;
     let files = Files {
         log: Memory::new(lab.alloc),
         db: file_of(lab.alloc, &zeros)?,
     };
-    opened(lab, &files)
+    open(lab, &files)
 }
 
 /// What comes of a database of another program.
-fn opened_another(lab: Lab) -> Result<Opened, Fail> {
+fn open_another(lab: Lab) -> Result<Opened, Fail> {
     let files = lab.files_by("CREATE TABLE other (name TEXT NOT NULL) STRICT")?;
-    opened(lab, &files)
+    open(lab, &files)
 }
 
 /// Whether a file of zeros, which is no database, is refused as a connection, and a database of another program as no
@@ -174,7 +174,7 @@ pub fn are_strangers_refused(alloc: Global) -> Result<bool, Fail> {
     let lab = Lab::new(alloc);
     let not_a_register = Err(NoDesk::Refused(OpenRefusal::NotARegister));
     Ok(
-        opened_zeros(lab)? == (Err(NoDesk::NoConnection), true)
-            && opened_another(lab)? == (not_a_register, true),
+        open_zeros(lab)? == (Err(NoDesk::NoConnection), true)
+            && open_another(lab)? == (not_a_register, true),
     )
 }

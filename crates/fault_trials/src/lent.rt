@@ -57,7 +57,7 @@ impl Case {
     }
 
     /// The trouble, with a counter.
-    fn counted(self, turns: Counter) -> Counted {
+    fn count(self, turns: Counter) -> Counted {
         Counted {
             trouble: self.trouble,
             stays: self.stays,
@@ -138,12 +138,12 @@ impl DeskTask for Lending<'_> {
         let (reads, writes) = (Counter::new(alloc)?, Counter::new(alloc)?);
         let reader = Troubled {
             inner: OneByte(self.given.input.as_bytes()),
-            trouble: self.case.counted(reads.share()?),
+            trouble: self.case.count(reads.share()?),
             good_turns: good_reads,
         };
         let mut writer = Watched::new(Troubled {
             inner: Vec::new(alloc),
-            trouble: self.case.counted(writes.share()?),
+            trouble: self.case.count(writes.share()?),
             good_turns: good_writes,
         });
         let outcome = call_over(alloc, desk, self.given.call, reader, &mut writer)?;
@@ -166,7 +166,7 @@ fn lend(
     case: Case,
     good: usize,
 ) -> Result<(Done, Files<Memory>), Fail> {
-    lab.done_at_desk(files, Entry::Opening, &Lending { given, case, good })
+    lab.carry_out_at_desk(files, Entry::Opening, &Lending { given, case, good })
 }
 
 impl Given {
@@ -174,8 +174,8 @@ impl Given {
         Ok(Given {
             call: lent.call,
             steps: lent.sent.len(),
-            input: joined(lab.alloc, lent.input)?,
-            output: joined(lab.alloc, lent.output)?,
+            input: join(lab.alloc, lent.input)?,
+            output: join(lab.alloc, lent.output)?,
             files: files_with(lab, KEY)?,
             rows: rows_by_step(lab, KEY, lent.sent)?,
         })

@@ -1,7 +1,7 @@
 //! Calls that read a register of twenty keys, of which a look-up fails.
 use crate::files::{DeskTask, Entry, Fault, Lab, Place};
 use crate::keys::{ALL, DUE, export_text, is_answered, report_text, twenty_keys};
-use crate::sending::{Came, exchanged, is_broken};
+use crate::sending::{Came, is_broken, run_exchange};
 use crate::texts::IN_USE;
 use crate::trials::calls_of_opening;
 use moment_core::Moment;
@@ -100,7 +100,7 @@ fn of_key<T>(found: &Result<Option<T>, End>) -> Seen {
 }
 
 fn get_over<S: Alter>(alloc: Global, desk: &mut Desk<S>) -> Seen {
-    match exchanged(alloc, desk, 200, GET, IN_USE) {
+    match run_exchange(alloc, desk, 200, GET, IN_USE) {
         Came::Whole => Seen::Whole,
         Came::Refused(_) => Seen::Refused,
         Came::Wrong => Seen::Wrong,
@@ -177,7 +177,7 @@ fn refusals(
     let first = calls_of_opening(lab, files, fault)?;
     let looking = Looking { texts, looked };
     for before in first..MAX_READS {
-        let (seen, left) = lab.tried_at_desk(files, fault.at(before), Entry::Opening, &looking)?;
+        let (seen, left) = lab.try_out_at_desk(files, fault.at(before), Entry::Opening, &looking)?;
         match (seen, left.has_failed) {
             (Ok(Seen::Whole), false) => return Ok(Ok(before.saturating_sub(first))),
             (Ok(Seen::Refused), true) => {}

@@ -1,6 +1,6 @@
 //! Requests that are sent over a register, and what it shows.
 use crate::files::Entry;
-use crate::texts::{Exchange, IMPORT_HEAD, joined};
+use crate::texts::{Exchange, IMPORT_HEAD, join};
 use moment_core::Moment;
 use register_core::Name;
 use register_desk::{Desk, End, Finish, Outcome, Watched, run};
@@ -107,7 +107,7 @@ fn send_rows<S: Alter>(
     let (Some(moment), Some(caller)) = (Moment::new(100), Name::new(b"ann")) else {
         return Ok(Came::Wrong);
     };
-    let table = joined(alloc, &[IMPORT_HEAD, rows])?;
+    let table = join(alloc, &[IMPORT_HEAD, rows])?;
     let mut writer = Watched::new(Vec::new(alloc));
     let outcome = import(
         alloc,
@@ -122,7 +122,7 @@ fn send_rows<S: Alter>(
 }
 
 /// Makes an exchange over the input at this moment, in seconds: whether it has this reply, or that to the end 31.
-pub fn exchanged<S: Alter>(
+pub fn run_exchange<S: Alter>(
     alloc: Global,
     desk: &mut Desk<S>,
     seconds: u64,
@@ -155,7 +155,7 @@ pub fn send<S: Alter>(
     match way {
         Way::Entry(_) | Way::Lines => send_lines(alloc, desk, sent),
         Way::Rows(rows) => send_rows(alloc, desk, sent, rows),
-        Way::Post(seconds, input, reply) => Ok(exchanged(alloc, desk, seconds, input, reply)),
+        Way::Post(seconds, input, reply) => Ok(run_exchange(alloc, desk, seconds, input, reply)),
     }
 }
 

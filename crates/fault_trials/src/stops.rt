@@ -39,7 +39,7 @@ const CALLS_OF_COMMIT: u64 = 4;
 
 /// How many calls have to have failed at least. What the commit before it wrote is copied into the database file in as
 /// many. An opening reads both files; else a read may be answered from memory.
-fn least(trial: &Trial, fault: Fault) -> u64 {
+fn least_steps(trial: &Trial, fault: Fault) -> u64 {
     let writes = trial.commits.saturating_mul(CALLS_OF_COMMIT);
     let reads = match trial.way {
         Way::Entry(Entry::Opening | Entry::Migration) => 1,
@@ -66,7 +66,7 @@ fn wrong_fault(
 ) -> Result<Option<Wrong>, Fail> {
     for fault in faults {
         match try_all(lab, trial, *fault)? {
-            Ok(count) if count.faults >= least(trial, *fault) => {}
+            Ok(count) if count.faults >= least_steps(trial, *fault) => {}
             Ok(count) => return Ok(Some((trial.name, place, *fault, (count.faults, None, None)))),
             Err(odd) => return Ok(Some((trial.name, place, *fault, odd))),
         }
@@ -121,7 +121,7 @@ pub fn stop_elsewhere_at_fault(alloc: Global) -> Result<Option<Wrong>, Fail> {
 /// The same of several requests, and of the last one of the day, which ends an approval, where pages go to the log before the
 /// commit.
 pub fn stop_while_spilling_at_fault(alloc: Global) -> Result<Option<Wrong>, Fail> {
-    let lab = Lab::spilling(alloc);
+    let lab = Lab::with_small_cache(alloc);
     match wrong_trial(lab, &SEVERAL, &STOPS)? {
         None => wrong_request(lab, LAST_OF_DAY, &STOPS),
         wrong => Ok(wrong),

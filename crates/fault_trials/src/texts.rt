@@ -8,7 +8,7 @@ pub type Exchange = (&'static str, &'static str);
 pub type Text = &'static [&'static str];
 
 /// The pieces, one after the other.
-pub fn joined(alloc: Global, text: &[&str]) -> Result<String, AllocError> {
+pub fn join(alloc: Global, text: &[&str]) -> Result<String, AllocError> {
     let mut whole = String::new(alloc);
     for piece in text {
         whole.push_str(piece)?;

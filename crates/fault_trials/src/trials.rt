@@ -104,7 +104,7 @@ fn files_after(lab: Lab, files: &Files<Memory>, sent: &[Exchange]) -> Result<Fil
         sent,
         way: Way::Lines,
     };
-    match lab.done_at_desk(files, Entry::Opening, &sending)? {
+    match lab.carry_out_at_desk(files, Entry::Opening, &sending)? {
         (Came::Whole, files) => Ok(files),
         _ => Err(Fail::from("not answered so where no call fails")),
     }
@@ -177,7 +177,7 @@ fn make(lab: Lab, trial: &Trial) -> Result<Made, Fail> {
 
 /// How many calls that the fault counts an opening takes.
 pub fn calls_of_opening(lab: Lab, files: &Files<Memory>, fault: Fault) -> Result<u64, Fail> {
-    let (_, left) = lab.tried_at_desk(files, fault.at(MAX_CALLS), Entry::Opening, &Nothing)?;
+    let (_, left) = lab.try_out_at_desk(files, fault.at(MAX_CALLS), Entry::Opening, &Nothing)?;
     Ok(left.calls)
 }
 
@@ -207,7 +207,7 @@ fn attempt(
 ) -> Result<(Came, Left), Fail> {
     match trial.way {
         Way::Entry(entry) => {
-            let (entered, left) = lab.tried_at_desk(files, fault, entry, &Nothing)?;
+            let (entered, left) = lab.try_out_at_desk(files, fault, entry, &Nothing)?;
             Ok((of_entry(entered), left))
         }
         Way::Lines | Way::Rows(_) | Way::Post(..) => {
@@ -215,7 +215,7 @@ fn attempt(
                 sent: trial.sent,
                 way: trial.way,
             };
-            let (came, left) = lab.tried_at_desk(files, fault, Entry::Opening, &sending)?;
+            let (came, left) = lab.try_out_at_desk(files, fault, Entry::Opening, &sending)?;
             Ok((came.unwrap_or(Came::Wrong), left))
         }
     }
@@ -225,11 +225,11 @@ fn attempt(
 /// is answered as it was, and the files.
 fn repeated(lab: Lab, trial: &Trial, files: &Files<Memory>) -> Result<(bool, Files<Memory>), Fail> {
     let repeating = Repeating { trial };
-    let (reached, left) = lab.tried_at_desk(files, HONEST, Entry::Opening, &repeating)?;
+    let (reached, left) = lab.try_out_at_desk(files, HONEST, Entry::Opening, &repeating)?;
     match (reached, trial.way) {
         (Ok(is_told), _) => Ok((is_told, left.files)),
         (Err(NoDesk::Refused(OpenRefusal::NotARegister)), Way::Entry(Entry::Creation)) => {
-            lab.done_at_desk(&left.files, Entry::Creation, &repeating)
+            lab.carry_out_at_desk(&left.files, Entry::Creation, &repeating)
         }
         _ => Ok((false, left.files)),
     }
@@ -301,7 +301,7 @@ fn look_at_all(
         *looked = Looked::new(lab.alloc, after.steps);
     }
     for leaving in &LEAVINGS {
-        let files = after.stopped.left(lab.alloc, *leaving)?;
+        let files = after.stopped.leave(lab.alloc, *leaving)?;
         if !looked.has(&files) {
             let Some(is_ahead) = is_ahead(lab, trial, made, &files, after.steps)? else {
                 return Ok(Some(*leaving));

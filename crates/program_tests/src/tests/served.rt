@@ -33,14 +33,14 @@ impl Now for Rising {
 }
 
 /// A client's connection to the listener, with these bytes on it. It waits there to be accepted.
-fn sent(rt: &HostRuntime, listener: &TcpListener, bytes: &[u8]) -> io::Result<TcpStream> {
+fn send(rt: &HostRuntime, listener: &TcpListener, bytes: &[u8]) -> io::Result<TcpStream> {
     let mut stream = TcpStream::connect(rt, listener.local_addr()?)?;
     stream.write_all(bytes)?;
     Ok(stream)
 }
 
 /// What comes of serving so many connections at this moment, in seconds, and of asking for the moment where there is none.
-fn served(
+fn serve_one(
     rt: &HostRuntime,
     desk: &mut Desk<MemStore>,
     listener: &TcpListener,
@@ -54,17 +54,17 @@ fn served(
 const AT_END: Finish = Finish::AtEnd { rest: 0 };
 
 /// What comes of one client that sends *advanced*: the end, its connection, and the register's latest moment.
-fn advanced(rt: &HostRuntime, seconds: Option<u64>) -> Result<(Finish, TcpStream, u64), Fail> {
+fn advance(rt: &HostRuntime, seconds: Option<u64>) -> Result<(Finish, TcpStream, u64), Fail> {
     let mut desk = create_in_memory(rt.alloc())?;
     let listener = listen(rt, 0)?;
-    let stream = sent(rt, &listener, ADVANCE.as_bytes())?;
-    let finish = served(rt, &mut desk, &listener, seconds, 1);
+    let stream = send(rt, &listener, ADVANCE.as_bytes())?;
+    let finish = serve_one(rt, &mut desk, &listener, seconds, 1);
     Ok((finish, stream, desk.latest().seconds()))
 }
 
 #[test]
 fn a_connection_is_served(rt: HostRuntime) -> Result<(), Fail> {
-    let (finish, stream, latest) = advanced(&rt, Some(100))?;
+    let (finish, stream, latest) = advance(&rt, Some(100))?;
     let reply = io::read_to_string(rt.alloc(), stream)?;
     assert!(rt; finish == AT_END && reply.as_str() == ADVANCED && latest == 100);
     Ok(())
@@ -81,7 +81,7 @@ enum Silent {
 fn seconds_after(rt: &HostRuntime, silent: Silent) -> Result<Option<u64>, Fail> {
     let mut desk = create_in_memory(rt.alloc())?;
     let listener = listen(rt, 0)?;
-    let first = sent(rt, &listener, b"")?;
+    let first = send(rt, &listener, b"")?;
     let held = match silent {
         Silent::Leaves => {
             drop(first);
@@ -89,9 +89,9 @@ fn seconds_after(rt: &HostRuntime, silent: Silent) -> Result<Option<u64>, Fail> 
         }
         Silent::Stays => Some(first),
     };
-    let stream = sent(rt, &listener, ADVANCE.as_bytes())?;
+    let stream = send(rt, &listener, ADVANCE.as_bytes())?;
     let start = Instant::now(rt)?;
-    let finish = served(rt, &mut desk, &listener, Some(100), 2);
+    let finish = serve_one(rt, &mut desk, &listener, Some(100), 2);
     let seconds = start.elapsed(rt)?.as_secs();
     let reply = io::read_to_string(rt.alloc(), stream)?;
     drop(held);
@@ -107,7 +107,7 @@ fn a_client_that_leaves_is_served_too(rt: HostRuntime) -> Result<(), Fail> {
 
 #[test]
 fn without_a_moment_nothing_is_served(rt: HostRuntime) -> Result<(), Fail> {
-    let (finish, stream, latest) = advanced(&rt, None)?;
+    let (finish, stream, latest) = advance(&rt, None)?;
     assert!(rt; finish == Finish::Ended(End::ReadFault) && latest == 0);
     drop(stream);
     Ok(())
@@ -129,8 +129,8 @@ const ADVANCE_AGAIN: &str =
 fn latest_after_two(rt: &HostRuntime) -> Result<u64, Fail> {
     let mut desk = create_in_memory(rt.alloc())?;
     let listener = listen(rt, 0)?;
-    let first = sent(rt, &listener, ADVANCE.as_bytes())?;
-    let second = sent(rt, &listener, ADVANCE_AGAIN.as_bytes())?;
+    let first = send(rt, &listener, ADVANCE.as_bytes())?;
+    let second = send(rt, &listener, ADVANCE_AGAIN.as_bytes())?;
     let now = Rising(Cell::new(100));
     let _ = serve_on(rt.alloc(), &mut desk, &listener, rt, &now, 2);
     drop(first);
