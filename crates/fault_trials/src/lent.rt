@@ -3,7 +3,7 @@ use crate::calls::{Call, call_over};
 use crate::files::{DeskTask, Entry, Lab};
 use crate::texts::{
     ADVANCE, EXPORT_HEAD, Exchange, IMPORT_HEAD, IMPORT_ROWS, IMPORTED, IN_USE, KEY, REGISTERED,
-    Text, joined,
+    Text, join,
 };
 use crate::trials::{files_with, rows_by_step};
 use register_desk::{Desk, End, Finish, Outcome, Watched};
