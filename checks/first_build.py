@@ -1,0 +1,389 @@
+#!/usr/bin/env python3
+"""What ./keyreg says while it builds, what makes it build, and what a failure, an interrupt and a
+second call leave: in a copy of the sources, with an `rt` that proves nothing.
+
+    checks/first_build.py
+
+That `rt` is this file under another name. It prints what the kit's prints, waits, fails where it is
+told to, and puts a shell script in the place of the program. So no proof is run, and neither cores
+nor a built program are needed.
+"""
+import contextlib
+import fcntl
+import os
+import pathlib
+import pty
+import re
+import shutil
+import signal
+import struct
+import subprocess
+import sys
+import tempfile
+import termios
+import time
+
+TOP = pathlib.Path(__file__).resolve().parent.parent
+# Gives back its words and its input, or lives on as `serve` does.
+PROGRAM = """#!/bin/sh
+echo "words: $*"
+[ "$1" = linger ] && exec sleep 60
+exec cat
+"""
+# What a linker leaves that was stopped: it could be run.
+HALF = "#!/bin/sh\necho half\n"
+WORDS = ("run", "--file", "x")
+GIVEN = "a line\n"
+WANTED = "words: run --file x\na line\n"
+FUNCTIONS = 3
+LINE = re.compile(
+    r"keyreg: (\d+)(?:-(\d+))? of (\d+): ([\w, ]+), (\d+) functions, (\d+ min \d+ s) *")
+ENDED = re.compile(r"^keyreg: (\w+) is proved \((\d+) of (\d+)\)$", re.M)
+
+
+def write_program(text):
+    """The program, written in place."""
+    program = pathlib.Path("out/keyreg")
+    program.parent.mkdir(exist_ok=True)
+    program.write_text(text, encoding="utf-8")
+    program.chmod(0o755)
+
+
+def tell(told, *words):
+    """Adds a line to what the calls of `rt` tell."""
+    with open(told / "journal", "a", encoding="utf-8") as file:
+        print(*words, file=file)
+
+
+def rt():
+    """Is `rt lib --jobs 1`, or `rt run --jobs 1`, in the folder of a crate."""
+    crate, told = os.path.basename(os.getcwd()), pathlib.Path(os.environ["TOLD"])
+    if crate == "keyreg":
+        write_program(HALF)
+    tell(told, "begun", crate, os.getpid(), *sys.argv[1:])
+    with contextlib.suppress(FileNotFoundError):
+        time.sleep(float((told / f"wait-{crate}").read_text(encoding="utf-8")))
+    if (told / f"fail-{crate}").exists():
+        sys.exit(f"fn {crate}::module::planted: no proof")
+    for at in range(FUNCTIONS):
+        print(f"fn {crate}::module::function_{at}: proved")
+    print(f"struct {crate}::Thing: proved")
+    print(f"logic=proved functions={FUNCTIONS} sum=0123456789abcdef native=nat,char,string")
+    if crate == "keyreg":
+        write_program(PROGRAM)
+        subprocess.run(["out/keyreg"], check=True)
+    tell(told, "ended", crate)
+
+
+def crates_below():
+    """Each crate that the program stands on, and its own, with those of ours that it stands on."""
+    lines = (TOP / "crates.txt").read_text(encoding="utf-8").splitlines()
+    rows = dict(line.split("#")[0].split(":") for line in lines if line.strip())
+    found, ahead = {}, ["keyreg"]
+    while ahead:
+        name = ahead.pop()
+        found[name] = [below for below in rows[name].split() if below in rows]
+        ahead += [below for below in found[name] if below not in found]
+    return found
+
+
+CRATES = crates_below()
+TOTAL = len(CRATES)
+
+
+def until(holds, seconds=30):
+    """Waits until something holds, and gives whether it came to."""
+    end = time.monotonic() + seconds
+    while not holds() and time.monotonic() < end:
+        time.sleep(0.01)
+    return holds()
+
+
+def lives(process):
+    """Whether a process goes on."""
+    with contextlib.suppress(OSError):
+        text = pathlib.Path(f"/proc/{process}/stat").read_text(encoding="utf-8")
+        return text.rsplit(")", 1)[1].split()[0] != "Z"
+    return False
+
+
+class Copy:
+    """A copy of the sources, in which ./keyreg is called."""
+
+    def __init__(self, folder):
+        self.top, self.told, self.rest = folder / "top", folder / "told", folder / "rest"
+        for made in (self.top, self.told, self.rest, folder / "bin"):
+            made.mkdir()
+        (folder / "bin" / "rt").symlink_to(pathlib.Path(__file__).resolve())
+        for name in ("keyreg", "crates.txt", "README.md"):
+            shutil.copy2(TOP / name, self.top)
+        for name in ("crates", "docs", "checks"):
+            leaving = shutil.ignore_patterns("out", "__pycache__")
+            shutil.copytree(TOP / name, self.top / name, ignore=leaving)
+        self.words = [self.top / "keyreg", *WORDS]
+        path = f"{folder / 'bin'}:{os.environ['PATH']}"
+        self.environ = {**os.environ, "PATH": path, "TOLD": self.told, "TMPDIR": self.rest}
+
+    def start(self, *words):
+        """A call without a terminal, at the head of a group of processes."""
+        ends = {"stdin": subprocess.PIPE, "stdout": subprocess.PIPE, "stderr": subprocess.PIPE}
+        words = [self.words[0], *words] if words else self.words
+        return subprocess.Popen(
+            words, env=self.environ, text=True, start_new_session=True, **ends)
+
+    def call(self):
+        """The status of such a call, what it wrote, and what it said."""
+        begun = self.start()
+        wrote, said = begun.communicate(GIVEN, timeout=120)
+        return begun.returncode, wrote, said
+
+    def on_terminal(self, columns, at=None):
+        """The same of a call on a terminal, at which Ctrl-C is pressed once `at` holds."""
+        given, written = self.told / "given", self.told / "written"
+        given.write_text(GIVEN, encoding="utf-8")
+        process, terminal = pty.fork()
+        if process == 0:
+            fcntl.ioctl(2, termios.TIOCSWINSZ, struct.pack("4H", 24, columns, 0, 0))
+            os.dup2(os.open(given, os.O_RDONLY), 0)
+            os.dup2(os.open(written, os.O_WRONLY | os.O_CREAT | os.O_TRUNC), 1)
+            os.execve(self.words[0], self.words, self.environ)
+        if at:
+            until(at)
+            os.write(terminal, b"\x03")
+        said = b""
+        # Reading ends with the last process that writes to the terminal.
+        with contextlib.suppress(OSError):
+            while part := os.read(terminal, 4096):
+                said += part
+        status = os.waitstatus_to_exitcode(os.waitpid(process, 0)[1])
+        os.close(terminal)
+        return status, written.read_text(encoding="utf-8"), said.decode()
+
+    def journal(self, kind):
+        """The lines of one kind that the calls of `rt` told, as words."""
+        with contextlib.suppress(FileNotFoundError):
+            lines = (self.told / "journal").read_text(encoding="utf-8").splitlines()
+            return [line.split()[1:] for line in lines if line.startswith(kind)]
+        return []
+
+    def tells(self, *parts):
+        """Tells the calls of `rt` what to do from here on, and forgets what they told."""
+        for old in self.told.iterdir():
+            old.unlink()
+        for part in parts:
+            name, _, text = part.partition("=")
+            (self.told / name).write_text(text, encoding="utf-8")
+
+    def begin(self, crate):
+        """Whether the crate is in hand."""
+        return any(words[0] == crate for words in self.journal("begun"))
+
+    def renew(self, path="crates/moment_core/src/lib.rt"):
+        """Gives a file the time of now."""
+        os.utime(self.top / path)
+
+    def built(self, called, what):
+        """Faults of a call that was to build all crates once, and to run the program."""
+        if called[:2] != (0, WANTED):
+            yield f"{what}: {called[:2]}"
+        if sorted(words[0] for words in self.journal("begun")) != sorted(CRATES):
+            yield f"{what}: begun {self.journal('begun')}"
+        if list(self.rest.iterdir()):
+            yield f"{what}: a temporary folder is left"
+
+    def goes_on(self):
+        """The crates whose proofs go on."""
+        return [words[0] for words in self.journal("begun") if lives(words[1])]
+
+
+def silent(copy):
+    """Without a terminal: a line for each crate as it ends, behind the announcement."""
+    copy.tells("wait-sql_steps=1.5")
+    called = copy.call()
+    yield from copy.built(called, "without a terminal")
+    ended = ENDED.findall(called[2])
+    if [row[1:] for row in ended] != [(str(at + 1), str(TOTAL)) for at in range(TOTAL)]:
+        yield f"without a terminal: {ended}"
+    names = [row[0] for row in ended]
+    for at, name in enumerate(names):
+        if not set(CRATES[name]) <= set(names[:at]):
+            yield f"{name} is proved before what it stands on"
+    if set(names) != set(CRATES) or names.index("sql_steps") != 2:
+        yield f"without a terminal: no line for each crate as it ends: {names}"
+    for crate, _, *words in copy.journal("begun"):
+        if words != ["run" if crate == "keyreg" else "lib", "--jobs", "1"]:
+            yield f"{crate}: rt {words}"
+    first = called[2].split("is proved")[0]
+    script = copy.words[0].read_text(encoding="utf-8")
+    for cores in ("four", "two"):
+        minutes = re.search(rf"^minutes_on_{cores}=(\d+)$", script, re.M)[1]
+        if not re.search(rf"\b{minutes}\b[^0-9]*\bon {cores}\b", first):
+            yield f"no {minutes} minutes on {cores} cores before the first crate: {first}"
+        if len(re.findall(rf"\b{minutes}\b", script)) != 1:
+            yield f"{minutes} stands more than once in ./keyreg"
+
+
+def terminal(copy):
+    """On a terminal: one line that is written over, with what is in hand, functions and a clock."""
+    copy.tells("wait-sql_steps=2.5")
+    copy.renew()
+    called = copy.on_terminal(80)
+    yield from copy.built(called, "on a terminal")
+    if ENDED.search(called[2]):
+        yield "on a terminal: a line for each crate that ends"
+    pieces = [piece.lstrip("\n") for piece in called[2].split("\r")]
+    pieces = [piece for piece in pieces if LINE.fullmatch(piece)]
+    if any(len(piece) != 79 for piece in pieces):
+        yield "on a terminal: a line that leaves something of the one before, or is too long"
+    rows = [LINE.fullmatch(piece).groups() for piece in pieces]
+    for first, last, total, names, functions, _ in rows:
+        wanted = int(first) + names.count(",")
+        if int(last or first) != wanted or int(total) != TOTAL:
+            yield f"on a terminal: {first}-{last} of {total}: {names}"
+        least = FUNCTIONS * (int(first) - 1)
+        # A proof may have printed its lines and not ended.
+        if not least <= int(functions) <= least + FUNCTIONS * len(names.split(",")):
+            yield f"on a terminal: {functions} functions at {first}: {names}"
+    if {name for row in rows for name in row[3].split(", ")} != set(CRATES):
+        yield f"on a terminal: {rows}"
+    if len({row[5] for row in rows if row[3] == "sql_steps"}) < 2:
+        yield "on a terminal: the clock stands while a crate is proved"
+    if "\n" in called[2][called[2].index(pieces[0]):called[2].rindex(pieces[-1])]:
+        yield "on a terminal: a line that is not written over"
+
+
+def used_at_once(copy):
+    """Where no source of the program's changed, it is used at once."""
+    edit = next((copy.top / "crates/register_store/must-fail").iterdir())
+    tested = copy.top / "crates/desk_tests/src/lib.rt"
+    for path in ("README.md", "docs/GATE.md", "checks/first_build.py", "keyreg", edit, tested):
+        copy.tells()
+        copy.renew(path)
+        seconds = []
+        for _ in range(5):
+            start = time.monotonic()
+            called = copy.call()
+            seconds.append(time.monotonic() - start)
+            if called != (0, WANTED, "") or copy.journal("begun"):
+                yield f"{path} changed: {called}"
+        if min(seconds) >= 0.1:
+            yield f"{path} changed: {min(seconds):.2f} s until a program that stands has ended"
+    print(f"a program that stands has begun and ended in {min(seconds):.3f} s")
+
+
+def built_again(copy):
+    """Where one changed it is built, also where that was during the build before."""
+    law = next((copy.top / "crates/register_store").glob("specs/**/*.antt"))
+    for path in ("crates/streams/src/lib.rt", law, "crates/keyreg/src/main.rt", "crates.txt"):
+        copy.tells()
+        copy.renew(path)
+        yield from copy.built(copy.call(), f"{path} changed")
+    copy.tells("wait-keyreg=1")
+    copy.renew()
+    begun = copy.start()
+    until(lambda: copy.begin("keyreg"))
+    copy.renew()
+    begun.communicate(GIVEN, timeout=120)
+    copy.tells()
+    yield from copy.built(copy.call(), "a source that changed during a build")
+
+
+def failed(copy):
+    """A failed proof: its log, status 70, and nothing that goes on or was begun behind it."""
+    copy.tells("fail-register_store", "wait-key_rows=20")
+    copy.renew()
+    start = time.monotonic()
+    status, wrote, said = copy.call()
+    if (status, wrote) != (70, ""):
+        yield f"a failed proof: status {status}, {wrote}"
+    logged = re.findall(r"^fn (\w+)::.*", said, re.M)
+    if logged != ["register_store"] or "keyreg: register_store is not proved\n" not in said:
+        yield f"a failed proof: {said}"
+    if time.monotonic() - start > 15 or copy.goes_on():
+        yield f"a failed proof: behind it went on {copy.goes_on() or 'a proof beside it'}"
+    if copy.begin("register_desk") or list(copy.rest.iterdir()):
+        yield "a failed proof: more was begun, or a folder is left"
+    copy.tells()
+    yield from copy.built(copy.call(), "after a failed proof")
+
+
+def stopped(copy, crate, number, whole):
+    """Faults of a call that gets a signal, alone or with all its group, at a crate."""
+    what = f"{signal.Signals(number).name} at {crate}{', to all' if whole else ''}"
+    copy.tells(f"wait-{crate}=20")
+    copy.renew()
+    begun = copy.start()
+    until(lambda: copy.begin(crate))
+    (os.killpg if whole else os.kill)(begun.pid, number)
+    wrote, _ = begun.communicate(timeout=60)
+    if begun.returncode == 0 or wrote:
+        yield f"{what}: status {begun.returncode}, {wrote}"
+    if not until(lambda: not copy.goes_on(), 2):
+        yield f"{what}: {copy.goes_on()} goes on"
+    if number == signal.SIGKILL:
+        for left in copy.rest.iterdir():
+            shutil.rmtree(left)
+    elif list(copy.rest.iterdir()):
+        yield f"{what}: a temporary folder is left"
+    copy.tells()
+    yield from copy.built(copy.call(), f"after {what}")
+
+
+def interrupted(copy):
+    """An interrupt ends all that was begun, and the next call builds."""
+    for crate in ("streams", "keyreg"):
+        copy.tells(f"wait-{crate}=20")
+        copy.renew()
+        status, wrote, said = copy.on_terminal(30, lambda crate=crate: copy.begin(crate))
+        if (status, wrote) != (130, "") or copy.goes_on() or list(copy.rest.iterdir()):
+            yield f"Ctrl-C at {crate}: status {status}, {wrote}, {copy.goes_on()} goes on"
+        lines = re.findall(r"keyreg: \d[^\r\n]*", said)
+        if not lines or any(len(piece) != 29 for piece in lines):
+            yield f"a narrow terminal: {lines}"
+        copy.tells()
+        yield from copy.built(copy.call(), f"after Ctrl-C at {crate}")
+    yield from stopped(copy, "streams", signal.SIGINT, True)
+    yield from stopped(copy, "streams", signal.SIGTERM, False)
+    yield from stopped(copy, "keyreg", signal.SIGTERM, False)
+    yield from stopped(copy, "keyreg", signal.SIGKILL, True)
+
+
+def together(copy):
+    """Two calls at once build once; and a program that goes on keeps no build from beginning."""
+    copy.tells("wait-streams=1")
+    copy.renew()
+    ends = [begun.communicate(GIVEN, timeout=120) for begun in (copy.start(), copy.start())]
+    for wrote, _ in ends:
+        yield from copy.built((0, wrote), "two calls at once")
+    if [said.count("another call is building") for _, said in ends] not in ([0, 1], [1, 0]):
+        yield "two calls at once: not one of them says that it waits"
+    lasting = copy.start("linger")
+    lasting.stdout.readline()
+    copy.tells()
+    copy.renew()
+    begun = copy.start()
+    if not until(lambda: len(copy.journal("ended")) == TOTAL):
+        yield "a program that goes on keeps the next call from building"
+        lasting.kill()
+    yield from copy.built((0, begun.communicate(GIVEN, timeout=120)[0]), "beside a program")
+    lasting.kill()
+    lasting.communicate()
+
+
+def main():
+    found = []
+    with tempfile.TemporaryDirectory() as folder:
+        copy = Copy(pathlib.Path(folder))
+        tests = (silent, terminal, used_at_once, built_again, failed, interrupted, together)
+        for test in tests:
+            found += test(copy)
+    print(*found, sep="\n", end="\n" if found else "")
+    print(f"./keyreg: {len(found)} faults")
+    sys.exit(1 if found else 0)
+
+
+if __name__ == "__main__":
+    if os.path.basename(sys.argv[0]) == "rt":
+        rt()
+    else:
+        main()
