@@ -363,6 +363,8 @@ def together(copy):
         yield from copy.built((0, wrote), "two calls at once")
     if [said.count("another call is building") for _, said in ends] not in ([0, 1], [1, 0]):
         yield "two calls at once: not one of them says that it waits"
+    # This call builds, and its program then goes on.
+    copy.renew()
     lasting = copy.start("linger")
     lasting.stdout.readline()
     copy.tells()
@@ -377,6 +379,8 @@ def together(copy):
 
 
 def main():
+    # A shell that was begun where an interrupt is ignored, as behind nohup and &, cannot heed it.
+    signal.signal(signal.SIGINT, signal.default_int_handler)
     found = []
     with tempfile.TemporaryDirectory() as folder:
         copy = Copy(pathlib.Path(folder))
