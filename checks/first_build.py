@@ -386,7 +386,10 @@ def main():
         copy = Copy(pathlib.Path(folder))
         tests = (silent, terminal, used_at_once, built_again, failed, interrupted, together)
         for test in tests:
-            found += test(copy)
+            try:
+                found += test(copy)
+            except subprocess.TimeoutExpired as late:
+                found.append(f"{test.__name__}: {late}")
     print(*found, sep="\n", end="\n" if found else "")
     print(f"./keyreg: {len(found)} faults")
     sys.exit(1 if found else 0)
