@@ -9,7 +9,7 @@ parts, all where none is named:
     words      each definition of a crate's specs/ that a clause of a public function cites stands
                in docs/MODEL.md, in a row that names its file
     promises   each name in docs/PROMISES.md is one of the code; each function that it or a table of
-               README.md names with clauses has these
+               README.md names with clauses has these; no cell there has more than 25 words
     paths      each path and link of a document leads to a file, and an anchor to a heading
     calls      each call in the example of a crate's src/lib.rt is that of a function of ours with
                as many arguments
@@ -41,6 +41,8 @@ NUMBERS = {word: number for number, word in enumerate(WORDS)}
 STD_CALLS = {"write_all", "as_bytes", "map", "assert_eq"}
 FILE = re.compile(r"[\w.<>/-]*\w\.(?:rt|antt|py|md|sql|sh|csv|txt|yaml|edit|svg|service)\b")
 FOLDER = re.compile(r"(crates|checks|bench|docs|examples|\.ci)/")
+# The most words in a cell of PROMISES.
+MOST_WORDS = 25
 # Names in PROMISES that are none of ours: types of the standard library and words of the field.
 OTHERS = {"None", "Some", "UTF", "src", "main"}
 
@@ -190,6 +192,9 @@ def promise_faults():
             lists += cell.count(" clause")
             if document == "docs/PROMISES.md" or " clause" in cell:
                 told += [f"nothing is named `{text}`" for text in unknown_names(line)]
+            if document == "docs/PROMISES.md":
+                told += [f"a cell of {len(text.split())} words" for text in cells(line)
+                         if len(text.split()) > MOST_WORDS]
             faults += [f"{document}:{number}: {fault}" for fault in told]
     return faults, f"{lists} lists of clauses in README and PROMISES"
 
