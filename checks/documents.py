@@ -17,8 +17,9 @@ parts, all where none is named:
                (checks/commands.py)
     stale      no document has another number of tables or commands, another bound on steps, a
                table, an index, a refusal or an end of another name, or another kit than there is
-    pictures   README's picture of the states has the transitions of docs/SPECIFICATION.md, and
-               docs/costs.svg the figures of docs/COSTS.md
+    pictures   README's picture of the states has the transitions of docs/SPECIFICATION.md,
+               docs/costs.svg the figures of docs/COSTS.md, and the graph of docs/ARCHITECTURE.md
+               the arrows of crates.txt; what its pictures name is a function or a crate
 
 The program is the one that ./keyreg builds, or that KEYREG names. Of the crates' specs those count
 that the program stands on.
@@ -371,8 +372,8 @@ def output_faults():
 # ---- pictures
 
 
-def picture_faults():
-    """That README's states have the transitions of SPECIFICATION, and COSTS its bars."""
+def state_faults():
+    """That README's states have the transitions of SPECIFICATION."""
     rows = [cells(line) for _, line in numbered("docs/SPECIFICATION.md")]
     states = "|".join(re.search(r"The states are ([^.]*)\.", read("docs/SPECIFICATION.md"))[1]
                       .replace("`", "").replace("\n", " ").split(" (")[0].replace(" and ", ", ")
@@ -386,10 +387,39 @@ def picture_faults():
              for before, after, number in re.findall(r"(\S+) --> (\w+): (\d+)", text)}
     faults = [f"README.md: its picture lacks transition {row}" for row in sorted(wanted - drawn)]
     faults += [f"README.md: no transition {row}" for row in sorted(drawn - wanted)]
+    return faults, len(wanted)
+
+
+def arrows_of_crates():
+    """Each of our crates with each of ours that it stands on, and not by way of another."""
+    uses = sources.stands_on()
+    ours = {crate: {other for other in others if other in uses} for crate, others in uses.items()}
+    return {(crate, other) for crate, others in ours.items() for other in others
+            if not any(other in sources.below(between) for between in others)}
+
+
+def flow_faults():
+    """That the graph of crates in ARCHITECTURE has these arrows, and its pictures names of ours."""
+    path = "docs/ARCHITECTURE.md"
+    text = "\n".join(re.findall(r"```mermaid\n(.*?)```", read(path), re.S))
+    crates, wanted = set(sources.stands_on()), arrows_of_crates()
+    drawn = {pair for pair in re.findall(r"(?m)^ *(\w+) --> (\w+)$", text) if set(pair) & crates}
+    faults = [f"{path}: its graph lacks {' --> '.join(pair)}" for pair in sorted(wanted - drawn)]
+    faults += [f"{path}: no arrow {' --> '.join(pair)}" for pair in sorted(drawn - wanted)]
+    named = re.findall(r"\b(?:[A-Z]\w*::)?[a-z]+_\w+|\b[A-Z]\w*::\w+", text)
+    faults += [f"{path}: nothing is named {name}" for name in dict.fromkeys(named)
+               if name not in crates and not functions_named(name)]
+    return faults, len(wanted)
+
+
+def picture_faults():
+    faults, transitions = state_faults()
+    told, arrows = flow_faults()
+    faults += told
     script = os.path.join(TOP, "bench", "costs_svg.py")
     if subprocess.run([script, "--check"], stdout=subprocess.DEVNULL, check=False).returncode:
         faults.append("docs/costs.svg: not that of docs/COSTS.md: bench/costs_svg.py draws it")
-    return faults, f"{len(wanted)} transitions and a picture of costs"
+    return faults, f"{transitions} transitions, {arrows} arrows between crates, a picture of costs"
 
 
 PARTS = {"words": missing_words, "promises": promise_faults, "paths": path_faults,

@@ -48,15 +48,25 @@ def stands_on():
     return {parts[0].strip(): parts[1].split() for parts in lines if len(parts) == 2}
 
 
-def product():
-    """The crates of the program."""
-    uses, reached, left = stands_on(), set(), ["keyreg"]
+def reached(left):
+    """These of our crates, and those that they stand on."""
+    uses, found = stands_on(), set()
     while left:
         name = left.pop()
-        if name in uses and name not in reached:
-            reached.add(name)
+        if name in uses and name not in found:
+            found.add(name)
             left += uses[name]
-    return reached
+    return found
+
+
+def below(crate):
+    """The crates of ours that one stands on, by way of others too."""
+    return reached(stands_on()[crate])
+
+
+def product():
+    """The crates of the program."""
+    return reached(["keyreg"])
 
 
 def parts(text):
