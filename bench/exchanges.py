@@ -14,7 +14,7 @@ anything as it opens the file; no start and no opening is in a figure.
 First so many exchanges of each kind are asked one after the other, and each reply is compared with what is expected. Then all
 are timed in one run, in rounds that take turns, so many seconds for each kind, by `wrk` with two threads: each connection takes one
 exchange, and sixteen at once, or as many as are named, so that others wait while one is served. Each reply is to have the status
-200. Behind the last round the rows that the compared exchanges left are compared, and the number of keys with what `wrk`
+200. After the last round the rows that the compared exchanges left are compared, and the number of keys with what `wrk`
 counted.
 
 Told are the exchanges a second by the wall, and the processor time (user and system) of the server and of the clients for each
@@ -52,7 +52,7 @@ THREADS = 2
 JOURNALS = ("delete", "wal")
 MOMENT = 1_000_000
 MARK = 3
-# Behind the greatest moment of the clock in these runs: the keys stay Pre-Active.
+# After the greatest moment of the clock in these runs: the keys stay Pre-Active.
 LATER = 10_000_000_000
 STOP, END = LATER + 1, LATER + 2
 
@@ -158,7 +158,7 @@ def serve_bare(file, port, journal):
     database = sqlite3.connect(file, isolation_level=None)
     for pragma in ("locking_mode = EXCLUSIVE", "synchronous = FULL", "foreign_keys = ON", "cache_size = 2000"):
         database.execute(f"PRAGMA {pragma}").fetchall()
-    # Behind the lock, so that the log has its index in memory of its own.
+    # After the lock, so that the log has its index in memory of its own.
     expect(database.execute(f"PRAGMA journal_mode = {journal}").fetchone() == (journal,), f"no journal mode {journal}")
     Bare.connection_of_file = database
     BareServer(("127.0.0.1", port), Bare).serve_forever()
@@ -237,7 +237,7 @@ def rows_left(file, caller, keys):
 
 # ---- the timed exchanges
 
-# Its words are the kind, the front of the callers' names, and how many keys there are at first; each thread is a caller. The last
+# Its words are the kind, the prefix of the callers' names, and how many keys there are at first; each thread is a caller. The last
 # line of what it writes has the exchanges that got their reply, the microseconds, and how many failed or had another status.
 SCRIPT = f"""
 local kind, caller, keys, number

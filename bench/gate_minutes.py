@@ -4,9 +4,9 @@
     bench/gate_minutes.py [--edits] [--command ci|must-fail] [--top FOLDER] [WORDS..]
 
 Runs `rt ci`, or the other command of `rt`, with these words at the top of this repository or of another copy of it,
-and prints a row for each crate behind that; with --edits a line in seconds for each wrong body as well. A crate's
+and prints a row for each crate after that; with --edits a line in seconds for each wrong body as well. A crate's
 proof, the proof of its tests, and its wrong bodies are told apart. To these count the proof that they begin with, and
-the one more behind them, with which `rt` sees that nothing has changed. A row has what was done in this run: with
+the one more after them, with which `rt` sees that nothing has changed. A row has what was done in this run: with
 --anew among the words, or on a machine that has nothing kept, that is all. Ended early, it prints what was done. It
 needs Linux, for /proc.
 """

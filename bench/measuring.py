@@ -87,7 +87,7 @@ def stop_at_first_byte(process, written):
 
 
 def measured_behind(words, written):
-    """What a program used on no input, and the processor and wall seconds of it behind its first byte."""
+    """What a program used on no input, and the processor and wall seconds of it after its first byte."""
     for _ in range(20):
         begun, child = start(words, os.devnull, written)
         late = stop_at_first_byte(child.pid, written)

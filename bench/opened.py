@@ -67,7 +67,7 @@ def is_reason(text):
     return is_number(text, 1, 7)
 
 
-# What each field of a command's text is to be, behind its first word.
+# What each field of a command's text is to be, after its first word.
 FIELDS = {
     "register": (is_type, is_name, is_date, is_date, is_date, is_purpose), "activate": (is_key,),
     "set": (is_key, is_edit, is_edit, is_edit), "revoke": (is_key, is_reason, is_date), "assign": (is_key, is_name),

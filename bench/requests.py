@@ -29,7 +29,7 @@ SQLite once (synchronous = FULL).
 
 No start, opening or making of a register is in a figure: one run serves a kind after the other, and for each the clock
 of its processor time (user and system) and the time of day are read twice, where the first requests of the kind are
-answered and where the counted ones behind them are. The difference is divided by how many these are; the least of the
+answered and where the counted ones after them are. The difference is divided by how many these are; the least of the
 rounds is told. In memory the register is made by requests first. Each reply of `keyreg` and of *python* is compared
 with what is expected, and after a run over a file the rows that the three programs left.
 
@@ -80,7 +80,7 @@ STATEMENTS = {
     "SET_COUNTS": "UPDATE meta SET latest = ?1, key_count = ?2 WHERE id = 1",
 }
 
-# The latest moment of the register at first; the one behind which its keys fall due, one each second; the Activation
+# The latest moment of the register at first; the one after which its keys fall due, one each second; the Activation
 # Date of the keys that are registered later; the Protect Stop and the Deactivation Date of all keys.
 START = 1_000_000
 DUE = 2_000_000
@@ -94,7 +94,7 @@ PRE_ACTIVE, ACTIVE = 1, 2
 # Places are taken in steps of this prime.
 STEP = 7919
 
-# The numbers of the assignments of one key lie behind this one.
+# The numbers of the assignments of one key lie after this one.
 BEHIND = 1_000_000_000
 
 # So many requests of a kind come before those that are counted.
@@ -129,7 +129,7 @@ class Kept(NamedTuple):
 # What the kinds are called that have other names in the table.
 NAMES = {"one": "assign, one key", "active": "register, Active", "clock": "advance, none due", "advance": "advance, one due"}
 
-# The kinds that go on behind the places of another one.
+# The kinds that go on after the places of another one.
 COUNTED_WITH = {"active": "register"}
 
 
@@ -415,7 +415,7 @@ struct Span {
     end: u32,
 }
 
-/// What is kept of a request but its texts, and the number of keys behind it.
+/// What is kept of a request but its texts, and the number of keys after it.
 #[derive(Clone, Copy)]
 struct Kept {
     number: i64,

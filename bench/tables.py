@@ -21,7 +21,7 @@ each into a file. What Python writes, by the formats, is to be what `keyreg` wri
 program's cells the one that SQLite's own library gives.
 
 *Whole* is the run of a program from its start to its end. `keyreg` and the bare program read the whole file when they open it,
-and `keyreg` tests each row; Python does neither, but for *python, tested*, which tests each row. *Behind the opening* is the whole without what the same run had used when its
+and `keyreg` tests each row; Python does neither, but for *python, tested*, which tests each row. *After the opening* is the whole without what the same run had used when its
 first byte was in the file: that is the header of the export, the head of the report, or the bare program's line `opened`, each
 written and flushed where the file is open and no row is read. So the program's start, its words and its opening are taken away,
 and its end is not. That byte is looked for some four times a millisecond; the program is then stopped, its clock of processor
@@ -93,7 +93,7 @@ def purpose(number):
 
 
 def dates_at(place, kind, keys):
-    """Activation, Protect Stop and Deactivation. The second is up to 90 days before or behind the latest moment."""
+    """Activation, Protect Stop and Deactivation. The second is up to 90 days before or after the latest moment."""
     if place % 16 == 3:
         return UNSET, UNSET, UNSET
     activation = LATEST + 10 * DAY if place % 16 == 6 else MADE
@@ -352,8 +352,8 @@ def least(pairs):
 
 
 def figures_of(used):
-    """The least whole processor and wall seconds, and the least behind the opening."""
-    return [*least(whole[:2] for whole, _ in used), *least(behind for _, behind in used)]
+    """The least whole processor and wall seconds, and the least after the opening."""
+    return [*least(whole[:2] for whole, _ in used), *least(after for _, after in used)]
 
 
 def table_lines(found):
@@ -435,8 +435,8 @@ def print_tables(keys, days, rounds):
         write_register(shorter, keys, SHORTER)
         found = {name: table_rounds(name, file, days, horizon(LATEST, days), rounds) for name in SELECTS}
         found["report, periods set"] = table_rounds("report", shorter, days, UNSET - 1, rounds)
-        table(("command", "lines", "program", "whole: processor s", "wall", "behind the opening: processor s", "wall",
-               "keyreg / it: whole, processor", "wall", "behind, processor", "wall"), table_lines(found))
+        table(("command", "lines", "program", "whole: processor s", "wall", "after the opening: processor s", "wall",
+               "keyreg / it: whole, processor", "wall", "after, processor", "wall"), table_lines(found))
         print()
         table(("command", "memory, MB", "more than an opening"), memory_lines(file, found, rounds))
     print(f"\nThe script's own memory: {resource.getrusage(resource.RUSAGE_SELF).ru_maxrss / 1024:.1f} MB.\n")

@@ -6,7 +6,7 @@ them: the status line, each header and the body are compared byte for byte with 
 
 What is expected comes of the rules as checks/rules.py states them, which are first put to worked rows of
 docs/SPECIFICATION.md; nothing is taken from the program but the second at which it served, which has to lie within the
-exchange. Each difference is printed, and a last line says how many exchanges agreed; the status is 1 where not all did. Behind
+exchange. Each difference is printed, and a last line says how many exchanges agreed; the status is 1 where not all did. After
 each part the file's own tables are read by SQLite and compared too.
 
 Each reply is also held to what docs/openapi.yaml says of its method, target and status: the schema
@@ -46,7 +46,7 @@ from serving import Served, listens
 DAY, YEAR = 86400, 365 * 86400
 MOST_HEAD, MOST_FIELDS, MOST_BODY = 8192, 64, 65536
 ADVANCE = b'{"kind":"advance"}'
-# Behind every moment of the machine's clock.
+# After every moment of the machine's clock.
 FAR = 4_000_000_000
 
 WORKED_ROWS = [
@@ -308,7 +308,7 @@ ANN = ("Caller: ann", "Request-Number: 1")
 
 
 def commands():
-    """All commands and the refusals 2, 4 to 19 and 21, each by curl or by one of the other ways, and the keys behind each."""
+    """All commands and the refusals 2, 4 to 19 and 21, each by curl or by one of the other ways, and the keys after each."""
     now = int(time.time())
     with Served() as served:
         office = Office("commands", served)
@@ -414,7 +414,7 @@ def commands():
             ("zed", 3, ("revoke", 6, 2, now), None),
             *(("bob", 20 + reason, ("revoke", key, reason, None), None) for key, reason in ((1, 1), (2, 4), (4, 5), (7, 6), (8, 7))),
             ("bob", 30, ("revoke", 1, 1, None), 7),
-            # The period of a type: what comes behind it goes by it, and the dates that keys have stay.
+            # The period of a type: what comes after it goes by it, and the dates that keys have stay.
             ("zed", 4, ("set-period", "master", 24, 12), 21),
             ("bob", 31, ("set-period", "data-encryption", 1, 0), 21),
             ("office", 1, ("set-period", "master", 24, 12), None),
@@ -453,8 +453,8 @@ def commands():
         office.look_at_tables()
 
 
-def behind():
-    """A register whose latest moment is ahead of the clock: 3, and what comes before it and behind it."""
+def late():
+    """A register whose latest moment is ahead of the clock: 3, and what comes before it and after it."""
     register, lines, wanted = Register(), [], []
     for request in [
         (FAR - DAY, "ann", 1, ("register", "data-encryption", "bob", FAR - 5, None, FAR + 5, "far")),
@@ -563,7 +563,7 @@ def heads():
         agree("200 headers", get("/keys/1", *fields, *fields, *fields), BAD)
         spare = MOST_HEAD - len(get("/keys/1", "Fill: "))
         agree("a head of 8192 bytes", get("/keys/1", "Fill: " + "x" * spare), shown)
-        agree("and its body's bytes behind", get("/keys/1", "Fill: " + "x" * spare) + b"x" * 5000, shown)
+        agree("and its body's bytes after", get("/keys/1", "Fill: " + "x" * spare) + b"x" * 5000, shown)
         agree("a head of 8193 bytes", get("/keys/1", "Fill: " + "x" * (spare + 1)), TOO_LARGE)
         agree("8192 bytes without an end", get("/keys/1", "Fill: " + "x" * (spare + 4))[:MOST_HEAD], TOO_LARGE)
         agree("the same, open", get("/keys/1", "Fill: " + "x" * (spare + 4))[:MOST_HEAD], TOO_LARGE, ends=False)
@@ -571,7 +571,7 @@ def heads():
         agree("a long head without an end", get("/keys/1", "Fill: " + "x" * 30000), TOO_LARGE)
         agree("a long value by a byte at a time", get("/keys/1", "Fill: " + "x" * 9000), TOO_LARGE, pieces=1)
         office.agree("a long header by curl", lambda: office.curl("/keys/1", "--header", "Fill: " + "x" * 9000), TOO_LARGE)
-        # Every front of a head.
+        # Every prefix of a head.
         whole = get("/keys/1")
         for length in range(1, len(whole)):
             agree(f"{length} bytes of a head", whole[:length], BAD)
@@ -579,7 +579,7 @@ def heads():
             ("no version", b"GET /keys/1\r\n\r\n"), ("no target", b"GET\r\n\r\n"), ("no method", b" /keys/1 HTTP/1.1\r\n\r\n"),
             ("HTTP/2.0", head("GET /keys/1 HTTP/2.0", "Host: a")), ("HTTP/1.2", head("GET /keys/1 HTTP/1.2", "Host: a")),
             ("HTTP/0.9", head("GET /keys/1 HTTP/0.9", "Host: a")), ("http/1.1", head("GET /keys/1 http/1.1", "Host: a")),
-            ("HTTP/1.10", head("GET /keys/1 HTTP/1.10", "Host: a")), ("words behind", head("GET /keys/1 HTTP/1.1 x", "Host: a")),
+            ("HTTP/1.10", head("GET /keys/1 HTTP/1.10", "Host: a")), ("words after", head("GET /keys/1 HTTP/1.1 x", "Host: a")),
             ("a space in the target", head("GET /keys/ 1 HTTP/1.1", "Host: a")),
             ("a header without a colon", get("/keys/1", "Header")), ("a header without a name", get("/keys/1", ": x")),
             ("a space before the colon", get("/keys/1", "Name : x")), ("a space in a name", get("/keys/1", "Na me: x")),
@@ -671,7 +671,7 @@ def lengths_and_callers():
             ("names in capitals", "CALLER: ann|REQUEST-NUMBER: {}|CONTENT-LENGTH: 18"),
             ("names in any case", "cAlLeR: ann|rEQUEST-nUMBER: {}|CoNtEnT-lEnGtH: 18"),
             ("spaces and tabs around", "Caller: \t ann \t |Request-Number:\t {}\t |Content-Length:  \t18 \t"),
-            ("no space behind the colon", "Caller:ann|Request-Number:{}|Content-Length:18"),
+            ("no space after the colon", "Caller:ann|Request-Number:{}|Content-Length:18"),
             ("other headers between", "Content-Length: 18|Accept: */*|Caller: ann|X-Caller: bob|Request-Number: {}|Callers: zed"),
             ("Expect", "Caller: ann|Request-Number: {}|Content-Length: 18|Expect: 100-continue"),
             ("Connection and type", "Caller: ann|Request-Number: {}|Content-Length: 18|Connection: keep-alive|Content-Type: x"),
@@ -682,7 +682,7 @@ def lengths_and_callers():
             accepts(f"{name}, HTTP/1.0", head("POST /requests HTTP/1.0", *template.format(number).split("|")) + ADVANCE, number)
         number = next(numbers)
         asked_whole = post(ADVANCE, "Caller: ann", f"Request-Number: {number}")
-        accepts("bytes behind the body", asked_whole + get("/keys/1") + b"x" * 9000, number)
+        accepts("bytes after the body", asked_whole + get("/keys/1") + b"x" * 9000, number)
         number = next(numbers)
         accepts("open to the reply", post(ADVANCE, "Caller: ann", f"Request-Number: {number}"), number, ends=False)
         number = next(numbers)
@@ -752,11 +752,11 @@ def bodies():
         for name, body in [
             ("empty", b""), ("space", b"  \r\n\t"), ("word", b"advance"), ("text", b'"advance"'), ("null", b"null"), ("number", b"1"),
             ("list", b'[{"kind":"advance"}]'), ("empty object", b"{}"), ("cut", b'{"kind":"advance"'), ("two", ADVANCE + ADVANCE),
-            ("words behind", ADVANCE + b"x"), ("comma", b'{"kind":"advance",}'), ("single quotes", b"{'kind':'advance'}"),
+            ("words after", ADVANCE + b"x"), ("comma", b'{"kind":"advance",}'), ("single quotes", b"{'kind':'advance'}"),
             ("comment", ADVANCE + b"// x"), ("byte order mark", b"\xef\xbb\xbf" + ADVANCE), ("brackets", b"[" * 1000),
             ("deep", b"[" * 1000 + b"]" * 1000), ("deep in a member", b'{"kind":' + b"[" * 1000 + b"]" * 1000 + b"}"),
-            ("braces", b'{"a":' * 1000), ("no UTF-8", b'{"kind":"advance\xff"}'), ("no UTF-8 behind", ADVANCE + b"\xff"),
-            ("zero behind", ADVANCE + b"\0"), ("name in capitals", b'{"Kind":"advance"}'), ("no name", b'{"":"advance"}'),
+            ("braces", b'{"a":' * 1000), ("no UTF-8", b'{"kind":"advance\xff"}'), ("no UTF-8 after", ADVANCE + b"\xff"),
+            ("zero after", ADVANCE + b"\0"), ("name in capitals", b'{"Kind":"advance"}'), ("no name", b'{"":"advance"}'),
             ("UTF-16", ADVANCE.decode().encode("utf-16")), ("a control character", b'{"kind":"adv\nance"}'),
             ("last kind counts", b'{"kind":"advance","kind":"x"}'), ("a request line", b"100 ann 1 advance\n"),
         ]:
@@ -811,7 +811,7 @@ def bodies():
 
 
 def own_end():
-    """The program ends behind its last exchange, whatever the exchanges were."""
+    """The program ends after its last exchange, whatever the exchanges were."""
     register, lines = with_a_key()
     with Served(exchanges=5, lines=lines) as served:
         office = Office("the end", served, register)
@@ -998,7 +998,7 @@ def full():
             posted("the last key's request again", most, kept, reply(200, {"key": most, "moment": 100, "state": "Active"}))
             posted("dates in disorder", most + 1, ("register", "master", "bob", 5, 4, 6, "x"), refusal_reply(9))
             posted("one more", most + 1, ("register", "master", "bob", None, None, None, "x"), refusal_reply(20))
-            posted("the key behind", most + 1, ("activate", most + 1), UNKNOWN)
+            posted("the key after", most + 1, ("activate", most + 1), UNKNOWN)
             for key, answer in ((most, True), (most + 1, False)):
                 shown = {
                     "activation": 0, "approvals": [], "compromised": None, "custodians": [], "deactivation": year, "destroyed": None,
@@ -1049,14 +1049,14 @@ def main():
     right = examples - len(wrong)
     print(f"{right} of {examples} examples of docs/openapi.yaml are in the specification", flush=True)
     for part in [
-        commands, behind, routes_and_methods, heads, lengths_and_callers, bodies, own_end, refused_store, left_clients,
+        commands, late, routes_and_methods, heads, lengths_and_callers, bodies, own_end, refused_store, left_clients,
         several_at_once,
     ]:
         before = Office.sent
         try:
             part()
         except (Ended, ConnectionError):
-            Office.fail(f"{part.__name__.replace('_', ' ')}: the program ended, and what is behind was not asked")
+            Office.fail(f"{part.__name__.replace('_', ' ')}: the program ended, and what is after was not asked")
         print(f"{part.__name__.replace('_', ' ')}: {Office.sent - before} exchanges", flush=True)
     stalled(told.bound, told.stalls)
     if told.full:

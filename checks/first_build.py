@@ -199,7 +199,7 @@ class Copy:
 
 
 def silent(copy):
-    """Without a terminal: a line for each crate as it ends, behind the announcement."""
+    """Without a terminal: a line for each crate as it ends, after the announcement."""
     copy.tells("wait-moment_core=1.5")
     called = copy.call()
     yield from copy.built(called, "without a terminal")
@@ -291,7 +291,7 @@ def built_again(copy):
 
 
 def failed(copy):
-    """A failed proof: its log, status 70, and nothing that goes on or was begun behind it."""
+    """A failed proof: its log, status 70, and nothing that goes on or was begun after it."""
     copy.tells("fail-register_store", "wait-key_rows=20")
     copy.renew()
     start = time.monotonic()
@@ -302,7 +302,7 @@ def failed(copy):
     if logged != ["register_store"] or "keyreg: register_store is not proved\n" not in said:
         yield f"a failed proof: {said}"
     if time.monotonic() - start > 15 or copy.goes_on():
-        yield f"a failed proof: behind it went on {copy.goes_on() or 'a proof beside it'}"
+        yield f"a failed proof: after it went on {copy.goes_on() or 'a proof beside it'}"
     if copy.begin("register_desk") or list(copy.rest.iterdir()):
         yield "a failed proof: more was begun, or a folder is left"
     copy.tells()
@@ -379,7 +379,7 @@ def together(copy):
 
 
 def main():
-    # A shell that was begun where an interrupt is ignored, as behind nohup and &, cannot heed it.
+    # A shell that was begun where an interrupt is ignored, as after nohup and &, cannot heed it.
     signal.signal(signal.SIGINT, signal.default_int_handler)
     found = []
     with tempfile.TemporaryDirectory() as folder:

@@ -16,7 +16,7 @@ from registers import INDEXES, TABLES, UNSET, VERSION, expect, keyreg
 
 MAX_KEYS = 1_000_000
 
-# Advances behind the registrations, of another caller.
+# Advances after the registrations, of another caller.
 MORE = 100
 
 # Every key is a data encryption key with these dates, Active since it was registered at second 100.

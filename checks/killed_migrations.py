@@ -1,5 +1,5 @@
 #!/usr/bin/env python3
-"""Lives that begin with a file of version 1, each killed at a random moment of its opening or of the run behind it: the file is
+"""Lives that begin with a file of version 1, each killed at a random moment of its opening or of the run after it: the file is
 left as it was, or it is of version 2 with the accepted requests whose replies were written, or one more.
 
     checks/killed_migrations.py [LIVES [SEED]]
@@ -45,22 +45,22 @@ def write(file):
 
 
 def killed_life(file, folder, seconds):
-    """One life, killed behind so many seconds: the version that it left, and how many requests were kept that were not answered."""
+    """One life, killed after so many seconds: the version that it left, and how many requests were kept that were not answered."""
     for name in os.listdir(folder):
         os.remove(os.path.join(folder, name))
     write(file)
     answered = killed_run(file, BEFORE, seconds)
     texts, meta = kept(file, folder)
-    version, behind = meta[0][1], len(texts) - BEFORE
+    version, after = meta[0][1], len(texts) - BEFORE
     most = {1: 0, VERSION: answered + 1}[version]
-    expect(answered <= behind <= most, f"version {version}: {behind} kept of {answered}")
+    expect(answered <= after <= most, f"version {version}: {after} kept of {answered}")
     wanted = [(place, request(place)[1], 100 + place) for place in range(1, len(texts) + 1)]
     expect(texts == wanted, "the requests that are kept are no prefix")
     expect(meta == [(1, version, 100 + len(texts), (len(texts) + 9) // 10)], f"meta {meta}")
     # The program's own opening finds it a register, and repeats the first reply and the last.
     for line, _, reply in map(request, (1, len(texts))):
         expect(keyreg(["run", "--file", file], [line]) == [reply], f"the reply to {line}")
-    return version, behind - answered
+    return version, after - answered
 
 
 def seconds_of_opening(file):

@@ -4,7 +4,7 @@ replies were written, or one more.
 
     checks/killed_runs.py [RUNS [SEED]]
 
-Each run is given the requests behind those that the file holds, and SIGKILL ends it. Then the file and its log are
+Each run is given the requests after those that the file holds, and SIGKILL ends it. Then the file and its log are
 copied, the copy is read by SQLite's own library, and the program opens the file. Build the program first:
 ./keyreg </dev/null
 """
@@ -24,7 +24,7 @@ LONGEST_SECONDS = 0.25
 
 
 def request(place):
-    """The request at this place, from 1, its text, and its reply: every tenth registers a key, each behind it
+    """The request at this place, from 1, its text, and its reply: every tenth registers a key, each after it
     gives a key to itself, and every seventh of those only moves the time on."""
     moment, keys = 100 + place, (place + 9) // 10
     if place % 10 == 1:
@@ -38,7 +38,7 @@ def request(place):
 
 
 def killed_run(file, before, seconds):
-    """Runs over the requests behind so many, up to the kill. Gives the number of replies that were written whole."""
+    """Runs over the requests after so many, up to the kill. Gives the number of replies that were written whole."""
     lines = "".join(request(before + place)[0] + "\n" for place in range(1, AHEAD + 1))
     with tempfile.TemporaryFile() as given:
         given.write(lines.encode())

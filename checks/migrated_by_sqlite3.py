@@ -89,10 +89,10 @@ def is_taken(file):
     requests = requests_in(file)
     expect(first == 1, f"{file}: version {first}")
     keyreg(["run", "--file", file])
-    expect(look(file) == (VERSION, before), f"{file}: the rows behind the opening")
+    expect(look(file) == (VERSION, before), f"{file}: the rows after the opening")
     replies = keyreg(["run", "--file", file], [line for line, _ in requests])
     expect(replies == [reply for _, reply in requests], f"{file}: repeats {replies}")
-    expect(look(file) == (VERSION, before), f"{file}: the rows behind the repeats")
+    expect(look(file) == (VERSION, before), f"{file}: the rows after the repeats")
 
 
 GOES_ON = [

@@ -1,5 +1,5 @@
 #!/usr/bin/env python3
-"""A register goes on whatever trees its tables stand in: behind SQLite's VACUUM, put together from a dump, with an index of
+"""A register goes on whatever trees its tables stand in: after SQLite's VACUUM, put together from a dump, with an index of
 an office's own between its tables, and without the further indexes. Each repeats its replies and has the same rows in the end.
 
 Build the program first: ./keyreg </dev/null
@@ -10,7 +10,7 @@ import tempfile
 
 from registers import APPROVED_ANEW, INDEXES, TABLES, all_rows, expect, keyreg, put_rows
 
-# Behind the rows of *approved anew*.
+# After the rows of *approved anew*.
 MORE = [
     ("110 bob 6 assign 1 eve", "ok 1 Destroyed-Compromised 110"),
     ("111 ann 2 register master eve 0 - - root", "ok 2 Active 111"),
