@@ -24,284 +24,25 @@ brings both; with Debian's python3-jsonschema and python3-yaml the command is
 /usr/bin/python3 checks/exchanges_by_curl.py. Build the program first: ./keyreg </dev/null
 """
 import argparse
-import http.client
 import json
-import os
 import shutil
 import socket
-import sqlite3
-import subprocess
 import sys
 import threading
 import time
 
-from interface import Interface
-from registers import INDEXES, STATES, TABLES, UNSET, VERSION, expect, keyreg
-from rules import (
-    BAD, GREATEST_NUMBER, LAST, LENGTH_REQUIRED, MEMBERS, NO_ROUTE, STORE, TOO_LARGE, UNKNOWN, Register, compact, get_reply, line,
-    not_allowed, plus_months, post_reply, refusal_reply, reply, reply_line, request_object,
+from exchanges_in_bulk import by_ab, full
+from office import (
+    ADVANCE, ANN, DAY, Ended, FAR, INTERFACE, MOST_BODY, MOST_FIELDS, MOST_HEAD, Office, YEAR,
+    get, head, post, with_a_key,
 )
+from registers import expect
+from rules import (
+    BAD, GREATEST_NUMBER, LAST, LENGTH_REQUIRED, MEMBERS, NO_ROUTE, STORE, TOO_LARGE, Register,
+    compact, get_reply, line, not_allowed, post_reply, reply_line, request_object,
+)
+from rules_tried import look_at_rules
 from serving import Served, listens
-
-DAY, YEAR = 86400, 365 * 86400
-MOST_HEAD, MOST_FIELDS, MOST_BODY = 8192, 64, 65536
-ADVANCE = b'{"kind":"advance"}'
-# After every moment of the machine's clock.
-FAR = 4_000_000_000
-
-WORKED_ROWS = [
-    [((100, "ann", 1, ("register", "data-encryption", "bob", 0, 500, 1000, "payroll disks")), "ok 1 Active 100"),
-     ((999, "ann", 2, ("advance",)), "ok 0 - 999"),
-     ((1000, "ann", 3, ("register", "data-encryption", "bob", 0, 500, 1000, "old disks")), "ok 2 Deactivated 1000"),
-     ((999, "ann", 4, ("advance",)), "refused 3 MomentBehind latest=1000")],
-    [((100, "ann", 1, ("register", "data-encryption", "bob", 0, 63072001, None, "x")), "refused 10 PeriodTooLong limit=63072000"),
-     ((100, "ann", 1, ("register", "data-encryption", "bob", 0, 63072000, None, "x")), "ok 1 Active 100"),
-     ((50, "ann", 1, ("register", "data-encryption", "bob", 0, 63072000, None, "x")), "ok 1 Active 100"),
-     ((50, "ann", 1, ("register", "data-encryption", "bob", 0, 63072000, None, "y")), "refused 2 RequestReused"),
-     ((157766399, "ann", 3, ("advance",)), "ok 0 - 157766399"),
-     ((157766400, "bob", 1, ("activate", 1)), "refused 7 WrongState state=Deactivated")],
-    [((100, "ann", 1, ("register", "master", "bob", None, None, None, "spare")), "ok 1 Pre-Active 100"),
-     ((101, "bob", 1, ("add-custodian", 1, "cat")), "ok 1 Pre-Active 101"),
-     ((102, "bob", 2, ("add-custodian", 1, "dan")), "ok 1 Pre-Active 102"),
-     ((103, "cat", 1, ("approve", 1)), "ok 1 Pre-Active 103"),
-     ((104, "dan", 1, ("approve", 1)), "ok 1 Pre-Active 104"),
-     ((105, "bob", 3, ("remove-custodian", 1, "dan")), "ok 1 Pre-Active 105"),
-     ((106, "bob", 4, ("destroy", 1)), "refused 18 ApprovalsMissing have=1 need=2"),
-     ((106, "bob", 4, ("add-custodian", 1, "dan")), "ok 1 Pre-Active 106"),
-     ((107, "dan", 2, ("approve", 1)), "ok 1 Pre-Active 107"),
-     ((108, "bob", 5, ("destroy", 1)), "ok 1 Destroyed 108"),
-     ((109, "zed", 1, ("revoke", 1, 2, None)), "ok 1 Destroyed-Compromised 109")],
-    [((100, "ann", 1, ("register", "master", "bob", None, None, None, "spare")), "ok 1 Pre-Active 100"),
-     ((101, "bob", 1, ("add-custodian", 1, "cat")), "ok 1 Pre-Active 101"),
-     ((102, "bob", 2, ("add-custodian", 1, "dan")), "ok 1 Pre-Active 102"),
-     ((103, "bob", 3, ("set-quorum", 1, 3)), "ok 1 Pre-Active 103"),
-     ((104, "cat", 1, ("approve", 1)), "ok 1 Pre-Active 104"),
-     ((105, "dan", 1, ("approve", 1)), "ok 1 Pre-Active 105"),
-     ((106, "bob", 4, ("destroy", 1)), "refused 18 ApprovalsMissing have=2 need=3"),
-     ((106, "bob", 4, ("set-quorum", 1, 2)), "ok 1 Pre-Active 106"),
-     ((107, "bob", 5, ("destroy", 1)), "ok 1 Destroyed 107")],
-    [((100, "ann", 1, ("register", "data-encryption", "bob", 0, None, None, "payroll disks")), "ok 1 Active 100"),
-     ((200, "zed", 1, ("set-period", "data-encryption", 12, 36)), "refused 21 NotOffice"),
-     ((200, "office", 1, ("set-period", "data-encryption", 12, 36)), "ok 0 - 200"),
-     ((300, "ann", 2, ("register", "data-encryption", "bob", 0, 63072000, None, "x")), "refused 10 PeriodTooLong limit=31536000"),
-     ((300, "ann", 2, ("register", "data-encryption", "bob", 0, None, None, "x")), "ok 2 Active 300"),
-     ((400, "bob", 1, ("set", 1, "=", "=", 150000000)), "refused 10 PeriodTooLong limit=31536000")],
-    [((LAST, "ann", 1, ("register", "data-encryption", "bob", LAST, None, None, "x")), "refused 11 DateRange"),
-     ((LAST, "ann", 1, ("register", "data-encryption", "bob", LAST, LAST, LAST, "x")), f"ok 1 Deactivated {LAST}")],
-    [((100, "ann", 1, ("register", "master", "bob", 1000, 2000, 2000, "x")), "ok 1 Pre-Active 100"),
-     ((200, "bob", 1, ("set", 1, "=", 3000, None)), "ok 1 Pre-Active 200"),
-     ((1000, "bob", 2, ("set", 1, 1200, "=", "=")), "refused 8 DateFrozen"),
-     ((3000, "bob", 2, ("set", 1, "=", 3500, None)), "refused 7 WrongState state=Deactivated")],
-    [((100, "ann", 1, ("register", "data-encryption", "bob", 1000, None, None, "x")), "ok 1 Pre-Active 100"),
-     ((400, "bob", 1, ("activate", 1)), "ok 1 Active 400"),
-     ((400, "zed", 1, ("revoke", 1, 2, 401)), "refused 19 OccurrenceLater"),
-     ((400, "zed", 1, ("assign", 1, "zed")), "refused 5 NotOwner"),
-     ((400, "zed", 1, ("approve", 1)), "refused 6 NotCustodian"),
-     ((400, "zed", 1, ("activate", 9)), "refused 4 UnknownKey")],
-]
-
-
-def look_at_rules():
-    for row in WORKED_ROWS:
-        register = Register()
-        for request, wanted in row:
-            found = reply_line(register, *request)
-            expect(found == wanted, f"the rules give {found} for {request}")
-    wanted = (
-        b"HTTP/1.1 200 OK\r\nContent-Type: application/json\r\nContent-Length: 35\r\nConnection: close\r\n\r\n"
-        b'{"key":0,"moment":100,"state":null}'
-    )
-    expect(post_reply(Register(), 100, "ann", 1, ("advance",)) == wanted, "the rules' reply")
-    register = Register()
-    register.apply(100, "ann", 1, ("register", "data-encryption", "bob", 0, None, None, "payroll disks"))
-    shown = (
-        b'{"activation":0,"approvals":[],"compromised":null,"custodians":[],"deactivation":157766400,"destroyed":null,'
-        b'"initial":100,"need":2,"number":1,"occurrence":null,"owner":"bob","protect_stop":63072000,'
-        b'"purpose":"payroll disks","state":"Active","type":"data-encryption"}'
-    )
-    expect(compact(register.shown(1)) == shown, "the rules' record")
-    expect(compact(register.usage(1)) == b'{"process":"yes","protect":true}', "the rules' usage")
-
-
-# ---- exchanges
-
-
-class Ended(Exception):
-    """The program ended within a part."""
-
-
-INTERFACE = Interface()
-
-
-def asked_of(given):
-    """The method and the target of a request's bytes, as far as its first line has them."""
-    first = given.lstrip(b"\r\n").split(b"\n")[0].rstrip(b"\r").decode(errors="replace")
-    method, _, rest = first.partition(" ")
-    return method, rest.partition(" ")[0]
-
-
-def parts(given):
-    """The lines of a reply's head, and its body."""
-    head, _, body = given.partition(b"\r\n\r\n")
-    return [*head.split(b"\r\n"), body]
-
-
-class Office:
-    """A served register beside the register of the rules, which is given what it is given."""
-    sent = agreed = failures = met = 0
-
-    def __init__(self, name, served, register=None):
-        self.name, self.served, self.register = name, served, register or Register()
-        # The method and the target of the exchange that is held next.
-        self.asked = None
-
-    @classmethod
-    def fail(cls, told):
-        cls.failures += 1
-        print(told, flush=True)
-
-    def agree(self, name, send, answer):
-        """One exchange: `answer` gives the bytes of the reply, of a register and a moment, or is these bytes."""
-        Office.sent += 1
-        before = int(time.time())
-        found = send()
-        after = int(time.time())
-        self.meet(name, found)
-        trials = []
-        for moment in [before] if isinstance(answer, bytes) else range(before, after + 1):
-            trial = self.register if isinstance(answer, bytes) else self.register.copy()
-            wanted = answer if isinstance(answer, bytes) else answer(trial, moment)
-            trials.append((wanted, trial))
-            if wanted == found:
-                break
-        wanted, self.register = trials[-1]
-        if wanted == found:
-            Office.agreed += 1
-            return
-        self.fail(f"{self.name}, {name}:")
-        theirs, ours = parts(found), parts(wanted)
-        for place in range(max(len(theirs), len(ours))):
-            one, other = (lines[place] if place < len(lines) else None for lines in (theirs, ours))
-            if one != other:
-                print(f"    is        {one}\n    should be {other}", flush=True)
-        if self.served.has_ended():
-            raise Ended
-
-    def meet(self, name, found):
-        """Holds a reply to what docs/openapi.yaml says of it."""
-        if not found:
-            return
-        told = INTERFACE.unmet(*self.asked, found)
-        Office.met += not told
-        if told:
-            self.fail(f"{self.name}, {name}, by docs/openapi.yaml: {told}")
-
-    def give(self, given, **how):
-        """The reply to these bytes."""
-        self.asked = asked_of(given)
-        return self.served.raw(given, **how)
-
-    def curl(self, path, *words, given=None):
-        if "--request" in words:
-            method = words[words.index("--request") + 1]
-        else:
-            method = "HEAD" if "--head" in words else "POST" if "--data-binary" in words else "GET"
-        self.asked = (method, path)
-        place = f"http://127.0.0.1:{self.served.port}{path}"
-        told = ["curl", "--silent", "--include", "--raw", "--http1.1", "--noproxy", "*", "--path-as-is", "--max-time", "60"]
-        return subprocess.run([*told, *words, place], input=given, capture_output=True, check=False).stdout
-
-    def python(self, method, path, body=None, headers=None):
-        """The reply as http.client reads it."""
-        self.asked = (method, path)
-        connection = http.client.HTTPConnection("127.0.0.1", self.served.port, timeout=60)
-        connection.request(method, path, body, headers or {})
-        answer = connection.getresponse()
-        body = answer.read()
-        connection.close()
-        head = [f"HTTP/1.{answer.version - 10} {answer.status} {answer.reason}", *(f"{k}: {v}" for k, v in answer.getheaders())]
-        return "\r\n".join([*head, "", ""]).encode() + body
-
-    def posted(self, way, caller, number, body):
-        told = {"Caller": caller, "Request-Number": str(number)}
-        if way == "curl":
-            words = [word for name, value in told.items() for word in ("--header", f"{name}: {value}")]
-            return self.curl("/requests", "--header", "Expect:", *words, "--data-binary", "@-", given=body)
-        if way == "python":
-            return self.python("POST", "/requests", body, told)
-        given = post(body, f"Caller: {caller}", f"Request-Number: {number}")
-        return self.give(given, pieces=1 if way == "bytes" else None)
-
-    def is_command(self, body, wanted):
-        """Whether the body is a command by the schema of docs/openapi.yaml, as is wanted."""
-        if INTERFACE.is_command(body) != wanted:
-            told = "no" if wanted else "a"
-            self.fail(f"{self.name}: by docs/openapi.yaml {body[:120]} is {told} command")
-
-    def post(self, caller, number, command, said=None, way="curl"):
-        """A request with a command; `said` is the number of its refusal, None for one that is accepted."""
-        def answer(register, moment):
-            wanted = post_reply(register, moment, caller, number, command)
-            refused = json.loads(wanted.partition(b"\r\n\r\n")[2]).get("refused")
-            expect(refused == said, f"the rules refuse {caller} {number} {command} with {refused}, not with {said}")
-            return wanted
-
-        body = json.dumps(request_object(command), ensure_ascii=False).encode()
-        self.is_command(body, True)
-        self.agree(f"{caller} {number} {command} by {way}", lambda: self.posted(way, caller, number, body), answer)
-
-    def get(self, key, way="curl"):
-        """A key and its usage."""
-        for of_usage in (False, True):
-            path = f"/keys/{key}" + "/usage" * of_usage
-            send = {"curl": lambda: self.curl(path), "python": lambda: self.python("GET", path)}.get(
-                way, lambda: self.give(get(path)))
-            self.agree(f"GET {path} by {way}", send, lambda register, _: get_reply(register, key, of_usage))
-
-    def raw(self, name, given, answer, **how):
-        self.agree(name, lambda: self.give(given, **how), answer)
-
-    def look_at_tables(self):
-        """Ends the program and compares the tables with the rules' register."""
-        self.served.process.kill()
-        self.served.process.wait()
-        register = self.register
-        codes = {state: code for code, state in STATES.items()}
-        connection = sqlite3.connect(self.served.file)
-        found = connection.execute("SELECT caller, number, command, key_no, state, moment FROM request").fetchall()
-        wanted = []
-        for (caller, number), (command, (key, state, moment)) in register.kept.items():
-            text = line(moment, caller, number, command).split(" ", 3)[3]
-            wanted.append((caller, number, text, key, codes[state or "-"], moment))
-        if sorted(found) != sorted(wanted):
-            self.fail(f"{self.name}: the kept requests\n    are       {sorted(found)}\n    should be {sorted(wanted)}")
-        found = connection.execute("SELECT * FROM meta").fetchall()
-        if found != [(1, VERSION, register.latest, len(register.keys))]:
-            self.fail(f"{self.name}: meta is {found}, latest {register.latest}, keys {len(register.keys)}")
-        found = connection.execute("SELECT number, state, owner FROM keys ORDER BY number").fetchall()
-        wanted = [(n, codes[key.state(register.latest)], key.owner) for n, key in enumerate(register.keys, 1)]
-        if found != wanted:
-            self.fail(f"{self.name}: the keys\n    are       {found}\n    should be {wanted}")
-        connection.close()
-
-
-# ---- bytes of requests
-
-
-def head(first, *fields):
-    return "\r\n".join([first, *fields, "", ""]).encode()
-
-
-def get(path, *fields):
-    return head(f"GET {path} HTTP/1.1", "Host: localhost", *fields)
-
-
-def post(body, *fields, length=None):
-    length = len(body) if length is None else length
-    return head("POST /requests HTTP/1.1", "Host: localhost", *fields, f"Content-Length: {length}") + body
-
-
-ANN = ("Caller: ann", "Request-Number: 1")
 
 
 # ---- the parts
@@ -477,14 +218,6 @@ def late():
         office.post("zed", 1, ("destroy", 1), 3)
         office.get(1)
         office.look_at_tables()
-
-
-def with_a_key():
-    """A register with one key, Active."""
-    register = Register()
-    request = (100, "bob", 1, ("register", "data-encryption", "bob", None, None, None, "payroll disks"))
-    register.apply(*request)
-    return register, [line(*request)]
 
 
 def routes_and_methods():
@@ -963,75 +696,6 @@ def several_at_once():
         for key in range(1, 33):
             office.get(key, "raw")
         office.look_at_tables()
-
-
-def full():
-    """A register of 1000000 keys, written by SQLite's own library: one more is refused, and all else goes on."""
-    most, year = 1_000_000, plus_months(0, 12)
-    register, lines = with_a_key()
-    with Served(lines=lines, exchanges=1) as served:
-        served.raw(b"")
-        served.ended()
-        file = served.file + ".full"
-        connection = sqlite3.connect(file)
-        connection.executescript("PRAGMA synchronous = OFF; PRAGMA journal_mode = OFF;" + TABLES)
-        connection.execute("INSERT INTO meta VALUES (1, ?, 100, ?)", (VERSION, most))
-        connection.executemany(
-            "INSERT INTO keys VALUES (?, 7, 'office', ?, 2, 100, 0, ?, ?, ?, ?, ?)",
-            ((k, f"backup volume {k}", year, year, UNSET, UNSET, UNSET) for k in range(1, most + 1)),
-        )
-        connection.executemany(
-            "INSERT INTO request VALUES ('ann', ?, ?, ?, 2, 100)",
-            ((k, f"register master office 0 - - backup volume {k}", k) for k in range(1, most + 1)),
-        )
-        connection.executescript(INDEXES)
-        connection.commit()
-        connection.close()
-        with Served(file=file) as again:
-            office = Office("a full register", again)
-
-            def posted(name, number, command, answer):
-                body = compact(request_object(command))
-                office.raw(name, post(body, "Caller: ann", f"Request-Number: {number}"), answer)
-
-            kept = ("register", "master", "office", 0, None, None, f"backup volume {most}")
-            posted("the last key's request again", most, kept, reply(200, {"key": most, "moment": 100, "state": "Active"}))
-            posted("dates in disorder", most + 1, ("register", "master", "bob", 5, 4, 6, "x"), refusal_reply(9))
-            posted("one more", most + 1, ("register", "master", "bob", None, None, None, "x"), refusal_reply(20))
-            posted("the key after", most + 1, ("activate", most + 1), UNKNOWN)
-            for key, answer in ((most, True), (most + 1, False)):
-                shown = {
-                    "activation": 0, "approvals": [], "compromised": None, "custodians": [], "deactivation": year, "destroyed": None,
-                    "initial": 100, "need": 2, "number": key, "occurrence": None, "owner": "office", "protect_stop": year,
-                    "purpose": f"backup volume {key}", "state": "Active", "type": "master",
-                }
-                office.agree(f"key {key}", lambda: office.curl(f"/keys/{key}"), reply(200, shown) if answer else UNKNOWN)
-
-
-def by_ab():
-    """ApacheBench, one connection at a time: no exchange fails."""
-    if not shutil.which("ab"):
-        print("ab is not installed; nothing was asked with it")
-        return
-    register, lines = with_a_key()
-    with Served(lines=lines, exchanges=2000) as served:
-        body = os.path.join(served.folder.name, "advance.json")
-        with open(body, "wb") as file:
-            file.write(ADVANCE)
-        place = f"http://127.0.0.1:{served.port}"
-        post_words = ["-p", body, "-T", "application/json", "-H", "Caller: ann", "-H", "Request-Number: 1", place + "/requests"]
-        for name, words in (("GET", [place + "/keys/1"]), ("POST", post_words)):
-            done = subprocess.run(["ab", "-q", "-n", "1000", "-c", "1", *words], capture_output=True, text=True, check=False)
-            names = ("Complete", "Failed", "Non-2xx", "Write errors", "Requests per")
-            told = [row for row in done.stdout.splitlines() if row.startswith(names)]
-            print(f"ab, {name}: " + "; ".join(" ".join(row.split()) for row in told))
-            figures = {row.split(":")[0]: row.split(":")[1].split()[0] for row in told}
-            is_whole = figures.get("Complete requests") == "1000" and figures.get("Failed requests") == "0"
-            if done.returncode or not is_whole or "Non-2xx responses" in figures:
-                Office.fail(f"ab, {name}: status {done.returncode}, {done.stderr}")
-        told = served.ended()
-        if told:
-            Office.fail(f"ab: {told}")
 
 
 def main():
