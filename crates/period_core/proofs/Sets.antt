@@ -1,5 +1,5 @@
 -- What is set for each type, once something is set for one.
-use Rattle.std.proofs.Common.{◌≡◌, ◌==◌, Bool, cond, Option, refl}
+use Rattle.std.proofs.Common.{◌≡◌, ◌==◌, cond, Option, refl}
 use Rattle.period_core.specs.declared.key_type.KeyType.{KeyType}
 use Rattle.period_core.specs.declared.key_type.KeyType.TheVariants.{DataEncryption, Authentication, KeyWrapping, PrivateSignature, PrivateAuthentication, PrivateTransport, Master}
 use Rattle.period_core.specs.declared.office.OfficePeriods.{OfficePeriods}

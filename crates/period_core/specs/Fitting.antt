@@ -133,15 +133,19 @@ abbrev pub KeepsDate : Option ℕ → Option ℕ → Type 0
 KeepsDate None new = Unit {0}
 KeepsDate (Some date) new = new ≡ Some date
 
--- what was given is kept, and the other dates are as they were
-pub record KeepsGiven (old new : Dates) : Type 0 where
+-- Protect Stop and Deactivation change in this way alone, and the other dates are as they were
+pub record ChangesStops (Changes : Option ℕ → Option ℕ → Type 0) (old new : Dates) : Type 0 where
   pub activation : new.activation ≡ old.activation
-  pub protect_stop : KeepsDate old.protect_stop new.protect_stop
-  pub deactivation : KeepsDate old.deactivation new.deactivation
+  pub protect_stop : Changes old.protect_stop new.protect_stop
+  pub deactivation : Changes old.deactivation new.deactivation
   pub initial : new.initial ≡ old.initial
   pub destroy : new.destroy ≡ old.destroy
   pub compromise : new.compromise ≡ old.compromise
   pub compromise_occurrence : new.compromise_occurrence ≡ old.compromise_occurrence
+
+-- what was given is kept
+abbrev pub KeepsGiven : Dates → Dates → Type 0
+KeepsGiven = ChangesStops KeepsDate
 
 -- a date that was set stays set, and becomes no later
 abbrev pub CutsDate : Option ℕ → Option ℕ → Type 0
@@ -149,16 +153,9 @@ CutsDate None new = Unit {0}
 CutsDate (Some date) None = ⊥
 CutsDate (Some date) (Some new) = new ≤ date
 
--- Protect Stop and Deactivation, where they were given, become no later, and the other dates are as
--- they were
-pub record CutsGiven (old new : Dates) : Type 0 where
-  pub activation : new.activation ≡ old.activation
-  pub protect_stop : CutsDate old.protect_stop new.protect_stop
-  pub deactivation : CutsDate old.deactivation new.deactivation
-  pub initial : new.initial ≡ old.initial
-  pub destroy : new.destroy ≡ old.destroy
-  pub compromise : new.compromise ≡ old.compromise
-  pub compromise_occurrence : new.compromise_occurrence ≡ old.compromise_occurrence
+-- what was given becomes no later
+abbrev pub CutsGiven : Dates → Dates → Type 0
+CutsGiven = ChangesStops CutsDate
 
 -- what a call answered and left is this outcome: at a refusal the dates are as they were
 abbrev pub Gives : Result Dates DateRefusal → Result (Unit {0}) DateRefusal → Dates → Dates → Type 0
