@@ -1,7 +1,10 @@
 -- What a turn at a reader or a writer leaves of its counts.
-use Rattle.std.specs.Prelude.{◌≡◌, ◌⊎◌, ℕ, ◌+◌, ◌-◌, ◌≤◌, ◌^◌, max, min, Bool, true, ⊤}
+use Rattle.std.specs.Prelude.{◌≡◌, ◌⊎◌, ℕ, ◌+◌, ◌-◌, ◌≤◌, ◌^◌, max, min, Bool, true, List, length, take, Option, ⊤}
+use Rattle.std.specs.Io.KnownBytes.{Appends}
 use Rattle.streams.specs.declared.watched.Turn.{Turn}
 use Rattle.streams.specs.declared.watched.Turn.TheVariants.{Done, Interrupted, Failed}
+use Rattle.streams.specs.declared.watched.Watched.{Watched}
+use Rattle.streams.specs.declared.watched.WriteFault.{WriteFault}
 
 -- one more, but none past the last of a `u64`
 abbrev pub one_more : ℕ → ℕ
@@ -10,6 +13,13 @@ one_more count = max count (min (count + 1) (2 ^ 64 - 1))
 -- why a call gave up: a turn failed, or the bound on turns was met
 abbrev pub IsFaulted : Bool → ℕ → ℕ → Type 0
 IsFaulted failed max_turns turns = (failed ≡ true) ⊎ (max_turns ≤ turns)
+
+-- a writing gave up: these of the bytes were taken and no others, and a failure or too many interruptions are the cause
+pub record StopsWithin {W : Type 0} (contents : W → Option (List ℕ)) (old new : Watched W) (max_idle : ℕ) (bytes : List ℕ)
+    (fault : WriteFault) : Type 0 where
+  pub bound : fault.written ≤ length bytes
+  pub part : Appends (contents old.inner) (contents new.inner) (take fault.written bytes)
+  pub err : IsFaulted new.failed max_idle new.idle
 
 -- a fact of what a turn that was done gave
 abbrev pub OnDone : {V : Type 0} → Turn V → (V → Type 0) → Type 0

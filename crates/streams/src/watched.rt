@@ -5,7 +5,7 @@ ghost use Rattle.std.specs.Bool.{OnFalse, OnTrue};
 ghost use Rattle.std.specs.IoError.{error_kind};
 ghost use Rattle.std.specs.Io.KnownBytes.{Appends, Consumes, IsAtEnd, Keeps};
 ghost use Rattle.streams.specs.Watched.{one_more, OnDone, OnUndone, IsFaulted, idle_after};
-ghost use Rattle.streams.specs.Watched.{failed_after};
+ghost use Rattle.streams.specs.Watched.{StopsWithin, failed_after};
 
 use std::io::{Error, ErrorKind, Read, Write};
 
@@ -240,11 +240,8 @@ impl<W: Write> Watched<W> {
         ensures wrote { OnOk result
             (0 < length bytes.now → one_more self.old.turns ≤ self.new.turns) }
         ensures bounded { self.old.idle ≤ max_idle → self.new.idle ≤ max_idle }
-        ensures bound { IfErr result (λ fault. fault.written ≤ length bytes.now) }
-        ensures part { IfErr result (λ fault.
-            Appends (W.contents self.old.inner) (W.contents self.new.inner)
-            (take fault.written bytes.now)) }
-        ensures err { OnErr result (IsFaulted self.new.failed max_idle self.new.idle) }
+        ensures stops { IfErr result
+            (StopsWithin W.contents self.old self.new max_idle bytes.now) }
         ensures turns { self.old.turns ≤ self.new.turns }
         ensures failed { self.old.failed ≡ true → self.new.failed ≡ true }
     {
