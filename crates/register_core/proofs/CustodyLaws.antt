@@ -14,7 +14,7 @@ use Rattle.register_core.specs.KeyName.{names_at}
 use Rattle.register_core.specs.Names.{sorted_names}
 use Rattle.register_core.specs.History.{count, type, period, dates}
 use Rattle.register_core.specs.Subject.{named}
-use Rattle.register_core.specs.Effect.{given_dates, edited_dates, compromised, deactivated, dates_after, custody_change}
+use Rattle.register_core.specs.Effect.{edited_dates, compromised, deactivated, dates_after, custody_change}
 use Rattle.register_core.specs.Custody.{all_custodians, all_approvals, approvals, need}
 use Rattle.register_core.specs.Quorum.{min_approvals}
 use Rattle.register_core.proofs.Settled.{need_in_range}
@@ -24,12 +24,12 @@ use Rattle.register_core.specs.Fold.{IsLawful}
 use Rattle.register_core.specs.Laws.{IsAccepted, HasKey}
 use Rattle.register_core.specs.Decision.{approvals_by}
 use Rattle.register_core.proofs.Verdicts.{judged}
-use Rattle.register_core.proofs.Histories.{count_grows, dates_named, dates_other, dates_made}
+use Rattle.register_core.proofs.Histories.{count_grows, dates_named, dates_other}
 use Rattle.register_core.proofs.Dating.{filled_keeps, trimmed_keeps}
 use Rattle.register_core.proofs.Decisions.{standing}
 use Rattle.register_core.proofs.CustodyLeads.{not_refused, custody_lead}
 use Rattle.register_core.proofs.Lawful.{holds_of_each, lawful_holds}
-use Rattle.register_core.proofs.OnKey.{IsOn, IsOther, on_key, which}
+use Rattle.register_core.proofs.OnKey.{IsOn, IsOther, dates_when_made, given_to, on_key, which}
 use Rattle.register_core.proofs.CustodyStay.{custody_same, custody_other, approvals_stay}
 
 -- ---- keys that are not made yet
@@ -103,11 +103,9 @@ AllApproved h = (k : ℕ) → HasKey h k → IsSome (dates h k).destroy → min_
 approved_next : (h : List Request) (q : Request) → IsAccepted h q → AllApproved h → AllApproved (h ++ q ∷ [])
 approved_next h q is before k has set = elim (which h q k (judged h q is.accepted) has.1) [
   | inl made ↦
-      let r = made.registration in
-      let given : Dates = given_dates q.moment r.activation r.protect_stop r.deactivation in
-      let p : Period = period h r.kind in
-      let its : dates (h ++ q ∷ []) k ≡ with_defaults p given =
-      ap (dates (h ++ q ∷ [])) made.next ∙ dates_made h q r made.makes in
+      let given : Dates = given_to q made.registration in
+      let p : Period = period h made.registration.kind in
+      let its = dates_when_made h q k made in
       let none : is_some (dates (h ++ q ∷ []) k).destroy ≡ false =
       ap (λ (d : Dates). is_some d.destroy) its ∙ ap is_some (filled_keeps p given).destroy in
       absurd (let e = sym none ∙ set in cc)

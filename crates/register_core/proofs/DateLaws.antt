@@ -5,16 +5,16 @@ use Rattle.period_core.specs.Period.{Period}
 use Rattle.period_core.specs.Fitting.{with_defaults}
 use Rattle.register_core.specs.declared.request.Request.{Request}
 use Rattle.register_core.specs.History.{period, type, dates, dated_by}
-use Rattle.register_core.specs.Effect.{given_dates, dates_after, sets_dates}
+use Rattle.register_core.specs.Effect.{dates_after, sets_dates}
 use Rattle.register_core.specs.Verdict.{dates_refusal, judgement}
 use Rattle.register_core.specs.Fold.{IsLawful}
 use Rattle.register_core.specs.Laws.{IsAccepted, HasKey, MovesOnly}
 use Rattle.register_core.proofs.Verdicts.{judged}
-use Rattle.register_core.proofs.Histories.{count_grows, dates_other, dated_other, dates_named, dated_named, dates_made, dated_made}
+use Rattle.register_core.proofs.Histories.{count_grows, dates_other, dated_other, dates_named, dated_named, dated_made}
 use Rattle.register_core.proofs.Subjects.{is_registration}
 use Rattle.register_core.proofs.Decisions.{standing}
 use Rattle.register_core.proofs.Lawful.{lawful_holds}
-use Rattle.register_core.proofs.OnKey.{IsOn, IsMade, which}
+use Rattle.register_core.proofs.OnKey.{IsOn, IsMade, dates_when_made, given_to, which}
 use Rattle.register_core.proofs.Dating.{filled_keeps, filled_fits}
 use Rattle.register_core.proofs.DateSteps.{nothing_moves, IsSound, sound_by, Steps, step}
 
@@ -28,12 +28,12 @@ pub made_sound : (h : List Request) (q : Request) (k : ℕ) → IsMade h q k
     → IsSound (dated_by (h ++ q ∷ []) k) (dates (h ++ q ∷ []) k)
 made_sound h q k made =
     let r = made.registration in
-    let given : Dates = given_dates q.moment r.activation r.protect_stop r.deactivation in
+    let given : Dates = given_to q r in
     let span : Period = period h r.kind in
     let fit =
     filled_fits span given (sym (ap (dates_refusal (period h) None q.moment) (is_registration q.command r made.makes)) ∙ made.fit) in
     let set = ap (dated_by (h ++ q ∷ [])) made.next ∙ dated_made h q r made.makes in
-    let its = ap (dates (h ++ q ∷ [])) made.next ∙ dates_made h q r made.makes in
+    let its = dates_when_made h q k made in
     sound_as span _ (with_defaults span given) _ set its
     (sound_by span given (with_defaults span given) fit (filled_keeps span given) refl)
 

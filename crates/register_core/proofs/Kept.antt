@@ -4,7 +4,7 @@ use Rattle.std.specs.List.{AllByRecursion}
 use Rattle.std.specs.Prelude.{nat_eq, unwrap_or}
 use Rattle.std.specs.Option.{option_map}
 use Rattle.std.specs.Str.{bytes_eq}
-use Rattle.std.proofs.lemmas.Bool.{lt-ltb, ltb-false, and_parts}
+use Rattle.std.proofs.lemmas.Bool.{lt-ltb, and_parts}
 use Rattle.std.proofs.lemmas.Bool.Decides.{Decides-eqb}
 use Rattle.std.proofs.lemmas.List.{append-nil, length-append, take-append-drop}
 use Rattle.std.proofs.lemmas.List.Elements.{filter-append}
@@ -34,7 +34,6 @@ use Rattle.register_core.specs.Request.{IsRequest, IsKeyNumber, max_key_number, 
 use Rattle.register_core.specs.Subject.{Subject, Makes, Names, NoKey, subject, named, named_by, key_by, count_by}
 use Rattle.register_core.specs.Version.{current}
 use Rattle.register_core.specs.Verdict.{Accepts, Repeats, Refuses, max_keys, always, judge, judge_view, verdict, is_accepted, is_same_command, repeated}
-use Rattle.register_core.proofs.CustodyLeads.{not_refused}
 use Rattle.register_core.proofs.Decisions.{unknown_named}
 use Rattle.register_core.proofs.FewLaws.{few_keys}
 use Rattle.register_core.proofs.Histories.{count_grows, latest_grows, next_prefix}
@@ -280,11 +279,6 @@ decided_in_range view q request few accepted =
       whole = whole_decided view.keys q.moment (always view.period) view.key q (subject q.command) (λ k names. (number k names).0) (key_known view q accepted);
     }
 
--- its reply is of the request's moment, which is no earlier than the latest one
+-- its reply is of the request's moment
 pub decided_at : (view : View) (q : Request) → (reply_of_view view q).moment ≡ q.moment
 decided_at view q = moment_decided view.keys q.moment (change_by (always view.period) view.key q)
-
-pub decided_in_time : (view : View) (q : Request) → judge_view view q ≡ None → view.latest ≤ (reply_of_view view q).moment
-decided_in_time view q accepted =
-    let early = ltb-false _ _ (not_refused _ _ (passes current view.latest view.keys (always view.period) view.key q accepted).in_time) in
-    omega (arith, early, decided_at view q)

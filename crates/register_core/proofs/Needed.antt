@@ -109,16 +109,16 @@ pub changed_by : (periods others : KeyType → Period) (key : Option Held) (q : 
     → AreSoFor (needed_type key q.command) periods others → change_by periods key q ≡ change_by others key q
 changed_by periods others key q same = change_so periods others (subject q.command) key q refl same
 
--- ---- a moment that is after
+-- ---- a moment below the latest
 
 -- the first of the refusals is the one that holds
 first_holds : (first : Option Refusal) (refusal : Refusal) (others : List (Option Refusal)) → first ≡ Some refusal →
     first_that_holds (first ∷ others) ≡ Some refusal
 first_holds first refusal others holds = ap (λ (x : Option Refusal). first_that_holds (x ∷ others)) holds
 
-is_after : (last keys : ℕ) (periods : KeyType → Period) (key : Option Held) (q : Request)
+is_early : (last keys : ℕ) (periods : KeyType → Period) (key : Option Held) (q : Request)
     → nat_lt q.moment last ≡ true → judge last keys periods key q ≡ Some (MomentBehind last)
-is_after last keys periods key q is =
+is_early last keys periods key q is =
     first_holds _ (MomentBehind last) _ (first_holds _ (MomentBehind last) _
     (ap (λ (b : Bool). cond b (Some (MomentBehind last)) None) is))
 
@@ -133,7 +133,7 @@ judged_so h q = by (nat_lt q.moment (latest h)) (named_key h q.command) refl
         judge (latest h) (count h) (period h) (cond b None (option_map (needed_of q.command) key)) q
         ≡ judge (latest h) (count h) (period h) key q
     by true key is =
-        is_after (latest h) (count h) (period h) None q is ∙ sym (is_after (latest h) (count h) (period h) key q is)
+        is_early (latest h) (count h) (period h) None q is ∙ sym (is_early (latest h) (count h) (period h) key q is)
     by false None is = refl
     by false (Some held) is = judge_so (latest h) (count h) (period h) held q
 
@@ -153,7 +153,7 @@ changed_so h q accepted = by (nat_lt q.moment (latest h)) (named_key h q.command
     by : (b : Bool) (key : Option Held) → nat_lt q.moment (latest h) ≡ b
         → judge (latest h) (count h) (period h) key q ≡ None
         → change_by (period h) (cond b None (option_map (needed_of q.command) key)) q ≡ change_by (period h) key q
-    by true key is accepted = let refused = is_after (latest h) (count h) (period h) key q is in absurd cc
+    by true key is accepted = let refused = is_early (latest h) (count h) (period h) key q is in absurd cc
     by false key is accepted = change_same (period h) (subject q.command) q.command key q
 
 -- ---- a view that suffices

@@ -3,10 +3,13 @@ use Rattle.std.proofs.Common.{◌≡◌, ◌⊎◌, inl, inr, ℕ, ◌+◌, ◌�
 use Rattle.std.specs.Option.{option_and_then}
 use Rattle.std.proofs.lemmas.Bool.{and_parts, leb-true, ltb-false}
 use Rattle.std.proofs.lemmas.Bool.Decides.{eqb_tells}
+use Rattle.lifecycle_core.specs.declared.dates.Dates.{Dates}
 use Rattle.lifecycle_core.specs.State.{state_at}
+use Rattle.period_core.specs.Fitting.{with_defaults}
 use Rattle.register_core.specs.declared.request.Request.{Request}
 use Rattle.register_core.specs.declared.reply.Refusal.{Refusal}
 use Rattle.register_core.specs.declared.view.Held.{Held}
+use Rattle.register_core.specs.Effect.{given_dates}
 use Rattle.register_core.specs.History.{latest, count, period, dates}
 use Rattle.register_core.specs.Subject.{Registration, Subject, Makes, Names, NoKey, subject, named_by, key_by, count_by, key_of, is_key, named}
 use Rattle.register_core.specs.Custody.{held}
@@ -14,7 +17,7 @@ use Rattle.register_core.specs.CommandRule.{is_for}
 use Rattle.register_core.specs.Verdict.{custodian_refusal, freeze_refusal, dates_refusal, occurrence_refusal, judge, named_key, judgement}
 use Rattle.register_core.specs.Version.{current}
 use Rattle.register_core.specs.CustodyRefusal.{owner_custodian, approvals_missing}
-use Rattle.register_core.proofs.Histories.{count_grows}
+use Rattle.register_core.proofs.Histories.{count_grows, dates_made}
 use Rattle.register_core.proofs.CustodyLeads.{not_refused, IsNew}
 use Rattle.register_core.proofs.Refusals.{passes}
 use Rattle.register_core.proofs.Decisions.{standing, is_there, unknown_named, new_names}
@@ -85,6 +88,14 @@ pub record IsMade (h : List Request) (q : Request) (k : ℕ) : Type 0 where
   pub registration : Registration
   pub makes : subject q.command ≡ Makes registration
   pub fit : dates_refusal (period h) None q.moment q.command ≡ None
+
+-- the dates that the registration was given
+abbrev pub given_to : Request → Registration → Dates
+given_to q r = given_dates q.moment r.activation r.protect_stop r.deactivation
+
+pub dates_when_made : (h : List Request) (q : Request) (k : ℕ) (made : IsMade h q k)
+    → dates (h ++ q ∷ []) k ≡ with_defaults (period h made.registration.kind) (given_to q made.registration)
+dates_when_made h q k made = ap (dates (h ++ q ∷ [])) made.next ∙ dates_made h q made.registration made.makes
 
 -- it neither makes nor names it
 pub record IsOther (h : List Request) (q : Request) (k : ℕ) : Type 0 where

@@ -12,15 +12,15 @@ use Rattle.register_core.specs.declared.request.Command.{Command}
 use Rattle.register_core.specs.declared.request.Command.TheVariants.{Register as Registers, Activate, SetDates, Revoke, Destroy}
 use Rattle.register_core.specs.History.{latest, type, period, dates}
 use Rattle.register_core.specs.Subject.{named}
-use Rattle.register_core.specs.Effect.{given_dates, edited_dates, compromised, deactivated, dates_after}
+use Rattle.register_core.specs.Effect.{edited_dates, compromised, deactivated, dates_after}
 use Rattle.register_core.specs.Verdict.{occurrence_refusal, judgement}
 use Rattle.register_core.specs.Fold.{IsLawful}
 use Rattle.register_core.specs.Laws.{HasKey}
-use Rattle.register_core.proofs.Histories.{latest_grows, dates_other, dates_named, dates_made}
+use Rattle.register_core.proofs.Histories.{latest_grows, dates_other, dates_named}
 use Rattle.register_core.proofs.Dating.{KeepsOthers, filled_keeps, trimmed_keeps}
 use Rattle.register_core.proofs.CustodyLeads.{not_refused}
 use Rattle.register_core.proofs.Lawful.{lawful_holds}
-use Rattle.register_core.proofs.OnKey.{which, not_after}
+use Rattle.register_core.proofs.OnKey.{dates_when_made, given_to, not_after, which}
 
 pub record IsPast (t : ℕ) (d : Dates) : Type 0 where
   pub initial : d.initial ≤ t
@@ -112,11 +112,9 @@ past_next h q lawful accepted before k has =
     let moved : (d : Dates) → IsPast (latest h) d → IsPast q.moment d = λ d. later (latest h) q.moment d (not_after h q accepted) in
     subst (λ (t : ℕ). IsPast t (dates (h ++ q ∷ []) k)) (sym (latest_grows h q)) (elim (which h q k accepted has.1) [
       | inl made ↦
-          let r = made.registration in
-          let given : Dates = given_dates q.moment r.activation r.protect_stop r.deactivation in
-          let p : Period = period h r.kind in
-          let its : dates (h ++ q ∷ []) k ≡ with_defaults p given =
-          ap (dates (h ++ q ∷ [])) made.next ∙ dates_made h q r made.makes in
+          let given : Dates = given_to q made.registration in
+          let p : Period = period h made.registration.kind in
+          let its = dates_when_made h q k made in
           subst (IsPast q.moment) (sym its)
           (kept q.moment given (with_defaults p given) (filled_keeps p given)
           (record { initial = omega arith; destroy = refl; compromise = refl; occurrence = refl }))

@@ -11,11 +11,10 @@ use Rattle.period_core.specs.Period.{Period}
 use Rattle.period_core.specs.Fitting.{with_defaults}
 use Rattle.register_core.specs.declared.request.Request.{Request}
 use Rattle.register_core.specs.History.{latest, count, type, period, dates}
-use Rattle.register_core.specs.Effect.{given_dates}
 use Rattle.register_core.specs.Laws.{IsAccepted, HasKey, MovesOnly, state_of_key}
 use Rattle.register_core.proofs.Verdicts.{judged}
-use Rattle.register_core.proofs.Histories.{dates_other, dates_named, dates_made}
-use Rattle.register_core.proofs.OnKey.{not_after, IsOn, IsMade, IsOther, which}
+use Rattle.register_core.proofs.Histories.{dates_other, dates_named}
+use Rattle.register_core.proofs.OnKey.{not_after, IsOn, IsMade, IsOther, dates_when_made, given_to, which}
 use Rattle.register_core.proofs.Dating.{filled_keeps}
 use Rattle.register_core.proofs.DateLaws.{freeze}
 use Rattle.register_core.proofs.PathSteps.{then, path_made, path_named}
@@ -29,11 +28,9 @@ from_none h k to next path = subst (λ (b : Bool). Leads (cond b (Some (state_at
 
 made_path : (h : List Request) (q : Request) (k : ℕ) → IsMade h q k → Leads (state_of_key h k) (Some (state_at (dates (h ++ q ∷ []) k) q.moment))
 made_path h q k made =
-    let r = made.registration in
-    let given : Dates = given_dates q.moment r.activation r.protect_stop r.deactivation in
-    let p : Period = period h r.kind in
-    let its : dates (h ++ q ∷ []) k ≡ with_defaults p given =
-    ap (dates (h ++ q ∷ [])) made.next ∙ dates_made h q r made.makes in
+    let given : Dates = given_to q made.registration in
+    let p : Period = period h made.registration.kind in
+    let its = dates_when_made h q k made in
     let keeps = filled_keeps p given in
     from_none h k _ made.next
     (subst (λ (d : Dates). Leads None (Some (state_at d q.moment))) (sym its)

@@ -72,13 +72,13 @@ module _ {A : Type 0} (key : A → ℕ) where
       turned true false never x n o = refl
       turned false c never x n o = refl
 
--- ---- the period of a type
+-- what the one of two says that is there
+one_says : {E X : Type 0} (says : E → X) (b : Bool) (e : E) (o : Option E)
+    → option_map says (cond b (Some e) o) ≡ cond b (Some (says e)) (option_map says o)
+one_says says true e o = refl
+one_says says false e o = refl
 
-by_period : (b : Bool) (p : Period) (e : TypePeriod) (o : Option TypePeriod) → e.period ≡ p
-    → option_map (λ (e : TypePeriod). e.period) (cond b (Some e) o)
-    ≡ cond b (Some p) (option_map (λ (e : TypePeriod). e.period) o)
-by_period true p e o is = ap Some is
-by_period false p e o is = refl
+-- ---- the period of a type
 
 period_step : (sets : List TypePeriod) (kind : KeyType) (c : Command)
     → period_at kind (periods_after sets c) ≡ period_after kind (period_at kind sets) c
@@ -86,8 +86,8 @@ period_step sets kind (SetPeriod other p) =
     let new : TypePeriod = record { kind = other; period = p } in
     ap (option_map (λ (e : TypePeriod). e.period))
     (found (λ (e : TypePeriod). key_type_code e.kind) sets new (key_type_code kind))
-    ∙ by_period (key_type_code other == key_type_code kind) p new
-    (find (λ (e : TypePeriod). key_type_code e.kind == key_type_code kind) sets) refl
+    ∙ one_says (λ (e : TypePeriod). e.period) (key_type_code other == key_type_code kind) new
+    (find (λ (e : TypePeriod). key_type_code e.kind == key_type_code kind) sets)
 period_step sets kind c = refl
 
 periods_from : (h : List Request) (sets : List TypePeriod) (kind : KeyType) (first : Option Period)
@@ -103,12 +103,6 @@ pub periods_are : (h : List Request) (kind : KeyType) → period_at kind (all_pe
 periods_are h kind = periods_from h [] kind None refl
 
 -- ---- the need of a key
-
-by_need : (b : Bool) (n : ℕ) (e : KeyNeed) (o : Option KeyNeed) → e.need ≡ n
-    → option_map (λ (e : KeyNeed). e.need) (cond b (Some e) o)
-    ≡ cond b (Some n) (option_map (λ (e : KeyNeed). e.need) o)
-by_need true n e o is = ap Some is
-by_need false n e o is = refl
 
 -- a command of another kind says nothing, whether it is about the key or not
 idle : (b : Bool) (before : List Request) (q : Request) (first : Option ℕ) → need_after first q.command ≡ first
@@ -127,7 +121,7 @@ need_one : (before : List Request) (q : Request) (sets : List KeyNeed) (k : ℕ)
 need_one before q sets k (SetQuorum key n) is =
     let new : KeyNeed = record { key = key; need = n } in
     ap (option_map (λ (e : KeyNeed). e.need)) (found (λ (e : KeyNeed). e.key) sets new k)
-    ∙ by_need (key == k) n new (find (λ (e : KeyNeed). e.key == k) sets) refl
+    ∙ one_says (λ (e : KeyNeed). e.need) (key == k) new (find (λ (e : KeyNeed). e.key == k) sets)
     ∙ asked (key == k) before q n (need_at k sets) (ap (need_after (need_at k sets)) is)
     ∙ ap (λ (c : Command). fold need_step (need_at k sets)
     (cond (is_key k (key_of (count before) c)) (placed before q ∷ []) [])) (sym is)

@@ -21,7 +21,7 @@ needed_of c held = record held {
   approvals = if looks_at_custody c then held.approvals else [];
 }
 
--- What the request needs of the key that it names, as it stands: nothing where its moment is after the latest, which
+-- What the request needs of the key that it names, as it stands: nothing where its moment is below the latest, which
 -- refuses it whatever the key is.
 abbrev pub needed_key : List Request → Request → Option Held
 needed_key h q = if nat_lt q.moment (latest h) then None else option_map (needed_of q.command) (named_key h q.command)
