@@ -1,20 +1,19 @@
 -- What the searches for the next key that is due find.
-use Rattle.std.proofs.Common.{◌≡◌, ◌⊎◌, ◌<◌, ◌≤◌, inl, inr, ℕ, pos, List, [], ◌∷◌, ◌++◌, codes, map, slice_get, Bool, true, false, Option, Some, None, Result, Ok, Err, IfOk, IfErr, refl, sym, ap, subst, ◌∙◌, arith}
+use Rattle.std.proofs.Common.{◌≡◌, ◌⊎◌, ◌<◌, ◌≤◌, inl, inr, ℕ, pos, List, [], ◌∷◌, ◌++◌, codes, map, slice_get, Bool, true, false, Some, None, Ok, Err, refl, sym, ap, subst, ◌∙◌, arith}
 use Rattle.std.proofs.lemmas.Bool.{cases_lt}
 use Rattle.std.proofs.lemmas.Int.{ints}
 use Rattle.std.specs.Cmp.{int_ranks}
 use Rattle.std.specs.Ordering.{MatchOrdering, int_cmp, is_lt, ordering_then}
-use Rattle.std.specs.Prelude.{◌<ℤ◌, ◌≢◌}
+use Rattle.std.specs.Prelude.{◌<ℤ◌}
 use Rattle.std.specs.declared.cmp.Ordering.{Ordering}
 use Rattle.std.specs.declared.cmp.Ordering.TheVariants.{Less, Equal, Greater}
-use Rattle.sqlite.specs.declared.error.Error.{Error}
 use Rattle.sqlite.specs.declared.error.Error.TheVariants.{QueryReturnedNoRows}
 use Rattle.sqlite.specs.declared.types.Value.TheVariants.{Int}
 use Rattle.sqlite.specs.Collation.TheVariants.{Binary}
 use Rattle.sqlite.specs.Command.TheVariants.{Select}
 use Rattle.sqlite.specs.Order.{Row as Cells}
 use Rattle.sqlite.specs.Query.{output_cmp}
-use Rattle.sqlite.specs.State.{State, HasCleanDisk, QueriesRow, Survives, CommitsShowing}
+use Rattle.sqlite.specs.State.{State, QueriesRow}
 use Rattle.sqlite.specs.Term.{Term, col, lit, op2, eval_all}
 use Rattle.sqlite_resolve.specs.Compile.{first}
 use Rattle.sqlite_rules.specs.Lists.{Has}
@@ -31,13 +30,13 @@ use Rattle.sql_steps.proofs.Statements.{is_picked}
 use Rattle.row_checks.specs.ShownRows.{IsQuery}
 use Rattle.row_checks.proofs.Selects.{IsSelect, select_plain}
 use Rattle.register_core.specs.declared.key.Key.{Key}
-use Rattle.register_store.specs.declared.error.StoreError.{StoreError}
-use Rattle.register_store.specs.declared.error.StoreError.TheVariants.{Memory, NoRegister}
 use Rattle.register_store.specs.declared.table.TableName.TheVariants.{Keys}
+use Rattle.register_store.specs.declared.key_walk.DueSearch.{DueSearch}
+use Rattle.register_store.specs.declared.key_walk.DueSearch.TheVariants.{Past, SameStop}
 use Rattle.register_store.specs.KeyWalk.{IsAfter}
-use Rattle.register_store.specs.TableReads.{IsRowOf, ReadsBy, ShowsAt, ShowsNone}
+use Rattle.register_store.specs.TableReads.{ShowsAt}
 use Rattle.register_store.specs.Schema.{Holds, schema_with}
-use Rattle.register_store.specs.DueSearch.{HasFirst, IsFirst, IsNumbered, cell_place, stop_cell}
+use Rattle.register_store.specs.DueSearch.{HasFirst, IsFirst, IsNumbered, cell_place, search_text, stop_cell}
 use Rattle.register_store.specs.Tables.{Layout, Tables, keys, key_row, numbered}
 use Rattle.register_store.proofs.Asked.{shown_of_table}
 use Rattle.register_store.proofs.Decoding.{same_number, one_key}
@@ -51,13 +50,13 @@ use Rattle.register_store.proofs.Texts.{find_names}
 -- ---- the texts
 
 abbrev pub same_text : List ℕ
-same_text = codes "SELECT kind, owner, purpose, state, initial, activation, protect_stop, deactivation, destroyed, compromised, occurrence, number FROM keys WHERE state = 2 AND protect_stop = ?1 AND protect_stop <= ?2 AND number > ?3 ORDER BY protect_stop, number"
+same_text = search_text SameStop
 
 abbrev pub later_text : List ℕ
 later_text = codes "SELECT kind, owner, purpose, state, initial, activation, protect_stop, deactivation, destroyed, compromised, occurrence, number FROM keys WHERE state = 2 AND protect_stop > ?1 AND protect_stop <= ?2 ORDER BY protect_stop, number"
 
 abbrev pub past_text : List ℕ
-past_text = codes "SELECT kind, owner, purpose, state, initial, activation, protect_stop, deactivation, destroyed, compromised, occurrence, number FROM keys WHERE state = 2 AND protect_stop >= ?1 AND protect_stop <= ?2 AND (protect_stop > ?1 OR number > ?3) ORDER BY protect_stop, number"
+past_text = search_text Past
 
 abbrev pub passes_same : List Term
 passes_same =
@@ -124,6 +123,20 @@ later_is l = record { p = _; select = _; d = _; by = _; parsed = refl; untimed =
 pub past_is : IsDueSearch past_text passes_past
 unfolding everything first
 past_is l = record { p = _; select = _; d = _; by = _; parsed = refl; untimed = refl; is = refl; drafted = refl; same = refl; from = refl; accepted = refl }
+
+-- each search after a place
+
+abbrev pub passes_of : DueSearch → List Term
+passes_of SameStop = passes_same
+passes_of Past = passes_past
+
+pub query_of : (search : DueSearch) → IsQuery (search_text search)
+query_of SameStop = same_query
+query_of Past = past_query
+
+pub search_is : (search : DueSearch) → IsDueSearch (search_text search) (passes_of search)
+search_is SameStop = same_is
+search_is Past = past_is
 
 -- ---- places
 

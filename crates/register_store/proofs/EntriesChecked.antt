@@ -1,5 +1,5 @@
 -- The check of a table of entries that pass each by itself, and of which nothing is found.
-use Rattle.std.proofs.Common.{◌≡◌, Result, Ok, Err, List, ◌++◌, sym, subst}
+use Rattle.std.proofs.Common.{◌≡◌, Result, Ok, Err, List, ◌++◌, sym, ap, subst, ◌∙◌}
 use Rattle.sqlite.specs.Effect.{Database as Db}
 use Rattle.sqlite.specs.Order.{Row}
 use Rattle.sqlite.specs.State.{State, HasCleanDisk, IsUnchanged, Survives}
@@ -50,6 +50,12 @@ module _ (name : TableName) {A : Type 0} (Shows : Row → A → Type 0) (P : A
       (met.0, record { rows = it.rows; shown = it.shown; holds = met.1; same = it.same }, met.2, tt))
       (λ clean. tt) survives
 
+  -- the same beside what a check keeps
+  pub entries_read_beside : {Kept : Type 0}
+      → (HasCleanDisk new → ShowsAll (check_text name) (λ rows. Kept × HasShown Shows P rows) old new) → Checked (Ok tt)
+  entries_read_beside all =
+      entries_read (λ clean. let it = all clean in record { rows = it.rows; shown = it.shown; holds = it.holds.1; same = it.same })
+
   odd : (rows : List Row) → RefusesEach Shows P rows → (tail : List Row) → IsOdd name t (rows ++ tail)
   odd rows refuses tail = record {
     fails = λ c shows meets.
@@ -58,7 +64,7 @@ module _ (name : TableName) {A : Type 0} (Shows : Row → A → Type 0) (P : A
     no_newer = are.no_newer (rows ++ tail);
   }
 
-  pub entries_fail : (error : RowsError) (e : CheckError) → e ≡ check_error error
+  entries_fail : (error : RowsError) (e : CheckError) → e ≡ check_error error
       → (HasCleanDisk new → error ≡ NoMeaning → HasNoMeaning (check_text name) old new)
       → (HasCleanDisk new → error ≡ Refused → ShowsFirst (check_text name) (RefusesEach Shows P) old new)
       → (HasCleanDisk new → error ≡ Memory → IsUnchanged old new) → Checked (Err e)
@@ -67,3 +73,12 @@ module _ (name : TableName) {A : Type 0} (Shows : Row → A → Type 0) (P : A
       (λ clean. subst (IsReasonAt name t old new) (sym is)
       (reason_of name t old new (RefusesEach Shows P) error (meaning clean) (refused clean) (memory clean) (λ _. odd)))
       survives
+
+  -- the same of what reading the rows gave
+  pub entries_failed : {T : Type 0} (result : Result T RowsError) (error : RowsError) (e : CheckError) → result ≡ Err error → e ≡ check_error error
+      → (HasCleanDisk new → result ≡ Err NoMeaning → HasNoMeaning (check_text name) old new)
+      → (HasCleanDisk new → result ≡ Err Refused → ShowsFirst (check_text name) (RefusesEach Shows P) old new)
+      → (HasCleanDisk new → result ≡ Err Memory → IsUnchanged old new) → Checked (Err e)
+  entries_failed result error e failed is meaning refused memory =
+      entries_fail error e is (λ clean it. meaning clean (failed ∙ ap Err it)) (λ clean it. refused clean (failed ∙ ap Err it))
+      (λ clean it. memory clean (failed ∙ ap Err it))

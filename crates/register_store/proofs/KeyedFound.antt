@@ -1,18 +1,17 @@
 -- What a search finds in a table whose rows go by a number of their own: the value of the entry with the number.
-use Rattle.std.proofs.Common.{◌≡◌, ◌≢◌, ◌==◌, inl, inr, ℕ, pos, Bool, true, false, cond, List, [], ◌∷◌, map, filter}
-use Rattle.std.proofs.Common.{Option, None, Some, Result, Ok, Err, IfOk, IfErr, refl, sym, ap, subst, ◌∙◌}
+use Rattle.std.proofs.Common.{◌≡◌, ◌==◌, inl, inr, ℕ, pos, Bool, true, false, cond, List, [], ◌∷◌, map, filter}
+use Rattle.std.proofs.Common.{Option, None, Some, Ok, Err, refl, sym, ap, subst, ◌∙◌}
 use Rattle.std.proofs.lemmas.Bool.{cases_Bool, eqb-true}
 use Rattle.std.proofs.lemmas.List.Sorted.{IsPermutation-map}
 use Rattle.std.specs.Prelude.{find}
 use Rattle.std.specs.List.{AllByRecursion}
 use Rattle.std.specs.Option.{option_map}
 use Rattle.std.specs.List.Sorted.{IsPermutation}
-use Rattle.sqlite.specs.declared.error.Error.{Error}
 use Rattle.sqlite.specs.declared.error.Error.TheVariants.{QueryReturnedNoRows}
 use Rattle.sqlite.specs.declared.types.Value.TheVariants.{Int}
 use Rattle.sqlite.specs.Effect.{Database}
 use Rattle.sqlite.specs.Order.{Row as Cells}
-use Rattle.sqlite.specs.State.{State, HasCleanDisk, QueriesRow, Survives, CommitsShowing}
+use Rattle.sqlite.specs.State.{State, QueriesRow}
 use Rattle.sqlite.specs.Term.{Term, eval_all}
 use Rattle.sqlite.specs.Tree.{rowid}
 use Rattle.sqlite_rules.proofs.ListLemmas.{all_has, has_filtered}
@@ -21,12 +20,9 @@ use Rattle.sqlite_trees.proofs.ListLemmas.{all_of, filter-map, filter_same, map-
 use Rattle.sql_steps.proofs.Members.{filter_permutation}
 use Rattle.sql_steps.proofs.SameRows.{map_has}
 use Rattle.sql_steps.proofs.Statements.{picked, is_picked}
-use Rattle.register_store.specs.declared.error.StoreError.{StoreError}
-use Rattle.register_store.specs.declared.error.StoreError.TheVariants.{Memory, NoRegister}
 use Rattle.register_store.specs.declared.table.TableName.{TableName}
 use Rattle.register_store.specs.Tables.{ShowsKeyed, Tables}
 use Rattle.register_store.specs.Schema.{Holds, rows_of}
-use Rattle.register_store.specs.TableReads.{IsRowOf, ReadsBy, ShowsNone}
 use Rattle.register_store.proofs.KeyedRows.{one_row}
 use Rattle.register_store.proofs.Readings.{IsSearch}
 use Rattle.register_store.proofs.AnswersRead.{ReadsRow}

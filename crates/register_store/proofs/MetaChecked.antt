@@ -67,6 +67,13 @@ newer_not t found old new holds newer =
     let same = same_number (column newer.row 1) found (version_number it.c.0) newer.newer.version_is shows.0.version_is in
     absurd (omega (arith, above, same, known_below it.c.0))
 
+-- what was told is what the rows have
+pub told_as : (told is : Option MetaRow) (old new : State) → told ≡ is
+    → (HasCleanDisk new → ShowsAll (check_text Meta) (HasMeta told) old new)
+    → HasCleanDisk new → ShowsAll (check_text Meta) (HasMeta is) old new
+told_as told is old new same all clean =
+    subst (λ (it : Option MetaRow). ShowsAll (check_text Meta) (HasMeta it) old new) same (all clean)
+
 same_version : (a b : Version) → version_number a ≡ version_number b → a ≡ b
 same_version First First e = refl
 same_version Second Second e = refl

@@ -15,7 +15,8 @@ use Rattle.register_store.specs.declared.error.CreateError.{CreateError}
 use Rattle.register_store.specs.declared.error.CreateError.TheVariants.{HasTables, Database as Refused}
 use Rattle.register_store.specs.declared.found.Found.{Found}
 use Rattle.register_store.specs.CheckedTables.{BlamesNone, ChecksBy, IsReason, Passes}
-use Rattle.register_store.specs.Migration.{FindsNewBy, HasNewTable, Migrates}
+use Rattle.register_store.specs.Creation.{FindsBy}
+use Rattle.register_store.specs.Migration.{HasNewTable, Migrates}
 use Rattle.register_store.specs.OpenedTables.{ChangesNothing, HasCommittedIn, IsRefusal, MigratesTo, OpensBy, migration_error}
 use Rattle.register_store.specs.Schema.{HoldsIn}
 use Rattle.register_store.specs.Stored.{HoldsStored, Stored}
@@ -183,7 +184,7 @@ first_opens a b d found first checks x did = record {
 
 -- or is not
 pub first_fails : (a b d : State) (found : Found) → found.version ≡ First → ChecksBy a b (Ok found) → (e : CreateError)
-    → TransactsBy {T = Unit {0}} Migrates b d (Err e) → (e ≡ HasTables → FindsNewBy b d) → (q : Result Found CheckError)
+    → TransactsBy {T = Unit {0}} Migrates b d (Err e) → (e ≡ HasTables → FindsBy HasNewTable b d) → (q : Result Found CheckError)
     → IsErrAnd q (λ x. x ≡ migration_error e) → OpensBy a d q
 first_fails a b d found first checks e did there (Ok y) is = absurd is
 first_fails a b d found first checks e did there (Err x) is = subst (λ x. OpensBy a d (Err x)) (sym is) (record {
@@ -197,7 +198,7 @@ first_fails a b d found first checks e did there (Err x) is = subst (λ x. Opens
   clean = through a b d found first checks (Err e) did;
 })
   where
-    why : (e : CreateError) → TransactsBy {T = Unit {0}} Migrates b d (Err e) → (e ≡ HasTables → FindsNewBy b d)
+    why : (e : CreateError) → TransactsBy {T = Unit {0}} Migrates b d (Err e) → (e ≡ HasTables → FindsBy HasNewTable b d)
         → HasCleanDisk d → IsRefusal a d (migration_error e)
     why HasTables did there clean =
         let it = checks.passed (early a b d found first checks (Err HasTables) did clean) in
@@ -210,14 +211,14 @@ first_fails a b d found first checks e did there (Err x) is = subst (λ x. Opens
         })
     why (Refused error) did there clean = tt
 
-    kept : (e : CreateError) → (e ≡ HasTables → FindsNewBy b d) → ChangesNothing (migration_error e)
+    kept : (e : CreateError) → (e ≡ HasTables → FindsBy HasNewTable b d) → ChangesNothing (migration_error e)
         → Survives a d (λ _. ⊥)
     kept HasTables there nothing =
         survives_then a b d (λ _. ⊥) (λ _. ⊥) (λ _. ⊥) (λ clean db none. none) (λ clean db none. none) checks.survives
         (there refl).survives
     kept (Refused error) there nothing = absurd nothing
 
-    none : (e : CreateError) → TransactsBy {T = Unit {0}} Migrates b d (Err e) → (e ≡ HasTables → FindsNewBy b d)
+    none : (e : CreateError) → TransactsBy {T = Unit {0}} Migrates b d (Err e) → (e ≡ HasTables → FindsBy HasNewTable b d)
         → HasCleanDisk d → (t : Stored) → HoldsStored t a.now → MeetsChecks t → BlamesNone (migration_error e)
     none HasTables did there clean t holds meets =
         let own = own_first a b d found first checks (Err HasTables) did clean t holds meets in

@@ -1,15 +1,14 @@
 -- What the search for a caller's request by its number finds.
-use Rattle.std.proofs.Common.{◌≡◌, ◌≢◌, ◌==◌, ℕ, pos, List, [], ◌∷◌, map, drop, bytes_eq, Bool, codes, Option, Result, IfOk, IfErr, refl}
+use Rattle.std.proofs.Common.{◌≡◌, ◌==◌, ℕ, pos, List, [], ◌∷◌, map, drop, bytes_eq, Bool, codes, refl}
 use Rattle.std.proofs.Math.Bool.{and-true}
 use Rattle.std.proofs.lemmas.Bool.{and_parts, eqb-true}
 use Rattle.std.specs.Cmp.Lexicographic.{bytes_decides}
 use Rattle.std.specs.List.Sorted.{IsPermutation}
-use Rattle.sqlite.specs.declared.error.Error.{Error}
 use Rattle.sqlite.specs.declared.types.Value.TheVariants.{Null, Int, Text as Words}
 use Rattle.sqlite.specs.Collation.TheVariants.{Binary}
 use Rattle.sqlite_resolve.specs.Compile.{first}
 use Rattle.sqlite.specs.Order.{Row as Cells}
-use Rattle.sqlite.specs.State.{State, HasCleanDisk, QueriesRow, Survives, CommitsShowing}
+use Rattle.sqlite.specs.State.{State}
 use Rattle.sqlite.specs.Term.{Term, col, op2, eval_all}
 use Rattle.sqlite_rules.proofs.ListLemmas.{all_has, has_filtered}
 use Rattle.sqlite_rules.specs.Lists.{Has}
@@ -21,12 +20,10 @@ use Rattle.sql_steps.proofs.Statements.{plain_query, picked, is_picked}
 use Rattle.register_core.specs.declared.kept_reply.KeptReply.{KeptReply}
 use Rattle.register_core.specs.KeptReply.{IsKeptReply, is_under, kept_under}
 use Rattle.register_core.specs.Request.{command_text}
-use Rattle.register_store.specs.declared.error.StoreError.{StoreError}
-use Rattle.register_store.specs.declared.error.StoreError.TheVariants.{Memory, NoRegister}
 use Rattle.register_store.specs.declared.table.TableName.TheVariants.{Request}
 use Rattle.register_store.specs.Tables.{Layout, Tables, request_cells, state_cell, table_of}
 use Rattle.register_store.specs.Schema.{schema_with, Holds, rows_of}
-use Rattle.register_store.specs.TableReads.{HasRequest, IsRowOf, ReadsBy, ShowsNone, ShowsRequest}
+use Rattle.register_store.specs.TableReads.{HasRequest, ShowsRequest}
 use Rattle.register_store.proofs.Decoding.{same_request}
 use Rattle.register_store.proofs.EntryRows.{picks_entries}
 use Rattle.register_store.proofs.Meanings.{Asks}

@@ -76,14 +76,18 @@ AnswersMeaning sql = Answers (λ schema. HasMeaning schema sql)
 abbrev pub IsSame : Database → Database → Type 0
 IsSame old new = new ≡ old
 
--- inside a transaction: one of the tables is there
-abbrev pub FindsTable : State → State → Type 0
-FindsTable old new = HasCleanDisk new → IsTrue old.in_transaction → HasTable old.now.schema
+-- inside a transaction: the schema has what was looked for
+abbrev pub FindsInside : (Schema → Type 0) → State → State → Type 0
+FindsInside Has old new = HasCleanDisk new → IsTrue old.in_transaction → Has old.now.schema
 
--- outside one: one of the tables is there, and a stop leaves what it left before
-pub record FindsBy (old new : State) : Type 0 where
-  pub there : HasCleanDisk new → HasTable old.now.schema
+-- outside one: the schema has it, and a stop leaves what it left before
+pub record FindsBy (Has : Schema → Type 0) (old new : State) : Type 0 where
+  pub there : HasCleanDisk new → Has old.now.schema
   pub survives : Survives old new (λ _. ⊥)
 
+abbrev pub FindsIn : {S : Type 0} → (g : Ghosts S) → (Schema → Type 0) → Connection S → Connection S → Type 0
+FindsIn g Has old new = FindsBy Has (state g old) (state g new)
+
+-- one of the register's tables is there
 abbrev pub Finds : {S : Type 0} → (g : Ghosts S) → Connection S → Connection S → Type 0
-Finds g old new = FindsBy (state g old) (state g new)
+Finds g = FindsIn g HasTable

@@ -1,10 +1,12 @@
 -- The searches for the next key that is due, each for the first of the keys that pass its check.
-use Rattle.std.specs.Prelude.{◌≡◌, ◌⊎◌, ◌==◌, ◌&&◌, ◌||◌, ℕ, nat_le, not, Bool, true, Option, None, Some}
+use Rattle.std.specs.Prelude.{◌≡◌, ◌⊎◌, ◌==◌, ◌&&◌, ◌||◌, ℕ, nat_le, not, Bool, true, List, Option, None, Some, codes}
 use Rattle.sqlite_rules.specs.Lists.{Has}
 use Rattle.lifecycle_core.specs.declared.state.State.TheVariants.{Active}
 use Rattle.lifecycle_core.specs.State.{state_code}
 use Rattle.register_core.specs.declared.key.Key.{Key}
 use Rattle.register_store.specs.declared.key_walk.DuePlace.{DuePlace}
+use Rattle.register_store.specs.declared.key_walk.DueSearch.{DueSearch}
+use Rattle.register_store.specs.declared.key_walk.DueSearch.TheVariants.{Past, SameStop}
 use Rattle.register_store.specs.KeyWalk.{IsAfter}
 use Rattle.register_store.specs.Tables.{IsKey, Tables, date_cell, numbered}
 
@@ -30,6 +32,16 @@ is_later until stop x = is_active x && (not (nat_le (stop_cell x) stop) && nat_l
 abbrev pub is_past : ℕ → DuePlace → ℕ × Key → Bool
 is_past until last x =
     is_active x && (nat_le last.stop (stop_cell x) && (nat_le (stop_cell x) until && (not (nat_le (stop_cell x) last.stop) || not (nat_le x.0 last.number))))
+
+-- the text of each search after a place
+abbrev pub search_text : DueSearch → List ℕ
+search_text SameStop = codes "SELECT kind, owner, purpose, state, initial, activation, protect_stop, deactivation, destroyed, compromised, occurrence, number FROM keys WHERE state = 2 AND protect_stop = ?1 AND protect_stop <= ?2 AND number > ?3 ORDER BY protect_stop, number"
+search_text Past = codes "SELECT kind, owner, purpose, state, initial, activation, protect_stop, deactivation, destroyed, compromised, occurrence, number FROM keys WHERE state = 2 AND protect_stop >= ?1 AND protect_stop <= ?2 AND (protect_stop > ?1 OR number > ?3) ORDER BY protect_stop, number"
+
+-- what it finds the first of
+abbrev pub is_found : DueSearch → ℕ → DuePlace → ℕ × Key → Bool
+is_found SameStop = is_same
+is_found Past = is_past
 
 -- the place of a key by its cells
 abbrev pub cell_place : ℕ × Key → DuePlace

@@ -1,14 +1,13 @@
 -- Taking a register of the first version to the second.
-use Rattle.std.specs.Prelude.{◌≡◌, ◌⊎◌, ◌<◌, ◌≤◌, ◌+◌, ℕ, [], IsTrue}
+use Rattle.std.specs.Prelude.{◌≡◌, ◌⊎◌, ◌<◌, ◌≤◌, ◌+◌, ℕ, []}
 use Rattle.sqlite.specs.Effect.{Database, IsDatabase}
-use Rattle.sqlite.specs.Held.{Held as Connection, state}
+use Rattle.sqlite.specs.Held.{Held as Connection}
 use Rattle.sqlite.specs.Schema.{Schema}
-use Rattle.sqlite.specs.State.{State, HasCleanDisk, Survives}
 use Rattle.sqlite_trees.specs.declared.store.Store.{Ghosts}
 use Rattle.register_core.specs.declared.version.Version.TheVariants.{First, Second}
 use Rattle.register_store.specs.declared.table.TableName.{TableName}
 use Rattle.register_store.specs.declared.table.TableName.TheVariants.{Period, Quorum}
-use Rattle.register_store.specs.Creation.{HasMeaning}
+use Rattle.register_store.specs.Creation.{FindsIn, HasMeaning}
 use Rattle.register_store.specs.Schema.{Holds, HoldsIn, rows_of, schema_below}
 use Rattle.register_store.specs.Tables.{AreApartBelow, IsInRange, Layout, ShowsIn, Tables, content, count_text, place_of}
 use Rattle.register_store.specs.Tables.{table_count}
@@ -46,14 +45,5 @@ SetsVersion old new = (t : Tables) → HasTablesBelow (table_count Second) t old
 abbrev pub HasNewTable : Schema → Type 0
 HasNewTable schema = HasMeaning schema (count_text Period) ⊎ HasMeaning schema (count_text Quorum)
 
--- inside a transaction: one of the two is there
-abbrev pub FindsNewTable : State → State → Type 0
-FindsNewTable old new = HasCleanDisk new → IsTrue old.in_transaction → HasNewTable old.now.schema
-
--- outside one: one of them is there, and a stop leaves what it left before
-pub record FindsNewBy (old new : State) : Type 0 where
-  pub there : HasCleanDisk new → HasNewTable old.now.schema
-  pub survives : Survives old new (λ _. ⊥)
-
 abbrev pub FindsNew : {S : Type 0} → (g : Ghosts S) → Connection S → Connection S → Type 0
-FindsNew g old new = FindsNewBy (state g old) (state g new)
+FindsNew g = FindsIn g HasNewTable

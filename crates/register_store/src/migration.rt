@@ -1,29 +1,17 @@
 //! Taking a register of the first version to the second.
 ghost use Rattle.std.specs.Prelude.{◌≡◌, ◌≤◌, false, Err};
-ghost use Rattle.sqlite.specs.Held.{state};
 ghost use Rattle.sql_steps.specs.Steps.{Steps, Transacts};
 ghost use Rattle.register_core.specs.declared.version.Version.TheVariants.{First};
 ghost use Rattle.register_store.specs.Tables.{place_of, table_count};
-ghost use Rattle.register_store.specs.Creation.{Answers};
-ghost use Rattle.register_store.specs.Migration.{FindsNew, FindsNewTable, HasNewTable};
+ghost use Rattle.register_store.specs.Migration.{FindsNew};
 ghost use Rattle.register_store.specs.Migration.{MakesNext, Migrates, SetsVersion};
 
 use crate::creation::has_meaning;
 use crate::error::CreateError;
+use crate::schema_change::{SchemaChange, change_schema};
 use crate::table::TableName;
 use register_core::Version;
 use sqlite::{Alter, Connection, Error, Transaction, params};
-
-/// Whether one of the two tables is there that the second version has beside those of the first.
-fn has_new<S: Alter>(tx: &mut Transaction<'_, S>) -> Result<bool, Error>
-    ensures same_reference { tx.new.conn.ghost_name ≡ tx.old.conn.ghost_name }
-    ensures answer { Steps S.Store (Answers HasNewTable) tx.old.conn.now tx.new.conn.now result }
-{
-    if has_meaning(tx, TableName::Period.count_sql())? {
-        return Ok(true);
-    }
-    has_meaning(tx, TableName::Quorum.count_sql())
-}
 
 /// Makes one of the two, empty, after the tables that stand before it.
 fn make_next<S: Alter>(tx: &mut Transaction<'_, S>, table: TableName) -> Result<usize, Error>
@@ -45,29 +33,31 @@ fn set_version<S: Alter>(tx: &mut Transaction<'_, S>) -> Result<usize, Error>
     )
 }
 
-/// Takes the tables to the second version: the rows that are there stay as they are.
-fn move_tables<S: Alter>(tx: &mut Transaction<'_, S>) -> Result<(), Error>
-    ensures same_reference { tx.new.conn.ghost_name ≡ tx.old.conn.ghost_name }
-    ensures made { Steps S.Store (λ _. Migrates) tx.old.conn.now tx.new.conn.now result }
-{
-    make_next(tx, TableName::Period)?;
-    make_next(tx, TableName::Quorum)?;
-    set_version(tx)?;
-    Ok(())
-}
+/// Taking the tables of the first version to the second: the rows that are there stay as they are.
+#[derive(Drop)]
+struct Migration;
 
-/// The same where neither of the two new tables is there.
-fn move_where_none<S: Alter>(tx: &mut Transaction<'_, S>) -> Result<(), CreateError>
-    ensures same_reference { tx.new.conn.ghost_name ≡ tx.old.conn.ghost_name }
-    ensures made { Steps S.Store (λ _. Migrates) tx.old.conn.now tx.new.conn.now result }
-    ensures there { result ≡ Err CreateError.HasTables
-        → FindsNewTable (state S.Store tx.old.conn.now) (state S.Store tx.new.conn.now) }
-{
-    if has_new(tx)? {
-        return Err(CreateError::HasTables);
+impl SchemaChange for Migration {
+    ghost use Rattle.register_store.specs.Migration.{HasNewTable, Migrates};
+
+    ghost has_one = { HasNewTable };
+
+    ghost makes = { Migrates };
+
+    /// Whether the count of a new table's rows has a meaning.
+    fn finds_one<S: Alter>(&self, tx: &mut Transaction<'_, S>) -> Result<bool, Error> {
+        if has_meaning(tx, TableName::Period.count_sql())? {
+            return Ok(true);
+        }
+        has_meaning(tx, TableName::Quorum.count_sql())
     }
-    move_tables(tx)?;
-    Ok(())
+
+    fn make<S: Alter>(&self, tx: &mut Transaction<'_, S>) -> Result<(), Error> {
+        make_next(tx, TableName::Period)?;
+        make_next(tx, TableName::Quorum)?;
+        set_version(tx)?;
+        Ok(())
+    }
 }
 
 /// Takes a register of the first version to the second, whole or not at all, and so over a stop.
@@ -82,8 +72,5 @@ pub fn migrate<S: Alter>(connection: &mut Connection<S>) -> Result<(), CreateErr
     ensures there { result ≡ Err CreateError.HasTables
         → FindsNew S.Store connection.old connection.new }
 {
-    let mut tx = connection.transaction();
-    move_where_none(&mut tx)?;
-    tx.commit()?;
-    Ok(())
+    change_schema(connection, &Migration)
 }

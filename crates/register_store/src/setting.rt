@@ -1,9 +1,8 @@
 //! What is set beside the keys themselves: the usage periods of types, and how many approvals the destruction of a key
 //! needs.
 ghost use Rattle.std.specs.Prelude.{◌≡◌, MatchOption};
-ghost use Rattle.sql_steps.specs.Steps.{StepsBy};
 ghost use Rattle.period_core.specs.Period.{Period as UsagePeriod};
-ghost use Rattle.register_store.specs.StepCount.{Takes};
+ghost use Rattle.register_store.specs.StepCount.{Writes};
 ghost use Rattle.register_store.specs.TableChanges.{Makes, Always, HasNoNeed};
 ghost use Rattle.register_store.specs.TableChanges.{more_need, with_need_set, without_need};
 ghost use Rattle.register_store.specs.TableChanges.{HasNoPeriod, more_period, with_period_set};
@@ -25,10 +24,8 @@ fn clear_period<T: Inside>(
     steps: &mut StepCount,
     kind: KeyType,
 ) -> Result<(), StoreError>
-    ensures same_reference { T.Inside.name tx.new ≡ T.Inside.name tx.old }
-    ensures counted { Takes 1 steps.old steps.new }
-    ensures cleared { StepsBy (λ _. Makes Always (without_period kind))
-        (T.Inside.sees tx.old) (T.Inside.sees tx.new) result }
+    ensures { Writes T.Inside.sees T.Inside.name 1 (Makes Always (without_period kind))
+        tx.old tx.new steps.old steps.new result }
 {
     tx.execute(
         steps,
@@ -45,10 +42,9 @@ fn add_period<T: Inside>(
     kind: KeyType,
     period: Period,
 ) -> Result<(), StoreError>
-    ensures same_reference { T.Inside.name tx.new ≡ T.Inside.name tx.old }
-    ensures counted { Takes 1 steps.old steps.new }
-    ensures added { StepsBy (λ _. Makes (HasNoPeriod kind) (more_period kind period))
-        (T.Inside.sees tx.old) (T.Inside.sees tx.new) result }
+    ensures { Writes T.Inside.sees T.Inside.name 1
+        (Makes (HasNoPeriod kind) (more_period kind period))
+        tx.old tx.new steps.old steps.new result }
 {
     tx.execute(
         steps,
@@ -69,10 +65,8 @@ pub(crate) fn set_period<T: Inside>(
     kind: KeyType,
     period: Period,
 ) -> Result<(), StoreError>
-    ensures same_reference { T.Inside.name tx.new ≡ T.Inside.name tx.old }
-    ensures counted { Takes 2 steps.old steps.new }
-    ensures set { StepsBy (λ _. Makes Always (with_period_set kind period))
-        (T.Inside.sees tx.old) (T.Inside.sees tx.new) result }
+    ensures { Writes T.Inside.sees T.Inside.name 2 (Makes Always (with_period_set kind period))
+        tx.old tx.new steps.old steps.new result }
 {
     clear_period(tx, steps, kind)?;
     add_period(tx, steps, kind, period)
@@ -80,10 +74,8 @@ pub(crate) fn set_period<T: Inside>(
 
 /// Takes out the need of the key, if one was set.
 fn clear_need<T: Inside>(tx: &mut T, steps: &mut StepCount, key: u32) -> Result<(), StoreError>
-    ensures same_reference { T.Inside.name tx.new ≡ T.Inside.name tx.old }
-    ensures counted { Takes 1 steps.old steps.new }
-    ensures cleared { StepsBy (λ _. Makes Always (without_need key))
-        (T.Inside.sees tx.old) (T.Inside.sees tx.new) result }
+    ensures { Writes T.Inside.sees T.Inside.name 1 (Makes Always (without_need key))
+        tx.old tx.new steps.old steps.new result }
 {
     tx.execute(steps, "DELETE FROM quorum WHERE key_no = ?1", params![key])?;
     Ok(())
@@ -96,10 +88,8 @@ fn add_need<T: Inside>(
     key: u32,
     need: Quorum,
 ) -> Result<(), StoreError>
-    ensures same_reference { T.Inside.name tx.new ≡ T.Inside.name tx.old }
-    ensures counted { Takes 1 steps.old steps.new }
-    ensures added { StepsBy (λ _. Makes (HasNoNeed key) (more_need key need))
-        (T.Inside.sees tx.old) (T.Inside.sees tx.new) result }
+    ensures { Writes T.Inside.sees T.Inside.name 1 (Makes (HasNoNeed key) (more_need key need))
+        tx.old tx.new steps.old steps.new result }
 {
     tx.execute(
         steps,
@@ -116,10 +106,8 @@ pub(crate) fn set_need<T: Inside>(
     key: u32,
     need: Quorum,
 ) -> Result<(), StoreError>
-    ensures same_reference { T.Inside.name tx.new ≡ T.Inside.name tx.old }
-    ensures counted { Takes 2 steps.old steps.new }
-    ensures set { StepsBy (λ _. Makes Always (with_need_set key need))
-        (T.Inside.sees tx.old) (T.Inside.sees tx.new) result }
+    ensures { Writes T.Inside.sees T.Inside.name 2 (Makes Always (with_need_set key need))
+        tx.old tx.new steps.old steps.new result }
 {
     clear_need(tx, steps, key)?;
     add_need(tx, steps, key, need)

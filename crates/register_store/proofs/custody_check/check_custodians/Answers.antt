@@ -15,9 +15,8 @@ returns-in-Err-clause-checks g c is_open t version are = custodians_none t (stat
 pub returns-in-Ok-check_rows-clause-checks : goal.returns-in-Ok-check_rows-clause-checks
 returns-in-Ok-check_rows-clause-checks g c is_open t version are =
     let owners = c.args.owners.items in
-    let made = c.in-Ok.ensures.made in
-    let counted : length c.in-Ok.custodians.items ≡ length owners = let many = made.1 in let len = c.len.ensures in omega (arith, many, len) in
-    let begun = begin_custodians c.max_custodians.result owners c.in-Ok.custodians.items made.0 counted in
+    let counted : length c.in-Ok.custodians.items ≡ length owners = let many = c.in-Ok.ensures.made.1 in let len = c.len.ensures in omega (arith, many, len) in
+    let begun = begin_custodians c.max_custodians.result owners c.in-Ok.custodians.items c.in-Ok.ensures.made.0 counted in
     custodians_read t c.max_custodians.result (c.max_custodians.ensures ∙ ap custodians_of version) owners are (state g.S.Store c.args.connection.now)
     (state g.S.Store c.check_rows.new.connection) c.check_rows.ensures.survives c.check_rows.new.check.custodians
     (λ clean.
@@ -27,9 +26,8 @@ returns-in-Ok-check_rows-clause-checks g c is_open t version are =
 pub returns-in-Err-check_rows-clause-checks : goal.returns-in-Err-check_rows-clause-checks
 returns-in-Err-check_rows-clause-checks g c is_open t version are =
     let owners = c.args.owners.items in
-    let made = c.in-Ok.ensures.made in
-    let counted : length c.in-Ok.custodians.items ≡ length owners = let many = made.1 in let len = c.len.ensures in omega (arith, many, len) in
-    let begun = begin_custodians c.max_custodians.result owners c.in-Ok.custodians.items made.0 counted in
+    let counted : length c.in-Ok.custodians.items ≡ length owners = let many = c.in-Ok.ensures.made.1 in let len = c.len.ensures in omega (arith, many, len) in
+    let begun = begin_custodians c.max_custodians.result owners c.in-Ok.custodians.items c.in-Ok.ensures.made.0 counted in
     let read = c.check_rows.ensures in
     custodians_fail t c.max_custodians.result (c.max_custodians.ensures ∙ ap custodians_of version) owners are (state g.S.Store c.args.connection.now)
     (state g.S.Store c.check_rows.new.connection) read.survives c.in-Err-check_rows.error c.from.result c.from.ensures

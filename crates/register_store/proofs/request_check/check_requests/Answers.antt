@@ -1,11 +1,10 @@
-use Rattle.std.proofs.Common.{Err, ap, refl, ◌∙◌}
-use Rattle.sqlite.specs.Held.{state}
+use Rattle.std.proofs.Common.{refl}
 use Rattle.register_store.specs.declared.table.TableName.TheVariants.{Request}
 use Rattle.register_store.specs.CheckedTables.{ShowsKept, mark_of}
 use Rattle.register_store.specs.OpeningChecks.{IsReplyOf}
 use Rattle.register_store.proofs.EachChecked.{none_shown}
 use Rattle.register_store.proofs.Asked.{query_of}
-use Rattle.register_store.proofs.EntriesChecked.{entries_fail, entries_read}
+use Rattle.register_store.proofs.EntriesChecked.{entries_failed, entries_read_beside}
 use Rattle.register_store.proofs.RequestsChecked.{are_checked}
 use Rattle.register_store.proofs.request_check.check_requests.Goals as goal
 
@@ -15,23 +14,12 @@ check_rows-read-requires-clause-query g c = query_of Request
 pub returns-in-Ok-clause-checks : goal.returns-in-Ok-clause-checks
 returns-in-Ok-clause-checks g c t counts =
     let Passes = IsReplyOf (mark_of c.args.found) in
-    let are = are_checked t c.args.found counts in
-    let begun = none_shown ShowsKept Passes in
-    entries_read Request ShowsKept Passes t are
-    (state g.S.Store c.args.connection.now) (state g.S.Store c.check_rows-read.new.connection) c.check_rows-read.ensures.survives
-    (λ clean.
-    let it = (rw (c.in-Ok.is) at c.check_rows-read.ensures.met) clean (refl, begun) in
-    record { rows = it.rows; shown = it.shown; holds = it.holds.1; same = it.same })
+    entries_read_beside Request ShowsKept Passes t (are_checked t c.args.found counts) _ _ c.check_rows-read.ensures.survives
+    (λ clean. (rw (c.in-Ok.is) at c.check_rows-read.ensures.met) clean (refl, none_shown ShowsKept Passes))
 
 pub returns-in-Err-clause-checks : goal.returns-in-Err-clause-checks
 returns-in-Err-clause-checks g c t counts =
-    let old = state g.S.Store c.args.connection.now in
-    let new = state g.S.Store c.check_rows-read.new.connection in
-    let read = c.check_rows-read.ensures in
     let Passes = IsReplyOf (mark_of c.args.found) in
-    let are = are_checked t c.args.found counts in
-    let begun = none_shown ShowsKept Passes in
-    entries_fail Request ShowsKept Passes t are old new read.survives c.in-Err.error c.from.result c.from.ensures
-    (λ clean is. read.meaning clean (c.in-Err.is ∙ ap Err is))
-    (λ clean is. read.refused clean (refl, begun) (c.in-Err.is ∙ ap Err is))
-    (λ clean is. read.memory clean (c.in-Err.is ∙ ap Err is))
+    let read = c.check_rows-read.ensures in
+    entries_failed Request ShowsKept Passes t (are_checked t c.args.found counts) _ _ read.survives _ c.in-Err.error c.from.result c.in-Err.is c.from.ensures
+    read.meaning (λ clean. read.refused clean (refl, none_shown ShowsKept Passes)) read.memory

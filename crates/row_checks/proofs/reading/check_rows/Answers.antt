@@ -52,14 +52,13 @@ returns-in-Ok-clause-survives g c =
 
 pub returns-in-Ok-clause-memory : goal.returns-in-Ok-clause-memory
 returns-in-Ok-clause-memory g c =
-    let sql = c.args.sql.now in
     let first = state g.S.Store c.args.connection.now in
     let mid = c.in-Ok.rows.conn.now in
     let last = c.take_rows.new.rows.conn.now in
     let eq : c.connection-1.given.0 ≡ last = search rules in
     let P : Held g.row.S.Denot → Type 0 = λ h. HasCleanDisk (state g.S.Store h) → c.take_rows.result ≡ Err Memory → IsUnchanged first (state g.S.Store h) in
     let it : P last = λ clean is.
-    let start = at_start g.S.Store sql c.args.connection.now mid last c.requires.query c.in-Ok.ensures.begun c.take_rows.ensures.survives clean in
+    let start = at_start g.S.Store c.args.sql.now c.args.connection.now mid last c.requires.query c.in-Ok.ensures.begun c.take_rows.ensures.survives clean in
     unchanged_then first (state g.S.Store mid) (state g.S.Store last) start.1 (c.take_rows.ensures.memory clean start.0 is) in
     carry P c.connection-1.given.0 last eq it
 

@@ -18,7 +18,7 @@ returns-clause-made g c =
     let Moves = Makes (AreRightAt c.args.self.now.latest) (with_keys_advanced kept.reply.moment) in
     let Changes = Makes (HasKeys c.args.self.now.keys) (with_change c.args.self.now.change.now) in
     let Records = Makes (λ _. IsKeptReply kept) (with_recorded kept c.keys_after-keys.result) in
-    let two = steps_then (λ _. Moves) (λ _. Changes) a b d c.in_ok-advance_due.field-0 (Ok c.in_ok-write_change.field-0) c.in_ok-advance_due.ensures.advanced c.in_ok-write_change.ensures.written in
-    let all = steps_then (λ _. Then Moves Changes) (λ _. Records) a d e c.in_ok-write_change.field-0 c.record_request.result two c.record_request.ensures.recorded in
+    let two = steps_then (λ _. Moves) (λ _. Changes) a b d c.in_ok-advance_due.field-0 (Ok c.in_ok-write_change.field-0) c.in_ok-advance_due.ensures.made c.in_ok-write_change.ensures.made in
+    let all = steps_then (λ _. Then Moves Changes) (λ _. Records) a d e c.in_ok-write_change.field-0 c.record_request.result two c.record_request.ensures.made in
     steps_weaker (λ _. Then (Then Moves Changes) Records) (λ _. Makes (CanTake c.args.self.now.keys c.args.self.now.latest kept) (with_request c.args.self.now.keys c.args.self.now.change.now kept)) a e c.record_request.result
     (λ _ old new. makes_request c.args.self.now.keys c.args.self.now.latest c.keys_after-keys.result c.args.self.now.change.now kept c.keys_after-keys.ensures old new) all

@@ -5,7 +5,7 @@ use Rattle.sql_steps.proofs.Stepping.{steps_as, steps_then}
 use Rattle.register_store.specs.Tables.{all_tables}
 use Rattle.register_store.specs.Schema.{made_indexes}
 use Rattle.register_store.specs.Creation.{MakesRegister, MakesFirst, MakesIndexes, AddsMeta}
-use Rattle.register_store.proofs.creation.make_register.Goals as goal
+use Rattle.register_store.proofs.creation.CreationSchemaChange.make.Goals as goal
 
 pub returns-clause-made : goal.returns-clause-made
 returns-clause-made g c =

@@ -31,8 +31,7 @@ pub returns-clause-taken : goal.returns-clause-taken
 returns-clause-taken c result first rows taken =
     let key = c.in-Some.shown.key in
     let name = c.in-Some.shown.name in
-    let at : key ≡ suc c.in-Some-place_of.at = c.in-Some-place_of.ensures in
-    let seen = list_seen c.args.self.now.custodians.items key c.in-Some-place_of.at c.index.result.now at (let room = c.if-at-len.false in let len = c.len.ensures in omega (arith, room, len)) c.index.ensures in
+    let seen = list_seen c.args.self.now.custodians.items key c.in-Some-place_of.at c.index.result.now c.in-Some-place_of.ensures (let room = c.if-at-len.false in let len = c.len.ensures in omega (arith, room, len)) c.index.ensures in
     let passed : c.is_among.result ≡ true = cc in
     let told : c.is_among.result ≡ is_among name c.deref.result.now = c.is_among.ensures in
     let listed : IsListed c.args.self.now.custodians.items (key_name key name) = record {
@@ -46,8 +45,7 @@ pub returns-clause-refused : goal.returns-clause-refused
 returns-clause-refused c result first rows taken =
     let key = c.in-Some.shown.key in
     let name = c.in-Some.shown.name in
-    let at : key ≡ suc c.in-Some-place_of.at = c.in-Some-place_of.ensures in
-    let seen = list_seen c.args.self.now.custodians.items key c.in-Some-place_of.at c.index.result.now at (let room = c.if-at-len.false in let len = c.len.ensures in omega (arith, room, len)) c.index.ensures in
+    let seen = list_seen c.args.self.now.custodians.items key c.in-Some-place_of.at c.index.result.now c.in-Some-place_of.ensures (let room = c.if-at-len.false in let len = c.len.ensures in omega (arith, room, len)) c.index.ensures in
     one_odd ShowsName (IsListed first.custodians.items) rows c.args.row.now (λ entry shows is.
     let same = one_name c.args.row.now entry (key_name key name) shows c.in-Some.ensures in
     let listed = subst (IsListed first.custodians.items) same is in

@@ -5,7 +5,7 @@ use Rattle.sql_steps.proofs.Stepping.{steps_as, steps_then}
 use Rattle.register_store.specs.declared.table.TableName.TheVariants.{Period, Quorum}
 use Rattle.register_store.specs.Migration.{MakesNext, Migrates, SetsVersion}
 use Rattle.register_store.proofs.VersionSet.{begins}
-use Rattle.register_store.proofs.migration.move_tables.Goals as goal
+use Rattle.register_store.proofs.migration.MigrationSchemaChange.make.Goals as goal
 
 pub returns-clause-made : goal.returns-clause-made
 returns-clause-made g c =

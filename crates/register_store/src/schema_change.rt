@@ -1,0 +1,76 @@
+//! A change of a database's schema, made whole or not at all.
+ghost use Rattle.std.specs.Prelude.{◌≡◌, false, Err};
+ghost use Rattle.sqlite.specs.Held.{state};
+ghost use Rattle.sql_steps.specs.Steps.{Steps, Transacts};
+ghost use Rattle.register_store.specs.Creation.{FindsIn, FindsInside};
+
+use crate::error::CreateError;
+use sqlite::{Alter, Connection, Error, Transaction};
+
+/// A change of a database's schema that makes tables. Where one of them is there already it is not made.
+pub(crate) trait SchemaChange {
+    ghost use Rattle.std.specs.Prelude.{◌≡◌};
+    ghost use Rattle.sqlite.specs.Schema.{Schema};
+    ghost use Rattle.sql_steps.specs.Steps.{Change, Steps};
+    ghost use Rattle.register_store.specs.Creation.{Answers};
+
+    /// That one of the tables that it makes is there.
+    ghost has_one: { Schema → Type 0 };
+
+    /// What it makes of the database.
+    ghost makes: { Change };
+
+    /// Whether one of the tables that it makes is there.
+    ///
+    /// # Errors
+    /// As the database refused it.
+    fn finds_one<S: Alter>(&self, tx: &mut Transaction<'_, S>) -> Result<bool, Error>
+        ensures same_reference { tx.new.conn.ghost_name ≡ tx.old.conn.ghost_name }
+        ensures answer { Steps S.Store (Answers has_one) tx.old.conn.now tx.new.conn.now result };
+
+    /// Makes it.
+    ///
+    /// # Errors
+    /// As the database refused it; the transaction is then to be rolled back.
+    fn make<S: Alter>(&self, tx: &mut Transaction<'_, S>) -> Result<(), Error>
+        ensures same_reference { tx.new.conn.ghost_name ≡ tx.old.conn.ghost_name }
+        ensures made { Steps S.Store (λ _. makes) tx.old.conn.now tx.new.conn.now result };
+}
+
+/// Makes the change where none of its tables is there.
+fn make_where_none<S: Alter, C: SchemaChange>(
+    tx: &mut Transaction<'_, S>,
+    change: &C,
+) -> Result<(), CreateError>
+    ensures same_reference { tx.new.conn.ghost_name ≡ tx.old.conn.ghost_name }
+    ensures made { Steps S.Store (λ _. C.SchemaChange.makes) tx.old.conn.now tx.new.conn.now result }
+    ensures there { result ≡ Err CreateError.HasTables → FindsInside C.SchemaChange.has_one
+        (state S.Store tx.old.conn.now) (state S.Store tx.new.conn.now) }
+{
+    if change.finds_one(tx)? {
+        return Err(CreateError::HasTables);
+    }
+    change.make(tx)?;
+    Ok(())
+}
+
+/// Makes the change in one transaction, whole or not at all, and so over a stop.
+///
+/// # Errors
+/// [`CreateError::HasTables`] where one of the tables that it makes is there, and [`CreateError::Database`] where the
+/// database refused.
+pub(crate) fn change_schema<S: Alter, C: SchemaChange>(
+    connection: &mut Connection<S>,
+    change: &C,
+) -> Result<(), CreateError>
+    requires { connection.old.in_transaction ≡ false }
+    ensures idle { connection.new.in_transaction ≡ false }
+    ensures made { Transacts S.Store C.SchemaChange.makes connection.old connection.new result }
+    ensures there { result ≡ Err CreateError.HasTables
+        → FindsIn S.Store C.SchemaChange.has_one connection.old connection.new }
+{
+    let mut tx = connection.transaction();
+    make_where_none(&mut tx, change)?;
+    tx.commit()?;
+    Ok(())
+}
