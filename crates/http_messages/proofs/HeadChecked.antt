@@ -1,6 +1,6 @@
 -- What is known of the parts of a head is known of the head.
 use Rattle.std.proofs.Common.{◌≡◌, ◌≢◌, ℕ, List, Bool, true, false, map, take, Option, Some, None}
-use Rattle.std.proofs.Common.{subst, sym, ap, refl, ◌∙◌}
+use Rattle.std.proofs.Common.{subst, sym, refl, ◌∙◌}
 use Rattle.std.specs.Prelude.{IsTrue, not}
 use Rattle.std.specs.Str.{bytes_eq}
 use Rattle.std.proofs.lemmas.Slice.Eq.{bytes_eq-Decides}

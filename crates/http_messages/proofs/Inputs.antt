@@ -1,7 +1,7 @@
 -- What was found in the bytes that were read is so of the whole input.
 use Rattle.std.proofs.Common.{◌≡◌, ℕ, ◌+◌, ◌-◌, ◌≤◌, inl, inr, List, ◌++◌, length, take, drop}
 use Rattle.std.proofs.Common.{Option, Some, None, refl, sym, ap, subst, ◌∙◌, arith, append_assoc}
-use Rattle.std.proofs.Common.{length-append, length-take, Result, Ok, Err}
+use Rattle.std.proofs.Common.{length-append, length-take, Result, Ok}
 use Rattle.std.specs.Prelude.{IfOk, IsSomeAnd}
 use Rattle.std.specs.Io.KnownBytes.{Consumes}
 use Rattle.std.proofs.Math.Seq.{take-append-add}

@@ -43,15 +43,18 @@ abbrev pub named_members : List ℕ → Data → Data → Data → Members
 named_members field key kind value =
     member (codes "key") key (member (codes "kind") kind (member field value no_members))
 
+-- four members, each value after its name
+abbrev pub four_members : List ℕ → Data → List ℕ → Data → List ℕ → Data → List ℕ → Data → Members
+four_members first a second b third c fourth d =
+    member first a (member second b (member third c (member fourth d no_members)))
+
 abbrev pub period_members : Data → Data → Data → Data → Members
 period_members kind originator recipient type =
-    member (codes "kind") kind (member (codes "originator") originator
-    (member (codes "recipient") recipient (member (codes "type") type no_members)))
+    four_members (codes "kind") kind (codes "originator") originator (codes "recipient") recipient (codes "type") type
 
 abbrev pub revoke_members : Data → Data → Data → Data → Members
 revoke_members key kind occurrence reason =
-    member (codes "key") key (member (codes "kind") kind
-    (member (codes "occurrence") occurrence (member (codes "reason") reason no_members)))
+    four_members (codes "key") key (codes "kind") kind (codes "occurrence") occurrence (codes "reason") reason
 
 abbrev pub set_members : Data → Data → Data → Data → Data → Members
 set_members activation deactivation key kind protect_stop =

@@ -1,5 +1,5 @@
 -- What a whole head says of the request before its body is read.
-use Rattle.std.specs.Prelude.{◌≡◌, ℕ, ◌≤◌, Some}
+use Rattle.std.specs.Prelude.{◌≡◌, ◌≤◌, Some}
 use Rattle.httparse.specs.Grammar.{RequestHead}
 use Rattle.http_messages.specs.HeaderFields.{Lines}
 use Rattle.http_messages.specs.Route.{IsRouteOf, method_of}

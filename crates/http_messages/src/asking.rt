@@ -1,11 +1,11 @@
 //! Reads what an input asks for. The register is not asked here.
-ghost use Rattle.std.specs.Prelude.{◌≡◌, ◌↔◌, ◌+◌, ◌<◌, ◌≤◌, ◌^◌, ◌++◌, ℕ, List, [], length, map};
+ghost use Rattle.std.specs.Prelude.{◌≡◌, ◌↔◌, ◌+◌, ◌≤◌, ◌++◌, ℕ, List, [], length, map};
 ghost use Rattle.std.specs.Prelude.{take, drop, Some, Ok, Err, IfOk, IfErr, IfSome, IsSomeAnd, IsTrue};
 ghost use Rattle.httparse.specs.Grammar.{RequestHead};
 ghost use Rattle.httparse.specs.Spans.{IsRequestAt, IsRequestWithin, header_bytes};
 ghost use Rattle.streams.specs.Watched.{IsFaulted};
 ghost use Rattle.http_messages.specs.CommandBody.{IsInRange};
-ghost use Rattle.http_messages.specs.Content.{HasRead};
+ghost use Rattle.http_messages.specs.Content.{HasRead, ReadsInput};
 ghost use Rattle.http_messages.specs.Asked.{AsksFor, AsksBody, AsksAfter, HasHost};
 ghost use Rattle.http_messages.specs.HeaderFields.{AreGathered, Lines};
 ghost use Rattle.http_messages.specs.Post.{IsFor};
@@ -75,13 +75,7 @@ fn ask_post<R: Read>(alloc: Global, after: &[u8], post: Post, reader: &mut Watch
     ensures asks { (left : List ℕ) → R.remaining reader.old.inner ≡ Some left →
         IfOk result.asked (λ o. IsSomeAnd o (AsksBody post.length post.sender.caller
         post.sender.number (after.now ++ left))) }
-    ensures read { HasRead (R.remaining reader.old.inner) (R.remaining reader.new.inner)
-        result.read }
-    ensures few { result.read < 2 ^ 32 }
-    ensures in_range { IfOk result.asked (λ o. IfSome o IsInRange) }
-    ensures fault { IfErr result.asked (λ fault. fault ≡ AskFault.ReadFault
-        → IsFaulted reader.new.failed MAX_EXCHANGE_READS reader.new.turns) }
-    ensures bounded { reader.old.turns ≤ MAX_EXCHANGE_READS → reader.new.turns ≤ MAX_EXCHANGE_READS }
+    ensures reads { ReadsInput R.remaining reader.old reader.new result.read result }
 {
     let BodyRead { read, body } = read_body(alloc, after, post.length as usize, reader);
     match body {
@@ -149,13 +143,7 @@ fn ask_head<R: Read>(
     ensures asks { (h : RequestHead) (left : List ℕ) → IsRequestAt bytes.now headers.now spans h
         → R.remaining reader.old.inner ≡ Some left
         → IfOk result.asked (λ o. IsSomeAnd o (AsksAfter h (drop spans.len bytes.now ++ left))) }
-    ensures read { HasRead (R.remaining reader.old.inner) (R.remaining reader.new.inner)
-        result.read }
-    ensures few { result.read < 2 ^ 32 }
-    ensures in_range { IfOk result.asked (λ o. IfSome o IsInRange) }
-    ensures fault { IfErr result.asked (λ fault. fault ≡ AskFault.ReadFault
-        → IsFaulted reader.new.failed MAX_EXCHANGE_READS reader.new.turns) }
-    ensures bounded { reader.old.turns ≤ MAX_EXCHANGE_READS → reader.new.turns ≤ MAX_EXCHANGE_READS }
+    ensures reads { ReadsInput R.remaining reader.old reader.new result.read result }
 {
     let fields = HeaderFields::gather(bytes, &headers[..spans.headers]);
     let router = match routes.router(alloc) {
@@ -187,13 +175,8 @@ fn ask_after<R: Read>(
     requires { prefix.old ≡ [] }
     ensures asks { (input : List ℕ) → R.remaining reader.old.inner ≡ Some input →
         IfOk result.asked (AsksFor input) }
-    ensures read { HasRead (R.remaining reader.old.inner) (R.remaining reader.new.inner)
-        (length prefix.new + result.read) }
-    ensures few { result.read < 2 ^ 32 }
-    ensures in_range { IfOk result.asked (λ asked. IfSome asked IsInRange) }
-    ensures fault { IfErr result.asked (λ fault. fault ≡ AskFault.ReadFault
-        → IsFaulted reader.new.failed MAX_EXCHANGE_READS reader.new.turns) }
-    ensures bounded { reader.old.turns ≤ MAX_EXCHANGE_READS → reader.new.turns ≤ MAX_EXCHANGE_READS }
+    ensures reads { ReadsInput R.remaining reader.old reader.new
+        (length prefix.new + result.read) result }
 {
     let mut headers = [EMPTY_HEADER_SPAN; MAX_HEADERS];
     match prefix.find_head(&mut headers, reader) {

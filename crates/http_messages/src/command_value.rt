@@ -18,8 +18,8 @@ ghost use Rattle.register_core.specs.Request.{AreFields, IsCommand, IsKeyNumber}
 ghost use Rattle.register_core.specs.CommandRule.{kind_of};
 ghost use Rattle.http_messages.specs.CommandValue.{number_data, command_data, HasMembers};
 ghost use Rattle.http_messages.specs.CommandValue.{IsShaped};
-ghost use Rattle.http_messages.specs.CommandValue.{keyed_members, named_members, revoke_members};
-ghost use Rattle.http_messages.specs.CommandValue.{set_members, register_members, period_members};
+ghost use Rattle.http_messages.specs.CommandValue.{keyed_members, named_members, four_members};
+ghost use Rattle.http_messages.specs.CommandValue.{set_members, register_members};
 
 use crate::members::{
     command_kind_of, date_of, edit_of, key_of, key_type_of, last_named, name_of, next_named,
@@ -112,32 +112,26 @@ fn needed_of(members: &Map<String, Value>) -> Option<(u32, Quorum)>
     Some((key, need))
 }
 
-/// The values of the members that name a type, and the months of its period.
-#[derive(Drop)]
-struct PeriodMembers<'v> {
-    originator: &'v Value,
-    recipient: &'v Value,
-    key_type: &'v Value,
-}
-
-/// The members that name a type, and the months of its period.
-fn period_members_of<'v>(members: &'v Map<String, Value>) -> Option<PeriodMembers<'v>>
-    ensures found { IfSome result (λ m. (kind : Data) × (members_view members.now.entries
-        ≡ period_members kind (view m.originator.now) (view m.recipient.now)
-        (view m.key_type.now))) }
-    ensures none { IfNone result ((kind originator recipient type : Data) →
-        members_view members.now.entries ≢ period_members kind originator recipient type) }
+/// The values of the members, if they are four of these names, in this order.
+fn four_of<'v>(
+    members: &'v Map<String, Value>,
+    first: &str,
+    second: &str,
+    third: &str,
+    fourth: &str,
+) -> Option<(&'v Value, &'v Value, &'v Value, &'v Value)>
+    ensures found { IfSome result (λ values. members_view members.now.entries
+        ≡ four_members first.now (view values.0.now) second.now (view values.1.now)
+        third.now (view values.2.now) fourth.now (view values.3.now)) }
+    ensures none { IfNone result ((a b c d : Data) → members_view members.now.entries
+        ≢ four_members first.now a second.now b third.now c fourth.now d) }
 {
     let mut rest = members.iter();
-    let _kind = next_named(&mut rest, "kind")?;
-    let originator = next_named(&mut rest, "originator")?;
-    let recipient = next_named(&mut rest, "recipient")?;
-    let key_type = last_named(&mut rest, "type")?;
-    Some(PeriodMembers {
-        originator,
-        recipient,
-        key_type,
-    })
+    let first = next_named(&mut rest, first)?;
+    let second = next_named(&mut rest, second)?;
+    let third = next_named(&mut rest, third)?;
+    let fourth = last_named(&mut rest, fourth)?;
+    Some((first, second, third, fourth))
 }
 
 /// The fields that are a type and its period.
@@ -148,37 +142,16 @@ fn type_and_period_of(members: &Map<String, Value>) -> Option<Fields>
         AreFields (TypeAndPeriod type period) →
         HasMembers (members_view members.now.entries) (TypeAndPeriod type period) → ⊥) }
 {
-    let values = period_members_of(members)?;
-    let kind = key_type_of(values.key_type)?;
-    let period = period_of(values.originator, values.recipient)?;
+    let (_kind, originator, recipient, key_type) = four_of(
+        members,
+        "kind",
+        "originator",
+        "recipient",
+        "type",
+    )?;
+    let kind = key_type_of(key_type)?;
+    let period = period_of(originator, recipient)?;
     Some(Fields::TypeAndPeriod { kind, period })
-}
-
-/// The values of the members of a revocation.
-#[derive(Drop)]
-struct RevokeMembers<'v> {
-    key: &'v Value,
-    occurrence: &'v Value,
-    reason: &'v Value,
-}
-
-/// The members that a revocation has.
-fn revoke_members_of<'v>(members: &'v Map<String, Value>) -> Option<RevokeMembers<'v>>
-    ensures found { IfSome result (λ m. (kind : Data) × (members_view members.now.entries
-        ≡ revoke_members (view m.key.now) kind (view m.occurrence.now) (view m.reason.now))) }
-    ensures none { IfNone result ((key kind occurrence reason : Data) →
-        members_view members.now.entries ≢ revoke_members key kind occurrence reason) }
-{
-    let mut rest = members.iter();
-    let key = next_named(&mut rest, "key")?;
-    let _kind = next_named(&mut rest, "kind")?;
-    let occurrence = next_named(&mut rest, "occurrence")?;
-    let reason = last_named(&mut rest, "reason")?;
-    Some(RevokeMembers {
-        key,
-        occurrence,
-        reason,
-    })
 }
 
 /// The fields of a revocation. It has an occurrence only where its reason is a compromise.
@@ -189,10 +162,10 @@ fn revoke_of(members: &Map<String, Value>) -> Option<Fields>
         AreFields (Revocation key reason occurrence) →
         HasMembers (members_view members.now.entries) (Revocation key reason occurrence) → ⊥) }
 {
-    let values = revoke_members_of(members)?;
-    let key = key_of(values.key)?;
-    let occurrence = date_of(values.occurrence)?;
-    let reason = reason_of(values.reason)?;
+    let (key, _kind, occurrence, reason) = four_of(members, "key", "kind", "occurrence", "reason")?;
+    let key = key_of(key)?;
+    let occurrence = date_of(occurrence)?;
+    let reason = reason_of(reason)?;
     if occurrence.is_some() && !reason.is_compromise() {
         return None;
     }

@@ -21,10 +21,18 @@ returns-in-Ok-Whole-clause-asks g c = λ input known.
     c.ask_head.result.asked known c.find_head.ensures.bytes c.find_head.ensures.short (search rules) found
     c.bytes.ensures.value c.ask_head.ensures.asks
 
-pub returns-in-Ok-Whole-clause-read : goal.returns-in-Ok-Whole-clause-read
-returns-in-Ok-Whole-clause-read g c =
-    let (more, took, long) = c.ask_head.ensures.read in (
-      c.find_head.new.self ++ more,
-      Consumes-trans _ _ _ _ _ c.find_head.ensures.bytes took,
-      length-append c.find_head.new.self more ∙ ap (λ n. length c.find_head.new.self + n) long,
-    )
+pub returns-in-Ok-Whole-clause-reads : goal.returns-in-Ok-Whole-clause-reads
+returns-in-Ok-Whole-clause-reads g c =
+    let reads = c.ask_head.ensures.reads in
+    let (more, took, long) = reads.read in
+    record {
+      read = (
+        c.find_head.new.self ++ more,
+        Consumes-trans _ _ _ _ _ c.find_head.ensures.bytes took,
+        length-append c.find_head.new.self more ∙ ap (λ n. length c.find_head.new.self + n) long,
+      );
+      few = reads.few;
+      in_range = reads.in_range;
+      fault = reads.fault;
+      bounded = λ before. reads.bounded (c.find_head.ensures.bounded before);
+    }

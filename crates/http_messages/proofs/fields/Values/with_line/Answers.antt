@@ -1,4 +1,4 @@
-use Rattle.std.proofs.Common.{List, ◌++◌, ◌∷◌, [], sym, ap, subst, ◌∙◌}
+use Rattle.std.proofs.Common.{◌++◌, ◌∷◌, [], sym, ap, subst, ◌∙◌}
 use Rattle.httparse.specs.Spans.{header_bytes}
 use Rattle.http_messages.specs.HeaderFields.{AreFound, values_of}
 use Rattle.http_messages.proofs.Lines.{line_hit, line_missed}
