@@ -1,5 +1,5 @@
 -- The rows of a history's keys, and those of them that a report lists.
-use Rattle.std.proofs.Common.{◌≡◌, ◌⊎◌, inl, inr, ℕ, ◌+◌, ◌≤◌, ◌<◌, ◌==◌, ◌&&◌, ◌||◌, Bool, true, false, List, length, slice_get, Option, None, Some, refl, sym, ap, subst, ◌∙◌, arith}
+use Rattle.std.proofs.Common.{◌≡◌, inl, inr, ℕ, ◌+◌, ◌≤◌, ◌<◌, ◌==◌, ◌&&◌, ◌||◌, Bool, true, false, List, length, slice_get, Option, None, Some, refl, sym, ap, subst, ◌∙◌, arith}
 use Rattle.std.specs.List.{Contains}
 use Rattle.std.proofs.lemmas.Bool.{cases_lt, le-leb, leb-true}
 use Rattle.std.proofs.lemmas.Option.{slice_get_past}
@@ -11,14 +11,14 @@ use Rattle.lifecycle_core.specs.declared.state.State.TheVariants.{Active}
 use Rattle.lifecycle_core.specs.State.{is_reached_at, state_code}
 use Rattle.moment_core.specs.Moment.{last_second}
 use Rattle.period_core.specs.declared.key_type.KeyType.{KeyType}
-use Rattle.period_core.specs.Fitting.{is_long, is_not_after, months_on_date}
+use Rattle.period_core.specs.Fitting.{is_long}
 use Rattle.period_core.specs.Period.{Period}
 use Rattle.key_rows.specs.declared.key_row.KeyRow.{KeyRow}
 use Rattle.key_rows.specs.DueRows.{HaveOwnNumbers, is_due, is_listed}
 use Rattle.register_core.specs.declared.key.Key.{Key}
 use Rattle.register_core.specs.declared.request.Request.{Request}
 use Rattle.register_core.specs.Fold.{IsLawful}
-use Rattle.register_core.specs.History.{count, dates, period, set_period, type}
+use Rattle.register_core.specs.History.{dates, period, set_period, type}
 use Rattle.register_core.specs.Laws.{HasKey}
 use Rattle.register_core.specs.Request.{IsDate}
 use Rattle.register_core.proofs.DateRanges.{stop_in_range}

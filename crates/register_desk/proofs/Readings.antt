@@ -1,19 +1,20 @@
 -- Calls of a desk that only read, and calls that do nothing.
-use Rattle.std.proofs.Common.{◌≡◌, ℕ, ◌≢◌, List, Result, Ok, Err, IfOk, inl, inr, refl, sym, subst, ◌∙◌}
+use Rattle.std.proofs.Common.{◌≡◌, ℕ, ◌≢◌, ◌≤◌, List, Result, Ok, Err, inl, inr, refl, sym, subst, ◌∙◌}
 use Rattle.sqlite_trees.specs.declared.store.Store as store
 use Rattle.sqlite.specs.State.{State, HasCleanDisk, IsUnchanged, Survives}
 use Rattle.register_store.specs.declared.counted.Counted.{Counted}
 use Rattle.register_core.specs.declared.request.Request.{Request}
+use Rattle.register_core.specs.Verdict.{max_keys}
 use Rattle.register_store.specs.declared.error.StoreError.{StoreError}
 use Rattle.register_store.specs.declared.error.StoreError.TheVariants.{Database, Memory, NoRegister}
-use Rattle.register_store.specs.TableReads.{seen, HoldsWhereOpen, KeepsSight, ReadsBy}
+use Rattle.register_store.specs.TableReads.{seen, Calls, HoldsWhereOpen, KeepsSight, ReadsBy}
 use Rattle.register_store.specs.Tables.{Tables}
 use Rattle.register_store.specs.Schema.{Holds}
 use Rattle.register_desk.specs.declared.desk.Desk.{Desk}
 use Rattle.register_desk.specs.declared.end.End.{End}
 use Rattle.register_desk.specs.declared.end.End.TheVariants as ends
 use Rattle.register_desk.specs.Desk.{IsWhole, IsBroken, IsClean, EndsBy, ChangesNothing, KeepsCounts}
-use Rattle.register_desk.specs.DeskCalls.{KeepsAll}
+use Rattle.register_desk.specs.DeskCalls.{KeepsAll, LooksUp}
 use Rattle.register_store.specs.TableChanges.{AreRightAt}
 use Rattle.register_desk.specs.Register.{tables, IsOver, StandsFor, Sees, Keeps, Leaves}
 
@@ -43,6 +44,11 @@ kept_still t before after kept unchanged survives clean =
       };
       leaves = still_leaves t before after kept.leaves survives clean;
     }
+
+-- the desk after a call of its connection
+abbrev pub called : {S : Type 0} {g : store.Ghosts S} (desk : Desk S g) → Counted S g → desk.keys ≤ max_keys
+    → Desk S g
+called desk after within = record desk { connection = after; within = within }
 
 module _ {S : Type 0} (g : store.Ghosts S) where
   -- what a desk stands for is a matter of its counts and of the tables that it sees
@@ -84,21 +90,6 @@ module _ {S : Type 0} (g : store.Ghosts S) where
     stop = λ t sees was_whole clean. two.stop t (one.rows t sees) (whole was_whole) clean;
   }
 
-  -- a desk that breaks after that
-  pub then_broken : (old mid new : Desk S g) → ChangesNothing g old mid → KeepsAll mid new → IsBroken new
-      → ChangesNothing g old new
-  then_broken old mid new nothing same broken = record {
-    clean = λ clean. nothing.clean (subst (λ c. HasCleanDisk (seen g c)) same.connection clean);
-    counts = record {
-      latest = same.counts.latest ∙ nothing.counts.latest;
-      keys = same.counts.keys
-          ∙ nothing.counts.keys;
-    };
-    rows = λ t sees whole. absurd (let both = sym broken ∙ whole in cc);
-    stop = λ t sees whole clean. subst (λ c. Leaves t (seen g c)) (sym same.connection)
-        (nothing.stop t sees whole (subst (λ c. HasCleanDisk (seen g c)) same.connection clean));
-  }
-
   -- ---- a reading of the store
 
   module _ {T : Type 0} (Found : Tables → T → Type 0) (old new : Desk S g) (after : Counted S g)
@@ -135,34 +126,28 @@ module _ {S : Type 0} (g : store.Ghosts S) where
     }
 
   -- where an open connection sees what it saw, whatever came of the call, nothing is changed
-  pub sees_nothing : {T : Type 0} (Found : Tables → T → Type 0) (old new : Desk S g) (after : Counted S g)
-      (r : Result T StoreError) → ReadsBy Found (seen g old.connection) (seen g after) r
-      → KeepsSight (seen g old.connection) (seen g after) → new.connection ≡ after → KeepsCounts old new
-      → new.is_broken ≡ old.is_broken → ChangesNothing g old new
-  sees_nothing Found old new after r reads sight same counts mark = record {
-    clean = λ clean. reads.clean (subst (λ c. HasCleanDisk (seen g c)) same clean);
-    counts = counts;
-    rows = λ t sees still clean.
-        let whole : IsWhole old = sym mark ∙ still in
-        let clean_after : HasCleanDisk (seen g after) = subst (λ c. HasCleanDisk (seen g c)) same clean in
-        let kept = sees whole (reads.clean clean_after) in
-        let now : Keeps t (seen g after) = record {
+  pub sees_nothing : {T : Type 0} (Found : Tables → T → Type 0) (old : Desk S g) (after : Counted S g)
+      (within : old.keys ≤ max_keys) (r : Result T StoreError)
+      → ReadsBy Found (seen g old.connection) (seen g after) r → KeepsSight (seen g old.connection) (seen g after)
+      → ChangesNothing g old (called old after within)
+  sees_nothing Found old after within r reads sight = record {
+    clean = reads.clean;
+    counts = record { latest = refl; keys = refl };
+    rows = λ t sees whole clean.
+        let kept = sees whole (reads.clean clean) in
+        record {
           shows = λ open_now.
-              let still_so = sight clean_after (λ was. sym (kept.shows was).committed) open_now in
+              let still_so = sight clean (λ was. sym (kept.shows was).committed) open_now in
               let had = kept.shows still_so.was_open in
               record {
                 is_open = open_now;
                 holds = subst (Holds t) (sym still_so.now_is) had.holds;
-                committed =
-                    still_so.committed_is ∙ had.committed ∙ sym still_so.now_is;
+                committed = still_so.committed_is ∙ had.committed ∙ sym still_so.now_is;
               };
-          leaves = still_leaves t (seen g old.connection) (seen g after) kept.leaves reads.survives clean_after;
-        } in
-        subst (λ c. Keeps t (seen g c)) (sym same) now;
-    stop = λ t sees whole clean.
-        let clean_after : HasCleanDisk (seen g after) = subst (λ c. HasCleanDisk (seen g c)) same clean in
-        subst (λ c. Leaves t (seen g c)) (sym same) (still_leaves t (seen g old.connection) (seen g after)
-        (sees whole (reads.clean clean_after)).leaves reads.survives clean_after);
+          leaves = still_leaves t (seen g old.connection) (seen g after) kept.leaves reads.survives clean;
+        };
+    stop = λ t sees whole clean. still_leaves t (seen g old.connection) (seen g after)
+        (sees whole (reads.clean clean)).leaves reads.survives clean;
   }
 
   -- what was found is of the tables that the desk saw
@@ -178,22 +163,17 @@ module _ {S : Type 0} (g : store.Ghosts S) where
     unchanged_in : IsUnchanged (seen g old.connection) (seen g after)
     unchanged_in = found_so.1
 
-  pub found_by : {T : Type 0} (Found : Tables → T → Type 0) (old : Desk S g) (after : Counted S g)
-      (r : Result T StoreError) → IsWhole old → ReadsBy Found (seen g old.connection) (seen g after) r
-      → (t : Tables) → Sees g t old → HasCleanDisk (seen g after) → IfOk r (Found t)
-  found_by Found old after (Ok value) whole reads t sees clean = found_in Found old after value whole reads t sees clean
-  found_by Found old after (Err error) whole reads t sees clean = tt
-
-  pub read_well : {T : Type 0} (Found : Tables → T → Type 0) (old new : Desk S g) (after : Counted S g) (value : T)
-      → IsWhole old → ReadsBy Found (seen g old.connection) (seen g after) (Ok value)
-      → new.connection ≡ after → KeepsCounts old new → ChangesNothing g old new
-  read_well Found old new after value whole reads same counts =
-      only_read Found old new after (Ok value) whole reads same counts
-      (λ still t sees clean. unchanged_in Found old after value whole reads t sees
-      (subst (λ c. HasCleanDisk (seen g c)) same clean))
+  read_well : {T : Type 0} (Found : Tables → T → Type 0) (old : Desk S g) (after : Counted S g)
+      (within : old.keys ≤ max_keys) (value : T) → IsWhole old
+      → ReadsBy Found (seen g old.connection) (seen g after) (Ok value)
+      → ChangesNothing g old (called old after within)
+  read_well Found old after within value whole reads =
+      only_read Found old (called old after within) after (Ok value) whole reads refl
+      (record { latest = refl; keys = refl })
+      (λ still t sees clean. unchanged_in Found old after value whole reads t sees clean)
 
   -- the desk goes on only where memory gave out
-  pub read_failed : {T : Type 0} (Found : Tables → T → Type 0) (old new : Desk S g) (after : Counted S g)
+  read_failed : {T : Type 0} (Found : Tables → T → Type 0) (old new : Desk S g) (after : Counted S g)
       (error : StoreError) → IsWhole old → ReadsBy Found (seen g old.connection) (seen g after) (Err error)
       → new.connection ≡ after → KeepsCounts old new → (IsWhole new → error ≡ Memory) → ChangesNothing g old new
   read_failed Found old new after error whole reads same counts memory =
@@ -206,14 +186,14 @@ module _ {S : Type 0} (g : store.Ghosts S) where
 -- ---- ends
 
 -- only want of memory leaves a desk whole
-pub whole_is_memory : {S : Type 0} {g : store.Ghosts S} (new : Desk S g) (error : StoreError)
+whole_is_memory : {S : Type 0} {g : store.Ghosts S} (new : Desk S g) (error : StoreError)
     → (error ≢ Memory → IsBroken new) → IsWhole new → error ≡ Memory
 whole_is_memory new (Database e) broken whole = absurd (let is = broken (λ same. cc) in let both = sym is ∙ whole in cc)
 whole_is_memory new Memory broken whole = refl
 whole_is_memory new NoRegister broken whole = absurd (let is = broken (λ same. cc) in let both = sym is ∙ whole in cc)
 
 -- the end that an error of the store comes to
-pub ends_by_error : {S : Type 0} {g : store.Ghosts S} (old new : Desk S g) (error : StoreError) (end : End)
+ends_by_error : {S : Type 0} {g : store.Ghosts S} (old new : Desk S g) (error : StoreError) (end : End)
     → IsWhole old
     → (error ≡ Memory → (end ≡ ends.Memory) × IsWhole new) → (error ≢ Memory → (end ≡ ends.Store) × IsBroken new)
     → EndsBy old new end
@@ -224,13 +204,34 @@ ends_by_error old new Memory end whole memory refused =
 ends_by_error old new NoRegister end whole memory refused =
     let it = refused (λ same. cc) in subst (EndsBy old new) (sym it.0) (whole, it.1)
 
--- after an end 31 of a call that reads, a stop leaves the tables that the desk saw
-pub leaves_seen : {S : Type 0} (g : store.Ghosts S) (old new : Desk S g) (t : Tables) (end : End)
-    → ChangesNothing g old new → EndsBy old new end → Sees g t old → IsClean g new → end ≡ ends.Store
-    → Leaves t (seen g new.connection)
-leaves_seen g old new t ends.Store nothing by sees clean is = nothing.stop t sees by.0 clean
-leaves_seen g old new t ends.Memory nothing by sees clean is = absurd cc
-leaves_seen g old new t ends.Broken nothing by sees clean is = absurd cc
-leaves_seen g old new t ends.ReadFault nothing by sees clean is = absurd cc
-leaves_seen g old new t ends.WriteFault nothing by sees clean is = absurd cc
-leaves_seen g old new t ends.BadHeader nothing by sees clean is = absurd cc
+-- ---- look-ups
+
+module _ {S T R : Type 0} (g : store.Ghosts S) (Found : Tables → T → Type 0) (most : ℕ) (old : Desk S g)
+    (after : Counted S g) (within : old.keys ≤ max_keys) where
+  -- what the store gives is handed on
+  pub looks_well : (value : T) (x : R) → IsWhole old
+      → ReadsBy Found (seen g old.connection) (seen g after) (Ok value)
+      → ((h : List Request) → StandsFor g old h → HasCleanDisk (seen g after) → Calls most old.connection after)
+      → LooksUp g most old (called old after within) (Ok x)
+  looks_well value x whole reads calls = record {
+    ends = (whole, whole);
+    reads = read_well g Found old after within value whole reads;
+    steps = calls;
+    opened = λ clean. (reads.opened clean).is_open;
+  }
+
+  -- the store's error ends the call
+  pub looks_failed : (new : Desk S g) (error : StoreError) (end : End) → IsWhole old
+      → ReadsBy Found (seen g old.connection) (seen g after) (Err error)
+      → ((h : List Request) → StandsFor g old h → HasCleanDisk (seen g after) → Calls most old.connection after)
+      → KeepsAll (called old after within) new → (error ≡ Memory → (end ≡ ends.Memory) × IsWhole new)
+      → (error ≢ Memory → (end ≡ ends.Store) × IsBroken new) → LooksUp {T = R} g most old new (Err end)
+  looks_failed new error end whole reads calls same memory refused = record {
+    ends = ends_by_error old new error end whole memory refused;
+    reads = read_failed g Found old new after error whole reads same.connection
+        (record { latest = same.counts.latest; keys = same.counts.keys })
+        (whole_is_memory new error (λ other. (refused other).1));
+    steps = λ h stands clean. subst (λ k. Calls most old.connection k) (sym same.connection)
+        (calls h stands (subst (λ k. HasCleanDisk (seen g k)) same.connection clean));
+    opened = tt;
+  }

@@ -44,7 +44,7 @@ key_for t c number =
     then option_map (λ key. (loaded number (need_for t c number) t key).0) (key_at t.keys number)
     else option_map without_custody (key_at t.keys number)
 
--- that of the key which the request names; nothing where its moment is after the latest, which refuses it whatever the
+-- that of the key which the request names; nothing where its moment is below the latest, which refuses it whatever the
 -- key is
 abbrev pub key_needed : Tables → Request → Option Held
 key_needed t q =

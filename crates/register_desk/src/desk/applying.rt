@@ -18,7 +18,7 @@ impl<S: Alter> Desk<S> {
     ghost use Rattle.register_desk.specs.Desk.{ChangesNothing, Ends, IsOpen, IsOverAfter};
     ghost use Rattle.register_desk.specs.Desk.{KeepsCounts, LeavesEither, LeavesWithRequest};
     ghost use Rattle.register_desk.specs.Desk.{RepeatsWithin, TakesSteps};
-    ghost use Rattle.register_desk.specs.DeskCalls.{IsKeptUnder, IsNew};
+    ghost use Rattle.register_desk.specs.DeskCalls.{AppliesOver, IsKeptUnder, IsNew, LooksUp};
     ghost use Rattle.register_desk.specs.Register.{IsOver, StandsFor, tables};
     ghost use Rattle.sql_steps.specs.Steps.{TransactsBy};
     ghost use Rattle.register_core.specs.Answer.{UnlessAccepted};
@@ -111,14 +111,7 @@ impl<S: Alter> Desk<S> {
         ensures store { (h : List Request) → StandsFor S.Store self.old h → IsNew h request.now
             → IsRequest request.now → IsClean S.Store self.new → IfErr result (λ end. end ≡ End.Store
             → LeavesEither S.Store h (history h (Some request.now ∷ [])) self.new) }
-        ensures over { (t : Tables) → IsOver S.Store self.old t → IsRequest request.now
-            → IsClean S.Store self.new
-            → IfOk result (λ given. IsOverAfter S.Store t request.now given self.new) }
-        ensures over_still { (t : Tables) → IsOver S.Store self.old t
-            → OnErr result (IsOver S.Store self.new t) }
-        ensures tables { (t : Tables) → IsOver S.Store self.old t → IsRequest request.now
-            → IsClean S.Store self.new → IfErr result (λ end. end ≡ End.Store
-            → LeavesWithRequest S.Store t request.now self.new) }
+        ensures applies { AppliesOver S.Store request.now self.old self.new result }
         ensures steps { (h : List Request) → StandsFor S.Store self.old h
             → IsClean S.Store self.new → TakesSteps 49 self.old self.new }
     {
@@ -167,33 +160,16 @@ impl<S: Alter> Desk<S> {
     /// What is kept under the caller and the number, if anything is.
     fn find_kept(&mut self, caller: &Name, number: RequestNumber) -> Result<Option<KeptReply>, End>
         requires { IsWhole self.old }
-        ensures ends { Ends self.old self.new result }
-        ensures reads { ChangesNothing S.Store self.old self.new }
-        ensures steps { TakesSteps 2 self.old self.new }
-        ensures opened { OnOk result (IsOpen S.Store self.new) }
+        ensures looks { LooksUp S.Store 2 self.old self.new result }
         ensures kept { (h : List Request) → StandsFor S.Store self.old h → IsClean S.Store self.new
             → IfOk result (IsKeptUnder h caller.now number) }
         ensures within { IfOk result (λ found. IfSome found (λ kept.
             (kept.reply.moment ≤ latest_of self.old) × (kept.reply.key ≤ keys_of self.old))) }
     {
-        match self.load_kept(caller, number)? {
-            Some(kept) if kept.reply.is_within(self.latest, self.keys) => Ok(Some(kept)),
-            Some(_) => Err(self.end_by(StoreError::NoRegister)),
-            None => Ok(None),
-        }
-    }
-
-    /// What is kept under the caller and the number as it stands in the tables.
-    fn load_kept(&mut self, caller: &Name, number: RequestNumber) -> Result<Option<KeptReply>, End>
-        requires { IsWhole self.old }
-        ensures ends { Ends self.old self.new result }
-        ensures reads { ChangesNothing S.Store self.old self.new }
-        ensures steps { TakesSteps 2 self.old self.new }
-        ensures opened { OnOk result (IsOpen S.Store self.new) }
-        ensures kept { (h : List Request) → StandsFor S.Store self.old h → IsClean S.Store self.new
-            → IfOk result (IsKeptUnder h caller.now number) }
-    {
         match find_request(&mut self.connection, caller, number) {
+            Ok(Some(kept)) if !kept.reply.is_within(self.latest, self.keys) => {
+                Err(self.end_by(StoreError::NoRegister))
+            }
             Ok(found) => Ok(found),
             Err(error) => Err(self.end_by(error)),
         }

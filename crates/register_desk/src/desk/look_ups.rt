@@ -15,14 +15,13 @@ use sqlite::Alter;
 use std::alloc::Global;
 
 impl<S: Alter> Desk<S> {
-    ghost use Rattle.std.specs.Prelude.{◌≡◌, ◌≢◌, List, Err, IfOk, OnOk, IfSome, length};
+    ghost use Rattle.std.specs.Prelude.{◌≡◌, ◌≢◌, Err, IfOk, IfSome, length};
     ghost use Rattle.register_core.specs.History.{period};
-    ghost use Rattle.register_core.specs.declared.request.Request.{Request};
     ghost use Rattle.register_store.specs.TableReads.{HasKey, HasRow};
     ghost use Rattle.register_store.specs.Tables.{Tables};
-    ghost use Rattle.register_desk.specs.Desk.{IsClean, IsWhole, ChangesNothing, Ends, IsOpen};
-    ghost use Rattle.register_desk.specs.Desk.{TakesSteps};
-    ghost use Rattle.register_desk.specs.Register.{StandsFor, Sees};
+    ghost use Rattle.register_desk.specs.Desk.{IsClean, IsOpen, IsWhole};
+    ghost use Rattle.register_desk.specs.DeskCalls.{LooksUp};
+    ghost use Rattle.register_desk.specs.Register.{Sees};
     ghost use Rattle.register_core.specs.Decision.{IsRightKey};
     ghost use Rattle.register_core.specs.Need.{needed_type};
     ghost use Rattle.register_desk.specs.TablesView.{IsViewOver, key_for, key_needed, need_for};
@@ -32,11 +31,7 @@ impl<S: Alter> Desk<S> {
     pub(super) fn view_for(&mut self, request: &Request) -> Result<View, End>
         requires whole { IsWhole self.old }
         requires opened { IsOpen S.Store self.old }
-        ensures ends { Ends self.old self.new result }
-        ensures reads { ChangesNothing S.Store self.old self.new }
-        ensures steps { (h : List Request) → StandsFor S.Store self.old h
-            → IsClean S.Store self.new → TakesSteps 40 self.old self.new }
-        ensures opened { OnOk result (IsOpen S.Store self.new) }
+        ensures looks { LooksUp S.Store 40 self.old self.new result }
         ensures latest { IfOk result (λ view. view.latest ≡ self.new.latest) }
         ensures keys { IfOk result (λ view. view.keys ≡ self.new.keys) }
         ensures right { IfOk result (λ view. IsRightKey view.key view.latest) }
@@ -56,11 +51,9 @@ impl<S: Alter> Desk<S> {
 
     /// The usage period of the type that the dates are held to which the command gives; where it gives none, any.
     fn period_for(&mut self, key: &Option<Held>, command: &Command) -> Result<Period, End>
-        requires { IsWhole self.old }
-        ensures ends { Ends self.old self.new result }
-        ensures reads { ChangesNothing S.Store self.old self.new }
-        ensures steps { TakesSteps 2 self.old self.new }
-        ensures opened { IsOpen S.Store self.old → OnOk result (IsOpen S.Store self.new) }
+        requires whole { IsWhole self.old }
+        requires opened { IsOpen S.Store self.old }
+        ensures looks { LooksUp S.Store 2 self.old self.new result }
         ensures found { (t : Tables) → Sees S.Store t self.old → IsClean S.Store self.new
             → IfOk result (λ period. IfSome (needed_type key.now command.now) (λ kind.
             period ≡ period_over t kind)) }
@@ -74,10 +67,7 @@ impl<S: Alter> Desk<S> {
     /// The usage period of the type, by the tables.
     pub(super) fn look_up_period(&mut self, kind: KeyType) -> Result<Period, End>
         requires { IsWhole self.old }
-        ensures ends { Ends self.old self.new result }
-        ensures reads { ChangesNothing S.Store self.old self.new }
-        ensures steps { TakesSteps 2 self.old self.new }
-        ensures opened { OnOk result (IsOpen S.Store self.new) }
+        ensures looks { LooksUp S.Store 2 self.old self.new result }
         ensures no_memory { result ≢ Err End.Memory }
         ensures found { (t : Tables) → Sees S.Store t self.old → IsClean S.Store self.new
             → IfOk result (λ period. period ≡ period_over t kind) }
@@ -92,11 +82,7 @@ impl<S: Alter> Desk<S> {
     fn needed_key(&mut self, request: &Request) -> Result<Option<Held>, End>
         requires whole { IsWhole self.old }
         requires opened { IsOpen S.Store self.old }
-        ensures ends { Ends self.old self.new result }
-        ensures reads { ChangesNothing S.Store self.old self.new }
-        ensures steps { (h : List Request) → StandsFor S.Store self.old h
-            → IsClean S.Store self.new → TakesSteps 38 self.old self.new }
-        ensures opened { OnOk result (IsOpen S.Store self.new) }
+        ensures looks { LooksUp S.Store 38 self.old self.new result }
         ensures right { IfOk result (λ key. IsRightKey key self.old.latest) }
         ensures found { (t : Tables) → Sees S.Store t self.old → self.old.latest ≡ t.counts.latest
             → IsClean S.Store self.new → IfOk result (λ key. key ≡ key_needed t request.now) }
@@ -116,12 +102,9 @@ impl<S: Alter> Desk<S> {
 
     /// The key with this number as it stands in the tables, with its custody where a decision on the command looks at it.
     fn load_for(&mut self, command: &Command, number: u32) -> Result<Option<Held>, End>
-        requires { IsWhole self.old }
-        ensures ends { Ends self.old self.new result }
-        ensures reads { ChangesNothing S.Store self.old self.new }
-        ensures steps { (h : List Request) → StandsFor S.Store self.old h
-            → IsClean S.Store self.new → TakesSteps 38 self.old self.new }
-        ensures opened { OnOk result (IsOpen S.Store self.new) }
+        requires whole { IsWhole self.old }
+        requires opened { IsOpen S.Store self.old }
+        ensures looks { LooksUp S.Store 38 self.old self.new result }
         ensures found { (t : Tables) → Sees S.Store t self.old → IsClean S.Store self.new
             → IfOk result (λ key. key ≡ key_for t command.now number) }
     {
@@ -141,10 +124,7 @@ impl<S: Alter> Desk<S> {
     /// The row of the key with this number as it stands in the tables.
     pub(super) fn find(&mut self, number: u32) -> Result<Option<Key>, End>
         requires { IsWhole self.old }
-        ensures ends { Ends self.old self.new result }
-        ensures reads { ChangesNothing S.Store self.old self.new }
-        ensures steps { TakesSteps 2 self.old self.new }
-        ensures opened { OnOk result (IsOpen S.Store self.new) }
+        ensures looks { LooksUp S.Store 2 self.old self.new result }
         ensures no_memory { result ≢ Err End.Memory }
         ensures found { (t : Tables) → Sees S.Store t self.old → IsClean S.Store self.new
             → IfOk result (HasRow number t) }
@@ -158,10 +138,7 @@ impl<S: Alter> Desk<S> {
     /// How many approvals the destruction of the key with this number needs, by the tables.
     pub(super) fn need(&mut self, number: u32) -> Result<u8, End>
         requires { IsWhole self.old }
-        ensures ends { Ends self.old self.new result }
-        ensures reads { ChangesNothing S.Store self.old self.new }
-        ensures steps { TakesSteps 2 self.old self.new }
-        ensures opened { OnOk result (IsOpen S.Store self.new) }
+        ensures looks { LooksUp S.Store 2 self.old self.new result }
         ensures found { (t : Tables) → Sees S.Store t self.old → IsClean S.Store self.new
             → IfOk result (λ need. need ≡ need_over t number) }
     {
@@ -173,10 +150,9 @@ impl<S: Alter> Desk<S> {
 
     /// The same where a decision on the command looks at it, and else the least.
     fn need_for(&mut self, command: &Command, number: u32) -> Result<u8, End>
-        requires { IsWhole self.old }
-        ensures ends { Ends self.old self.new result }
-        ensures reads { ChangesNothing S.Store self.old self.new }
-        ensures steps { TakesSteps 2 self.old self.new }
+        requires whole { IsWhole self.old }
+        requires opened { IsOpen S.Store self.old }
+        ensures looks { LooksUp S.Store 2 self.old self.new result }
         ensures found { (t : Tables) → Sees S.Store t self.old → IsClean S.Store self.new
             → IfOk result (λ need. need ≡ need_for t command.now number) }
     {
@@ -190,11 +166,7 @@ impl<S: Alter> Desk<S> {
     /// The key with this number as it stands in the tables where its destruction needs so many approvals, with its
     /// purpose.
     pub(super) fn load(&mut self, number: u32, need: u8) -> Result<Option<(Held, Purpose)>, End>
-        ensures ends { Ends self.old self.new result }
-        ensures reads { ChangesNothing S.Store self.old self.new }
-        ensures steps { (h : List Request) → StandsFor S.Store self.old h
-            → IsClean S.Store self.new → TakesSteps 36 self.old self.new }
-        ensures opened { OnOk result (IsOpen S.Store self.new) }
+        ensures looks { LooksUp S.Store 36 self.old self.new result }
         ensures found { (t : Tables) → Sees S.Store t self.old → IsClean S.Store self.new
             → IfOk result (HasKey number need t) }
     {

@@ -1,22 +1,7 @@
-use Rattle.std.proofs.Common.{Option, refl, sym, ap, ◌∙◌}
-use Rattle.std.specs.Prelude.{unwrap_or}
-use Rattle.period_core.specs.Period.{Period, periods}
-use Rattle.register_store.specs.TableReads.{HasPeriod}
-use Rattle.register_desk.proofs.Readings.{found_in, read_failed, read_well}
+use Rattle.register_desk.proofs.Readings.{looks_well}
 use Rattle.register_desk.proofs.desk.Desk.look_up_period.Goals as goal
 
-pub returns-in-Ok-clause-reads : goal.returns-in-Ok-clause-reads
-returns-in-Ok-clause-reads g c =
-    read_well g.S.Store (HasPeriod c.args.kind) c.args.self.now _ c.find_period.new.connection c.in-Ok.found c.requires c.in-Ok.ensures.reads refl (record { latest = refl; keys = refl })
-
-pub returns-in-Ok-clause-found : goal.returns-in-Ok-clause-found
-returns-in-Ok-clause-found g c t sees clean =
-    c.held_to.ensures ∙ ap (λ (set : Option Period). unwrap_or set (periods c.args.kind))
-    (found_in g.S.Store (HasPeriod c.args.kind) c.args.self.now c.find_period.new.connection c.in-Ok.found c.requires
-    c.in-Ok.ensures.reads t sees clean)
-
-pub returns-in-Err-clause-reads : goal.returns-in-Err-clause-reads
-returns-in-Err-clause-reads g c =
-    read_failed g.S.Store (HasPeriod c.args.kind) c.args.self.now c.end_by.new.self c.find_period.new.connection c.in-Err.field-0 c.requires c.in-Err.ensures.reads
-    c.end_by.ensures.same.connection (record { latest = c.end_by.ensures.same.counts.latest; keys = c.end_by.ensures.same.counts.keys })
-    (λ whole. absurd (let broken = (c.end_by.ensures.store (λ same. cc)).1 in let both = sym broken ∙ whole in cc))
+pub returns-in-Ok-clause-looks : goal.returns-in-Ok-clause-looks
+returns-in-Ok-clause-looks g c =
+    looks_well g.S.Store _ 2 _ _ _ _ _ c.requires c.in-Ok.ensures.reads
+    (λ h stands clean. c.find_period.ensures.counted)
