@@ -3,7 +3,7 @@ use crate::fresh_run::desk_of;
 use moment_core::Moment;
 use register_desk::{Desk, End, Finish, MAX_IDLE_TURNS, Outcome, Watched, create_in_memory};
 use register_faults::{BrokenAfter, Interrupted, OneByte, Short, Trouble, Troubled};
-use register_http::exchange;
+use register_http::{Routes, exchange};
 use sqlite::MemStore;
 use std::alloc::Global;
 use std::io::{Read, Write};
@@ -22,7 +22,7 @@ pub(crate) fn run_exchange<R: Read, W: Write>(
         return None;
     }
     let moment = Moment::new(seconds)?;
-    Some(exchange(alloc, desk, moment, reader, writer))
+    Some(exchange(alloc, &mut Routes::new(), desk, moment, reader, writer))
 }
 
 /// Whether an exchange that writes this reply has this outcome.

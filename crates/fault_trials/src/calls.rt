@@ -4,7 +4,7 @@ ghost use Rattle.std.specs.Prelude.{◌≡◌, false};
 use moment_core::Moment;
 use register_core::Name;
 use register_desk::{Desk, Outcome, Watched, run};
-use register_http::exchange;
+use register_http::{Routes, exchange};
 use register_report::{export, import, rotation};
 use sqlite::Alter;
 use std::alloc::Global;
@@ -43,7 +43,7 @@ pub fn call_over<R: Read + Drop, W: Write, S: Alter>(
         Call::Rotation => Ok(rotation(alloc, desk, 1, writer)),
         Call::Exchange => {
             let mut reader = Watched::new(reader);
-            Ok(exchange(alloc, desk, moment, &mut reader, writer))
+            Ok(exchange(alloc, &mut Routes::new(), desk, moment, &mut reader, writer))
         }
     }
 }

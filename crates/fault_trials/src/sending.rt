@@ -4,7 +4,7 @@ use crate::texts::{Exchange, IMPORT_HEAD, join};
 use moment_core::Moment;
 use register_core::Name;
 use register_desk::{Desk, End, Finish, Outcome, Watched, run};
-use register_http::exchange;
+use register_http::{Routes, exchange};
 use register_report::import;
 use sqlite::Alter;
 use std::alloc::Global;
@@ -134,7 +134,14 @@ pub fn run_exchange<S: Alter>(
     };
     let mut reader = Watched::new(input.as_bytes());
     let mut writer = Watched::new(Vec::new(alloc));
-    let outcome = exchange(alloc, desk, moment, &mut reader, &mut writer);
+    let outcome = exchange(
+        alloc,
+        &mut Routes::new(),
+        desk,
+        moment,
+        &mut reader,
+        &mut writer,
+    );
     let output = writer.into_inner();
     if outcome.end == AT_END && output.as_slice() == reply.as_bytes() {
         Came::Whole

@@ -8,7 +8,7 @@ ghost use Rattle.register_files.specs.ServedExchanges.{EndsServing, LeavesSome, 
 
 use moment_core::Moment;
 use register_desk::{Desk, End, Finish, Watched};
-use register_http::{Routes, exchange_by};
+use register_http::{Routes, exchange};
 use sqlite::Alter;
 use std::alloc::Global;
 use std::io::{self, ErrorKind, Read, Write};
@@ -135,7 +135,7 @@ fn serve_one<S: Alter, C: Clock>(
         clock,
         start,
     });
-    let outcome = exchange_by(alloc, routes, desk, moment, &mut reader, &mut writer);
+    let outcome = exchange(alloc, routes, desk, moment, &mut reader, &mut writer);
     drain(stream);
     outcome.end
 }

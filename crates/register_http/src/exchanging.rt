@@ -149,36 +149,14 @@ fn send_reply<W: Write, S: Alter>(
 }
 
 /// One exchange at this moment: reads one request, asks the register once, and writes one reply.
-/// Where the reader gives no byte it does nothing. Bytes after the request are no request.
+/// Where the reader gives no byte it does nothing. Bytes after the request are no request. The routes
+/// may serve one exchange after the other.
 ///
 /// Its end is that after a 503 or 500 reply, [`End::Memory`], [`End::Store`] or [`End::Broken`],
 /// even where writing that fails; else [`End::ReadFault`] or [`End::WriteFault`] where a stream
 /// failed or a bound on its turns was met, else the end of what there is to do. At
 /// [`End::ReadFault`] nothing was written, and the register was not asked.
 pub fn exchange<R: Read, W: Write, S: Alter>(
-    alloc: Global,
-    desk: &mut Desk<S>,
-    moment: Moment,
-    reader: &mut Watched<R>,
-    writer: &mut Watched<W>,
-) -> Outcome
-    requires reader { reader.old.failed ≡ false }
-    requires writer { writer.old.failed ≡ false }
-    ensures exchanges { Exchanges S.Store moment (R.remaining reader.old.inner) desk.old desk.new
-        (W.contents writer.old.inner) (W.contents writer.new.inner) result }
-    // Whatever the reader tells of its bytes, at most one request was handed to the register.
-    ensures leaves { (h : List Request) → StandsFor S.Store desk.old h → IsWhole desk.old
-        → IsClean S.Store desk.new → LeavesOne S.Store h desk.new result.end }
-    ensures clean { IsClean S.Store desk.new → IsClean S.Store desk.old }
-    ensures reader { LeavesReader R.remaining reader.old reader.new result }
-    ensures writer { LeavesWriter writer.new result }
-{
-    let mut routes = Routes::new();
-    exchange_by(alloc, &mut routes, desk, moment, reader, writer)
-}
-
-/// One exchange at this moment, as [`exchange`], by routes that serve one exchange after the other.
-pub fn exchange_by<R: Read, W: Write, S: Alter>(
     alloc: Global,
     routes: &mut Routes,
     desk: &mut Desk<S>,
@@ -190,6 +168,7 @@ pub fn exchange_by<R: Read, W: Write, S: Alter>(
     requires writer { writer.old.failed ≡ false }
     ensures exchanges { Exchanges S.Store moment (R.remaining reader.old.inner) desk.old desk.new
         (W.contents writer.old.inner) (W.contents writer.new.inner) result }
+    // Whatever the reader tells of its bytes, at most one request was handed to the register.
     ensures leaves { (h : List Request) → StandsFor S.Store desk.old h → IsWhole desk.old
         → IsClean S.Store desk.new → LeavesOne S.Store h desk.new result.end }
     ensures clean { IsClean S.Store desk.new → IsClean S.Store desk.old }

@@ -2,14 +2,15 @@
 //! written.
 //!
 //! ```
-//! let outcome = exchange(alloc, &mut desk, moment, &mut reader, &mut writer);
+//! let mut routes = Routes::new();
+//! let outcome = exchange(alloc, &mut routes, &mut desk, moment, &mut reader, &mut writer);
 //! ```
 #![tactic(auto)]
 
 mod acting;
 mod exchanging;
 
-pub use exchanging::{exchange, exchange_by};
+pub use exchanging::exchange;
 pub use http_messages::{
     MAX_BODY_LENGTH, MAX_EXCHANGE_READS, MAX_HEAD_LENGTH, MAX_HEADERS, Routes,
 };

@@ -2,7 +2,7 @@ use Rattle.std.proofs.Common.{ap, ◌∙◌}
 use Rattle.streams.specs.declared.watched.Watched.{Watched}
 use Rattle.register_http.proofs.ItemLemmas.{leaves_one, was_clean}
 use Rattle.register_http.proofs.ServingLemmas.{served_after}
-use Rattle.register_http.proofs.exchanging.exchange_by.Goals as goal
+use Rattle.register_http.proofs.exchanging.exchange.Goals as goal
 
 pub returns-clause-exchanges : goal.returns-clause-exchanges
 returns-clause-exchanges g c = record {
