@@ -1,6 +1,6 @@
 -- What is written of a text, and what of a table whose rows are given one at a time.
 use Rattle.std.specs.Prelude.{◌≡◌, ◌≢◌, ℕ, ◌+◌, ◌≤◌, Bool, true, false, List, [], ◌++◌, length}
-use Rattle.std.specs.Prelude.{Option, Result, Ok, Err, IfOk, OnOk, is_ok}
+use Rattle.std.specs.Prelude.{Option, Result, Ok, Err, IfOk, IfErr, OnOk, is_ok}
 use Rattle.std.specs.Io.KnownBytes.{Appends}
 use Rattle.sqlite_trees.specs.declared.store.Store.{Ghosts}
 use Rattle.streams.specs.declared.watched.Watched.{Watched}
@@ -19,7 +19,7 @@ use Rattle.register_desk.specs.declared.runs.Finish.TheVariants.{AtEnd, Ended}
 use Rattle.register_desk.specs.declared.rows.KeyRows.{KeyRows}
 use Rattle.register_desk.specs.Desk.{ChangesNothing, IsBroken, IsClean, IsWhole}
 use Rattle.register_desk.specs.Register.{StandsFor}
-use Rattle.register_desk.specs.KeyRows.{AreAll, AreSoFar, HaveGiven, all_rows, until_of}
+use Rattle.register_desk.specs.KeyRows.{AreAll, AreSoFar, GoOn, HaveGiven, all_rows, until_of}
 use Rattle.register_desk.specs.Run.{IsPrefixOf, max_idle_turns}
 use Rattle.register_report.specs.declared.table.Table.{Table}
 use Rattle.register_report.specs.Table.{count_in, head_text, lines_text, table_text}
@@ -128,6 +128,15 @@ IsEndOfWriting Broken = Unit {0}
 IsEndOfWriting ReadFault = ⊥
 IsEndOfWriting WriteFault = Unit {0}
 IsEndOfWriting BadHeader = ⊥
+
+-- the rows went on, and their desk changed nothing and is as whole as it was; an end is one of writing, and none is 32
+-- where the rows could go on
+pub record PassesRows {S T : Type 0} (g : Ghosts S) (old new : KeyRows S g) (result : Result T End) : Type 0 where
+  pub same_reference : new.desk.ghost_name ≡ old.desk.ghost_name
+  pub reads : ChangesNothing g old.desk.now new.desk.now
+  pub mark : new.desk.now.is_broken ≡ old.desk.now.is_broken
+  pub end : IfErr result IsEndOfWriting
+  pub sound : GoOn old → IfErr result (λ end. end ≢ Broken)
 
 abbrev pub EndsAs : Finish → Type 0
 EndsAs (AtEnd rest) = rest ≡ 0

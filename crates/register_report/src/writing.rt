@@ -1,9 +1,7 @@
 //! Writing out what a desk has, a row at a time.
 ghost use Rattle.std.specs.Prelude.{◌≡◌, ◌≢◌, Ok, IfOk, IfErr};
-ghost use Rattle.register_desk.specs.Desk.{ChangesNothing};
-ghost use Rattle.register_desk.specs.KeyRows.{GoOn};
 ghost use Rattle.register_report.specs.Table.{lists, row_text};
-ghost use Rattle.register_report.specs.TextWriter.{IsEndOfWriting, PutsRows, PutsTable, PutsText};
+ghost use Rattle.register_report.specs.TextWriter.{IsEndOfWriting, PassesRows, PutsRows, PutsTable, PutsText};
 
 use crate::table::Table;
 use key_rows::KeyRow;
@@ -77,13 +75,9 @@ fn put_rows<W: Write, S: Alter>(
     writer: &mut Watched<W>,
     written: &mut u64,
 ) -> Result<u64, End>
-    ensures same_reference { rows.new.desk.ghost_name ≡ rows.old.desk.ghost_name }
-    ensures reads { ChangesNothing S.Store rows.old.desk.now rows.new.desk.now }
-    ensures mark { rows.new.desk.now.is_broken ≡ rows.old.desk.now.is_broken }
+    ensures passes { PassesRows S.Store rows.old rows.new result }
     ensures rows { PutsRows W.contents S.Store writer.old writer.new written.old written.new
         rows.old rows.new table.now result }
-    ensures end { IfErr result IsEndOfWriting }
-    ensures sound { GoOn rows.old → IfErr result (λ end. end ≢ End.Broken) }
 {
     let mut count: u64 = 0;
     'lines: for _ in 0..=MAX_KEYS {
@@ -106,13 +100,9 @@ pub(crate) fn put_table<W: Write, S: Alter>(
     writer: &mut Watched<W>,
     written: &mut u64,
 ) -> Result<(), End>
-    ensures same_reference { rows.new.desk.ghost_name ≡ rows.old.desk.ghost_name }
-    ensures reads { ChangesNothing S.Store rows.old.desk.now rows.new.desk.now }
-    ensures mark { rows.new.desk.now.is_broken ≡ rows.old.desk.now.is_broken }
+    ensures passes { PassesRows S.Store rows.old rows.new result }
     ensures table { PutsTable W.contents S.Store writer.old writer.new written.old written.new
         rows.old rows.new table.now result }
-    ensures end { IfErr result IsEndOfWriting }
-    ensures sound { GoOn rows.old → IfErr result (λ end. end ≢ End.Broken) }
 {
     let head = formed(table.head(alloc))?;
     put_text(writer, written, &head)?;
