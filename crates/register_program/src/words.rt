@@ -42,18 +42,46 @@ pub enum Task<'a> {
 
 const ABOUT: &str = "The register of cryptographic keys: owners, purposes and lifecycles";
 
-const NO_COMMAND: &str = "With no command, request lines are applied to a new register in memory.";
+const NO_COMMAND: &str =
+    "With no command, request lines are applied to a new register in memory.\n\n\
+    Exit status:\n  \
+    0  all went well; requests that are refused are well too\n  \
+    1  the words are no command, ask for help, or have a bad value\n  \
+    2  the register could not be made or opened\n  \
+    3  the database or memory ended the command\n  \
+    4  its input or its output did";
+
+const INIT: &str = "Makes an empty register in a file";
 
 const RUN: &str = "Applies the request lines of standard input, and writes their reply lines";
+
+const LINE: &str = "A line is: moment caller number command. The moment is in seconds since 1970.";
 
 const IMPORT: &str =
     "Registers a key for each row of the CSV of standard input, and writes the reply lines";
 
+const ROWS: &str = "The first row is: type,owner,activation,protect_stop,deactivation,purpose\n\
+    A date is empty or YYYY-MM-DDTHH:MM:SSZ. The n-th reply line is that of the n-th row after it.";
+
 const EXPORT: &str = "Writes all keys as CSV";
+
+const REPORT: &str = "Writes which keys are due for rotation";
 
 const SERVE: &str = "Serves HTTP exchanges on 127.0.0.1, one connection after the other";
 
-const REPORT: &str = "Writes which keys are due for rotation";
+const FILE: &str = "The file of the register: a path, not :memory: nor file:...";
+
+const MOMENT: &str = "The moment of all rows, in seconds since 1970, from 0 to 253402300799";
+
+const CALLER: &str = "Who asks: 1 to 64 letters of ASCII, digits, - _ . @";
+
+const FIRST: &str = "The request number of the first row, from 1 to 9007199254740991";
+
+const DAYS: &str = "How many days after the latest moment it looks ahead, from 0 to 36500";
+
+const PORT: &str = "The port, from 1 to 65535";
+
+const EXCHANGES: &str = "How many connections it serves before it ends, from 1 to 1000000";
 
 /// An option whose value has to be given. The word after its name is the value, whatever it begins with.
 fn required_option<'a>(alloc: Global, name: &'a str, value: &'a str, help: &'a str) -> Arg<'a> {
@@ -72,49 +100,27 @@ fn file_command<'a>(
     name: &'a str,
     about: &'a str,
 ) -> Result<Command<'a>, AllocError> {
-    Command::new(alloc, name).about(about).arg(required_option(
-        alloc,
-        "file",
-        "FILE",
-        "The file of the register",
-    ))
+    Command::new(alloc, name)
+        .about(about)
+        .arg(required_option(alloc, "file", "FILE", FILE))
 }
 
 fn import_command<'a>(alloc: Global) -> Result<Command<'a>, AllocError> {
     file_command(alloc, "import", IMPORT)?
-        .arg(required_option(
-            alloc,
-            "moment",
-            "SECONDS",
-            "The moment, in seconds since 1970",
-        ))?
-        .arg(required_option(alloc, "caller", "NAME", "Who asks for the registrations"))?
-        .arg(required_option(
-            alloc,
-            "first",
-            "NUMBER",
-            "The number of the first row's request",
-        ))
+        .after_help(ROWS)
+        .arg(required_option(alloc, "moment", "SECONDS", MOMENT))?
+        .arg(required_option(alloc, "caller", "NAME", CALLER))?
+        .arg(required_option(alloc, "first", "NUMBER", FIRST))
 }
 
 fn report_command<'a>(alloc: Global) -> Result<Command<'a>, AllocError> {
-    file_command(alloc, "report", REPORT)?.arg(required_option(
-        alloc,
-        "days",
-        "DAYS",
-        "For how many days it looks ahead, up to 36500",
-    ))
+    file_command(alloc, "report", REPORT)?.arg(required_option(alloc, "days", "DAYS", DAYS))
 }
 
 fn serve_command<'a>(alloc: Global) -> Result<Command<'a>, AllocError> {
     file_command(alloc, "serve", SERVE)?
-        .arg(required_option(alloc, "port", "PORT", "The port, from 1 to 65535"))?
-        .arg(required_option(
-            alloc,
-            "exchanges",
-            "NUMBER",
-            "How many connections it serves, up to 1000000",
-        ))
+        .arg(required_option(alloc, "port", "PORT", PORT))?
+        .arg(required_option(alloc, "exchanges", "NUMBER", EXCHANGES))
 }
 
 fn command<'a>(alloc: Global) -> Result<Command<'a>, AllocError> {
@@ -124,8 +130,8 @@ fn command<'a>(alloc: Global) -> Result<Command<'a>, AllocError> {
         .override_usage("keyreg [COMMAND]")
         .subcommand_required(true)
         .disable_help_subcommand(true)
-        .subcommand(file_command(alloc, "init", "Makes an empty register in a file")?)?
-        .subcommand(file_command(alloc, "run", RUN)?)?
+        .subcommand(file_command(alloc, "init", INIT)?)?
+        .subcommand(file_command(alloc, "run", RUN)?.after_help(LINE))?
         .subcommand(import_command(alloc)?)?
         .subcommand(file_command(alloc, "export", EXPORT)?)?
         .subcommand(report_command(alloc)?)?
