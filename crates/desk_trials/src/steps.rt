@@ -72,7 +72,7 @@ static FULL_CUSTODY: WorkedRow = WorkedRow {
 
 /// A line, and how many steps it takes after that.
 static BEHIND: [(&str, u64); 9] = [
-    // A request that comes again, one whose number is reused, and one whose moment is after: the look-up alone.
+    // A request that comes again, one whose number is reused, and one whose moment is below the latest: the look-up alone.
     ("100 bob 1 add-custodian 1 c1", 2),
     ("100 bob 1 advance", 2),
     ("99 bob 17 activate 1", 1),

@@ -146,7 +146,7 @@ const EARLY: &[u8] = b"599 zed 1 activate 1";
 
 const LATE: &[u8] = b"600 zed 1 activate 1";
 
-/// Whether the key has both refused: the early one as after, the late one as not the owner's.
+/// Whether the key has both refused: the early one for its moment, the late one as not the owner's.
 fn refuses_with_a_key(alloc: Global, latest: Moment) -> Result<bool, Fail> {
     let view = view_in(alloc, PRE)?;
     Ok(
@@ -169,7 +169,7 @@ fn refuses_without_a_key(latest: Moment) -> bool {
 
 /// A moment below the latest comes before all else, and a key that is not there next.
 #[test]
-fn after_and_unknown(rt: HostRuntime) -> Result<(), Fail> {
+fn early_and_unknown(rt: HostRuntime) -> Result<(), Fail> {
     let latest = Moment::new(600).ok_or("a moment")?;
     assert!(rt; refuses_with_a_key(rt.alloc(), latest)?);
     assert!(rt; refuses_without_a_key(latest));

@@ -20,7 +20,7 @@ enum Cell {
 }
 
 /// The answer that the cell expects where the key is in this state.
-fn expected(cell: Cell, before: State) -> Result<State, Refusal> {
+fn cell_outcome(cell: Cell, before: State) -> Result<State, Refusal> {
     match cell {
         Cell::To(after) => Ok(after),
         Cell::NotOwner => Err(Refusal::NotOwner),
@@ -96,7 +96,7 @@ const TABLE: [(&str, [Cell; 6]); 36] = [
 fn is_outcome(alloc: Global, line: &str, before: State, cell: Cell) -> Result<bool, Fail> {
     let view = view_in(alloc, before)?;
     let request = read_request(line.as_bytes()).ok_or("a request")?;
-    Ok(outcome_by(&view, &request) == Some(expected(cell, before)))
+    Ok(outcome_by(&view, &request) == Some(cell_outcome(cell, before)))
 }
 
 /// The first state in which the line has another outcome than that of its cell.
