@@ -1,13 +1,13 @@
 #!/usr/bin/env python3
-"""Every route, method, command, refusal and status of `keyreg serve`, asked with curl, and with raw bytes where curl cannot make
-them: the status line, each header and the body are compared byte for byte with what the rules give.
+"""Every route, method, command, refusal and status of `keyreg serve`, asked with curl, and with raw bytes where curl
+cannot make them: the status line, each header and the body are compared byte for byte with what the rules give.
 
     checks/exchanges_by_curl.py [--full] [--ab] [--stalls] [--bound SECONDS]
 
 What is expected comes of the rules as checks/rules.py states them, which are first put to worked rows of
 docs/SPECIFICATION.md; nothing is taken from the program but the second at which it served, which has to lie within the
-exchange. Each difference is printed, and a last line says how many exchanges agreed; the status is 1 where not all did. After
-each part the file's own tables are read by SQLite and compared too.
+exchange. Each difference is printed, and a last line says how many exchanges agreed; the status is 1 where not all did.
+After each part the file's own tables are read by SQLite and compared too.
 
 Each reply is also held to what docs/openapi.yaml says of its method, target and status: the schema
 of its body and those of its headers, and no other header. A body that is sent as a command has to
@@ -49,7 +49,7 @@ from serving import Served, listens
 
 
 def commands():
-    """All commands and the refusals 2, 4 to 19 and 21, each by curl or by one of the other ways, and the keys after each."""
+    """All commands and the refusals 2, 4 to 19 and 21, each by curl or another way, and the keys after each."""
     now = int(time.time())
     with Served() as served:
         office = Office("commands", served)
@@ -312,7 +312,8 @@ def heads():
             ("no version", b"GET /keys/1\r\n\r\n"), ("no target", b"GET\r\n\r\n"), ("no method", b" /keys/1 HTTP/1.1\r\n\r\n"),
             ("HTTP/2.0", head("GET /keys/1 HTTP/2.0", "Host: a")), ("HTTP/1.2", head("GET /keys/1 HTTP/1.2", "Host: a")),
             ("HTTP/0.9", head("GET /keys/1 HTTP/0.9", "Host: a")), ("http/1.1", head("GET /keys/1 http/1.1", "Host: a")),
-            ("HTTP/1.10", head("GET /keys/1 HTTP/1.10", "Host: a")), ("words after", head("GET /keys/1 HTTP/1.1 x", "Host: a")),
+            ("HTTP/1.10", head("GET /keys/1 HTTP/1.10", "Host: a")),
+            ("words after", head("GET /keys/1 HTTP/1.1 x", "Host: a")),
             ("a space in the target", head("GET /keys/ 1 HTTP/1.1", "Host: a")),
             ("a header without a colon", get("/keys/1", "Header")), ("a header without a name", get("/keys/1", ": x")),
             ("a space before the colon", get("/keys/1", "Name : x")), ("a space in a name", get("/keys/1", "Na me: x")),
@@ -485,11 +486,13 @@ def bodies():
         for name, body in [
             ("empty", b""), ("space", b"  \r\n\t"), ("word", b"advance"), ("text", b'"advance"'), ("null", b"null"), ("number", b"1"),
             ("list", b'[{"kind":"advance"}]'), ("empty object", b"{}"), ("cut", b'{"kind":"advance"'), ("two", ADVANCE + ADVANCE),
-            ("words after", ADVANCE + b"x"), ("comma", b'{"kind":"advance",}'), ("single quotes", b"{'kind':'advance'}"),
+            ("words after", ADVANCE + b"x"), ("comma", b'{"kind":"advance",}'),
+            ("single quotes", b"{'kind':'advance'}"),
             ("comment", ADVANCE + b"// x"), ("byte order mark", b"\xef\xbb\xbf" + ADVANCE), ("brackets", b"[" * 1000),
             ("deep", b"[" * 1000 + b"]" * 1000), ("deep in a member", b'{"kind":' + b"[" * 1000 + b"]" * 1000 + b"}"),
             ("braces", b'{"a":' * 1000), ("no UTF-8", b'{"kind":"advance\xff"}'), ("no UTF-8 after", ADVANCE + b"\xff"),
-            ("zero after", ADVANCE + b"\0"), ("name in capitals", b'{"Kind":"advance"}'), ("no name", b'{"":"advance"}'),
+            ("zero after", ADVANCE + b"\0"), ("name in capitals", b'{"Kind":"advance"}'),
+            ("no name", b'{"":"advance"}'),
             ("UTF-16", ADVANCE.decode().encode("utf-16")), ("a control character", b'{"kind":"adv\nance"}'),
             ("last kind counts", b'{"kind":"advance","kind":"x"}'), ("a request line", b"100 ann 1 advance\n"),
         ]:
@@ -593,7 +596,7 @@ def refused_store():
         with Served(file=served.file) as again:
             office = Office("opened again", again, office.register)
             office.get(len(office.register.keys))
-            # It acted, or acts now: either way its key is the next, and the same request gives the same reply from here on.
+            # It acted, or acts now: either way its key is the next, and the same request gives the same reply again.
             asked = post(body, "Caller: ann", f"Request-Number: {number}")
             found = office.give(asked)
             office.meet("the same request", found)

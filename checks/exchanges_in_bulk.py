@@ -40,17 +40,20 @@ def full():
                 office.raw(name, post(body, "Caller: ann", f"Request-Number: {number}"), answer)
 
             kept = ("register", "master", "office", 0, None, None, f"backup volume {most}")
-            posted("the last key's request again", most, kept, reply(200, {"key": most, "moment": 100, "state": "Active"}))
+            first = {"key": most, "moment": 100, "state": "Active"}
+            posted("the last key's request again", most, kept, reply(200, first))
             posted("dates in disorder", most + 1, ("register", "master", "bob", 5, 4, 6, "x"), refusal_reply(9))
             posted("one more", most + 1, ("register", "master", "bob", None, None, None, "x"), refusal_reply(20))
             posted("the key after", most + 1, ("activate", most + 1), UNKNOWN)
             for key, answer in ((most, True), (most + 1, False)):
                 shown = {
-                    "activation": 0, "approvals": [], "compromised": None, "custodians": [], "deactivation": year, "destroyed": None,
-                    "initial": 100, "need": 2, "number": key, "occurrence": None, "owner": "office", "protect_stop": year,
-                    "purpose": f"backup volume {key}", "state": "Active", "type": "master",
+                    "activation": 0, "approvals": [], "compromised": None, "custodians": [], "deactivation": year,
+                    "destroyed": None,
+                    "initial": 100, "need": 2, "number": key, "occurrence": None, "owner": "office",
+                    "protect_stop": year, "purpose": f"backup volume {key}", "state": "Active", "type": "master",
                 }
-                office.agree(f"key {key}", lambda: office.curl(f"/keys/{key}"), reply(200, shown) if answer else UNKNOWN)
+                wanted = reply(200, shown) if answer else UNKNOWN
+                office.agree(f"key {key}", lambda: office.curl(f"/keys/{key}"), wanted)
 
 
 def by_ab():
@@ -64,9 +67,11 @@ def by_ab():
         with open(body, "wb") as file:
             file.write(ADVANCE)
         place = f"http://127.0.0.1:{served.port}"
-        post_words = ["-p", body, "-T", "application/json", "-H", "Caller: ann", "-H", "Request-Number: 1", place + "/requests"]
+        headers = ["-H", "Caller: ann", "-H", "Request-Number: 1"]
+        post_words = ["-p", body, "-T", "application/json", *headers, place + "/requests"]
         for name, words in (("GET", [place + "/keys/1"]), ("POST", post_words)):
-            done = subprocess.run(["ab", "-q", "-n", "1000", "-c", "1", *words], capture_output=True, text=True, check=False)
+            command = ["ab", "-q", "-n", "1000", "-c", "1", *words]
+            done = subprocess.run(command, capture_output=True, text=True, check=False)
             names = ("Complete", "Failed", "Non-2xx", "Write errors", "Requests per")
             told = [row for row in done.stdout.splitlines() if row.startswith(names)]
             print(f"ab, {name}: " + "; ".join(" ".join(row.split()) for row in told))

@@ -98,7 +98,8 @@ class Office:
             method = "HEAD" if "--head" in words else "POST" if "--data-binary" in words else "GET"
         self.asked = (method, path)
         place = f"http://127.0.0.1:{self.served.port}{path}"
-        told = ["curl", "--silent", "--include", "--raw", "--http1.1", "--noproxy", "*", "--path-as-is", "--max-time", "60"]
+        told = ["curl", "--silent", "--include", "--raw", "--http1.1", "--noproxy", "*", "--path-as-is"]
+        told += ["--max-time", "60"]
         return subprocess.run([*told, *words, place], input=given, capture_output=True, check=False).stdout
 
     def python(self, method, path, body=None, headers=None):
@@ -109,7 +110,8 @@ class Office:
         answer = connection.getresponse()
         body = answer.read()
         connection.close()
-        head = [f"HTTP/1.{answer.version - 10} {answer.status} {answer.reason}", *(f"{k}: {v}" for k, v in answer.getheaders())]
+        fields = [f"{name}: {value}" for name, value in answer.getheaders()]
+        head = [f"HTTP/1.{answer.version - 10} {answer.status} {answer.reason}", *fields]
         return "\r\n".join([*head, "", ""]).encode() + body
 
     def posted(self, way, caller, number, body):
