@@ -148,8 +148,8 @@ fn lines_of_answers(rt: HostRuntime) {
     assert!(rt; is_line_of_limit(63072000, "refused 10 PeriodTooLong limit=63072000\n"));
 }
 
-/// A command: its kind, the word that it begins with, its text; who may give it, in how many states of its key, and
-/// whether a refusal of it looks at custody. A destruction alone needs approvals.
+/// A command: its kind, the word that it begins with, its text; who may give it, in how many states
+/// of its key, and whether a refusal of it looks at custody. A destruction alone needs approvals.
 type CommandRow = (CommandKind, &'static str, &'static str, Giver, usize, bool);
 
 #[rattlefmt::skip]
@@ -251,7 +251,8 @@ fn needs_that_owners_may_ask_for(rt: HostRuntime) {
     assert!(rt; !is_quorum(6));
 }
 
-/// A command, the type whose period it needs where its key is a master key, and the one where there is no such key.
+/// A command, the type whose period it needs where its key is a master key, and the one where there
+/// is no such key.
 type NeededRow = (&'static str, Option<KeyType>, Option<KeyType>);
 
 #[rattlefmt::skip]

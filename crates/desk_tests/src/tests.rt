@@ -1,4 +1,5 @@
-//! Each test asserts one trial of `desk_trials`: that all is as it should be, or that no case is otherwise.
+//! Each test asserts one trial of `desk_trials`: that all is as it should be, or that no case is
+//! otherwise.
 use std::test::Fail;
 
 #[test]

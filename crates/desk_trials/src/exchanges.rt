@@ -45,7 +45,8 @@ fn is_replied(alloc: Global, desk: &mut Desk<MemStore>, step: &Step) -> bool {
     is_whole(outcome, input.len(), reply) && writer.into_inner().as_slice() == reply.as_bytes()
 }
 
-/// Whether it does so where each read gives a byte, each write takes three, and both are interrupted.
+/// Whether it does so where each read gives a byte, each write takes three, and both are
+/// interrupted.
 fn is_replied_in_pieces(alloc: Global, desk: &mut Desk<MemStore>, step: &Step) -> bool {
     let (moment, input, reply) = *step;
     let mut reader = Watched::new(Interrupted::new(OneByte(input.as_bytes())));
@@ -107,8 +108,8 @@ pub fn worked_exchange_at_fault(alloc: Global) -> Result<Option<&'static str>, F
     Ok(None)
 }
 
-/// Whether an exchange over the prefix of *advanced*, of which nothing more comes, is refused, and over
-/// no byte writes nothing.
+/// Whether an exchange over the prefix of *advanced*, of which nothing more comes, is refused, and
+/// over no byte writes nothing.
 fn is_cut_off(alloc: Global, desk: &mut Desk<MemStore>, taken: usize) -> bool {
     let reply = if taken == 0 { "" } else { BAD_REQUEST };
     match ADVANCE.get(..taken) {
@@ -117,8 +118,8 @@ fn is_cut_off(alloc: Global, desk: &mut Desk<MemStore>, taken: usize) -> bool {
     }
 }
 
-/// Whether an exchange over the prefix of *advanced*, after which each read fails, ends so and writes
-/// nothing.
+/// Whether an exchange over the prefix of *advanced*, after which each read fails, ends so and
+/// writes nothing.
 fn is_broken_off(alloc: Global, desk: &mut Desk<MemStore>, taken: usize) -> bool {
     let Some(prefix) = ADVANCE.get(..taken) else {
         return false;
@@ -149,8 +150,9 @@ pub fn prefix_that_acts(alloc: Global) -> Result<Option<usize>, Fail> {
     Ok((!is_good).then_some(ADVANCE.len()))
 }
 
-/// Whether *advanced* over a new register is applied and ends at its writer, which takes a byte at a
-/// write, so many of them, and then has its trouble; and whether its reply then comes when it is sent again.
+/// Whether *advanced* over a new register is applied and ends at its writer, which takes a byte at
+/// a write, so many of them, and then has its trouble; and whether its reply then comes when it is
+/// sent again.
 fn is_troubled(alloc: Global, trouble: Trouble, taken: usize) -> Result<bool, Fail> {
     let mut desk = create_in_memory(alloc)?;
     let mut reader = Watched::new(ADVANCE.as_bytes());
@@ -183,8 +185,8 @@ fn is_troubled(alloc: Global, trouble: Trouble, taken: usize) -> Result<bool, Fa
     )
 }
 
-/// After how many bytes of the reply a failed write does not end the exchange as it should, if after any, whether those
-/// after it fail too or not. After all of the bytes its flush fails.
+/// After how many bytes of the reply a failed write does not end the exchange as it should, if
+/// after any, whether those after it fail too or not. After all of the bytes its flush fails.
 pub fn failed_reply_passed_over(alloc: Global) -> Result<Option<usize>, Fail> {
     for taken in 0..=ADVANCED.len() {
         if !is_troubled(alloc, Trouble::Fails, taken)?

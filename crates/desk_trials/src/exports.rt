@@ -40,7 +40,8 @@ static DEFAULTS: Written = Written {
     ],
 };
 
-/// A key with all dates but its destruction's; two with one Protect Stop Date, and one with a later one.
+/// A key with all dates but its destruction's; two with one Protect Stop Date, and one with a later
+/// one.
 #[rattlefmt::skip]
 static SEVERAL: Written = Written {
     lines: "100 ann 1 register master bob 1000 2000 2000 say \"hi\", twice\n\
@@ -67,7 +68,8 @@ static SEVERAL: Written = Written {
     ],
 };
 
-/// The worked rows *a period set by the office* and *a key longer than a new period*; and a long key within the horizon.
+/// The worked rows *a period set by the office* and *a key longer than a new period*; and a long
+/// key within the horizon.
 #[rattlefmt::skip]
 static LONG: Written = Written {
     lines: "100 ann 1 register data-encryption bob 0 - - payroll disks\n\
@@ -138,7 +140,8 @@ pub fn are_registers_written_out(alloc: Global) -> Result<bool, Fail> {
     )
 }
 
-/// Whether an export with a writer that fails once after these writes and flushes ends so, and has written this.
+/// Whether an export with a writer that fails once after these writes and flushes ends so, and has
+/// written this.
 fn is_cut(alloc: Global, desk: &mut Desk<MemStore>, good_turns: usize, text: &str) -> bool {
     let mut writer = Watched::new(Troubled {
         inner: Vec::new(alloc),

@@ -45,7 +45,8 @@ fn run_import<R: Read + Drop, W: Write>(
     Some(import(alloc, desk, moment, &caller, first, table, writer))
 }
 
-/// Whether an import at the moment, from this number on, ends so and writes these lines, each whole.
+/// Whether an import at the moment, from this number on, ends so and writes these lines, each
+/// whole.
 pub(crate) fn replies_to<R: Read + Drop>(
     alloc: Global,
     desk: &mut Desk<MemStore>,
@@ -67,7 +68,8 @@ pub(crate) fn replies_to<R: Read + Drop>(
         && writer.into_inner().as_slice() == replies.as_bytes()
 }
 
-/// Whether an import of this table into an empty register, at 100 and from 1 on, is answered so and leaves so many keys.
+/// Whether an import of this table into an empty register, at 100 and from 1 on, is answered so and
+/// leaves so many keys.
 fn is_answered(
     alloc: Global,
     table: &[u8],
@@ -79,7 +81,8 @@ fn is_answered(
     Ok(replies_to(alloc, &mut desk, (100, 1), table, replies, end) && desk.count() == keys)
 }
 
-/// Whether an import of *imported* at the moment is answered so, and leaves one key and the moment 100.
+/// Whether an import of *imported* at the moment is answered so, and leaves one key and the moment
+/// 100.
 fn is_imported(alloc: Global, desk: &mut Desk<MemStore>, moment: u64) -> bool {
     let table = IMPORTED.as_bytes();
     replies_to(alloc, desk, (moment, 1), table, IMPORTED_REPLIES, AT_END)
@@ -132,8 +135,8 @@ pub fn headless_table_imported(alloc: Global) -> Result<Option<&'static str>, Fa
     Ok(wrong.copied())
 }
 
-/// Tables, the replies to them, and how many keys they leave: the header alone; odd ends of lines, blank lines and
-/// quotes; rows of other lengths; a quote that stays open.
+/// Tables, the replies to them, and how many keys they leave: the header alone; odd ends of lines,
+/// blank lines and quotes; rows of other lengths; a quote that stays open.
 #[rattlefmt::skip]
 static TABLES: [(&str, &str, u32); 4] = [
     ("type,owner,activation,protect_stop,deactivation,purpose", "", 0),
@@ -194,7 +197,8 @@ pub fn is_import_ended_by_reader(alloc: Global) -> Result<bool, Fail> {
     )
 }
 
-/// Whether a writer that fails once after the first reply ends the import. The row in hand is applied then.
+/// Whether a writer that fails once after the first reply ends the import. The row in hand is
+/// applied then.
 fn is_cut_by_writer(alloc: Global, desk: &mut Desk<MemStore>, table: &[u8]) -> bool {
     let mut writer = Watched::new(Troubled {
         inner: Vec::new(alloc),
@@ -213,7 +217,8 @@ fn is_cut_by_writer(alloc: Global, desk: &mut Desk<MemStore>, table: &[u8]) -> b
         && desk.count() == 2
 }
 
-/// Whether a writer that fails ends the import, and the reply that was not written comes with the table sent again.
+/// Whether a writer that fails ends the import, and the reply that was not written comes with the
+/// table sent again.
 pub fn is_import_ended_by_writer(alloc: Global) -> Result<bool, Fail> {
     let table = TWO_ROWS.as_bytes();
     let mut desk = create_in_memory(alloc)?;

@@ -1,4 +1,5 @@
-//! A key at the largest sizes: names of 64 bytes, a purpose of 200, and sixteen custodians who all approve of its destruction.
+//! A key at the largest sizes: names of 64 bytes, a purpose of 200, and sixteen custodians who all
+//! approve of its destruction.
 use crate::exchanges::run_exchange;
 use crate::fresh_run::run_over;
 use crate::imports::{AT_END, replies_to};

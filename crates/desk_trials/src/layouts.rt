@@ -5,7 +5,8 @@ use sqlite::{Connection, MemStore};
 use std::alloc::Global;
 use std::test::Fail;
 
-/// An empty register with an index of an office's own after each table, so that each table but the first has another tree.
+/// An empty register with an index of an office's own after each table, so that each table but the
+/// first has another tree.
 static WITH_INDEXES_BETWEEN: [&str; 15] = [
     "CREATE TABLE meta (id INTEGER PRIMARY KEY, version INTEGER NOT NULL, latest INTEGER NOT NULL,
         key_count INTEGER NOT NULL) STRICT",

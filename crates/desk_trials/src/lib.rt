@@ -1,5 +1,5 @@
-//! What the tests of a desk look at, over registers in memory. Each function tells whether all is as it should be, or gives
-//! the first case that is not.
+//! What the tests of a desk look at, over registers in memory. Each function tells whether all is
+//! as it should be, or gives the first case that is not.
 #![tactic(auto)]
 
 mod cases;

@@ -1,4 +1,5 @@
-//! Registers of the first version of the tables: as they are opened they are taken to this program's, or are refused.
+//! Registers of the first version of the tables: as they are opened they are taken to this
+//! program's, or are refused.
 use crate::cases::first_wrong;
 use crate::fresh_run::run_over;
 use register_desk::{Desk, OpenRefusal};
@@ -34,8 +35,9 @@ pub fn first_version() -> &'static [&'static str] {
     &DEFAULTS
 }
 
-/// Statements after which it is no register of that version: nine custodians, an approval of none of them, dates that do
-/// not fit the period of the type, commands that came with the second, and tables that it added, of whatever kind.
+/// Statements after which it is no register of that version: nine custodians, an approval of none
+/// of them, dates that do not fit the period of the type, commands that came with the second, and
+/// tables that it added, of whatever kind.
 static WRONG: [&str; 8] = [
     "INSERT INTO custodian (key_no, name) VALUES (1, 'c1'), (1, 'c2'), (1, 'c3'), (1, 'c4'), (1, 'c5'), (1, 'c6'),
         (1, 'c7'), (1, 'c8'), (1, 'c9')",
@@ -55,7 +57,8 @@ pub fn wrong_of_first_version() -> &'static [&'static str] {
     &WRONG
 }
 
-/// Statements after which it is one still: as many custodians as it may have, and indexes of an office's own.
+/// Statements after which it is one still: as many custodians as it may have, and indexes of an
+/// office's own.
 static RIGHT: [&str; 3] = [
     "INSERT INTO custodian (key_no, name) VALUES (1, 'c1'), (1, 'c2'), (1, 'c3'), (1, 'c4'), (1, 'c5'), (1, 'c6'),
         (1, 'c7'), (1, 'c8')",
@@ -63,7 +66,8 @@ static RIGHT: [&str; 3] = [
     "CREATE INDEX office ON request (moment)",
 ];
 
-/// The connection to the register of the first version, once the statement ran on it, if there is one.
+/// The connection to the register of the first version, once the statement ran on it, if there is
+/// one.
 fn connection_after(alloc: Global, edit: Option<&str>) -> Result<Connection<MemStore>, Fail> {
     let mut connection = Connection::open_in_memory(alloc)?;
     for sql in &DEFAULTS {
@@ -98,7 +102,8 @@ fn is_left(alloc: Global, edit: &str, refusal: OpenRefusal) -> Result<bool, Fail
     }
 }
 
-/// A statement after which the register of the first version is not refused as none, if there is one.
+/// A statement after which the register of the first version is not refused as none, if there is
+/// one.
 pub fn first_version_not_refused(alloc: Global) -> Result<Option<&'static str>, Fail> {
     let wrong = first_wrong(
         &WRONG,
@@ -107,7 +112,8 @@ pub fn first_version_not_refused(alloc: Global) -> Result<Option<&'static str>, 
     Ok(wrong.copied())
 }
 
-/// Whether an index that has the name of a table to be made is met by the database's refusal, and the register stays.
+/// Whether an index that has the name of a table to be made is met by the database's refusal, and
+/// the register stays.
 pub fn is_index_in_the_way_told(alloc: Global) -> Result<bool, Fail> {
     is_left(
         alloc,
@@ -135,7 +141,8 @@ fn goes_on(alloc: Global, desk: &mut Desk<MemStore>) -> Result<bool, Fail> {
     Ok(need == 2 && output.as_slice() == REPLIES.as_bytes())
 }
 
-/// Whether the register is taken to this program's version, after the statement if there is one, and goes on.
+/// Whether the register is taken to this program's version, after the statement if there is one,
+/// and goes on.
 fn is_taken_on(alloc: Global, edit: Option<&str>) -> Result<bool, Fail> {
     let connection = connection_after(alloc, edit)?;
     if !connection.is_autocommit() {
@@ -153,7 +160,8 @@ fn is_taken_on(alloc: Global, edit: Option<&str>) -> Result<bool, Fail> {
     Ok(went_on && version == 2 && Desk::open(alloc, connection).is_ok())
 }
 
-/// A statement after which the register of the first version is not taken on, if there is one, or the empty one.
+/// A statement after which the register of the first version is not taken on, if there is one, or
+/// the empty one.
 pub fn first_version_not_taken_on(alloc: Global) -> Result<Option<&'static str>, Fail> {
     if !is_taken_on(alloc, None)? {
         return Ok(Some(""));

@@ -131,7 +131,8 @@ pub fn hundred_lines(alloc: Global, before: u8) -> Result<(String, String), Fail
     Ok((lines, replies))
 }
 
-/// The register of *defaults* without the further indexes of keys, as it was made before there were any.
+/// The register of *defaults* without the further indexes of keys, as it was made before there were
+/// any.
 fn without_indexes(alloc: Global) -> Result<Option<Desk<MemStore>>, Fail> {
     let mut connection = connection_after(alloc, "DROP INDEX keys_by_activation")?;
     connection.execute("DROP INDEX keys_by_deactivation", &[])?;
@@ -158,8 +159,8 @@ pub fn goes_on_without_indexes(alloc: Global) -> Result<bool, Fail> {
     Ok(output.as_slice() == replies.as_slice() && usage.is_some())
 }
 
-/// Runs a hundred lines in a life of their own. Gives the desk as the next life begins with it, or none where the replies
-/// are others.
+/// Runs a hundred lines in a life of their own. Gives the desk as the next life begins with it, or
+/// none where the replies are others.
 fn run_life(
     alloc: Global,
     mut desk: Desk<MemStore>,
@@ -172,7 +173,8 @@ fn run_life(
     Ok((output.as_slice() == replies.as_bytes()).then_some(desk))
 }
 
-/// Whether three hundred lines in three lives, and the same sent again in three more, are answered alike and act once.
+/// Whether three hundred lines in three lives, and the same sent again in three more, are answered
+/// alike and act once.
 pub fn act_once_in_lives(alloc: Global) -> Result<bool, Fail> {
     let mut desk = desk_after(alloc, defaults())?;
     for before in [0, 1, 2, 0, 1, 2] {

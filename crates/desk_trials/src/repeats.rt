@@ -96,7 +96,8 @@ fn plain_replies(alloc: Global, requests: &[u8]) -> Result<Vec<u8>, AllocError> 
     lines_of(alloc, &plain_register::answers(alloc, lines)?)
 }
 
-/// Whether each command of the day is answered again as it was, by the program and by the plain one.
+/// Whether each command of the day is answered again as it was, by the program and by the plain
+/// one.
 pub fn is_each_command_repeated(alloc: Global) -> Result<bool, Fail> {
     let lines = day_again(alloc)?;
     let ran = fresh_run(alloc, lines.requests.as_slice(), Vec::new(alloc))?;

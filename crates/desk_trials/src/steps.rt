@@ -9,12 +9,13 @@ use std::alloc::Global;
 use std::test::Fail;
 use worked_rows::WorkedRow;
 
-/// The steps of each command of the day, by the statements that docs/SPECIFICATION.md has. A search for what is kept
-/// takes 1 where nothing is, a transaction 2, the two updates of due keys 2, the request's row and that of meta 2. A
-/// command that names a key takes 2 to read it and 1 to change it; one that looks at custody 1 more for each list and for
-/// each name in it; a destruction 2 more to read the need that is set; one that changes custody 1 more, and one that sets
-/// the need 2 more. A registration, an activation and a change of dates take 1 more to look for the period of the type,
-/// which is not set, and a command that sets it 2 more.
+/// The steps of each command of the day, by the statements that docs/SPECIFICATION.md has. A search
+/// for what is kept takes 1 where nothing is, a transaction 2, the two updates of due keys 2, the
+/// request's row and that of meta 2. A command that names a key takes 2 to read it and 1 to change
+/// it; one that looks at custody 1 more for each list and for each name in it; a destruction 2 more
+/// to read the need that is set; one that changes custody 1 more, and one that sets the need 2
+/// more. A registration, an activation and a change of dates take 1 more to look for the period of
+/// the type, which is not set, and a command that sets it 2 more.
 const STEPS: [u64; 18] = [
     9, 13, 14, 15, 16, 15, 16, 17, 16, 12, 16, 11, 11, 10, 18, 7, 9, 10,
 ];
@@ -72,7 +73,8 @@ static FULL_CUSTODY: WorkedRow = WorkedRow {
 
 /// A line, and how many steps it takes after that.
 static BEHIND: [(&str, u64); 9] = [
-    // A request that comes again, one whose number is reused, and one whose moment is below the latest: the look-up alone.
+    // A request that comes again, one whose number is reused, and one whose moment is below the
+    // latest: the look-up alone.
     ("100 bob 1 add-custodian 1 c1", 2),
     ("100 bob 1 advance", 2),
     ("99 bob 17 activate 1", 1),
@@ -98,9 +100,10 @@ pub fn line_of_other_steps(alloc: Global) -> Result<Option<&'static str>, Fail> 
     Ok(None)
 }
 
-/// Protect Stop Dates of keys that are due, and the steps of an export of them and of a report on them. An export takes
-/// for each row a search and the row; a report the same, one search more after the last row of each date that several
-/// have, and the search that finds none; and one before for the period of each of the seven types, of which none is set.
+/// Protect Stop Dates of keys that are due, and the steps of an export of them and of a report on
+/// them. An export takes for each row a search and the row; a report the same, one search more
+/// after the last row of each date that several have, and the search that finds none; and one
+/// before for the period of each of the seven types, of which none is set.
 static ROWS: [(&[u64], u64, u64); 5] = [
     (&[], 0, 8),
     (&[700, 500, 600], 6, 14),

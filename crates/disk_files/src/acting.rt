@@ -10,7 +10,8 @@ use register_program::act;
 use sqlite::Start;
 use std::io::{Read, Write};
 
-/// Does what the words ask for, as [`act`](register_program::act), over files of which `S` says what they hold at first.
+/// Does what the words ask for, as [`act`](register_program::act), over files of which `S` says
+/// what they hold at first.
 pub fn act_from<S: Start, R: Read + Drop, W: Write>(
     rt: &HostRuntime,
     start: S,

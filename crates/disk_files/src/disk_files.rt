@@ -7,7 +7,8 @@ use register_files::Files;
 use sqlite::{Connection, Error, ErrorCode, FileFrom, FileStore, Start};
 use std::fs;
 
-/// The register's files as the kit opens them. `S` says what they hold at first, and what a torn write may leave.
+/// The register's files as the kit opens them. `S` says what they hold at first, and what a torn
+/// write may leave.
 #[derive(Drop)]
 pub struct DiskFiles<S: Start> {
     start: S,

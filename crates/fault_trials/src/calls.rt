@@ -21,7 +21,8 @@ pub enum Call {
     Exchange,
 }
 
-/// Makes the call: an import and an exchange at 100, an import of the caller ann from number 1 on, a report for a day.
+/// Makes the call: an import and an exchange at 100, an import of the caller ann from number 1 on,
+/// a report for a day.
 pub fn call_over<R: Read + Drop, W: Write, S: Alter>(
     alloc: Global,
     desk: &mut Desk<S>,

@@ -1,7 +1,7 @@
 //! Registers in files in memory, of which calls fail.
 //!
-//! A function that names the type of the store costs about a minute in a proof, and any other a few seconds. So it
-//! stands in [`Lab::tried`] alone, which is handed what to do as a [`Task`].
+//! A function that names the type of the store costs about a minute in a proof, and any other a few
+//! seconds. So it stands in [`Lab::tried`] alone, which is handed what to do as a [`Task`].
 ghost use Rattle.std.specs.Prelude.{◌≡◌, false, IfOk, IsTrue};
 ghost use Rattle.sqlite_disk.specs.Memory.{memory_is_usable};
 
@@ -152,8 +152,9 @@ pub struct Lab {
     spill_pages: usize,
 }
 
-/// Few pages are kept in memory, so that a look at another one reads a file. Each transaction but the first copies into
-/// the database file what the one before it wrote, so that this file is written too.
+/// Few pages are kept in memory, so that a look at another one reads a file. Each transaction but
+/// the first copies into the database file what the one before it wrote, so that this file is
+/// written too.
 fn options(spill_pages: usize) -> Options {
     Options {
         cache_pages: 4,
@@ -202,7 +203,8 @@ impl Lab {
         }
     }
 
-    /// A lab whose requests write to the log before they are committed, since they change more pages than are kept.
+    /// A lab whose requests write to the log before they are committed, since they change more
+    /// pages than are kept.
     pub fn with_small_cache(alloc: Global) -> Lab {
         Lab {
             alloc,
@@ -264,7 +266,8 @@ impl Lab {
         Ok((reached, left))
     }
 
-    /// Does it over the desk of the register in files of which no call fails. What comes of it, and the files.
+    /// Does it over the desk of the register in files of which no call fails. What comes of it, and
+    /// the files.
     pub fn carry_out_at_desk<T: DeskTask>(
         &self,
         files: &Files<Memory>,
@@ -301,8 +304,8 @@ fn select<S: Alter>(
     }
 }
 
-/// Runs statements, and gives all rows of the register after them as text, the kept replies among them; empty where
-/// none of its tables is there.
+/// Runs statements, and gives all rows of the register after them as text, the kept replies among
+/// them; empty where none of its tables is there.
 #[derive(Drop)]
 struct Running<'a> {
     statements: &'a str,

@@ -168,8 +168,8 @@ fn open_another(lab: Lab) -> Result<Opened, Fail> {
     open(lab, &files)
 }
 
-/// Whether a file of zeros, which is no database, is refused as a connection, and a database of another program as no
-/// register, and both stay as they are.
+/// Whether a file of zeros, which is no database, is refused as a connection, and a database of
+/// another program as no register, and both stay as they are.
 pub fn are_strangers_refused(alloc: Global) -> Result<bool, Fail> {
     let lab = Lab::new(alloc);
     let not_a_register = Err(NoDesk::Refused(OpenRefusal::NotARegister));

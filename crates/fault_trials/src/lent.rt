@@ -48,7 +48,8 @@ const MAX_IDLE: usize = 10_000;
 const MAX_EXCHANGE_READS: usize = 80_000;
 
 impl Case {
-    /// How many turns of the reader go well, and how many of the writer, where so many of the troubled one do.
+    /// How many turns of the reader go well, and how many of the writer, where so many of the
+    /// troubled one do.
     fn good_turns(self, good: usize) -> (usize, usize) {
         match self.stream {
             Stream::Reader => (good, usize::MAX),
@@ -65,13 +66,14 @@ impl Case {
         }
     }
 
-    /// Whether the call ends in this case within reasonable time: the reads of a run have a bound of 2000000000.
+    /// Whether the call ends in this case within reasonable time: the reads of a run have a bound
+    /// of 2000000000.
     fn is_for(self, call: Call) -> bool {
         !(self.stays && self.stream == Stream::Reader && call == Call::Run)
     }
 
-    /// After how many turns the call gives up a stream that is always interrupted after so many good ones. An import
-    /// does so at the first interrupted read.
+    /// After how many turns the call gives up a stream that is always interrupted after so many
+    /// good ones. An import does so at the first interrupted read.
     fn turns_at_end(self, call: Call, good: usize) -> usize {
         match (self.stream, call) {
             (Stream::Writer, _) => good.saturating_add(MAX_IDLE),
@@ -88,8 +90,8 @@ impl Case {
         }
     }
 
-    /// Whether the call may go as where no turn is troubled: a flush takes no byte, and an interrupted turn is tried
-    /// again.
+    /// Whether the call may go as where no turn is troubled: a flush takes no byte, and an
+    /// interrupted turn is tried again.
     fn may_be_whole(self) -> bool {
         self.trouble != Trouble::Fails && !self.stays
     }
@@ -213,8 +215,8 @@ impl Given {
         }
     }
 
-    /// Whether the files have the register with the rows, and the call over it, with no trouble, then ends as it
-    /// should, with the last rows.
+    /// Whether the files have the register with the rows, and the call over it, with no trouble,
+    /// then ends as it should, with the last rows.
     fn is_left_so(&self, lab: Lab, files: &Files<Memory>, steps: usize) -> Result<bool, Fail> {
         if self.rows.get(steps) != Some(&lab.rows_in(files)?) {
             return Ok(false);
@@ -247,8 +249,8 @@ fn try_turn(
     }
 }
 
-/// Lets each turn in turn be troubled, until none is. Gives how many were, or the turn at which the call did otherwise
-/// than it should.
+/// Lets each turn in turn be troubled, until none is. Gives how many were, or the turn at which the
+/// call did otherwise than it should.
 fn try_turns(lab: Lab, given: &Given, case: Case) -> Result<Result<usize, (usize, Outcome)>, Fail> {
     for good in 0..MAX_TURNS {
         match try_turn(lab, given, case, good)? {
@@ -325,7 +327,8 @@ const LENT: [Lent; 6] = [
     },
 ];
 
-/// Whether the call does as it should in this case, and a turn is troubled of a stream that has turns.
+/// Whether the call does as it should in this case, and a turn is troubled of a stream that has
+/// turns.
 fn is_right(lab: Lab, given: &Given, case: Case) -> Result<bool, Fail> {
     let has_turns = case.stream == Stream::Writer || !given.input.is_empty();
     match try_turns(lab, given, case)? {

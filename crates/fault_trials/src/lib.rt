@@ -1,6 +1,7 @@
-//! What the tests of faults look at: a register in files in memory whose calls fail, or that stop at a call, what is answered
-//! then, what opening finds after it, and that what was sent acts once in all when it is sent again; readers and writers
-//! that fail, and malicious bytes. Each function tells whether all is as it should be, or gives the first case that is not.
+//! What the tests of faults look at: a register in files in memory whose calls fail, or that stop
+//! at a call, what is answered then, what opening finds after it, and that what was sent acts once
+//! in all when it is sent again; readers and writers that fail, and malicious bytes. Each function
+//! tells whether all is as it should be, or gives the first case that is not.
 #![tactic(auto)]
 
 mod calls;

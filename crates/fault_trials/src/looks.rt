@@ -137,7 +137,8 @@ fn look_at<S: Alter>(alloc: Global, desk: &mut Desk<S>, texts: &Texts, look: Loo
     }
 }
 
-/// Whether a desk of which a look was refused is as it should be: broken by a look at one key, and else as it was.
+/// Whether a desk of which a look was refused is as it should be: broken by a look at one key, and
+/// else as it was.
 fn goes_on<S: Alter>(alloc: Global, desk: &mut Desk<S>, texts: &Texts, looked: Look) -> bool {
     match looked {
         Look::Show | Look::Usage | Look::Get => is_broken(alloc, desk),
@@ -148,7 +149,8 @@ fn goes_on<S: Alter>(alloc: Global, desk: &mut Desk<S>, texts: &Texts, looked: L
     }
 }
 
-/// Looks at the register: what is seen, or that it is wrong what comes after a look that was refused.
+/// Looks at the register: what is seen, or that it is wrong what comes after a look that was
+/// refused.
 #[derive(Drop)]
 struct Looking<'a> {
     texts: &'a Texts,
@@ -165,8 +167,8 @@ impl DeskTask for Looking<'_> {
     }
 }
 
-/// Lets each read after the opening fail in turn. Gives how many the look was refused for, or as an error how many
-/// were before the one at which it went otherwise.
+/// Lets each read after the opening fail in turn. Gives how many the look was refused for, or as an
+/// error how many were before the one at which it went otherwise.
 fn refusals(
     lab: Lab,
     files: &Files<Memory>,
@@ -187,14 +189,16 @@ fn refusals(
     Ok(Err(MAX_READS))
 }
 
-/// The first place of a file of which a read in this look does not fail as it should, or of which too few are read.
+/// The first place of a file of which a read in this look does not fail as it should, or of which
+/// too few are read.
 fn place_not_refused(
     lab: Lab,
     files: &Files<Memory>,
     texts: &Texts,
     looked: &Look,
 ) -> Result<Option<Place>, Fail> {
-    // What was copied into the database file is read there. The log may have nothing that a look at one key needs.
+    // What was copied into the database file is read there. The log may have nothing that a look at
+    // one key needs.
     for (place, least) in [(Place::Log, 0), (Place::Database, 1)] {
         let fault = Fault {
             place,

@@ -4,8 +4,8 @@ use crate::sending::Way;
 use crate::texts::{Exchange, IMPORT_ROWS, IMPORTED, KEY, REGISTERED};
 use crate::trials::Trial;
 
-/// A day on which each command is accepted, of a ninth key. At each moment from 1100 to 2600 one of the first eight has
-/// just been activated or deactivated by the time.
+/// A day on which each command is accepted, of a ninth key. At each moment from 1100 to 2600 one of
+/// the first eight has just been activated or deactivated by the time.
 #[rattlefmt::skip]
 pub const DAY: &[Exchange] = &[
     ("100 ann 1 register data-encryption bob 1050 1100 1150 disks", "ok 1 Pre-Active 100"),
@@ -71,7 +71,8 @@ const AT_50: Exchange = (
     "ok 1 Active 100",
 );
 
-/// The worked row *one approval is too few*, up to its refused Destroy, after which the key is Active still.
+/// The worked row *one approval is too few*, up to its refused Destroy, after which the key is
+/// Active still.
 #[rattlefmt::skip]
 const ONE_APPROVAL: &[Exchange] = &[
     ("100 ann 1 register master bob 1000 2000 2000 root", "ok 1 Pre-Active 100"),
@@ -104,8 +105,9 @@ const POST: &str =
 const POSTED: &str = "HTTP/1.1 200 OK\r\nContent-Type: application/json\r\nContent-Length: 43\r\n\
     Connection: close\r\n\r\n{\"key\":2,\"moment\":100,\"state\":\"Pre-Active\"}";
 
-/// The beginnings: a register is made; one with the whole day is opened, and that of *defaults* in a file of the first
-/// version; and the worked row of stops, which is the request of *defaults* over a disk that stops.
+/// The beginnings: a register is made; one with the whole day is opened, and that of *defaults* in
+/// a file of the first version; and the worked row of stops, which is the request of *defaults*
+/// over a disk that stops.
 #[rattlefmt::skip]
 pub const BEGINNINGS: [Trial; 4] = [
     Trial { name: "creation", before: &[], sent: &[], way: Way::Entry(Entry::Creation), commits: 1 },

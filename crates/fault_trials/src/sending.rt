@@ -121,7 +121,8 @@ fn send_rows<S: Alter>(
     of_items(alloc, sent, outcome, writer.into_inner().as_slice())
 }
 
-/// Makes an exchange over the input at this moment, in seconds: whether it has this reply, or that to the end 31.
+/// Makes an exchange over the input at this moment, in seconds: whether it has this reply, or that
+/// to the end 31.
 pub fn run_exchange<S: Alter>(
     alloc: Global,
     desk: &mut Desk<S>,

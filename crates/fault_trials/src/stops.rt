@@ -7,7 +7,8 @@ use register_faults::Plan;
 use std::alloc::Global;
 use std::test::Fail;
 
-/// A trial that went otherwise than it should: its name, its place among its like, the fault, and how.
+/// A trial that went otherwise than it should: its name, its place among its like, the fault, and
+/// how.
 pub type Wrong = (&'static str, usize, Fault, Odd);
 
 /// The machine stops, or one of its files does.
@@ -27,18 +28,19 @@ const FAILURES: [Fault; 4] = [
     Fault { place: Place::Log, plan: Plan::FailOther(0) },
 ];
 
-/// A call fails for want of memory in the disk, and it goes on. That is no refused growth of the program.
+/// A call fails for want of memory in the disk, and it goes on. That is no refused growth of the
+/// program.
 const WANTS: [Fault; 1] = [Fault {
     place: Place::Machine,
     plan: Plan::LackMemory(0),
 }];
 
-/// A request that is accepted changes a row of `meta` and adds one to `request` and to its index: three pages at least,
-/// which it writes to the log and syncs.
+/// A request that is accepted changes a row of `meta` and adds one to `request` and to its index:
+/// three pages at least, which it writes to the log and syncs.
 const CALLS_OF_COMMIT: u64 = 4;
 
-/// How many calls have to have failed at least. What the commit before it wrote is copied into the database file in as
-/// many. An opening reads both files; else a read may be answered from memory.
+/// How many calls have to have failed at least. What the commit before it wrote is copied into the
+/// database file in as many. An opening reads both files; else a read may be answered from memory.
 fn least_steps(trial: &Trial, fault: Fault) -> u64 {
     let writes = trial.commits.saturating_mul(CALLS_OF_COMMIT);
     let reads = match trial.way {
@@ -57,7 +59,8 @@ fn least_steps(trial: &Trial, fault: Fault) -> u64 {
     }
 }
 
-/// The first of the faults with which the trial goes otherwise than it should, or fails fewer calls than it has to.
+/// The first of the faults with which the trial goes otherwise than it should, or fails fewer calls
+/// than it has to.
 fn wrong_fault(
     lab: Lab,
     trial: &Trial,
@@ -118,8 +121,8 @@ pub fn stop_elsewhere_at_fault(alloc: Global) -> Result<Option<Wrong>, Fail> {
     wrong_other(Lab::new(alloc), &STOPS)
 }
 
-/// The same of several requests, and of the last one of the day, which ends an approval, where pages go to the log before the
-/// commit.
+/// The same of several requests, and of the last one of the day, which ends an approval, where
+/// pages go to the log before the commit.
 pub fn stop_while_spilling_at_fault(alloc: Global) -> Result<Option<Wrong>, Fail> {
     let lab = Lab::with_small_cache(alloc);
     match wrong_trial(lab, &SEVERAL, &STOPS)? {

@@ -36,7 +36,8 @@ pub const IMPORT_ROWS: &str = "data-encryption,bob,1970-01-01T00:00:00Z,,,\"disk
     master,bob,1970-01-01,,,x\n\
     master,bob,,,,x\n";
 
-/// What these rows ask for over the register with one key, at 100, of the caller ann, from number 1 on.
+/// What these rows ask for over the register with one key, at 100, of the caller ann, from number 1
+/// on.
 pub const IMPORTED: &[Exchange] = &[
     (
         "100 ann 1 register data-encryption bob 0 - - disks, payroll",

@@ -1,4 +1,5 @@
-//! What is tried while calls of the files fail: something is done over a register, and what it leaves is opened again.
+//! What is tried while calls of the files fail: something is done over a register, and what it
+//! leaves is opened again.
 use crate::files::{DeskTask, Entry, Fault, HONEST, Lab, Left, NoDesk, Nothing, no_files};
 use crate::leaving::{LEAVINGS, Leaving, Stopped, are_same};
 use crate::sending::{Came, Way, is_broken, send};
@@ -35,7 +36,8 @@ impl Trial {
         }
     }
 
-    /// Whether it looks for tables that are not there. The count of one of these may be refused, and is passed over.
+    /// Whether it looks for tables that are not there. The count of one of these may be refused,
+    /// and is passed over.
     fn looks_for_tables(&self) -> bool {
         match self.way {
             Way::Entry(Entry::Creation | Entry::Migration) => true,
@@ -79,7 +81,8 @@ impl DeskTask for Sending<'_> {
     }
 }
 
-/// Sends requests again, and then those before them and them as lines: whether all are answered as they were.
+/// Sends requests again, and then those before them and them as lines: whether all are answered as
+/// they were.
 #[derive(Drop)]
 struct Repeating<'a> {
     trial: &'a Trial,
@@ -221,8 +224,8 @@ fn attempt(
     }
 }
 
-/// Sends all again over the register in the files, which is made where one was to be made and none is there. Whether it
-/// is answered as it was, and the files.
+/// Sends all again over the register in the files, which is made where one was to be made and none
+/// is there. Whether it is answered as it was, and the files.
 fn repeated(lab: Lab, trial: &Trial, files: &Files<Memory>) -> Result<(bool, Files<Memory>), Fail> {
     let repeating = Repeating { trial };
     let (reached, left) = lab.try_out_at_desk(files, HONEST, Entry::Opening, &repeating)?;
@@ -235,15 +238,16 @@ fn repeated(lab: Lab, trial: &Trial, files: &Files<Memory>) -> Result<(bool, Fil
     }
 }
 
-/// Whether what was tried and what made the register is answered again as it was, and has then acted once in all.
+/// Whether what was tried and what made the register is answered again as it was, and has then
+/// acted once in all.
 fn acts_once(lab: Lab, trial: &Trial, made: &Made, files: &Files<Memory>) -> Result<bool, Fail> {
     let (is_told, files) = repeated(lab, trial, files)?;
     let rows = lab.rows_in(&files)?;
     Ok(is_told && made.rows.last() == Some(&rows))
 }
 
-/// Whether the files have the register with so many steps, which is `Some(false)`, or with one more, `Some(true)`; and
-/// this, opened, is as it should be.
+/// Whether the files have the register with so many steps, which is `Some(false)`, or with one
+/// more, `Some(true)`; and this, opened, is as it should be.
 fn is_ahead(
     lab: Lab,
     trial: &Trial,
@@ -314,8 +318,8 @@ fn look_at_all(
     Ok(None)
 }
 
-/// What went otherwise than it should: how the trial came out with so many calls before the first that failed, or what
-/// was left of the files.
+/// What went otherwise than it should: how the trial came out with so many calls before the first
+/// that failed, or what was left of the files.
 pub type Odd = (u64, Option<Came>, Option<Leaving>);
 
 /// Whether the last attempt left the same.
@@ -326,7 +330,8 @@ fn is_seen(last: &Option<Remains>, after: &Remains) -> bool {
     }
 }
 
-/// What an attempt leaves, or that it came out otherwise than it should; and whether no call failed any more.
+/// What an attempt leaves, or that it came out otherwise than it should; and whether no call failed
+/// any more.
 fn leave_behind(
     lab: Lab,
     trial: &Trial,
@@ -344,8 +349,8 @@ fn leave_behind(
     Ok(Ok((Remains { steps, stopped }, is_over)))
 }
 
-/// Lets each call that the fault counts, from the end of the opening on, be the first that fails, until none fails any
-/// more.
+/// Lets each call that the fault counts, from the end of the opening on, be the first that fails,
+/// until none fails any more.
 pub fn try_all(lab: Lab, trial: &Trial, fault: Fault) -> Result<Result<Count, Odd>, Fail> {
     let made = make(lab, trial)?;
     let first = calls_before(lab, trial, &made.files, fault)?;

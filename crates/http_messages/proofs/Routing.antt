@@ -336,7 +336,8 @@ utf8_of_route (Usage key) p =
     (IsUtf8-append (decimal key) (codes "/usage") (digits_text key p) (codes "/usage", (refl, refl)))
 
 -- the row that is found for the text of a route has its place
-pub place_found : (r : Route) (rs : RowsOf (RouteOf RoutePattern)) (text : List ℕ) (row : RouteOf RoutePattern) → IsRoute r
+pub place_found : (r : Route) (rs : RowsOf (RouteOf RoutePattern)) (text : List ℕ) (row : RouteOf RoutePattern)
+    → IsRoute r
     → rs ≡ routes → text ≡ route_text r
     → first rs text ≡ Some row → row.value ≡ pattern_of r
 place_found r rs text row p same e found =

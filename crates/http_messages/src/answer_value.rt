@@ -173,7 +173,8 @@ fn date_members(alloc: Global, dates: &Dates) -> Result<Map<String, Value>, Allo
     Ok(members)
 }
 
-/// A key, how many approvals its destruction needs, its custodians, and the names whose approvals stand.
+/// A key, how many approvals its destruction needs, its custodians, and the names whose approvals
+/// stand.
 pub(crate) fn key_value(alloc: Global, shown: &Record) -> Result<Value, AllocError>
     ensures { IfOk result (λ v. view v ≡ key_data shown.now) }
 {

@@ -200,7 +200,8 @@ pub fn ask<R: Read>(alloc: Global, routes: &mut Routes, reader: &mut Watched<R>)
     ensures in_range { IfOk result.asked (λ asked. IfSome asked IsInRange) }
     ensures fault { IfErr result.asked (λ fault. fault ≡ AskFault.ReadFault
         → IsFaulted reader.new.failed MAX_EXCHANGE_READS reader.new.turns) }
-    ensures bounded { reader.old.turns ≤ MAX_EXCHANGE_READS → reader.new.turns ≤ MAX_EXCHANGE_READS }
+    ensures bounded { reader.old.turns ≤ MAX_EXCHANGE_READS
+        → reader.new.turns ≤ MAX_EXCHANGE_READS }
 {
     let mut prefix = Prefix::new();
     let after = ask_after(alloc, routes, &mut prefix, reader);

@@ -1,4 +1,5 @@
-//! The command that a JSON value is: first its kind, and then the members of the fields of that kind's shape.
+//! The command that a JSON value is: first its kind, and then the members of the fields of that
+//! kind's shape.
 ghost use Rattle.std.specs.Prelude.{◌≡◌, ◌≢◌, ℕ, List, codes, Option, IfSome, IfNone};
 ghost use Rattle.serde_json.specs.Data.{Data, string};
 ghost use Rattle.serde_json.specs.View.{view, members_view};

@@ -37,7 +37,8 @@ fn read_more<R: Read>(most: usize, body: &mut Vec<u8>, reader: &mut Watched<R>) 
     ensures end { OnOk result.kept (result.count ≡ 0 → IsAtEnd (R.remaining reader.new.inner)) }
     ensures fault { IfErr result.kept (λ fault. fault ≡ AskFault.ReadFault
         → IsFaulted reader.new.failed MAX_EXCHANGE_READS reader.new.turns) }
-    ensures bounded { reader.old.turns ≤ MAX_EXCHANGE_READS → reader.new.turns ≤ MAX_EXCHANGE_READS }
+    ensures bounded { reader.old.turns ≤ MAX_EXCHANGE_READS
+        → reader.new.turns ≤ MAX_EXCHANGE_READS }
 {
     let mut piece = [0; MAX_PIECE_LENGTH];
     let room = most.min(MAX_PIECE_LENGTH);
@@ -91,7 +92,8 @@ pub(crate) fn read_body<R: Read>(
     ensures few { result.read ≤ length }
     ensures fault { IfErr result.body (λ fault. fault ≡ AskFault.ReadFault
         → IsFaulted reader.new.failed MAX_EXCHANGE_READS reader.new.turns) }
-    ensures bounded { reader.old.turns ≤ MAX_EXCHANGE_READS → reader.new.turns ≤ MAX_EXCHANGE_READS }
+    ensures bounded { reader.old.turns ≤ MAX_EXCHANGE_READS
+        → reader.new.turns ≤ MAX_EXCHANGE_READS }
 {
     let mut body = Vec::new(alloc);
     let held = length.min(after.len());

@@ -35,12 +35,14 @@ impl<'b> Values<'b> {
         }
     }
 
-    /// With the value of one line more, where that line has this name, which is given in lower case.
+    /// With the value of one line more, where that line has this name, which is given in lower
+    /// case.
     fn with_line(self, prefix: &'b [u8], line: &HeaderSpan, name: &[u8]) -> Self
         requires within { IsHeaderWithin (length prefix.now) line.now }
         requires lower { map to_ascii_lowercase name.now ≡ name.now }
         ensures { (lines : Lines) → AreFound (values_of name.now lines) self.entry
-            → AreFound (values_of name.now (lines ++ header_bytes prefix.now line.now ∷ [])) result }
+            → AreFound (values_of name.now (lines ++ header_bytes prefix.now line.now ∷ []))
+            result }
     {
         if !is_named(prefix, line, name) {
             return self;

@@ -1,6 +1,7 @@
 //! Reads until a whole head of a request stands in memory, or until it is clear that none will.
-ghost use Rattle.std.specs.Prelude.{◌≡◌, ◌<◌, ◌≤◌, ◌⊎◌, ◌+◌, ◌++◌, ℕ, List, [], length, take, true, IfOk, OnOk, OnErr};
+ghost use Rattle.std.specs.Prelude.{◌≡◌, ◌<◌, ◌≤◌, ◌+◌, ◌++◌, ℕ, List, [], length, take, IfOk, OnOk, OnErr};
 ghost use Rattle.std.specs.Io.KnownBytes.{Consumes, IsAtEnd, Keeps};
+ghost use Rattle.streams.specs.Watched.{IsFaulted};
 ghost use Rattle.http_messages.specs.HeadSearch.{Finds};
 
 use httparse::spans::{EMPTY_HEADER_SPAN, HeaderSpan, RequestSpans, parse_request};
@@ -77,13 +78,14 @@ impl Prefix {
         ensures end { IfOk result (λ n. n ≡ 0 → IsAtEnd (R.remaining reader.new.inner)) }
         ensures kept { OnErr result ((self.new ≡ self.old)
             × Keeps (R.remaining reader.old.inner) (R.remaining reader.new.inner)) }
-        ensures later { OnOk result (reader.old.turns < reader.new.turns) }
-        ensures sound { OnOk result (reader.new.failed ≡ reader.old.failed) }
-        ensures err { OnErr result ((reader.new.failed ≡ true)
-            ⊎ (MAX_EXCHANGE_READS ≤ reader.new.turns)) }
         ensures turns { reader.old.turns ≤ reader.new.turns }
-        ensures bounded { reader.old.turns ≤ MAX_EXCHANGE_READS → reader.new.turns ≤ MAX_EXCHANGE_READS }
+        ensures later { OnOk result (reader.old.turns < reader.new.turns) }
         ensures bound { OnOk result (reader.new.turns ≤ MAX_EXCHANGE_READS) }
+        ensures bounded { reader.old.turns ≤ MAX_EXCHANGE_READS
+            → reader.new.turns ≤ MAX_EXCHANGE_READS }
+        ensures sound { OnOk result (reader.new.failed ≡ reader.old.failed) }
+        ensures err { OnErr result
+            (IsFaulted reader.new.failed MAX_EXCHANGE_READS reader.new.turns) }
     {
         let filled = self.filled;
         let count = reader.read_piece(MAX_EXCHANGE_READS, &mut self.bytes[filled..])?;
@@ -103,10 +105,11 @@ impl Prefix {
             self.new }
         ensures short { length self.new ≤ MAX_HEAD_LENGTH }
         ensures sound { OnOk result (reader.new.failed ≡ reader.old.failed) }
-        ensures err { OnErr result ((reader.new.failed ≡ true)
-            ⊎ (MAX_EXCHANGE_READS ≤ reader.new.turns)) }
+        ensures err { OnErr result
+            (IsFaulted reader.new.failed MAX_EXCHANGE_READS reader.new.turns) }
         ensures turns { reader.old.turns ≤ reader.new.turns }
-        ensures bounded { reader.old.turns ≤ MAX_EXCHANGE_READS → reader.new.turns ≤ MAX_EXCHANGE_READS }
+        ensures bounded { reader.old.turns ≤ MAX_EXCHANGE_READS
+            → reader.new.turns ≤ MAX_EXCHANGE_READS }
     {
         'reads: loop {
             match parse_request(self.bytes(), headers) {

@@ -1,7 +1,8 @@
 //! Laws of the definition of the exchange.
 ghost use Rattle.http_messages.specs.HeadLaws.{GivesOneAnswer, TellsHeads};
 
-/// A whole head is never refused as a head, and where none stands one refusal is told, save in the place that is left open.
+/// A whole head is never refused as a head, and where none stands one refusal is told, save in the
+/// place that is left open.
 pub fn tells_heads()
     ensures { TellsHeads }
 {}

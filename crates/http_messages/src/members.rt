@@ -3,12 +3,12 @@ ghost use Rattle.std.specs.Prelude.{◌≡◌, ◌≢◌, ◌↔◌, ◌<◌, �
 ghost use Rattle.std.specs.Prelude.{Option, IsTrue, IfSome, IfNone};
 ghost use Rattle.serde_json.specs.Data.{Data, Members, string, member, no_members};
 ghost use Rattle.serde_json.specs.View.{view, members_view};
+ghost use Rattle.moment_core.specs.Moment.{IsMoment};
 ghost use Rattle.lifecycle_core.specs.declared.reason.Reason.{Reason};
 ghost use Rattle.lifecycle_core.specs.Reason.{reason_code};
+ghost use Rattle.period_core.specs.Period.{Period, IsPeriod};
 ghost use Rattle.period_core.specs.declared.key_type.KeyType.{KeyType};
 ghost use Rattle.period_core.specs.KeyType.{key_type_text};
-ghost use Rattle.period_core.specs.Period.{Period, IsPeriod};
-ghost use Rattle.moment_core.specs.Moment.{IsMoment};
 ghost use Rattle.register_core.specs.Name.{IsName};
 ghost use Rattle.register_core.specs.Purpose.{IsPurpose};
 ghost use Rattle.register_core.specs.Quorum.{IsQuorum};

@@ -1,4 +1,5 @@
-//! The tests by what they are about: the requests of bodies, the heads of inputs, their bounds, and the texts of replies.
+//! The tests by what they are about: the requests of bodies, the heads of inputs, their bounds, and
+//! the texts of replies.
 mod commands;
 mod heads;
 mod inputs;

@@ -11,11 +11,6 @@ has_of [] x (i, below, is) = absurd (omega arith)
 has_of (y ∷ ys) x (zero, below, is) = inl (sym is)
 has_of (y ∷ ys) x (suc i, below, is) = inr (has_of ys x (i, omega arith, is))
 
-pub contains_of : {A : Type 0} (xs : List A) (x : A) → Has xs x → Contains xs x
-contains_of [] x h = absurd h
-contains_of (y ∷ ys) x (inl e) = (0, omega arith, sym e)
-contains_of (y ∷ ys) x (inr h) = let r = contains_of ys x h in (suc r.0, omega arith, r.2)
-
 -- what holds of all holds of each
 pub each_of : {A : Type 0} (P : A → Type 0) (xs : List A) → AllByRecursion P xs → (x : A) → Has xs x
     → P x
@@ -27,6 +22,11 @@ pub all_of : {A : Type 0} (P : A → Type 0) (xs : List A) → ((x : A) → Has 
     → AllByRecursion P xs
 all_of P [] each = tt
 all_of P (y ∷ ys) each = (each y (inl refl), all_of P ys (λ x h. each x (inr h)))
+
+pub contains_of : {A : Type 0} (xs : List A) (x : A) → Has xs x → Contains xs x
+contains_of [] x h = absurd h
+contains_of (y ∷ ys) x (inl e) = (0, omega arith, sym e)
+contains_of (y ∷ ys) x (inr h) = let r = contains_of ys x h in (suc r.0, omega arith, r.2)
 
 -- one more at the end
 pub has_before : {A : Type 0} (xs : List A) (y x : A) → Has xs x → Has (xs ++ y ∷ []) x

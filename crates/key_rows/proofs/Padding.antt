@@ -6,10 +6,8 @@ use Rattle.std.specs.List.{repeat}
 use Rattle.std.proofs.lemmas.List.{append-nil}
 use Rattle.std.specs.Fmt.{styled_decimal, styled_text, format_spec, padded_integral, padded, char_count, take_chars}
 use Rattle.period_core.specs.declared.key_type.KeyType.{KeyType}
-use Rattle.period_core.specs.declared.key_type.KeyType.TheVariants.{DataEncryption, Authentication}
-use Rattle.period_core.specs.declared.key_type.KeyType.TheVariants.{KeyWrapping, PrivateSignature}
-use Rattle.period_core.specs.declared.key_type.KeyType.TheVariants.{PrivateAuthentication, PrivateTransport, Master}
 use Rattle.period_core.specs.KeyType.{key_type_text}
+use Rattle.period_core.proofs.Types.{of_each_type}
 use Rattle.lifecycle_core.specs.State.{is_reached_at}
 use Rattle.key_rows.specs.declared.key_row.KeyRow.{KeyRow}
 use Rattle.key_rows.specs.Export.{date_text}
@@ -48,13 +46,9 @@ mark_left false false = refl
 
 pub kind_left : (kind : KeyType) → to_left 22 (key_type_text kind) ≡ left 22 (key_type_text kind)
 unfolding padded char_count take_chars lib.Utf8.encode
-kind_left DataEncryption = refl
-kind_left Authentication = refl
-kind_left KeyWrapping = refl
-kind_left PrivateSignature = refl
-kind_left PrivateAuthentication = refl
-kind_left PrivateTransport = refl
-kind_left Master = refl
+kind_left =
+    of_each_type (λ kind. to_left 22 (key_type_text kind) ≡ left 22 (key_type_text kind)) refl refl refl refl refl
+    refl refl
 
 -- a line, as one `format!` writes it
 abbrev pub formatted : ℕ → ℕ → KeyRow → List ℕ

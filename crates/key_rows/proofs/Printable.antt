@@ -9,14 +9,11 @@ use Rattle.std.proofs.lemmas.List.Folds.{list_all-append}
 use Rattle.std.proofs.lemmas.Str.Ascii.{IsAscii-nil, IsAscii-cons}
 use Rattle.std.proofs.lemmas.Fmt.{decimal_by_steps}
 use Rattle.period_core.specs.declared.key_type.KeyType.{KeyType}
-use Rattle.period_core.specs.declared.key_type.KeyType.TheVariants.{DataEncryption, Authentication}
-use Rattle.period_core.specs.declared.key_type.KeyType.TheVariants.{KeyWrapping, PrivateSignature}
-use Rattle.period_core.specs.declared.key_type.KeyType.TheVariants.{PrivateAuthentication, PrivateTransport, Master}
 use Rattle.period_core.specs.KeyType.{key_type_text}
+use Rattle.period_core.proofs.Types.{of_each_type}
 use Rattle.lifecycle_core.specs.declared.state.State.{State}
-use Rattle.lifecycle_core.specs.declared.state.State.TheVariants.{PreActive, Active, Deactivated}
-use Rattle.lifecycle_core.specs.declared.state.State.TheVariants.{Compromised, Destroyed, DestroyedCompromised}
 use Rattle.lifecycle_core.specs.State.{state_text}
+use Rattle.lifecycle_core.proofs.States.{of_each_state}
 use Rattle.moment_core.specs.MomentText.{moment_text}
 use Rattle.register_core.specs.Name.{IsName, is_name_byte}
 use Rattle.register_core.specs.Purpose.{IsPurpose, is_purpose_byte}
@@ -107,21 +104,10 @@ date_printable None = refl
 date_printable (Some date) = plain_printable (moment_text date) (moment_plain date)
 
 kind_printable : (kind : KeyType) → IsPrintable (key_type_text kind)
-kind_printable DataEncryption = refl
-kind_printable Authentication = refl
-kind_printable KeyWrapping = refl
-kind_printable PrivateSignature = refl
-kind_printable PrivateAuthentication = refl
-kind_printable PrivateTransport = refl
-kind_printable Master = refl
+kind_printable = of_each_type (λ kind. IsPrintable (key_type_text kind)) refl refl refl refl refl refl refl
 
 state_printable : (state : State) → IsPrintable (state_text state)
-state_printable PreActive = refl
-state_printable Active = refl
-state_printable Deactivated = refl
-state_printable Compromised = refl
-state_printable Destroyed = refl
-state_printable DestroyedCompromised = refl
+state_printable = of_each_state (λ state. IsPrintable (state_text state)) refl refl refl refl refl refl
 
 name_byte : (b : ℕ) → is_name_byte b ≡ true → nat_le 32 b ≡ true
 name_byte b is = grind (arith, nat_tests)

@@ -1,5 +1,5 @@
-//! Laws about the rows that are due for rotation, or listed beside these. Each function does nothing: its contract is the
-//! law.
+//! Laws about the rows that are due for rotation, or listed beside these. Each function does
+//! nothing: its contract is the law.
 ghost use Rattle.std.specs.Prelude.{◌≡◌, ℕ, Bool, List, ◌++◌};
 ghost use Rattle.key_rows.specs.declared.key_row.KeyRow.{KeyRow};
 ghost use Rattle.key_rows.specs.DueRows.{AreDue, AreFirstDue, AreThose, HaveOwnNumbers};

@@ -1,7 +1,9 @@
 -- The reasons for which a key is revoked: KMIP 1.2, Revocation Reason.
 use Rattle.std.specs.Prelude.{ℕ, Bool, true, false}
 use Rattle.lifecycle_core.specs.declared.reason.Reason.{Reason}
-use Rattle.lifecycle_core.specs.declared.reason.Reason.TheVariants.{Unspecified, KeyCompromise, CaCompromise, AffiliationChanged, Superseded, CessationOfOperation, PrivilegeWithdrawn}
+use Rattle.lifecycle_core.specs.declared.reason.Reason.TheVariants.{Unspecified, KeyCompromise, CaCompromise}
+use Rattle.lifecycle_core.specs.declared.reason.Reason.TheVariants.{AffiliationChanged, Superseded}
+use Rattle.lifecycle_core.specs.declared.reason.Reason.TheVariants.{CessationOfOperation, PrivilegeWithdrawn}
 
 -- the value of a reason in KMIP 1.2: its Revocation Reason Code Enumeration
 abbrev pub reason_code : Reason → ℕ

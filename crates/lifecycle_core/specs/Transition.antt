@@ -1,7 +1,8 @@
 -- The transitions between the states of a key, and the paths that they make: KMIP 1.2, State.
 use Rattle.std.specs.Prelude.{◌≡◌, List, [], ◌∷◌, Contains, Option, None, Some}
 use Rattle.lifecycle_core.specs.declared.state.State.{State}
-use Rattle.lifecycle_core.specs.declared.state.State.TheVariants.{PreActive, Active, Deactivated, Compromised, Destroyed, DestroyedCompromised}
+use Rattle.lifecycle_core.specs.declared.state.State.TheVariants.{PreActive, Active, Deactivated, Compromised}
+use Rattle.lifecycle_core.specs.declared.state.State.TheVariants.{Destroyed, DestroyedCompromised}
 
 -- the ten transitions in the standard's order, each from a state to a state; the first creates the
 -- key, which has no state before it

@@ -4,8 +4,8 @@ ghost use Rattle.lifecycle_core.specs.Transition.{IsTransition};
 
 use crate::state::State;
 
-/// Whether a key may go from one state to another in one step: the transitions 2 to 10 of KMIP 1.2's
-/// State. (By transition 1 a key is created, and has no state before it.)
+/// Whether a key may go from one state to another in one step: the transitions 2 to 10 of KMIP
+/// 1.2's State. (By transition 1 a key is created, and has no state before it.)
 pub fn may(from: State, to: State) -> bool
     ensures { IsTrue result ↔ IsTransition (Some from) to }
 {

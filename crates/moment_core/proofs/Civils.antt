@@ -1,7 +1,9 @@
 -- Each day's date is one of the calendar, and its number is the day.
-use Rattle.std.proofs.Common.{◌≡◌, ℕ, zero, suc, ◌+◌, ◌-◌, ◌<◌, ◌≤◌, cond, nat_lt, Bool, true, false, refl, sym, ap, ◌∙◌, arith}
+use Rattle.std.proofs.Common.{◌≡◌, ℕ, zero, suc, ◌+◌, ◌-◌, ◌<◌, ◌≤◌, cond, nat_lt, Bool, true, false, refl, sym, ap}
+use Rattle.std.proofs.Common.{◌∙◌, arith}
 use Rattle.std.proofs.lemmas.Bool.{ltb-false, ltb-true}
-use Rattle.moment_core.specs.Calendar.{Civil, IsCivil, is_leap, month_days, year_days, next_day, civil, days_of_years, days_of_months, day_number}
+use Rattle.moment_core.specs.Calendar.{Civil, IsCivil, is_leap, month_days, year_days, next_day, civil, days_of_years}
+use Rattle.moment_core.specs.Calendar.{days_of_months, day_number}
 
 pub month_days_bounds : (y m : ℕ) → (28 ≤ month_days y m) × (month_days y m ≤ 31)
 month_days_bounds y m = grind arith

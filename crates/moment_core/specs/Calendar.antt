@@ -1,6 +1,7 @@
 -- The civil calendar of UTC, by its own rules (ISO 8601, the Gregorian calendar), and months added
 -- to moments.
-use Rattle.std.specs.Prelude.{ℕ, ◌≤◌, zero, suc, ◌+◌, ◌-◌, ◌*◌, ◌/◌, ◌%◌, ◌==◌, nat_lt, nat_le, min, Bool, not, ◌&&◌, ◌||◌, Option, None, Some, if◌then◌else◌}
+use Rattle.std.specs.Prelude.{ℕ, ◌≤◌, zero, suc, ◌+◌, ◌-◌, ◌*◌, ◌/◌, ◌%◌, ◌==◌, nat_lt, nat_le, min, Bool, not, ◌&&◌}
+use Rattle.std.specs.Prelude.{◌||◌, Option, None, Some, if◌then◌else◌}
 use Rattle.moment_core.specs.Moment.{last_second}
 
 -- a civil date: the year, the month from 1 to 12, and the day of the month from 1

@@ -1,20 +1,14 @@
 -- What is set for each type, once something is set for one.
 use Rattle.std.proofs.Common.{◌≡◌, ◌==◌, cond, Option, refl}
 use Rattle.period_core.specs.declared.key_type.KeyType.{KeyType}
-use Rattle.period_core.specs.declared.key_type.KeyType.TheVariants.{DataEncryption, Authentication, KeyWrapping, PrivateSignature, PrivateAuthentication, PrivateTransport, Master}
 use Rattle.period_core.specs.declared.office.OfficePeriods.{OfficePeriods}
 use Rattle.period_core.specs.KeyType.{key_type_code}
 use Rattle.period_core.specs.Office.{of_each, set_in, with_set}
 use Rattle.period_core.specs.Period.{Period}
+use Rattle.period_core.proofs.Types.{of_each_type}
 
 of_its_own : (f : KeyType → Option Period) (kind : KeyType) → set_in (of_each f) kind ≡ f kind
-of_its_own f DataEncryption = refl
-of_its_own f Authentication = refl
-of_its_own f KeyWrapping = refl
-of_its_own f PrivateSignature = refl
-of_its_own f PrivateAuthentication = refl
-of_its_own f PrivateTransport = refl
-of_its_own f Master = refl
+of_its_own f = of_each_type (λ kind. set_in (of_each f) kind ≡ f kind) refl refl refl refl refl refl refl
 
 pub set_then : (set : OfficePeriods) (kind : KeyType) (period : Option Period) (other : KeyType)
     → set_in (with_set set kind period) other

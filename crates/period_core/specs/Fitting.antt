@@ -1,11 +1,12 @@
 -- Which dates fit a usage period, and what Fill and Trim make of dates. All of it is this register's
 -- own.
-use Rattle.std.specs.Prelude.{◌≡◌, ◌≤◌, ℕ, nat_lt, nat_le, min, Bool, true, not, ◌&&◌, ◌||◌, List, [], ◌∷◌, Option, None, Some, is_some, is_none, Result, Ok, Err, IsTrue, if◌then◌else◌}
+use Rattle.std.specs.Prelude.{◌≡◌, ◌≤◌, ℕ, nat_lt, nat_le, min, Bool, true, not, ◌&&◌, ◌||◌, List, [], ◌∷◌, Option}
+use Rattle.std.specs.Prelude.{None, Some, is_some, is_none, Result, Ok, Err, IsTrue, if◌then◌else◌}
 use Rattle.lifecycle_core.specs.declared.dates.Dates.{Dates}
 use Rattle.moment_core.specs.Calendar.{months_after}
 use Rattle.period_core.specs.Period.{Period}
-use Rattle.period_core.specs.declared.filling.DateRefusal.{DateRefusal}
-use Rattle.period_core.specs.declared.filling.DateRefusal.TheVariants.{DateOrder, PeriodTooLong, DateRange}
+use Rattle.period_core.specs.declared.fitting.DateRefusal.{DateRefusal}
+use Rattle.period_core.specs.declared.fitting.DateRefusal.TheVariants.{DateOrder, PeriodTooLong, DateRange}
 
 -- the first date is not after the second, where both are set
 abbrev pub is_not_after : Option ℕ → Option ℕ → Bool

@@ -1,12 +1,28 @@
-//! Which dates fit a usage period, and what a date becomes that is not given, rule by rule.
-ghost use Rattle.std.specs.Prelude.{◌≡◌, ◌↔◌, ◌||◌, ◌&&◌, is_some, is_none, IsTrue};
+//! Which dates fit a usage period, what a date becomes that is not given, and why dates are
+//! refused.
+ghost use Rattle.std.specs.Prelude.{◌≡◌, ◌≢◌, ◌↔◌, ◌||◌, ◌&&◌, ℕ, is_some, is_none, IsTrue};
+ghost use Rattle.std.specs.Prelude.{IsSome, IfErr, OnOk};
 ghost use Rattle.period_core.specs.Fitting.{Fits, is_not_after, are_in_order, originator_limit};
-ghost use Rattle.period_core.specs.Fitting.{recipient_limit, is_long, earlier_of, cut, with_protect_stop};
-ghost use Rattle.period_core.specs.Fitting.{with_deactivation, with_defaults, within_limits};
+ghost use Rattle.period_core.specs.Fitting.{recipient_limit, is_long, earlier_of, cut};
+ghost use Rattle.period_core.specs.Fitting.{with_protect_stop, with_deactivation, with_defaults};
+ghost use Rattle.period_core.specs.Fitting.{within_limits, order_refusal, length_refusal};
+ghost use Rattle.period_core.specs.Fitting.{range_refusal, fill_of, trim_of, KeepsGiven, Gives};
 
 use crate::period::Period;
 use lifecycle_core::Dates;
 use moment_core::Moment;
+
+/// Why dates are refused.
+#[derive(Clone, Copy, Debug, PartialEq, Eq)]
+pub enum DateRefusal {
+    /// Activation is after Protect Stop, Protect Stop after Deactivation, or Activation after
+    /// Deactivation.
+    DateOrder,
+    /// A use is longer than its months: the originator's first, with the limit that is passed.
+    PeriodTooLong { limit: Moment },
+    /// A date that is not given would be past the last moment.
+    DateRange,
+}
 
 /// Whether the first date is not after the second, where both are set.
 pub fn is_not_after(first: Option<Moment>, second: Option<Moment>) -> bool
@@ -56,8 +72,8 @@ pub fn fits(period: Period, dates: &Dates) -> bool
         && is_not_after(dates.deactivation, recipient_limit(period, dates))
 }
 
-/// Whether either use is longer than its months, whatever the order of the dates. A limit past the last moment limits
-/// nothing.
+/// Whether either use is longer than its months, whatever the order of the dates. A limit past the
+/// last moment limits nothing.
 pub fn is_long(period: Period, dates: &Dates) -> bool
     ensures { result ≡ is_long period dates.now }
 {
@@ -133,4 +149,92 @@ pub fn within_limits(period: Period, dates: Dates) -> Dates
         deactivation: cut(second.deactivation, recipient_limit(period, &second)),
         ..second
     }
+}
+
+fn order_refusal(dates: &Dates) -> Option<DateRefusal>
+    ensures { result ≡ order_refusal dates.now }
+{
+    if are_in_order(dates) {
+        None
+    } else {
+        Some(DateRefusal::DateOrder)
+    }
+}
+
+fn length_refusal(date: Option<Moment>, limit: Option<Moment>) -> Option<DateRefusal>
+    ensures { result ≡ length_refusal date limit }
+{
+    match (date, limit) {
+        (Some(date), Some(limit)) => {
+            if limit < date {
+                Some(DateRefusal::PeriodTooLong { limit })
+            } else {
+                None
+            }
+        }
+        _ => None,
+    }
+}
+
+fn range_refusal(dates: &Dates) -> Option<DateRefusal>
+    ensures { result ≡ range_refusal dates.now }
+{
+    if dates.activation.is_some()
+        && (dates.protect_stop.is_none() || dates.deactivation.is_none())
+    {
+        Some(DateRefusal::DateRange)
+    } else {
+        None
+    }
+}
+
+/// Fill: gives Protect Stop and Deactivation their defaults where Activation is set and they are
+/// not. A Protect Stop becomes Activation plus the originator months, or the Deactivation if that
+/// is earlier; a Deactivation becomes Protect Stop plus the recipient months.
+///
+/// # Errors
+/// The first that holds of the dates with their defaults, which leaves them as they were.
+pub fn fill(period: Period, dates: &mut Dates) -> Result<(), DateRefusal>
+    ensures gives { Gives (fill_of period dates.old) result dates.old dates.new }
+    ensures fits { OnOk result (Fits period dates.new) }
+    ensures keeps { OnOk result (KeepsGiven dates.old dates.new) }
+{
+    let full = with_defaults(period, *dates);
+    if let Some(refusal) = order_refusal(&full) {
+        return Err(refusal);
+    }
+    if let Some(refusal) = length_refusal(full.protect_stop, originator_limit(period, &full)) {
+        return Err(refusal);
+    }
+    if let Some(refusal) = length_refusal(full.deactivation, recipient_limit(period, &full)) {
+        return Err(refusal);
+    }
+    if let Some(refusal) = range_refusal(&full) {
+        return Err(refusal);
+    }
+    *dates = full;
+    Ok(())
+}
+
+/// Trim, for an activation: as [`fill`], but a date past its limit becomes the limit, so that no
+/// period is too long.
+///
+/// # Errors
+/// [`DateRefusal::DateOrder`] or [`DateRefusal::DateRange`], which leaves the dates as they were.
+pub fn trim(period: Period, dates: &mut Dates) -> Result<(), DateRefusal>
+    requires { IsSome dates.old.activation }
+    ensures gives { Gives (trim_of period dates.old) result dates.old dates.new }
+    ensures fits { OnOk result (Fits period dates.new) }
+    ensures never_too_long { IfErr result (λ refusal.
+        (limit : ℕ) → refusal ≢ DateRefusal.PeriodTooLong limit) }
+{
+    let full = within_limits(period, *dates);
+    if let Some(refusal) = order_refusal(&full) {
+        return Err(refusal);
+    }
+    if let Some(refusal) = range_refusal(&full) {
+        return Err(refusal);
+    }
+    *dates = full;
+    Ok(())
 }

@@ -10,15 +10,16 @@
 //! ```
 #![tactic(auto)]
 
-mod filling;
 mod fitting;
 mod key_type;
 pub mod laws;
 mod office;
 mod period;
 
-pub use filling::{DateRefusal, fill, trim};
-pub use fitting::{are_in_order, fits, is_long, is_not_after, with_defaults, within_limits};
+pub use fitting::{
+    DateRefusal, are_in_order, fill, fits, is_long, is_not_after, trim, with_defaults,
+    within_limits,
+};
 pub use key_type::KeyType;
 pub use office::OfficePeriods;
 pub use period::{MAX_MONTHS, Period, period_of};

@@ -8,8 +8,9 @@ use std::marker::Model;
 /// How many months either use of a period has at most (this register's own).
 pub const MAX_MONTHS: u16 = 1200;
 
-/// Two usage periods, in calendar months: one of originator use, from Activation to Protect Stop, in which protection is
-/// applied, and one of recipient use, from there to Deactivation, in which protected data is still processed.
+/// Two usage periods, in calendar months: one of originator use, from Activation to Protect Stop,
+/// in which protection is applied, and one of recipient use, from there to Deactivation, in which
+/// protected data is still processed.
 #[derive(Clone, Copy, Debug, PartialEq, Eq)]
 pub struct Period {
     originator: u16,
@@ -32,8 +33,8 @@ impl Period {
     ghost use Rattle.std.specs.Prelude.{◌↔◌, IsSome, IfSome};
     ghost use Rattle.period_core.specs.Period.{IsPeriod, of_months};
 
-    /// The period of so many months, or `None` where they are out of range: from 1 to [`MAX_MONTHS`] of originator use, and at
-    /// most [`MAX_MONTHS`] of recipient use.
+    /// The period of so many months, or `None` where they are out of range: from 1 to
+    /// [`MAX_MONTHS`] of originator use, and at most [`MAX_MONTHS`] of recipient use.
     pub fn new(originator: u16, recipient: u16) -> Option<Self>
         ensures in_range { IsSome result ↔ IsPeriod (of_months originator recipient) }
         ensures value { IfSome result (λ p. p ≡ of_months originator recipient) }
@@ -63,8 +64,8 @@ impl Period {
     }
 }
 
-/// The usage periods of a type. The months are this register's own, chosen with the cryptoperiods that SP 800-57 Part 1
-/// suggests in view.
+/// The usage periods of a type. The months are this register's own, chosen with the cryptoperiods
+/// that SP 800-57 Part 1 suggests in view.
 pub fn period_of(kind: KeyType) -> Period
     ensures { result ≡ periods kind }
 {

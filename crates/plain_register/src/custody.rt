@@ -1,5 +1,5 @@
-//! The custody of a key: its custodians, those whose approval of its destruction stands, and how many approvals that
-//! needs.
+//! The custody of a key: its custodians, those whose approval of its destruction stands, and how
+//! many approvals that needs.
 ghost use Rattle.std.specs.Prelude.{◌≡◌, ◌+◌, ◌<◌, ◌≤◌, ◌^◌, length, take, drop, slice_index_or};
 ghost use Rattle.std.specs.Prelude.{ℕ, IfOk, if◌then◌else◌};
 ghost use Rattle.register_core.specs.declared.request.Request.{Request};
@@ -144,7 +144,8 @@ pub(crate) fn approvals(alloc: Global, history: &[Request], key: u32) -> Result<
     Ok(names)
 }
 
-/// What the owner of the key asks for after the command, whatever number of keys was made before it.
+/// What the owner of the key asks for after the command, whatever number of keys was made before
+/// it.
 fn need_with(before: Option<Quorum>, key: u32, command: &Command) -> Option<Quorum>
     ensures { (made : ℕ) → result ≡ (if is_key key (key_of made command.now)
         then need_after before command.now else before) }

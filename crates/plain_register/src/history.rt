@@ -1,5 +1,5 @@
-//! What a history makes of its latest moment, its keys, the periods of the types, and the type, the owner and the dates of
-//! each key.
+//! What a history makes of its latest moment, its keys, the periods of the types, and the type, the
+//! owner and the dates of each key.
 ghost use Rattle.std.specs.Prelude.{◌≡◌, ◌+◌, ◌^◌, ◌<◌, ◌≤◌, [], length};
 ghost use Rattle.std.specs.Prelude.{unwrap_or, IsSome, if◌then◌else◌};
 ghost use Rattle.register_core.specs.History.{latest, count, period, type, owner, dates};

@@ -1,5 +1,6 @@
-//! The model of the register computed as it is defined: each answer anew from the whole list of the accepted requests. It is
-//! slow, and stands beside the definitions so that tests can compare other bodies with it on small inputs.
+//! The model of the register computed as it is defined: each answer anew from the whole list of the
+//! accepted requests. It is slow, and stands beside the definitions so that tests can compare other
+//! bodies with it on small inputs.
 //!
 //! ```
 //! let answers = plain_register::answers(alloc, &items)?;

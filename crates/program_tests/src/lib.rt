@@ -1,4 +1,5 @@
-//! The tests of the program: its words and statuses, registers in files of the machine, and connections that are served.
+//! The tests of the program: its words and statuses, registers in files of the machine, and
+//! connections that are served.
 #![tactic(auto)]
 
 #[cfg(test)]

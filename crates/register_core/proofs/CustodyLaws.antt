@@ -1,5 +1,6 @@
 -- Laws of the custody of keys, over lawful histories.
-use Rattle.std.proofs.Common.{◌≡◌, ℕ, ◌<◌, ◌≤◌, Bool, true, false, cond, List, [], ◌∷◌, ◌++◌, Option, None, Some, refl, sym, ap, ◌∙◌, length, arith, IsSome, ◌⊎◌, inl, inr}
+use Rattle.std.proofs.Common.{◌≡◌, ℕ, ◌<◌, ◌≤◌, Bool, true, false, cond, List, [], ◌∷◌, ◌++◌, Option, None, Some}
+use Rattle.std.proofs.Common.{refl, sym, ap, ◌∙◌, length, arith, IsSome, ◌⊎◌, inl, inr}
 use Rattle.std.specs.Prelude.{nat_eq, nat_lt, is_some}
 use Rattle.std.proofs.lemmas.Bool.{ltb-false}
 use Rattle.std.proofs.lemmas.Bool.Decides.{eqb_tells}
@@ -9,7 +10,8 @@ use Rattle.period_core.specs.Period.{Period}
 use Rattle.period_core.specs.Fitting.{with_defaults}
 use Rattle.register_core.specs.declared.request.Request.{Request}
 use Rattle.register_core.specs.declared.request.Command.{Command}
-use Rattle.register_core.specs.declared.request.Command.TheVariants.{Register as Registers, Activate, SetDates, Revoke, Destroy}
+use Rattle.register_core.specs.declared.request.Command.TheVariants.{Register as Registers, Activate, SetDates}
+use Rattle.register_core.specs.declared.request.Command.TheVariants.{Revoke, Destroy}
 use Rattle.register_core.specs.KeyName.{names_at}
 use Rattle.register_core.specs.Names.{sorted_names}
 use Rattle.register_core.specs.History.{count, type, period, dates}
@@ -40,11 +42,13 @@ NobodyAt h k = (names_at k (all_custodians h) ≡ []) × (names_at k (all_approv
 abbrev NobodyBeyond : List Request → Type 0
 NobodyBeyond h = (k : ℕ) → count h < k → NobodyAt h k
 
-nobody_next : (h : List Request) (q : Request) → IsLawful h → judgement h q ≡ None → NobodyBeyond h → NobodyBeyond (h ++ q ∷ [])
+nobody_next : (h : List Request) (q : Request) → IsLawful h → judgement h q ≡ None → NobodyBeyond h
+    → NobodyBeyond (h ++ q ∷ [])
 nobody_next h q lawful accepted before k beyond =
     let grown = count_grows h q in
     let later : count h < k = omega (arith, beyond, grown) in
-    let same = custody_same h q k accepted (λ n names. below n (omega (arith, (on_key h q n accepted names).high, later))) in
+    let same = custody_same h q k accepted
+    (λ n names. below n (omega (arith, (on_key h q n accepted names).high, later))) in
     let none = before k later in
     (same.custodians ∙ none.0, same.approvals ∙ none.1)
   where
@@ -57,10 +61,12 @@ nobody_yet h lawful = lawful_holds NobodyBeyond nobody_next (λ k beyond. (refl,
 -- ---- destroyed keys
 
 -- a request that names no key, or another, leaves the approvals of key k as they were
-other_approvals : (h : List Request) (q : Request) (k : ℕ) → judgement h q ≡ None → IsOther h q k → approvals (h ++ q ∷ []) k ≡ approvals h k
+other_approvals : (h : List Request) (q : Request) (k : ℕ) → judgement h q ≡ None → IsOther h q k
+    → approvals (h ++ q ∷ []) k ≡ approvals h k
 other_approvals h q k accepted other = ap sorted_names (custody_other h q k accepted other).approvals
 
-pub stay : (h : List Request) (q : Request) → IsAccepted h q → (k : ℕ) → HasKey h k → IsSome (dates h k).destroy → approvals (h ++ q ∷ []) k ≡ approvals h k
+pub stay : (h : List Request) (q : Request) → IsAccepted h q → (k : ℕ) → HasKey h k → IsSome (dates h k).destroy
+    → approvals (h ++ q ∷ []) k ≡ approvals h k
 stay h q is k has set = elim (which h q k (judged h q is.accepted) (omega (arith, has.1, count_grows h q))) [
   | inl made ↦ absurd (let next = made.next in omega (arith, next, has.1))
   | inr (inl on) ↦ let date = some_date (dates h k).destroy set in approvals_stay h q k date.0 on date.1
@@ -75,7 +81,8 @@ stay h q is k has set = elim (which h q k (judged h q is.accepted) (omega (arith
 abbrev IsDestruction : Command → Type 0
 IsDestruction c = (n : ℕ) × (c ≡ Destroy n)
 
-revoked_same : (b : Bool) (d : Dates) (t : ℕ) (occurrence : Option ℕ) → (cond b (compromised t occurrence d) (deactivated t d)).destroy ≡ d.destroy
+revoked_same : (b : Bool) (d : Dates) (t : ℕ) (occurrence : Option ℕ)
+    → (cond b (compromised t occurrence d) (deactivated t d)).destroy ≡ d.destroy
 revoked_same true d t occurrence = refl
 revoked_same false d t occurrence = refl
 
@@ -89,12 +96,17 @@ destroy_same p d t k (Revoke n reason occurrence) names = inr (revoked_same (is_
 destroy_same p d t k (Destroy n) names = inl (n, refl)
 destroy_same p d t k c names = inr refl
 
-destroyed_enough : (h : List Request) (q : Request) (k n : ℕ) → IsLawful h → IsOn h q k → q.command ≡ Destroy n → min_approvals ≤ length (approvals (h ++ q ∷ []) k)
+destroyed_enough : (h : List Request) (q : Request) (k n : ℕ) → IsLawful h → IsOn h q k → q.command ≡ Destroy n
+    → min_approvals ≤ length (approvals (h ++ q ∷ []) k)
 destroyed_enough h q k n lawful on is =
     let lead = custody_lead h q k on.names on.new in
     let same : approvals (h ++ q ∷ []) k ≡ approvals h k =
-    ap (λ entries. sorted_names (names_at k entries)) (lead.approvals_are ∙ ap (λ (c : Command). approvals_by k (custody_change (dates h k) q.caller c) (all_approvals h)) is) in
-    let enough = ltb-false _ _ (not_refused (nat_lt (length (approvals h k)) (need h k)) _ (ap (approvals_missing (Some (standing h k))) (sym is) ∙ on.enough)) in
+    ap (λ entries. sorted_names (names_at k entries))
+    (lead.approvals_are
+    ∙ ap (λ (c : Command). approvals_by k (custody_change (dates h k) q.caller c) (all_approvals h)) is) in
+    let enough = ltb-false _ _
+    (not_refused (nat_lt (length (approvals h k)) (need h k)) _
+    (ap (approvals_missing (Some (standing h k))) (sym is) ∙ on.enough)) in
     omega (arith, (need_in_range h lawful.in_range k).0, enough, ap length same)
 
 abbrev AllApproved : List Request → Type 0
@@ -112,17 +124,20 @@ approved_next h q is before k has set = elim (which h q k (judged h q is.accepte
   | inr (inl on) ↦ elim (destroy_same (period h (type h k)) (dates h k) q.moment k q.command on.names) [
     | inl destruction ↦ destroyed_enough h q k destruction.0 is.lawful on destruction.1
     | inr same ↦
-        let was : IsSome (dates h k).destroy = sym (ap is_some (ap (λ (d : Dates). d.destroy) (dates_named h q k on.names) ∙ same)) ∙ set in
+        let was : IsSome (dates h k).destroy = sym
+        (ap is_some (ap (λ (d : Dates). d.destroy) (dates_named h q k on.names) ∙ same)) ∙ set in
         let enough = before k (on.low, on.high) was in
         let stays = stay h q is k (on.low, on.high) was in
         omega (arith, enough, ap length stays)
   ]
   | inr (inr other) ↦
-      let was : IsSome (dates h k).destroy = sym (ap (λ (d : Dates). is_some d.destroy) (dates_other h q k other.other)) ∙ set in
+      let was : IsSome (dates h k).destroy = sym
+      (ap (λ (d : Dates). is_some d.destroy) (dates_other h q k other.other)) ∙ set in
       let enough = before k (has.0, other.high) was in
       omega (arith, enough, ap length (other_approvals h q k (judged h q is.accepted) other))
 ]
 
 pub enough : (h : List Request) (q : Request) → IsAccepted h q → AllApproved (h ++ q ∷ [])
 enough h q is =
-    approved_next h q is (holds_of_each AllApproved approved_next (λ k has set. absurd (omega (arith, has.0, has.1))) h is.lawful)
+    approved_next h q is
+    (holds_of_each AllApproved approved_next (λ k has set. absurd (omega (arith, has.0, has.1))) h is.lawful)

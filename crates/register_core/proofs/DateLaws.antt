@@ -31,7 +31,8 @@ made_sound h q k made =
     let given : Dates = given_to q r in
     let span : Period = period h r.kind in
     let fit =
-    filled_fits span given (sym (ap (dates_refusal (period h) None q.moment) (is_registration q.command r made.makes)) ∙ made.fit) in
+    filled_fits span given (sym (ap (dates_refusal (period h) None q.moment) (is_registration q.command r made.makes))
+    ∙ made.fit) in
     let set = ap (dated_by (h ++ q ∷ [])) made.next ∙ dated_made h q r made.makes in
     let its = dates_when_made h q k made in
     sound_as span _ (with_defaults span given) _ set its
@@ -65,11 +66,13 @@ all_sound h lawful = lawful_holds AllSound sound_next (λ k has. absurd (omega (
 pub sound_after : (h : List Request) (q : Request) → IsAccepted h q → AllSound (h ++ q ∷ [])
 sound_after h q is = sound_next h q is.lawful (judged h q is.accepted) (all_sound h is.lawful)
 
-pub freeze : (h : List Request) (q : Request) → IsAccepted h q → (k : ℕ) → HasKey h k → MovesOnly (dates h k) q.moment (dates (h ++ q ∷ []) k)
+pub freeze : (h : List Request) (q : Request) → IsAccepted h q → (k : ℕ) → HasKey h k
+    → MovesOnly (dates h k) q.moment (dates (h ++ q ∷ []) k)
 freeze h q is k has = elim (which h q k (judged h q is.accepted) (omega (arith, has.1, count_grows h q))) [
   | inl made ↦ absurd (let next = made.next in omega (arith, next, has.1))
   | inr (inl on) ↦
       let steps = on_steps h q k on (all_sound h is.lawful k has) in
       subst (MovesOnly (dates h k) q.moment) (sym (dates_named h q k on.names)) steps.moves
-  | inr (inr other) ↦ subst (MovesOnly (dates h k) q.moment) (sym (dates_other h q k other.other)) (nothing_moves (dates h k) q.moment)
+  | inr (inr other) ↦ subst (MovesOnly (dates h k) q.moment) (sym (dates_other h q k other.other))
+      (nothing_moves (dates h k) q.moment)
 ]

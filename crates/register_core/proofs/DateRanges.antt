@@ -1,5 +1,6 @@
 -- Every date of a key is a moment.
-use Rattle.std.proofs.Common.{◌≡◌, ℕ, nat_le, Bool, true, false, not, ◌&&◌, cond, List, [], ◌∷◌, ◌++◌, Option, None, Some, refl, sym, subst, arith}
+use Rattle.std.proofs.Common.{◌≡◌, ℕ, nat_le, Bool, true, false, not, ◌&&◌, cond, List, [], ◌∷◌, ◌++◌, Option, None}
+use Rattle.std.proofs.Common.{Some, refl, sym, subst, arith}
 use Rattle.std.specs.Prelude.{fold, is_some, is_none}
 use Rattle.std.specs.List.{AllByRecursion}
 use Rattle.std.proofs.lemmas.Bool.{leb-true}
@@ -8,11 +9,12 @@ use Rattle.lifecycle_core.specs.declared.dates.Dates.{Dates}
 use Rattle.lifecycle_core.specs.Reason.{is_compromise}
 use Rattle.moment_core.specs.Calendar.{in_range, months_after}
 use Rattle.moment_core.specs.Moment.{IsMoment, last_second}
-use Rattle.period_core.specs.Fitting.{cut, earlier_of, with_defaults, months_on_date, originator_limit, recipient_limit, within_limits}
-use Rattle.period_core.specs.Fitting.{with_deactivation, with_protect_stop}
+use Rattle.period_core.specs.Fitting.{cut, earlier_of, with_defaults, months_on_date, originator_limit}
+use Rattle.period_core.specs.Fitting.{recipient_limit, within_limits, with_deactivation, with_protect_stop}
 use Rattle.period_core.specs.Period.{Period}
 use Rattle.register_core.specs.declared.request.Command.{Command}
-use Rattle.register_core.specs.declared.request.Command.TheVariants.{Register as Registers, Activate, SetDates, Revoke, Destroy}
+use Rattle.register_core.specs.declared.request.Command.TheVariants.{Register as Registers, Activate, SetDates}
+use Rattle.register_core.specs.declared.request.Command.TheVariants.{Revoke, Destroy}
 use Rattle.register_core.specs.declared.request.Edit.{Edit}
 use Rattle.register_core.specs.declared.request.Edit.TheVariants.{Keep, Clear, Set}
 use Rattle.register_core.specs.declared.request.Request.{Request}
@@ -74,7 +76,8 @@ with_stop : (p : Period) (d : Dates) → AreDates d → AreDates (with_protect_s
 with_stop p d are =
     either (is_some d.activation && is_none d.protect_stop) _ d (record {
       activation = are.activation;
-      protect_stop = earlier_in (originator_limit p d) d.deactivation (limit_in d.activation p.originator) are.deactivation;
+      protect_stop = earlier_in (originator_limit p d) d.deactivation (limit_in d.activation p.originator)
+          are.deactivation;
       deactivation = are.deactivation;
     }) are
 

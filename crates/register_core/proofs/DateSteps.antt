@@ -1,5 +1,6 @@
 -- What an accepted command makes of the dates of its key: they stay sound, and move only where they may.
-use Rattle.std.proofs.Common.{◌≡◌, ℕ, ◌≤◌, Bool, true, false, not, ◌&&◌, ◌||◌, cond, [], ◌∷◌, Option, None, Some, refl, sym, ap, subst, ◌∙◌, arith, ◌⊎◌, inl, inr, IsTrue}
+use Rattle.std.proofs.Common.{◌≡◌, ℕ, ◌≤◌, Bool, true, false, not, ◌&&◌, ◌||◌, cond, [], ◌∷◌, Option, None, Some}
+use Rattle.std.proofs.Common.{refl, sym, ap, subst, ◌∙◌, arith, ◌⊎◌, inl, inr, IsTrue}
 use Rattle.std.specs.Prelude.{min, is_some}
 use Rattle.std.proofs.lemmas.Bool.{le-leb, leb-true, leb-false, and_parts, and_from, cases_lt}
 use Rattle.lifecycle_core.specs.declared.state.State.{State}
@@ -14,18 +15,22 @@ use Rattle.period_core.specs.Period.{Period}
 use Rattle.period_core.specs.Period.{periods}
 use Rattle.period_core.specs.Fitting.{is_not_after, months_on_date, Fits, KeepsDate, cut, with_defaults, within_limits}
 use Rattle.register_core.specs.declared.request.Command.{Command}
-use Rattle.register_core.specs.declared.request.Command.TheVariants.{Register as Registers, Activate, SetDates, Revoke, Destroy}
+use Rattle.register_core.specs.declared.request.Command.TheVariants.{Register as Registers, Activate, SetDates}
+use Rattle.register_core.specs.declared.request.Command.TheVariants.{Revoke, Destroy}
 use Rattle.register_core.specs.declared.request.Edit.{Edit}
 use Rattle.register_core.specs.declared.request.Edit.TheVariants.{Keep, Clear, Set}
 use Rattle.register_core.specs.declared.view.Held.{Held}
-use Rattle.register_core.specs.Effect.{apply_edit, edited_dates, cut_at, compromised, deactivated, dates_after, sets_dates}
+use Rattle.register_core.specs.Effect.{apply_edit, edited_dates, cut_at, compromised, deactivated, dates_after}
+use Rattle.register_core.specs.Effect.{sets_dates}
 use Rattle.register_core.specs.CommandRule.{before_compromise, is_one_of, is_for}
 use Rattle.register_core.specs.Verdict.{keeps_date, freeze_refusal, dates_refusal}
 use Rattle.register_core.specs.Subject.{named}
 use Rattle.register_core.specs.Laws.{MovesOnly}
 use Rattle.register_core.proofs.CustodyLeads.{not_refused}
-use Rattle.register_core.proofs.Dating.{KeepsOthers, IsWhole, filled_keeps, trimmed_keeps, filled_stop, trimmed_stop, filled_fits, trimmed_fits}
-use Rattle.register_core.proofs.Showing.{Shows, shows, is_pre_active, is_active, is_early, not_destroyed, not_compromised}
+use Rattle.register_core.proofs.Dating.{KeepsOthers, IsWhole, filled_keeps, trimmed_keeps, filled_stop, trimmed_stop}
+use Rattle.register_core.proofs.Dating.{filled_fits, trimmed_fits}
+use Rattle.register_core.proofs.Showing.{Shows, shows, is_pre_active, is_active, is_early, not_destroyed}
+use Rattle.register_core.proofs.Showing.{not_compromised}
 
 -- ---- dates that stay
 
@@ -111,7 +116,8 @@ must_keep false held e set = absurd (let f = sym e ∙ set in cc)
 
 edited_moves : (period : Period) (d : Dates) (t : ℕ) (activation protect_stop deactivation : Edit)
     → (state_at d t ≡ PreActive) ⊎ (state_at d t ≡ Active)
-    → (not (keeps_date activation) && not (is_one_of (PreActive ∷ []) (state_at d t))) || (not (keeps_date protect_stop) && is_reached_at d.protect_stop t) ≡ false
+    → (not (keeps_date activation) && not (is_one_of (PreActive ∷ []) (state_at d t)))
+    || (not (keeps_date protect_stop) && is_reached_at d.protect_stop t) ≡ false
     → MovesOnly d t (with_defaults period (edited_dates activation protect_stop deactivation d))
 edited_moves period d t activation protect_stop deactivation early free =
     let given : Dates = edited_dates activation protect_stop deactivation d in
@@ -121,14 +127,16 @@ edited_moves period d t activation protect_stop deactivation early free =
       activation = elim early [
         | inl pre ↦ inl pre
         | inr active ↦
-            let open_now : not (is_one_of (PreActive ∷ []) (state_at d t)) ≡ true = ap (λ (s : State). not (is_one_of (PreActive ∷ []) s)) active in
+            let open_now : not (is_one_of (PreActive ∷ []) (state_at d t))
+            ≡ true = ap (λ (s : State). not (is_one_of (PreActive ∷ []) s)) active in
             let edit = kept_edit activation (must_keep (keeps_date activation) _ both.0 open_now) in
             inr (keeps.activation ∙ ap (λ (e : Edit). apply_edit e d.activation) edit)
       ];
       deactivation = elim early [ inl pre ↦ inl pre | inr active ↦ inr (inl active) ];
       protect_stop = λ reached.
           let stop = reached_stop d.protect_stop t reached in
-          let edit = kept_edit protect_stop (must_keep (keeps_date protect_stop) (is_reached_at d.protect_stop t) both.1 reached) in
+          let edit = kept_edit protect_stop
+          (must_keep (keeps_date protect_stop) (is_reached_at d.protect_stop t) both.1 reached) in
           filled_stop period given stop.0 (ap (λ (e : Edit). apply_edit e d.protect_stop) edit ∙ stop.1) ∙ sym stop.1;
       initial = keeps.initial;
       destroy = keeps_same d.destroy _ keeps.destroy;
@@ -140,7 +148,8 @@ edited_moves period d t activation protect_stop deactivation early free =
 
 no_later : (stop : Option ℕ) (t : ℕ) → IsTrue (is_reached_at stop t) → cut_at t stop ≡ stop
 no_later None t reached = refl
-no_later (Some x) t reached = let le = leb-true x t reached in ap (λ (y : ℕ). Some y) (let e : min x t ≡ x = omega (arith, le) in e)
+no_later (Some x) t reached =
+    let le = leb-true x t reached in ap (λ (y : ℕ). Some y) (let e : min x t ≡ x = omega (arith, le) in e)
 
 deactivated_moves : (d : Dates) (t : ℕ) → state_at d t ≡ Active → MovesOnly d t (deactivated t d)
 deactivated_moves d t active = record {
@@ -153,7 +162,8 @@ deactivated_moves d t active = record {
   compromise_occurrence = keeps_same d.compromise_occurrence _ refl;
 }
 
-compromised_moves : (d : Dates) (t : ℕ) (occurrence : Option ℕ) → is_some d.compromise ≡ false → is_some d.compromise ≡ is_some d.compromise_occurrence → MovesOnly d t (compromised t occurrence d)
+compromised_moves : (d : Dates) (t : ℕ) (occurrence : Option ℕ) → is_some d.compromise ≡ false
+    → is_some d.compromise ≡ is_some d.compromise_occurrence → MovesOnly d t (compromised t occurrence d)
 compromised_moves d t occurrence none occurs = record {
   activation = inr refl;
   deactivation = inr (inr refl);
@@ -172,9 +182,11 @@ record FitsSo (period : Period) (act stop end : Option ℕ) : Type 0 where
   originator : is_not_after stop (months_on_date act period.originator) ≡ true
   recipient : is_not_after end (months_on_date stop period.recipient) ≡ true
 
-within_limit : (earlier later : ℕ) (limit : Option ℕ) → earlier ≤ later → is_not_after (Some later) limit ≡ true → is_not_after (Some earlier) limit ≡ true
+within_limit : (earlier later : ℕ) (limit : Option ℕ) → earlier ≤ later → is_not_after (Some later) limit ≡ true
+    → is_not_after (Some earlier) limit ≡ true
 within_limit earlier later None le fits = refl
-within_limit earlier later (Some limit) le fits = let high = leb-true later limit fits in le-leb earlier limit (omega (arith, le, high))
+within_limit earlier later (Some limit) le fits =
+    let high = leb-true later limit fits in le-leb earlier limit (omega (arith, le, high))
 
 before_limit : (t n : ℕ) (limit : Option ℕ) → limit ≡ months_after t n → is_not_after (Some t) limit ≡ true
 before_limit t n None is = refl
@@ -209,9 +221,17 @@ shortened period t (Some a) (Some p) (Some x) fits active open_end stopped ended
 
 parts : (period : Period) (d : Dates) → Fits period d → FitsSo period d.activation d.protect_stop d.deactivation
 parts period d fits =
-    let outer = and_parts (is_not_after d.activation d.protect_stop && is_not_after d.protect_stop d.deactivation) (is_not_after d.activation d.deactivation) fits.order in
-    let inner = and_parts (is_not_after d.activation d.protect_stop) (is_not_after d.protect_stop d.deactivation) outer.0 in
-    record { first = inner.0; second = inner.1; third = outer.1; originator = fits.originator; recipient = fits.recipient }
+    let outer = and_parts (is_not_after d.activation d.protect_stop && is_not_after d.protect_stop d.deactivation)
+    (is_not_after d.activation d.deactivation) fits.order in
+    let inner = and_parts (is_not_after d.activation d.protect_stop) (is_not_after d.protect_stop d.deactivation)
+    outer.0 in
+    record {
+      first = inner.0;
+      second = inner.1;
+      third = outer.1;
+      originator = fits.originator;
+      recipient = fits.recipient;
+    }
 
 joined : (period : Period) (d : Dates) → FitsSo period d.activation d.protect_stop d.deactivation → Fits period d
 joined period d so = record {
@@ -283,11 +303,15 @@ revoked period d t false occurrence sound fits_state =
       moves = deactivated_moves d t active;
     }
 
--- the dates are sound by the period of the type where the command gives them, and else by the one that they were sound by
-pub step : (ps : KeyType → Period) (before : Period) (key : Held) (t k : ℕ) (c : Command) → named c ≡ Some k → IsSound before key.row.dates
-    → is_for c (state_at key.row.dates t) ≡ true → freeze_refusal (Some key) t c ≡ None → dates_refusal ps (Some key) t c ≡ None
+-- the dates are sound by the period of the type where the command gives them, and else by the one that they were
+-- sound by
+pub step : (ps : KeyType → Period) (before : Period) (key : Held) (t k : ℕ) (c : Command) → named c ≡ Some k
+    → IsSound before key.row.dates
+    → is_for c (state_at key.row.dates t) ≡ true → freeze_refusal (Some key) t c ≡ None
+    → dates_refusal ps (Some key) t c ≡ None
     → Steps (cond (sets_dates c) (ps key.kind) before) key.row.dates t (dates_after (ps key.kind) key.row.dates t c)
-step ps before key t k (Registers kind owner activation protect_stop deactivation purpose) names sound fits_state free fit = absurd cc
+step ps before key t k (Registers kind owner activation protect_stop deactivation purpose) names sound fits_state free fit =
+    absurd cc
 step ps before key t k (Activate n) names sound fits_state free fit =
     let period : Period = ps key.kind in
     let d : Dates = key.row.dates in

@@ -1,12 +1,15 @@
 -- What Fill and Trim make of dates: which they keep, and that dates which they do not refuse fit.
-use Rattle.std.proofs.Common.{◌≡◌, ℕ, nat_le, Bool, true, false, ◌&&◌, ◌||◌, cond, [], ◌∷◌, Option, None, Some, refl, ap, ◌∙◌, arith}
+use Rattle.std.proofs.Common.{◌≡◌, ℕ, nat_le, Bool, true, false, ◌&&◌, ◌||◌, cond, [], ◌∷◌, Option, None, Some, refl}
+use Rattle.std.proofs.Common.{ap, ◌∙◌, arith}
 use Rattle.std.specs.Prelude.{nat_lt, min, is_some, is_none}
 use Rattle.std.proofs.lemmas.Bool.{ltb-false, le-leb}
 use Rattle.lifecycle_core.specs.declared.dates.Dates.{Dates}
 use Rattle.period_core.specs.Period.{Period}
-use Rattle.period_core.specs.declared.filling.DateRefusal.{DateRefusal}
-use Rattle.period_core.specs.declared.filling.DateRefusal.TheVariants.{DateOrder, PeriodTooLong, DateRange}
-use Rattle.period_core.specs.Fitting.{is_not_after, originator_limit, recipient_limit, Fits, earlier_of, with_protect_stop, with_deactivation, cut, with_defaults, within_limits, length_refusal, order_refusal, range_refusal, unless_refused, fill_of, trim_of}
+use Rattle.period_core.specs.declared.fitting.DateRefusal.{DateRefusal}
+use Rattle.period_core.specs.declared.fitting.DateRefusal.TheVariants.{DateOrder, PeriodTooLong, DateRange}
+use Rattle.period_core.specs.Fitting.{is_not_after, originator_limit, recipient_limit, Fits, earlier_of}
+use Rattle.period_core.specs.Fitting.{with_protect_stop, with_deactivation, cut, with_defaults, within_limits}
+use Rattle.period_core.specs.Fitting.{length_refusal, order_refusal, range_refusal, unless_refused, fill_of, trim_of}
 use Rattle.register_core.specs.Verdict.{refused_dates}
 use Rattle.register_core.proofs.Filling.{past}
 
@@ -29,7 +32,8 @@ end_kept : {X : Type 0} (f : Dates → X) → IsApart f → (period : Period) (d
     → f (with_deactivation period d) ≡ f d
 end_kept f apart period d = kept f (is_some d.activation && is_none d.deactivation) _ d (apart.end d _)
 
-filled_kept : {X : Type 0} (f : Dates → X) → IsApart f → (period : Period) (d : Dates) → f (with_defaults period d) ≡ f d
+filled_kept : {X : Type 0} (f : Dates → X) → IsApart f → (period : Period) (d : Dates)
+    → f (with_defaults period d) ≡ f d
 filled_kept f apart period d = end_kept f apart period (with_protect_stop period d) ∙ stop_kept f apart period d
 
 abbrev stopped : Period → Dates → Dates
@@ -37,7 +41,8 @@ stopped period d =
     let first = with_protect_stop period d in
     record first { protect_stop = cut first.protect_stop (originator_limit period first) }
 
-trimmed_kept : {X : Type 0} (f : Dates → X) → IsApart f → (period : Period) (d : Dates) → f (within_limits period d) ≡ f d
+trimmed_kept : {X : Type 0} (f : Dates → X) → IsApart f → (period : Period) (d : Dates)
+    → f (within_limits period d) ≡ f d
 trimmed_kept f apart period d =
     apart.end (with_deactivation period (stopped period d)) _
     ∙ end_kept f apart period (stopped period d)
@@ -59,7 +64,8 @@ keeps_by old new kept_by = record {
   initial = kept_by ℕ (λ x. x.initial) (record { stop = λ x date. refl; end = λ x date. refl });
   destroy = kept_by (Option ℕ) (λ x. x.destroy) (record { stop = λ x date. refl; end = λ x date. refl });
   compromise = kept_by (Option ℕ) (λ x. x.compromise) (record { stop = λ x date. refl; end = λ x date. refl });
-  compromise_occurrence = kept_by (Option ℕ) (λ x. x.compromise_occurrence) (record { stop = λ x date. refl; end = λ x date. refl });
+  compromise_occurrence = kept_by (Option ℕ) (λ x. x.compromise_occurrence)
+      (record { stop = λ x date. refl; end = λ x date. refl });
 }
 
 pub filled_keeps : (period : Period) (d : Dates) → KeepsOthers d (with_defaults period d)
@@ -94,7 +100,8 @@ filled_stop period d x set =
     ∙ given_stop period d x set
 
 -- Trim's Protect Stop
-trimmed_stop_is : (period : Period) (d : Dates) → (within_limits period d).protect_stop ≡ (stopped period d).protect_stop
+trimmed_stop_is : (period : Period) (d : Dates)
+    → (within_limits period d).protect_stop ≡ (stopped period d).protect_stop
 trimmed_stop_is period d =
     kept (λ (y : Dates). y.protect_stop)
     (is_some (stopped period d).activation && is_none (stopped period d).deactivation) _ (stopped period d) refl
@@ -131,7 +138,8 @@ limited None limit e = refl
 limited (Some date) None e = refl
 limited (Some date) (Some limit) e = by (nat_lt limit date) refl e
   where
-    by : (b : Bool) → nat_lt limit date ≡ b → ◌≡◌ {A = Option DateRefusal} (cond b (Some (PeriodTooLong limit)) None) None → nat_le date limit ≡ true
+    by : (b : Bool) → nat_lt limit date ≡ b
+        → ◌≡◌ {A = Option DateRefusal} (cond b (Some (PeriodTooLong limit)) None) None → nat_le date limit ≡ true
     by true lt e = absurd cc
     by false le e = le-leb date limit (ltb-false _ _ le)
 

@@ -1,5 +1,6 @@
 -- What an accepted request changes is what the history with it at its end says of its key and of its custody.
-use Rattle.std.proofs.Common.{◌≡◌, ℕ, ◌+◌, ◌≤◌, nat_le, Bool, true, false, ◌&&◌, cond, List, [], ◌∷◌, ◌++◌, Option, None, Some, refl, sym, ap, subst, ◌∙◌, arith}
+use Rattle.std.proofs.Common.{◌≡◌, ℕ, ◌+◌, ◌≤◌, nat_le, Bool, true, false, ◌&&◌, cond, List, [], ◌∷◌, ◌++◌, Option}
+use Rattle.std.proofs.Common.{None, Some, refl, sym, ap, subst, ◌∙◌, arith}
 use Rattle.std.proofs.Math.Nat.{add-zero}
 use Rattle.std.specs.Prelude.{unwrap_or, is_some}
 use Rattle.std.specs.Option.{option_map, option_and_then}
@@ -20,7 +21,8 @@ use Rattle.register_core.specs.declared.view.Held.{Held}
 use Rattle.register_core.specs.declared.change.Change.{Change}
 use Rattle.register_core.specs.declared.change.Change.TheVariants as change
 use Rattle.register_core.specs.History.{latest, count, period, type, dates, owner}
-use Rattle.register_core.specs.Subject.{Registration, Subject, Makes, Names, NoKey, subject, named_by, key_by, count_by, key_of, made_by, named}
+use Rattle.register_core.specs.Subject.{Registration, Subject, Makes, Names, NoKey, subject, named_by, key_by}
+use Rattle.register_core.specs.Subject.{count_by, key_of, made_by, named}
 use Rattle.register_core.proofs.Subjects.{is_named}
 use Rattle.register_core.specs.Effect.{given_dates, dates_after, owner_after, row_at}
 use Rattle.register_core.specs.Custody.{custodians, approvals, need, held}
@@ -28,8 +30,10 @@ use Rattle.register_core.specs.KeptReply.{reply}
 use Rattle.register_core.specs.Version.{current}
 use Rattle.register_core.specs.Verdict.{key_refusal, named_key, judgement}
 use Rattle.register_core.specs.CustodyRefusal.{already_custodian, already_approved}
-use Rattle.register_core.specs.Decision.{held_change, registered_key, change_of, change_by, change_without_key, reply_to, Stands, LeadsTo}
-use Rattle.register_core.proofs.Histories.{latest_grows, count_grows, key_named, kind_named, owner_named, dates_named, kind_made, owner_made, dates_made}
+use Rattle.register_core.specs.Decision.{held_change, registered_key, change_of, change_by, change_without_key}
+use Rattle.register_core.specs.Decision.{reply_to, Stands, LeadsTo}
+use Rattle.register_core.proofs.Histories.{latest_grows, count_grows, key_named, kind_named, owner_named, dates_named}
+use Rattle.register_core.proofs.Histories.{kind_made, owner_made, dates_made}
 use Rattle.register_core.proofs.Refusals.{IsPassed, passes}
 use Rattle.register_core.proofs.CustodyLeads.{not_refused, IsNew, nobody_changes, custody_lead}
 
@@ -61,7 +65,8 @@ module _ (needed : ℕ) (cs approving : List (List ℕ)) where
   abbrev assembled : Bool → KeyType → List ℕ → Dates → ℕ → Option Held
   assembled is kind by d t = cond is (Some (standing_so kind by d t)) None
 
-  assembled_same : (is : Bool) (kind other_kind : KeyType) (by other_by : List ℕ) (d other_dates : Dates) (t other_t : ℕ) →
+  assembled_same : (is : Bool) (kind other_kind : KeyType) (by other_by : List ℕ) (d other_dates : Dates)
+      (t other_t : ℕ) →
       is ≡ true → kind ≡ other_kind → by ≡ other_by → d ≡ other_dates → t ≡ other_t →
       assembled is kind by d t ≡ Some (standing_so other_kind other_by other_dates other_t)
   assembled_same is kind other_kind by other_by d other_dates t other_t e1 e2 e3 e4 e5 =
@@ -76,21 +81,24 @@ some_shown true x y e = (refl, cc)
 some_shown false x y e = cc
 
 -- the key that a history holds is there, and stands so
-pub held_stands : (h : List Request) (k : ℕ) (key : Held) → Some key ≡ held h k → (is_there h k ≡ true) × (key ≡ standing h k)
+pub held_stands : (h : List Request) (k : ℕ) (key : Held) → Some key ≡ held h k
+    → (is_there h k ≡ true) × (key ≡ standing h k)
 held_stands h k key e = some_shown (is_there h k) key (standing h k) e
 
 none_made : (c : Command) (k : ℕ) → named c ≡ Some k → made_by c ≡ 0
 none_made c k names = ap count_by (is_named (subject c) k names)
 
 pub count_named : (h : List Request) (q : Request) (k : ℕ) → named q.command ≡ Some k → count (h ++ q ∷ []) ≡ count h
-count_named h q k names = count_grows h q ∙ ap (λ (n : ℕ). count h + n) (none_made q.command k names) ∙ add-zero (count h)
+count_named h q k names =
+    count_grows h q ∙ ap (λ (n : ℕ). count h + n) (none_made q.command k names) ∙ add-zero (count h)
 
 pub held_named : (h : List Request) (q : Request) (k : ℕ) → named q.command ≡ Some k → is_there h k ≡ true →
     Stands (h ++ q ∷ []) k (type h k) (owner_after (owner h k) q.command)
     (row_at (dates_after (period h (type h k)) (dates h k) q.moment q.command) q.moment)
 held_named h q k names is =
     let all = h ++ q ∷ [] in
-    assembled_same (need all k) (custodians all k) (approvals all k) (is_there all k) (type all k) (type h k) (owner all k) (owner_after (owner h k) q.command)
+    assembled_same (need all k) (custodians all k) (approvals all k) (is_there all k) (type all k) (type h k)
+    (owner all k) (owner_after (owner h k) q.command)
     (dates all k) (dates_after (period h (type h k)) (dates h k) q.moment q.command) (latest all) q.moment
     (ap (λ (n : ℕ). nat_le 1 k && nat_le k n) (count_named h q k names) ∙ is)
     (kind_named h q k names) (owner_named h q k names) (dates_named h q k names) (latest_grows h q)
@@ -101,7 +109,8 @@ held_made h q r makes =
     let all = h ++ q ∷ [] in
     let k = count h + 1 in
     let counted : count all ≡ k = count_grows h q ∙ ap (λ (s : Subject). count h + count_by s) makes in
-    assembled_same (need all k) (custodians all k) (approvals all k) (is_there all k) (type all k) r.kind (owner all k) r.owner
+    assembled_same (need all k) (custodians all k) (approvals all k) (is_there all k) (type all k) r.kind
+    (owner all k) r.owner
     (dates all k) (with_defaults (period h r.kind) (given_dates q.moment r.activation r.protect_stop r.deactivation))
     (latest all) q.moment
     (there all k (omega arith) (omega (arith, counted)))
@@ -114,12 +123,18 @@ held_made h q r makes =
 
 -- the reply to a request whose key is this one
 abbrev replied : List Request → Request → Option ℕ → Reply
-replied h q key = record { key = unwrap_or key 0; state = option_map (λ k. state_at (dates (h ++ q ∷ []) k) q.moment) key; moment = q.moment }
+replied h q key = record {
+  key = unwrap_or key 0;
+  state = option_map (λ k. state_at (dates (h ++ q ∷ []) k) q.moment) key;
+  moment = q.moment;
+}
 
-reply_of_key : (h : List Request) (q : Request) (k : ℕ) (d : Dates) → key_of (count h) q.command ≡ Some k → dates (h ++ q ∷ []) k ≡ d →
+reply_of_key : (h : List Request) (q : Request) (k : ℕ) (d : Dates) → key_of (count h) q.command ≡ Some k
+    → dates (h ++ q ∷ []) k ≡ d →
     record { key = k; state = Some (row_at d q.moment).state; moment = q.moment } ≡ reply h q
 reply_of_key h q k d is same =
-    sym (ap (replied h q) is ∙ ap (λ (e : Dates). record { key = k; state = Some (state_at e q.moment); moment = q.moment }) same)
+    sym (ap (replied h q) is
+    ∙ ap (λ (e : Dates). record { key = k; state = Some (state_at e q.moment); moment = q.moment }) same)
 
 -- ---- periods that stay
 
@@ -137,7 +152,8 @@ periods_made h q r makes =
 periods_named : (h : List Request) (q : Request) (k : ℕ) → named q.command ≡ Some k
     → all_periods (h ++ q ∷ []) ≡ all_periods h
 periods_named h q k names =
-    periods_next h q ∙ sets_none q.command (Names k) (is_named (subject q.command) k names) (λ e. absurd cc) (all_periods h)
+    periods_next h q ∙ sets_none q.command (Names k) (is_named (subject q.command) k names) (λ e. absurd cc)
+    (all_periods h)
 
 -- ---- changes
 
@@ -145,7 +161,8 @@ periods_named h q k names =
 abbrev Agrees : List Request → Request → Change → Type 0
 Agrees h q change = (reply_to (count h) q.moment change ≡ reply h q) × LeadsTo h q change
 
-agrees_made : (h : List Request) (q : Request) (r : Registration) → subject q.command ≡ Makes r → Agrees h q (change.Made (registered_key (period h) q.moment r))
+agrees_made : (h : List Request) (q : Request) (r : Registration) → subject q.command ≡ Makes r
+    → Agrees h q (change.Made (registered_key (period h) q.moment r))
 agrees_made h q r makes =
     let given : Dates = given_dates q.moment r.activation r.protect_stop r.deactivation in
     let replies =
@@ -169,21 +186,27 @@ change_named periods c k key q names =
 pub unknown_named : (c : Command) (k : ℕ) → named c ≡ Some k → key_refusal None c ≡ Some UnknownKey
 unknown_named c k names = ap (λ (key : Option ℕ). cond (is_some key) (Some UnknownKey) None) names
 
-pub new_names : (h : List Request) (q : Request) (k : ℕ) → already_custodian (Some (standing h k)) q.command ≡ None → already_approved (Some (standing h k)) q.caller q.command ≡ None → IsNew h q k
+pub new_names : (h : List Request) (q : Request) (k : ℕ) → already_custodian (Some (standing h k)) q.command ≡ None
+    → already_approved (Some (standing h k)) q.caller q.command ≡ None → IsNew h q k
 new_names h q k custodian approval = record {
-  custodian = λ name is_added. not_refused _ AlreadyCustodian (ap (already_custodian (Some (standing h k))) (sym is_added) ∙ custodian);
-  approval = λ is_approval. not_refused _ AlreadyApproved (ap (already_approved (Some (standing h k)) q.caller) (sym is_approval) ∙ approval);
+  custodian = λ name is_added. not_refused _ AlreadyCustodian
+      (ap (already_custodian (Some (standing h k))) (sym is_added) ∙ custodian);
+  approval = λ is_approval. not_refused _ AlreadyApproved
+      (ap (already_approved (Some (standing h k)) q.caller) (sym is_approval) ∙ approval);
 }
 
 agrees_key : (h : List Request) (q : Request) (k : ℕ) (key : Option Held) → named q.command ≡ Some k → key ≡ held h k
     → IsPassed current (latest h) (count h) (period h) key q → Agrees h q (change_of (period h) (Names k) key q)
-agrees_key h q k None names is passed = let refused = unknown_named q.command k names in let known = passed.known in absurd cc
+agrees_key h q k None names is passed =
+    let refused = unknown_named q.command k names in let known = passed.known in absurd cc
 agrees_key h q k (Some key) names is passed =
     let stands = held_stands h k key is in
     let same : held_change (period h) k key q ≡ held_change (period h) k (standing h k) q =
     ap (λ (x : Held). held_change (period h) k x q) stands.1 in
-    let custodian : already_custodian (Some (standing h k)) q.command ≡ None = ap (λ (x : Held). already_custodian (Some x) q.command) (sym stands.1) ∙ passed.new_custodian in
-    let approval : already_approved (Some (standing h k)) q.caller q.command ≡ None = ap (λ (x : Held). already_approved (Some x) q.caller q.command) (sym stands.1) ∙ passed.new_approval in
+    let custodian : already_custodian (Some (standing h k)) q.command
+    ≡ None = ap (λ (x : Held). already_custodian (Some x) q.command) (sym stands.1) ∙ passed.new_custodian in
+    let approval : already_approved (Some (standing h k)) q.caller q.command
+    ≡ None = ap (λ (x : Held). already_approved (Some x) q.caller q.command) (sym stands.1) ∙ passed.new_approval in
     let new = new_names h q k custodian approval in
     subst (Agrees h q) (sym same) (agrees_named h q k names stands.0 new)
 

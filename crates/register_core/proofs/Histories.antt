@@ -1,5 +1,6 @@
 -- What a history with one more request at its end says.
-use Rattle.std.proofs.Common.{◌≡◌, ℕ, ◌+◌, ◌≤◌, ◌<◌, Bool, true, false, cond, List, [], ◌∷◌, ◌++◌, length, get_or, take, None, Some, refl, sym, ap, ◌∙◌, arith, append_assoc, inl, inr, eq-eqb}
+use Rattle.std.proofs.Common.{◌≡◌, ℕ, ◌+◌, ◌≤◌, ◌<◌, Bool, true, false, cond, List, [], ◌∷◌, ◌++◌, length, get_or}
+use Rattle.std.proofs.Common.{take, None, Some, refl, sym, ap, ◌∙◌, arith, append_assoc, inl, inr, eq-eqb}
 use Rattle.std.specs.Prelude.{nat_eq, fold}
 use Rattle.std.specs.List.{filter_map}
 use Rattle.std.proofs.lemmas.Bool.Decides.{eqb_tells}
@@ -12,8 +13,10 @@ use Rattle.period_core.specs.declared.key_type.KeyType.TheVariants.{DataEncrypti
 use Rattle.period_core.specs.Fitting.{with_defaults}
 use Rattle.register_core.specs.declared.request.Request.{Request}
 use Rattle.register_core.specs.declared.request.Command.{Command}
-use Rattle.register_core.specs.History.{latest, registrations, count, Placed, own_from, own, period, type, dates, owner, dated_by}
-use Rattle.register_core.specs.Subject.{Registration, Subject, Makes, Names, NoKey, subject, registration_by, named_by, key_by, count_by, registration_of, named, key_of, made_by, is_key}
+use Rattle.register_core.specs.History.{latest, registrations, count, Placed, own_from, own, period, type, dates}
+use Rattle.register_core.specs.History.{owner, dated_by}
+use Rattle.register_core.specs.Subject.{Registration, Subject, Makes, Names, NoKey, subject, registration_by}
+use Rattle.register_core.specs.Subject.{named_by, key_by, count_by, registration_of, named, key_of, made_by, is_key}
 use Rattle.register_core.proofs.Subjects.{is_registration, is_named}
 use Rattle.register_core.specs.Effect.{kind_by, kind_after, no_dates, given_dates, dates_after, owner_after, sets_dates}
 use Rattle.period_core.specs.Period.{Period, periods}
@@ -23,7 +26,8 @@ use Rattle.period_core.specs.Period.{Period, periods}
 pub latest_grows : (h : List Request) (q : Request) → latest (h ++ q ∷ []) ≡ q.moment
 latest_grows h q = fold-append (λ (before : ℕ) (p : Request). p.moment) 0 h (q ∷ [])
 
-pub registrations_grow : (h : List Request) (q : Request) → registrations (h ++ q ∷ []) ≡ registrations h ++ registrations (q ∷ [])
+pub registrations_grow : (h : List Request) (q : Request)
+    → registrations (h ++ q ∷ []) ≡ registrations h ++ registrations (q ∷ [])
 registrations_grow h q = filter_map-append (λ (p : Request). registration_of p.command) h (q ∷ [])
 
 pub made_one : (q : Request) → count (q ∷ []) ≡ made_by q.command
@@ -35,7 +39,9 @@ made_one q =
     ]
 
 pub count_grows : (h : List Request) (q : Request) → count (h ++ q ∷ []) ≡ count h + made_by q.command
-count_grows h q = ap length (registrations_grow h q) ∙ length-append (registrations h) (registrations (q ∷ [])) ∙ ap (λ (n : ℕ). count h + n) (made_one q)
+count_grows h q =
+    ap length (registrations_grow h q) ∙ length-append (registrations h) (registrations (q ∷ []))
+    ∙ ap (λ (n : ℕ). count h + n) (made_one q)
 
 -- the request with the history before it
 abbrev pub placed : List Request → Request → Placed
@@ -80,7 +86,8 @@ kind_kept c k before names = ap (kind_by before) (is_named (subject c) k names)
 concerned : (c : Command) (keys k : ℕ) → key_of keys c ≡ Some k → is_key k (key_of keys c) ≡ true
 concerned c keys k is = ap (is_key k) is ∙ eq-eqb k k refl
 
-pub own_same : (h : List Request) (q : Request) (k : ℕ) → is_key k (key_of (count h) q.command) ≡ false → own (h ++ q ∷ []) k ≡ own h k
+pub own_same : (h : List Request) (q : Request) (k : ℕ) → is_key k (key_of (count h) q.command) ≡ false
+    → own (h ++ q ∷ []) k ≡ own h k
 own_same h q k other =
     own_grows h q k ∙ ap (λ (b : Bool). own h k ++ cond b (placed h q ∷ []) []) other ∙ append-nil (own h k)
 
@@ -117,13 +124,16 @@ fold_ends step first h q k is =
 
 -- ---- a request of another key
 
-pub kind_other : (h : List Request) (q : Request) (k : ℕ) → is_key k (key_of (count h) q.command) ≡ false → type (h ++ q ∷ []) k ≡ type h k
+pub kind_other : (h : List Request) (q : Request) (k : ℕ) → is_key k (key_of (count h) q.command) ≡ false
+    → type (h ++ q ∷ []) k ≡ type h k
 kind_other h q k other = fold_same kind_step DataEncryption h q k other
 
-pub owner_other : (h : List Request) (q : Request) (k : ℕ) → is_key k (key_of (count h) q.command) ≡ false → owner (h ++ q ∷ []) k ≡ owner h k
+pub owner_other : (h : List Request) (q : Request) (k : ℕ) → is_key k (key_of (count h) q.command) ≡ false
+    → owner (h ++ q ∷ []) k ≡ owner h k
 owner_other h q k other = fold_same owner_step [] h q k other
 
-pub dates_other : (h : List Request) (q : Request) (k : ℕ) → is_key k (key_of (count h) q.command) ≡ false → dates (h ++ q ∷ []) k ≡ dates h k
+pub dates_other : (h : List Request) (q : Request) (k : ℕ) → is_key k (key_of (count h) q.command) ≡ false
+    → dates (h ++ q ∷ []) k ≡ dates h k
 dates_other h q k other =
     ap (λ (kind : KeyType). fold (dates_step kind) no_dates (own (h ++ q ∷ []) k)) (kind_other h q k other)
     ∙ fold_same (dates_step (type h k)) no_dates h q k other
@@ -137,9 +147,12 @@ dated_other h q k other =
 -- ---- a request that names the key
 
 pub kind_named : (h : List Request) (q : Request) (k : ℕ) → named q.command ≡ Some k → type (h ++ q ∷ []) k ≡ type h k
-kind_named h q k names = fold_ends kind_step DataEncryption h q k (key_named q.command (count h) k names) ∙ kind_kept q.command k (type h k) names
+kind_named h q k names =
+    fold_ends kind_step DataEncryption h q k (key_named q.command (count h) k names)
+    ∙ kind_kept q.command k (type h k) names
 
-pub owner_named : (h : List Request) (q : Request) (k : ℕ) → named q.command ≡ Some k → owner (h ++ q ∷ []) k ≡ owner_after (owner h k) q.command
+pub owner_named : (h : List Request) (q : Request) (k : ℕ) → named q.command ≡ Some k
+    → owner (h ++ q ∷ []) k ≡ owner_after (owner h k) q.command
 owner_named h q k names = fold_ends owner_step [] h q k (key_named q.command (count h) k names)
 
 pub dates_named : (h : List Request) (q : Request) (k : ℕ) → named q.command ≡ Some k
@@ -156,13 +169,17 @@ dated_named h q k names =
 
 -- ---- the registration of the key, which overrides whatever came before
 
-pub kind_made : (h : List Request) (q : Request) (r : Registration) → subject q.command ≡ Makes r → type (h ++ q ∷ []) (count h + 1) ≡ r.kind
+pub kind_made : (h : List Request) (q : Request) (r : Registration) → subject q.command ≡ Makes r
+    → type (h ++ q ∷ []) (count h + 1) ≡ r.kind
 kind_made h q r makes =
-    fold_ends kind_step DataEncryption h q (count h + 1) (ap (key_by (count h)) makes) ∙ ap (kind_by (type h (count h + 1))) makes
+    fold_ends kind_step DataEncryption h q (count h + 1) (ap (key_by (count h)) makes)
+    ∙ ap (kind_by (type h (count h + 1))) makes
 
-pub owner_made : (h : List Request) (q : Request) (r : Registration) → subject q.command ≡ Makes r → owner (h ++ q ∷ []) (count h + 1) ≡ r.owner
+pub owner_made : (h : List Request) (q : Request) (r : Registration) → subject q.command ≡ Makes r
+    → owner (h ++ q ∷ []) (count h + 1) ≡ r.owner
 owner_made h q r makes =
-    fold_ends owner_step [] h q (count h + 1) (ap (key_by (count h)) makes) ∙ ap (owner_after (owner h (count h + 1))) (is_registration q.command r makes)
+    fold_ends owner_step [] h q (count h + 1) (ap (key_by (count h)) makes)
+    ∙ ap (owner_after (owner h (count h + 1))) (is_registration q.command r makes)
 
 pub dates_made : (h : List Request) (q : Request) (r : Registration) → subject q.command ≡ Makes r →
     dates (h ++ q ∷ []) (count h + 1)
@@ -177,16 +194,19 @@ pub dated_made : (h : List Request) (q : Request) (r : Registration) → subject
     → dated_by (h ++ q ∷ []) (count h + 1) ≡ period h r.kind
 dated_made h q r makes =
     let before : Period = fold (dated_step r.kind) (periods r.kind) (own h (count h + 1)) in
-    ap (λ (kind : KeyType). fold (dated_step kind) (periods kind) (own (h ++ q ∷ []) (count h + 1))) (kind_made h q r makes)
+    ap (λ (kind : KeyType). fold (dated_step kind) (periods kind) (own (h ++ q ∷ []) (count h + 1)))
+    (kind_made h q r makes)
     ∙ fold_ends (dated_step r.kind) (periods r.kind) h q (count h + 1) (ap (key_by (count h)) makes)
     ∙ ap (λ (c : Command). cond (sets_dates c) (period h r.kind) before) (is_registration q.command r makes)
 
 -- ---- the prefix of a history, one request longer
 
-pub next_prefix : (h : List Request) (i : ℕ) (q : Request) → i < length h → q ≡ get_or h i q → take (i + 1) h ≡ take i h ++ q ∷ []
+pub next_prefix : (h : List Request) (i : ℕ) (q : Request) → i < length h → q ≡ get_or h i q
+    → take (i + 1) h ≡ take i h ++ q ∷ []
 next_prefix h i q lt is = take_more h i q lt ∙ ap (λ (p : Request). take i h ++ p ∷ []) (sym is)
 
-pub count_next : (h : List Request) (i : ℕ) (q : Request) → i < length h → q ≡ get_or h i q → count (take (i + 1) h) ≡ count (take i h) + made_by q.command
+pub count_next : (h : List Request) (i : ℕ) (q : Request) → i < length h → q ≡ get_or h i q
+    → count (take (i + 1) h) ≡ count (take i h) + made_by q.command
 count_next h i q lt is = ap count (next_prefix h i q lt is) ∙ count_grows (take i h) q
 
 one_after : {X : Type 0} (step : X → Placed → X) (before : X) (p : Placed) (b : Bool)
@@ -221,6 +241,7 @@ fold_with {X} step first h k {i} {q} {made} {before} lt is counted given now =
     ∙ ap (λ (x : X). cond (is_key k (key_of (count (take i h)) q.command)) (step x p) x) given
     ∙ sym (fold_next step first h i q k lt is)
 
-pub count_with : (h : List Request) {i : ℕ} {q : Request} {made more : ℕ} → i < length h → q ≡ get_or h i q → made ≡ count (take i h) → more ≡ made_by q.command →
+pub count_with : (h : List Request) {i : ℕ} {q : Request} {made more : ℕ} → i < length h → q ≡ get_or h i q
+    → made ≡ count (take i h) → more ≡ made_by q.command →
     made + more ≡ count (take (i + 1) h)
 count_with h {i} {q} lt is counted one = let next = count_next h i q lt is in omega (arith, next, counted, one)

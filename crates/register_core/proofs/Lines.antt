@@ -1,5 +1,6 @@
 -- What is read is the request whose line it is, and each line of a request is read.
-use Rattle.std.proofs.Common.{◌≡◌, ℕ, ◌<◌, ◌^◌, nat_lt, Bool, true, false, not, cond, List, [], ◌∷◌, ◌++◌, length, Option, Some, None, refl, sym, ap, subst, ◌∙◌, append_assoc, arith}
+use Rattle.std.proofs.Common.{◌≡◌, ℕ, ◌<◌, ◌^◌, nat_lt, Bool, true, false, not, cond, List, [], ◌∷◌, ◌++◌, length}
+use Rattle.std.proofs.Common.{Option, Some, None, refl, sym, ap, subst, ◌∙◌, append_assoc, arith}
 use Rattle.std.specs.Prelude.{codes, decimal}
 use Rattle.std.specs.List.{list_all}
 use Rattle.std.specs.Str.Parse.{AllDigits}
@@ -11,12 +12,11 @@ use Rattle.std.proofs.lemmas.Str.Parse.{digit_from_value}
 use Rattle.lifecycle_core.specs.declared.reason.Reason.{Reason}
 use Rattle.lifecycle_core.specs.Reason.{reason_code}
 use Rattle.period_core.specs.declared.key_type.KeyType.{KeyType}
-use Rattle.period_core.specs.declared.key_type.KeyType.TheVariants.{DataEncryption, Authentication, KeyWrapping, PrivateSignature, PrivateAuthentication, PrivateTransport, Master}
 use Rattle.register_core.specs.declared.request.Request.{Request}
 use Rattle.register_core.specs.declared.request.Command.{Command}
 use Rattle.register_core.specs.declared.fields.Fields.{Fields}
-use Rattle.register_core.specs.declared.fields.Fields.TheVariants.{Nothing, Key, KeyAndName, KeyAndOwner}
-use Rattle.register_core.specs.declared.fields.Fields.TheVariants.{KeyAndNeed, TypeAndPeriod, Registration, DateEdits, Revocation}
+use Rattle.register_core.specs.declared.fields.Fields.TheVariants.{Nothing, Key, KeyAndName, KeyAndOwner, KeyAndNeed}
+use Rattle.register_core.specs.declared.fields.Fields.TheVariants.{TypeAndPeriod, Registration, DateEdits, Revocation}
 use Rattle.register_core.specs.declared.fields.Shape.{Shape}
 use Rattle.register_core.specs.declared.fields.Shape.TheVariants as shapes
 use Rattle.register_core.specs.Fields.{fields_of, command_with, shape_of}
@@ -30,15 +30,29 @@ use Rattle.register_core.specs.Number.{IsNumber}
 use Rattle.register_core.specs.Purpose.{IsPurpose}
 use Rattle.register_core.specs.Quorum.{IsQuorum}
 use Rattle.period_core.specs.KeyType.{key_type_text}
+use Rattle.period_core.proofs.Types.{of_each_type}
 use Rattle.period_core.specs.Period.{Period}
 use Rattle.register_core.specs.CommandKind.{command_kind_text, command_shape}
 use Rattle.register_core.specs.CommandRule.{kind_of}
-use Rattle.register_core.specs.Request.{max_line_length, AreFields, IsCommand, IsDate, IsEdit, IsKeyNumber, IsRequest, IsLineOf, StandsFor, IsItem, date_text, edit_text, fields_text, command_text, request_text}
+use Rattle.register_core.specs.Request.{max_line_length, AreFields, IsCommand, IsDate, IsEdit, IsKeyNumber, IsRequest}
+use Rattle.register_core.specs.Request.{IsLineOf, StandsFor, IsItem, date_text, edit_text, fields_text, command_text}
+use Rattle.register_core.specs.Request.{request_text}
 use Rattle.register_core.specs.CommandText.{IsCommandText, IsCommandItem}
-use Rattle.register_core.specs.RequestLine.{◌>>=◌, is_space, field_at, field_then, moment_at, date_at, edit_at, key_number_at, reason_at, occurrence_at, request_number_at, name_at, key_type_at, purpose_at, registered, register_at, edits, edits_at, revoked, revoke_at, key_and_name_at, key_and_need_at, quorum_at, type_and_period_at, originator_at, recipient_at, set_period, keyed_at, named_at, kind_at, shaped_at, after_at, split_by, word_at, command_at, requested, fields_at, request_at}
+use Rattle.register_core.specs.RequestLine.{◌>>=◌, is_space, field_at, field_then, moment_at, date_at, edit_at}
+use Rattle.register_core.specs.RequestLine.{key_number_at, reason_at, occurrence_at, request_number_at, name_at}
+use Rattle.register_core.specs.RequestLine.{key_type_at, purpose_at, registered, register_at, edits, edits_at}
+use Rattle.register_core.specs.RequestLine.{revoked, revoke_at, key_and_name_at, key_and_need_at, quorum_at}
+use Rattle.register_core.specs.RequestLine.{type_and_period_at, originator_at, recipient_at, set_period, keyed_at}
+use Rattle.register_core.specs.RequestLine.{named_at, kind_at, shaped_at, after_at, split_by, word_at, command_at}
+use Rattle.register_core.specs.RequestLine.{requested, fields_at, request_at}
 use Rattle.register_core.proofs.Commands.{made, made_again, has_shape}
-use Rattle.register_core.proofs.FieldReading.{bind_some, some_is, none_from, IsReader, HasNoSpace, field_takes, field_again, then_reader}
-use Rattle.register_core.proofs.Readers.{moment_reader, date_reader, edit_reader, moment_small, key_number_reader, key_number_small, request_number_reader, request_number_small, quorum_reader, originator_reader, recipient_reader, IsMonths, months_small, name_reader, purpose_reader, key_type_reader, kind_reader, reason_reader, reason_text, reason_small, IsOccurrence, occurrence_reader, not_space}
+use Rattle.register_core.proofs.FieldReading.{bind_some, some_is, none_from, IsReader, HasNoSpace, field_takes}
+use Rattle.register_core.proofs.FieldReading.{field_again, then_reader}
+use Rattle.register_core.proofs.Readers.{moment_reader, date_reader, edit_reader, moment_small, key_number_reader}
+use Rattle.register_core.proofs.Readers.{key_number_small, request_number_reader, request_number_small, quorum_reader}
+use Rattle.register_core.proofs.Readers.{originator_reader, recipient_reader, IsMonths, months_small, name_reader}
+use Rattle.register_core.proofs.Readers.{purpose_reader, key_type_reader, kind_reader, reason_reader, reason_text}
+use Rattle.register_core.proofs.Readers.{reason_small, IsOccurrence, occurrence_reader, not_space}
 
 -- ---- what has no space
 
@@ -82,13 +96,7 @@ name_bytes_solid (b ∷ bytes) h =
     and_from _ _ (name_byte_solid b both.0) (name_bytes_solid bytes both.1)
 
 key_type_solid : (k : KeyType) → HasNoSpace (key_type_text k)
-key_type_solid DataEncryption = refl
-key_type_solid Authentication = refl
-key_type_solid KeyWrapping = refl
-key_type_solid PrivateSignature = refl
-key_type_solid PrivateAuthentication = refl
-key_type_solid PrivateTransport = refl
-key_type_solid Master = refl
+key_type_solid = of_each_type (λ k. HasNoSpace (key_type_text k)) refl refl refl refl refl refl refl
 
 -- ---- texts, as fields with what stands after them
 
@@ -114,7 +122,8 @@ joined_revoke k r o = simp append_assoc
 joined_named : (k n : List ℕ) → codes " " ++ k ++ codes " " ++ n ≡ spaced (before k n)
 joined_named k n = simp append_assoc
 
-joined_request : (m c n d : List ℕ) → m ++ codes " " ++ c ++ codes " " ++ n ++ codes " " ++ d ≡ before m (before c (before n d))
+joined_request : (m c n d : List ℕ) → m ++ codes " " ++ c ++ codes " " ++ n ++ codes " " ++ d
+    ≡ before m (before c (before n d))
 joined_request m c n d = simp append_assoc
 
 -- ---- what stands after a command's word
@@ -147,24 +156,35 @@ Registered = KeyType × (List ℕ × (Option ℕ × (Option ℕ × (Option ℕ �
 
 abbrev text_of_registered : Registered → List ℕ
 text_of_registered (kind, (owner, (activation, (protect_stop, (deactivation, purpose))))) =
-    before (key_type_text kind) (before owner (before (date_text activation) (before (date_text protect_stop) (before (date_text deactivation) purpose))))
+    before (key_type_text kind)
+    (before owner
+    (before (date_text activation) (before (date_text protect_stop) (before (date_text deactivation) purpose))))
 
 abbrev AreRegistered : Registered → Type 0
 AreRegistered (kind, (owner, (activation, (protect_stop, (deactivation, purpose))))) =
     Unit {0} × (IsName owner × (IsDate activation × (IsDate protect_stop × (IsDate deactivation × IsPurpose purpose))))
 
-register_reader : IsReader (field_then key_type_at (λ _. field_then name_at (λ _. field_then date_at (λ _. field_then date_at (λ _. field_then date_at (λ _. purpose_at)))))) text_of_registered AreRegistered
+register_reader : IsReader
+    (field_then key_type_at
+    (λ _. field_then name_at
+    (λ _. field_then date_at (λ _. field_then date_at (λ _. field_then date_at (λ _. purpose_at))))))
+    text_of_registered AreRegistered
 register_reader =
     then_reader key_type_reader (λ k _. key_type_solid k) (λ _. then_reader name_reader name_solid (λ _.
-    then_reader date_reader date_solid (λ _. then_reader date_reader date_solid (λ _. then_reader date_reader date_solid (λ _. purpose_reader)))))
+    then_reader date_reader date_solid
+    (λ _. then_reader date_reader date_solid (λ _. then_reader date_reader date_solid (λ _. purpose_reader)))))
 
 registered_ranges : (x : Registered) → AreRegistered x → AreFields (registered x)
-registered_ranges (kind, (owner, (activation, (protect_stop, (deactivation, purpose))))) (is_kind, (is_owner, (is_activation, (is_protect_stop, (is_deactivation, is_purpose))))) =
+registered_ranges (kind, (owner, (activation, (protect_stop, (deactivation, purpose))))) (
+  is_kind,
+  (is_owner, (is_activation, (is_protect_stop, (is_deactivation, is_purpose)))),
+) =
     (is_owner, is_activation, is_protect_stop, is_deactivation, is_purpose)
 
 registered_text : (x : Registered) → fields_text (registered x) ≡ spaced (text_of_registered x)
 registered_text (kind, (owner, (activation, (protect_stop, (deactivation, purpose))))) =
-    joined_register (key_type_text kind) owner (date_text activation) (date_text protect_stop) (date_text deactivation) purpose
+    joined_register (key_type_text kind) owner (date_text activation) (date_text protect_stop)
+    (date_text deactivation) purpose
 
 register_takes : (bytes : List ℕ) (f : Fields) → register_at bytes ≡ Some f → AreRead (Some bytes) f
 unfolding register_at
@@ -176,7 +196,10 @@ register_again : (k : KeyType) (o : List ℕ) (a p d : Option ℕ) (u : List ℕ
 unfolding register_at
 register_again k o a p d u in_range =
     ap (λ (read : Option Registered). read >>= λ x. Some (registered x))
-    (register_reader.again (k, (o, (a, (p, (d, u))))) (tt, (in_range.0, (in_range.1, (in_range.2, (in_range.3, in_range.4))))))
+    (register_reader.again (k, (o, (a, (p, (d, u))))) (
+      tt,
+      (in_range.0, (in_range.1, (in_range.2, (in_range.3, in_range.4)))),
+    ))
 
 abbrev Edits : Type 0
 Edits = ℕ × (Edit × (Edit × Edit))
@@ -205,8 +228,11 @@ abbrev Revoked : Type 0
 Revoked = ℕ × (Reason × Option ℕ)
 
 revoke_reader : IsReader (field_then key_number_at (λ _. field_then reason_at occurrence_at))
-    (λ (x : Revoked). before (decimal x.0) (before (reason_text x.1.0) (date_text x.1.1))) (λ (x : Revoked). IsKeyNumber x.0 × (Unit {0} × IsOccurrence x.1.0 x.1.1))
-revoke_reader = then_reader key_number_reader key_number_solid (λ _. then_reader reason_reader (λ r _. reason_solid r) occurrence_reader)
+    (λ (x : Revoked). before (decimal x.0) (before (reason_text x.1.0) (date_text x.1.1)))
+    (λ (x : Revoked). IsKeyNumber x.0 × (Unit {0} × IsOccurrence x.1.0 x.1.1))
+revoke_reader =
+    then_reader key_number_reader key_number_solid
+    (λ _. then_reader reason_reader (λ r _. reason_solid r) occurrence_reader)
 
 revoke_takes : (bytes : List ℕ) (f : Fields) → revoke_at bytes ≡ Some f → AreRead (Some bytes) f
 unfolding revoke_at
@@ -218,11 +244,13 @@ revoke_again : (key : ℕ) (r : Reason) (o : Option ℕ) → AreFields (Revocati
     → revoke_at (before (decimal key) (before (reason_text r) (date_text o))) ≡ Some (Revocation key r o)
 unfolding revoke_at
 revoke_again key r o in_range =
-    ap (λ (read : Option Revoked). read >>= λ x. Some (revoked x)) (revoke_reader.again (key, (r, o)) (in_range.0, (tt, (in_range.1, in_range.2))))
+    ap (λ (read : Option Revoked). read >>= λ x. Some (revoked x))
+    (revoke_reader.again (key, (r, o)) (in_range.0, (tt, (in_range.1, in_range.2))))
 
 -- ---- a key's number, alone or with a name
 
-key_and_name_reader : IsReader key_and_name_at (λ (y : ℕ × List ℕ). before (decimal y.0) y.1) (λ (y : ℕ × List ℕ). IsKeyNumber y.0 × IsName y.1)
+key_and_name_reader : IsReader key_and_name_at (λ (y : ℕ × List ℕ). before (decimal y.0) y.1)
+    (λ (y : ℕ × List ℕ). IsKeyNumber y.0 × IsName y.1)
 unfolding key_and_name_at
 key_and_name_reader = then_reader key_number_reader key_number_solid (λ _. name_reader)
 
@@ -239,7 +267,8 @@ named_takes made in_range text =
     made_of key_and_name_reader (λ y. made y.0 y.1) (λ y. in_range y.0 y.1)
     (λ y. text y.0 y.1 ∙ joined_named (decimal y.0) y.1)
 
-key_and_need_reader : IsReader (field_then key_number_at (λ _. quorum_at)) (λ (y : ℕ × ℕ). before (decimal y.0) (decimal y.1))
+key_and_need_reader : IsReader (field_then key_number_at (λ _. quorum_at))
+    (λ (y : ℕ × ℕ). before (decimal y.0) (decimal y.1))
     (λ (y : ℕ × ℕ). IsKeyNumber y.0 × IsQuorum y.1)
 key_and_need_reader = then_reader key_number_reader key_number_solid (λ _. quorum_reader)
 
@@ -291,7 +320,8 @@ named_again made key name in_range = rw (key_and_name_reader.again (key, name) (
 -- ---- texts that are read exactly where they are a value's
 
 module _ {A : Type 0} (read_by : List ℕ → Option A) (IsText : List ℕ → A → Type 0)
-    (takes : (bytes : List ℕ) (x : A) → read_by bytes ≡ Some x → IsText bytes x) (again : (bytes : List ℕ) (x : A) → IsText bytes x → read_by bytes ≡ Some x) where
+    (takes : (bytes : List ℕ) (x : A) → read_by bytes ≡ Some x → IsText bytes x) (again : (bytes : List ℕ) (x : A)
+    → IsText bytes x → read_by bytes ≡ Some x) where
   stands_as : (bytes : List ℕ) (o : Option A) → read_by bytes ≡ o → StandsFor IsText bytes o
   stands_as bytes None e = λ x h. let found = again bytes x h in absurd (cc (e, found))
   stands_as bytes (Some x) e = takes bytes x e
@@ -448,29 +478,40 @@ command_reader : IsReader command_at command_text IsCommand
 command_reader = record { takes = command_takes; again = command_again }
 
 abbrev text_of_requested : Requested → List ℕ
-text_of_requested (moment, (caller, (number, command))) = before (decimal moment) (before caller (before (decimal number) (command_text command)))
+text_of_requested (moment, (caller, (number, command))) = before (decimal moment)
+    (before caller (before (decimal number) (command_text command)))
 
 abbrev AreRequested : Requested → Type 0
-AreRequested (moment, (caller, (number, command))) = IsMoment moment × (IsName caller × (IsNumber number × IsCommand command))
+AreRequested (moment, (caller, (number, command))) = IsMoment moment
+    × (IsName caller × (IsNumber number × IsCommand command))
 
-fields_reader : IsReader (field_then moment_at (λ _. field_then name_at (λ _. field_then request_number_at (λ _. command_at)))) text_of_requested AreRequested
-fields_reader = then_reader moment_reader moment_solid (λ _. then_reader name_reader name_solid (λ _. then_reader request_number_reader request_number_solid (λ _. command_reader)))
+fields_reader : IsReader
+    (field_then moment_at (λ _. field_then name_at (λ _. field_then request_number_at (λ _. command_at))))
+    text_of_requested AreRequested
+fields_reader =
+    then_reader moment_reader moment_solid
+    (λ _. then_reader name_reader name_solid
+    (λ _. then_reader request_number_reader request_number_solid (λ _. command_reader)))
 
 -- what is read as the fields of a line
 record IsFieldsOf (line : List ℕ) (q : Request) : Type 0 where
   in_range : IsRequest q
   text : line ≡ request_text q
 
-requested_fields : (line : List ℕ) (x : Requested) → AreRequested x → line ≡ text_of_requested x → IsFieldsOf line (requested x)
-requested_fields line (moment, (caller, (number, command))) (is_moment, (is_caller, (is_number, is_command))) text = record {
-  in_range = record { moment = is_moment; caller = is_caller; number = is_number; command = is_command };
-  text = text ∙ sym (joined_request (decimal moment) caller (decimal number) (command_text command));
-}
+requested_fields : (line : List ℕ) (x : Requested) → AreRequested x → line ≡ text_of_requested x
+    → IsFieldsOf line (requested x)
+requested_fields line (moment, (caller, (number, command))) (is_moment, (is_caller, (is_number, is_command)))
+    text = record {
+      in_range = record { moment = is_moment; caller = is_caller; number = is_number; command = is_command };
+      text = text ∙ sym (joined_request (decimal moment) caller (decimal number) (command_text command));
+    }
 
 fields_takes : (line : List ℕ) (q : Request) → fields_at line ≡ Some q → IsFieldsOf line q
 unfolding fields_at
 fields_takes line q e =
-    let x = bind_some (field_then moment_at (λ _. field_then name_at (λ _. field_then request_number_at (λ _. command_at))) line) (λ x. Some (requested x)) q e in
+    let x = bind_some
+    (field_then moment_at (λ _. field_then name_at (λ _. field_then request_number_at (λ _. command_at))) line)
+    (λ x. Some (requested x)) q e in
     let taken = fields_reader.takes line x.0 x.1 in
     subst (IsFieldsOf line) (some_is (requested x.0) q x.2) (requested_fields line x.0 taken.0 taken.1)
 
@@ -479,7 +520,10 @@ unfolding fields_at
 fields_again q in_range =
     ap fields_at (joined_request (decimal q.moment) q.caller (decimal q.number) (command_text q.command))
     ∙ ap (λ (read : Option Requested). read >>= λ x. Some (requested x))
-    (fields_reader.again (q.moment, (q.caller, (q.number, q.command))) (in_range.moment, (in_range.caller, (in_range.number, in_range.command))))
+    (fields_reader.again (q.moment, (q.caller, (q.number, q.command))) (
+      in_range.moment,
+      (in_range.caller, (in_range.number, in_range.command)),
+    ))
 
 guard_none : (b : Bool) (o : Option Request) (q : Request) → cond b None o ≡ Some q → (b ≡ false) × (o ≡ Some q)
 guard_none true o q e = absurd cc

@@ -1,6 +1,6 @@
 -- Each need that is set is that of a key which is there.
-use Rattle.std.proofs.Common.{◌≡◌, ◌==◌, ℕ, ◌+◌, ◌≤◌, Bool, true, false, not, cond, List, [], ◌∷◌, ◌++◌, filter, None, refl, sym}
-use Rattle.std.proofs.Common.{ap, subst, ◌∙◌, arith}
+use Rattle.std.proofs.Common.{◌≡◌, ◌==◌, ℕ, ◌+◌, ◌≤◌, Bool, true, false, not, cond, List, [], ◌∷◌, ◌++◌, filter, None}
+use Rattle.std.proofs.Common.{refl, sym, ap, subst, ◌∙◌, arith}
 use Rattle.std.specs.List.{AllByRecursion}
 use Rattle.register_core.specs.declared.request.Request.{Request}
 use Rattle.register_core.specs.declared.request.Command.{Command}
@@ -31,7 +31,8 @@ left keys p (set ∷ sets) all = by (p set) (left keys p sets all.1)
     by true rest = (all.0, rest)
     by false rest = rest
 
-after : (h : List Request) (q : Request) (c : Command) → q.command ≡ c → judgement h q ≡ None → AreThere (count h) (all_needs h)
+after : (h : List Request) (q : Request) (c : Command) → q.command ≡ c → judgement h q ≡ None
+    → AreThere (count h) (all_needs h)
     → AreThere (count h) (needs_after (all_needs h) c)
 after h q (SetQuorum key need) is accepted all =
     let on = on_key h q key accepted (ap named is) in

@@ -1,6 +1,6 @@
 -- A decision on what a request needs of its key is the decision on that key as it stands.
-use Rattle.std.proofs.Common.{◌≡◌, ℕ, nat_lt, Bool, true, false, not, ◌&&◌, cond, List, ◌∷◌, Option, None, Some, IfSome, refl, sym, ap}
-use Rattle.std.proofs.Common.{subst, ◌∙◌}
+use Rattle.std.proofs.Common.{◌≡◌, ℕ, nat_lt, Bool, true, false, not, ◌&&◌, cond, List, ◌∷◌, Option, None, Some}
+use Rattle.std.proofs.Common.{IfSome, refl, sym, ap, subst, ◌∙◌}
 use Rattle.std.specs.Option.{option_map}
 use Rattle.lifecycle_core.specs.declared.reason.Reason.{Reason}
 use Rattle.lifecycle_core.specs.Reason.{is_compromise}
@@ -10,7 +10,8 @@ use Rattle.period_core.specs.Fitting.{fill_of, trim_of, first_that_holds}
 use Rattle.register_core.specs.declared.command_rule.Giver.TheVariants.{Anybody, Owner, Custodian}
 use Rattle.register_core.specs.declared.request.Request.{Request}
 use Rattle.register_core.specs.declared.request.Command.{Command}
-use Rattle.register_core.specs.declared.request.Command.TheVariants.{Activate, Approve, Revoke, SetDates, Register as Registers}
+use Rattle.register_core.specs.declared.request.Command.TheVariants.{Activate, Approve, Revoke, SetDates}
+use Rattle.register_core.specs.declared.request.Command.TheVariants.{Register as Registers}
 use Rattle.register_core.specs.declared.reply.Refusal.{Refusal}
 use Rattle.register_core.specs.declared.reply.Refusal.TheVariants.{MomentBehind, NotCustodian}
 use Rattle.register_core.specs.declared.view.Held.{Held}
@@ -22,7 +23,8 @@ use Rattle.register_core.specs.KeptReply.{reply}
 use Rattle.register_core.specs.Name.{is_among}
 use Rattle.register_core.specs.CommandRule.{is_same_giver}
 use Rattle.register_core.specs.CustodyRefusal.{custody_refusal}
-use Rattle.register_core.specs.Verdict.{refused_dates, dates_refusal, custodian_refusal, always, judge, judge_view, judgement, named_key}
+use Rattle.register_core.specs.Verdict.{refused_dates, dates_refusal, custodian_refusal, always, judge, judge_view}
+use Rattle.register_core.specs.Verdict.{judgement, named_key}
 use Rattle.register_core.specs.Decision.{registered_key, change_of, change_by, reply_of_view, IsViewOf, LeadsTo}
 use Rattle.register_core.specs.Effect.{given_dates, edited_dates, dates_after}
 use Rattle.register_core.specs.Need.{needed_of, needed_key, needed_type, Suffices}
@@ -73,7 +75,8 @@ fit_so periods others key t (Registers kind owner activation protect_stop deacti
 fit_so periods others (Some held) t (Activate k) same =
     ap (λ (p : Period). refused_dates (trim_of p (record held.row.dates { activation = Some t }))) same
 fit_so periods others (Some held) t (SetDates k activation protect_stop deactivation) same =
-    ap (λ (p : Period). refused_dates (fill_of p (edited_dates activation protect_stop deactivation held.row.dates))) same
+    ap (λ (p : Period). refused_dates (fill_of p (edited_dates activation protect_stop deactivation held.row.dates)))
+    same
 fit_so periods others None t (Activate k) same = refl
 fit_so periods others None t (SetDates k activation protect_stop deactivation) same = refl
 fit_so periods others None t c same = refl
@@ -87,7 +90,8 @@ judge_by last keys periods others key q same = rw (fit_so periods others key q.m
 dates_so : (periods others : KeyType → Period) (held : Held) (t k : ℕ) (c : Command) → named c ≡ Some k
     → AreSoFor (needed_type (Some held) c) periods others
     → dates_after (periods held.kind) held.row.dates t c ≡ dates_after (others held.kind) held.row.dates t c
-dates_so periods others held t k (Registers kind owner activation protect_stop deactivation purpose) names same = absurd cc
+dates_so periods others held t k (Registers kind owner activation protect_stop deactivation purpose) names same =
+    absurd cc
 dates_so periods others held t k (Activate n) names same =
     ap (λ (p : Period). dates_after p held.row.dates t (Activate n)) same
 dates_so periods others held t k (SetDates n activation protect_stop deactivation) names same =

@@ -1,5 +1,6 @@
 -- What is known where a request is accepted, of the key that it makes, names or leaves alone.
-use Rattle.std.proofs.Common.{◌≡◌, ◌⊎◌, inl, inr, ℕ, ◌+◌, ◌≤◌, Bool, true, false, cond, List, [], ◌∷◌, ◌++◌, Option, None, Some, refl, sym, ap, ◌∙◌, arith}
+use Rattle.std.proofs.Common.{◌≡◌, ◌⊎◌, inl, inr, ℕ, ◌+◌, ◌≤◌, Bool, true, false, cond, List, [], ◌∷◌, ◌++◌, Option}
+use Rattle.std.proofs.Common.{None, Some, refl, sym, ap, ◌∙◌, arith}
 use Rattle.std.specs.Option.{option_and_then}
 use Rattle.std.proofs.lemmas.Bool.{and_parts, leb-true, ltb-false}
 use Rattle.std.proofs.lemmas.Bool.Decides.{eqb_tells}
@@ -11,10 +12,12 @@ use Rattle.register_core.specs.declared.reply.Refusal.{Refusal}
 use Rattle.register_core.specs.declared.view.Held.{Held}
 use Rattle.register_core.specs.Effect.{given_dates}
 use Rattle.register_core.specs.History.{latest, count, period, dates}
-use Rattle.register_core.specs.Subject.{Registration, Subject, Makes, Names, NoKey, subject, named_by, key_by, count_by, key_of, is_key, named}
+use Rattle.register_core.specs.Subject.{Registration, Subject, Makes, Names, NoKey, subject, named_by, key_by}
+use Rattle.register_core.specs.Subject.{count_by, key_of, is_key, named}
 use Rattle.register_core.specs.Custody.{held}
 use Rattle.register_core.specs.CommandRule.{is_for}
-use Rattle.register_core.specs.Verdict.{custodian_refusal, freeze_refusal, dates_refusal, occurrence_refusal, judge, named_key, judgement}
+use Rattle.register_core.specs.Verdict.{custodian_refusal, freeze_refusal, dates_refusal, occurrence_refusal, judge}
+use Rattle.register_core.specs.Verdict.{named_key, judgement}
 use Rattle.register_core.specs.Version.{current}
 use Rattle.register_core.specs.CustodyRefusal.{owner_custodian, approvals_missing}
 use Rattle.register_core.proofs.Histories.{count_grows, dates_made}
@@ -46,9 +49,11 @@ judged h q key = judge (latest h) (count h) (period h) key q
 
 pub not_after : (h : List Request) (q : Request) → judgement h q ≡ None → latest h ≤ q.moment
 not_after h q accepted =
-    ltb-false _ _ (not_refused _ _ (passes current (latest h) (count h) (period h) (named_key h q.command) q accepted).in_time)
+    ltb-false _ _
+    (not_refused _ _ (passes current (latest h) (count h) (period h) (named_key h q.command) q accepted).in_time)
 
-on_there : (h : List Request) (q : Request) (k : ℕ) → named q.command ≡ Some k → is_there h k ≡ true → judged h q (Some (standing h k)) ≡ None → IsOn h q k
+on_there : (h : List Request) (q : Request) (k : ℕ) → named q.command ≡ Some k → is_there h k ≡ true
+    → judged h q (Some (standing h k)) ≡ None → IsOn h q k
 on_there h q k names there accepted =
     let key : Option Held = Some (standing h k) in
     let passed = passes current (latest h) (count h) (period h) key q accepted in
@@ -106,8 +111,12 @@ abbrev pub Concerns : List Request → Request → ℕ → Type 0
 Concerns h q k = IsMade h q k ⊎ IsOn h q k ⊎ IsOther h q k
 
 -- a subject that is not key k leaves the number of keys
-apart_from : (h : List Request) (q : Request) (s : Subject) (k : ℕ) → subject q.command ≡ s → is_key k (key_by (count h) s) ≡ false → k ≤ count h → IsOther h q k
-apart_from h q s k is other high = record { high = high; other = ap (λ (x : Subject). is_key k (key_by (count h) x)) is ∙ other }
+apart_from : (h : List Request) (q : Request) (s : Subject) (k : ℕ) → subject q.command ≡ s
+    → is_key k (key_by (count h) s) ≡ false → k ≤ count h → IsOther h q k
+apart_from h q s k is other high = record {
+  high = high;
+  other = ap (λ (x : Subject). is_key k (key_by (count h) x)) is ∙ other;
+}
 
 pub which : (h : List Request) (q : Request) (k : ℕ) → judgement h q ≡ None → k ≤ count (h ++ q ∷ []) → Concerns h q k
 which h q k accepted high = by (subject q.command) refl
@@ -121,10 +130,12 @@ which h q k accepted high = by (subject q.command) refl
           let shown : named_key h q.command ≡ None = ap (λ (s : Subject). option_and_then (held h) (named_by s)) is in
           let passed = passes current (latest h) (count h) (period h) None q (sym (ap (judged h q) shown) ∙ accepted) in
           inl (record { next = sym both.1; registration = r; makes = is; fit = passed.fit })
-      | inr apart ↦ let more = counted (Makes r) is in inr (inr (apart_from h q (Makes r) k is apart.0 (omega (arith, high, more, apart.1))))
+      | inr apart ↦ let more = counted (Makes r) is in inr
+          (inr (apart_from h q (Makes r) k is apart.0 (omega (arith, high, more, apart.1))))
     ]
     by (Names n) is = elim (eqb_tells n k) [
       | inl both ↦ inr (inl (on_key h q k accepted (ap named_by is ∙ ap (λ (x : ℕ). Some x) both.1)))
-      | inr apart ↦ let more = counted (Names n) is in inr (inr (apart_from h q (Names n) k is apart.0 (omega (arith, high, more))))
+      | inr apart ↦ let more = counted (Names n) is in inr
+          (inr (apart_from h q (Names n) k is apart.0 (omega (arith, high, more))))
     ]
     by NoKey is = let more = counted NoKey is in inr (inr (apart_from h q NoKey k is refl (omega (arith, high, more))))

@@ -1,5 +1,6 @@
 -- What was done to a key of a lawful history is not later than the latest moment.
-use Rattle.std.proofs.Common.{◌≡◌, ℕ, ◌≤◌, Bool, true, false, cond, List, [], ◌∷◌, ◌++◌, Option, None, Some, IsTrue, refl, sym, ap, subst, ◌∙◌, arith, inl, inr}
+use Rattle.std.proofs.Common.{◌≡◌, ℕ, ◌≤◌, Bool, true, false, cond, List, [], ◌∷◌, ◌++◌, Option, None, Some, IsTrue}
+use Rattle.std.proofs.Common.{refl, sym, ap, subst, ◌∙◌, arith, inl, inr}
 use Rattle.std.specs.Prelude.{unwrap_or, nat_le}
 use Rattle.std.proofs.lemmas.Bool.{le-leb, leb-true, ltb-false}
 use Rattle.lifecycle_core.specs.declared.dates.Dates.{Dates}
@@ -9,7 +10,8 @@ use Rattle.period_core.specs.Period.{Period}
 use Rattle.period_core.specs.Fitting.{is_not_after, with_defaults}
 use Rattle.register_core.specs.declared.request.Request.{Request}
 use Rattle.register_core.specs.declared.request.Command.{Command}
-use Rattle.register_core.specs.declared.request.Command.TheVariants.{Register as Registers, Activate, SetDates, Revoke, Destroy}
+use Rattle.register_core.specs.declared.request.Command.TheVariants.{Register as Registers, Activate, SetDates}
+use Rattle.register_core.specs.declared.request.Command.TheVariants.{Revoke, Destroy}
 use Rattle.register_core.specs.History.{latest, type, period, dates}
 use Rattle.register_core.specs.Subject.{named}
 use Rattle.register_core.specs.Effect.{edited_dates, compromised, deactivated, dates_after}
@@ -28,7 +30,8 @@ pub record IsPast (t : ℕ) (d : Dates) : Type 0 where
   pub compromise : IsTrue (is_not_after d.compromise (Some t))
   pub occurrence : IsTrue (is_not_after d.compromise_occurrence d.compromise)
 
-no_later : (date : Option ℕ) (t u : ℕ) → t ≤ u → IsTrue (is_not_after date (Some t)) → IsTrue (is_not_after date (Some u))
+no_later : (date : Option ℕ) (t u : ℕ) → t ≤ u → IsTrue (is_not_after date (Some t))
+    → IsTrue (is_not_after date (Some u))
 no_later None t u le early = refl
 no_later (Some date) t u le early = le-leb date u (omega (arith, leb-true date t early, le))
 
@@ -47,17 +50,20 @@ kept t d new keeps past = record {
   initial = omega (arith, keeps.initial, past.initial);
   destroy = ap (λ date. is_not_after date (Some t)) keeps.destroy ∙ past.destroy;
   compromise = ap (λ date. is_not_after date (Some t)) keeps.compromise ∙ past.compromise;
-  occurrence = ap (λ date. is_not_after date new.compromise) keeps.compromise_occurrence ∙ ap (is_not_after d.compromise_occurrence) keeps.compromise ∙ past.occurrence;
+  occurrence = ap (λ date. is_not_after date new.compromise) keeps.compromise_occurrence
+      ∙ ap (is_not_after d.compromise_occurrence) keeps.compromise ∙ past.occurrence;
 }
 
 now : (t : ℕ) → IsTrue (nat_le t t)
 now t = le-leb t t (omega arith)
 
-occurred : (t initial key : ℕ) (reason : Reason) (occurrence : Option ℕ) → initial ≤ t → occurrence_refusal t (Revoke key reason occurrence) ≡ None → IsTrue (nat_le (unwrap_or occurrence initial) t)
+occurred : (t initial key : ℕ) (reason : Reason) (occurrence : Option ℕ) → initial ≤ t
+    → occurrence_refusal t (Revoke key reason occurrence) ≡ None → IsTrue (nat_le (unwrap_or occurrence initial) t)
 occurred t initial key reason None le early = le-leb initial t le
 occurred t initial key reason (Some date) le early = le-leb date t (ltb-false t date (not_refused _ _ early))
 
-revoked : (compromise : Bool) (t : ℕ) (d : Dates) (key : ℕ) (reason : Reason) (occurrence : Option ℕ) → IsPast t d → occurrence_refusal t (Revoke key reason occurrence) ≡ None
+revoked : (compromise : Bool) (t : ℕ) (d : Dates) (key : ℕ) (reason : Reason) (occurrence : Option ℕ) → IsPast t d
+    → occurrence_refusal t (Revoke key reason occurrence) ≡ None
     → IsPast t (cond compromise (compromised t occurrence d) (deactivated t d))
 revoked true t d key reason occurrence past early = record {
   initial = past.initial;
@@ -109,7 +115,8 @@ AllPast h = (k : ℕ) → HasKey h k → IsPast (latest h) (dates h k)
 
 past_next : (h : List Request) (q : Request) → IsLawful h → judgement h q ≡ None → AllPast h → AllPast (h ++ q ∷ [])
 past_next h q lawful accepted before k has =
-    let moved : (d : Dates) → IsPast (latest h) d → IsPast q.moment d = λ d. later (latest h) q.moment d (not_after h q accepted) in
+    let moved : (d : Dates) → IsPast (latest h) d
+    → IsPast q.moment d = λ d. later (latest h) q.moment d (not_after h q accepted) in
     subst (λ (t : ℕ). IsPast t (dates (h ++ q ∷ []) k)) (sym (latest_grows h q)) (elim (which h q k accepted has.1) [
       | inl made ↦
           let given : Dates = given_to q made.registration in
@@ -122,7 +129,8 @@ past_next h q lawful accepted before k has =
           let past = moved (dates h k) (before k (on.low, on.high)) in
           subst (IsPast q.moment) (sym (dates_named h q k on.names))
           (past_after (period h (type h k)) (dates h k) q.moment k q.command on.names on.occurred past)
-      | inr (inr other) ↦ subst (IsPast q.moment) (sym (dates_other h q k other.other)) (moved (dates h k) (before k (has.0, other.high)))
+      | inr (inr other) ↦ subst (IsPast q.moment) (sym (dates_other h q k other.other))
+          (moved (dates h k) (before k (has.0, other.high)))
     ])
 
 pub all_past : (h : List Request) → IsLawful h → AllPast h

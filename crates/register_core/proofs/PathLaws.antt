@@ -1,5 +1,6 @@
 -- Each accepted request takes each key along the standard's transitions.
-use Rattle.std.proofs.Common.{◌≡◌, ℕ, ◌+◌, ◌≤◌, Bool, cond, List, [], ◌∷◌, ◌++◌, Option, None, Some, sym, ap, subst, ◌∙◌, arith, inl, inr}
+use Rattle.std.proofs.Common.{◌≡◌, ℕ, ◌+◌, ◌≤◌, Bool, cond, List, [], ◌∷◌, ◌++◌, Option, None, Some, sym, ap, subst}
+use Rattle.std.proofs.Common.{◌∙◌, arith, inl, inr}
 use Rattle.std.specs.Prelude.{is_some}
 use Rattle.std.proofs.lemmas.Bool.{le-leb, lt-leb}
 use Rattle.lifecycle_core.specs.declared.state.State.{State}
@@ -20,13 +21,20 @@ use Rattle.register_core.proofs.DateLaws.{freeze}
 use Rattle.register_core.proofs.PathSteps.{then, path_made, path_named}
 
 -- key k is there: its state before is that of its dates at the latest moment
-from_there : (h : List Request) (k : ℕ) (to : Option State) → k ≤ count h → Leads (Some (state_at (dates h k) (latest h))) to → Leads (state_of_key h k) to
-from_there h k to high path = subst (λ (b : Bool). Leads (cond b (Some (state_at (dates h k) (latest h))) None) to) (sym (le-leb k (count h) high)) path
+from_there : (h : List Request) (k : ℕ) (to : Option State) → k ≤ count h
+    → Leads (Some (state_at (dates h k) (latest h))) to → Leads (state_of_key h k) to
+from_there h k to high path =
+    subst (λ (b : Bool). Leads (cond b (Some (state_at (dates h k) (latest h))) None) to)
+    (sym (le-leb k (count h) high)) path
 
-from_none : (h : List Request) (k : ℕ) (to : Option State) → k ≡ count h + 1 → Leads None to → Leads (state_of_key h k) to
-from_none h k to next path = subst (λ (b : Bool). Leads (cond b (Some (state_at (dates h k) (latest h))) None) to) (sym (lt-leb k (count h) (omega (arith, next)))) path
+from_none : (h : List Request) (k : ℕ) (to : Option State) → k ≡ count h + 1 → Leads None to
+    → Leads (state_of_key h k) to
+from_none h k to next path =
+    subst (λ (b : Bool). Leads (cond b (Some (state_at (dates h k) (latest h))) None) to)
+    (sym (lt-leb k (count h) (omega (arith, next)))) path
 
-made_path : (h : List Request) (q : Request) (k : ℕ) → IsMade h q k → Leads (state_of_key h k) (Some (state_at (dates (h ++ q ∷ []) k) q.moment))
+made_path : (h : List Request) (q : Request) (k : ℕ) → IsMade h q k
+    → Leads (state_of_key h k) (Some (state_at (dates (h ++ q ∷ []) k) q.moment))
 made_path h q k made =
     let given : Dates = given_to q made.registration in
     let p : Period = period h made.registration.kind in
@@ -36,7 +44,8 @@ made_path h q k made =
     (subst (λ (d : Dates). Leads None (Some (state_at d q.moment))) (sym its)
     (path_made (with_defaults p given) q.moment (ap is_some keeps.destroy) (ap is_some keeps.compromise)))
 
-on_path : (h : List Request) (q : Request) (k : ℕ) → IsAccepted h q → IsOn h q k → Leads (state_of_key h k) (Some (state_at (dates (h ++ q ∷ []) k) q.moment))
+on_path : (h : List Request) (q : Request) (k : ℕ) → IsAccepted h q → IsOn h q k
+    → Leads (state_of_key h k) (Some (state_at (dates (h ++ q ∷ []) k) q.moment))
 on_path h q k is on =
     let d = dates h k in
     let its = dates_named h q k on.names in
@@ -46,13 +55,16 @@ on_path h q k is on =
     (subst (λ (x : Dates). Leads (Some (state_at d q.moment)) (Some (state_at x q.moment))) (sym its)
     (path_named (period h (type h k)) d q.moment k q.command on.names on.fits_state moves)))
 
-other_path : (h : List Request) (q : Request) (k : ℕ) → IsAccepted h q → IsOther h q k → Leads (state_of_key h k) (Some (state_at (dates (h ++ q ∷ []) k) q.moment))
+other_path : (h : List Request) (q : Request) (k : ℕ) → IsAccepted h q → IsOther h q k
+    → Leads (state_of_key h k) (Some (state_at (dates (h ++ q ∷ []) k) q.moment))
 other_path h q k is other =
     from_there h k _ other.high
-    (subst (λ (x : Dates). Leads (Some (state_at (dates h k) (latest h))) (Some (state_at x q.moment))) (sym (dates_other h q k other.other))
+    (subst (λ (x : Dates). Leads (Some (state_at (dates h k) (latest h))) (Some (state_at x q.moment)))
+    (sym (dates_other h q k other.other))
     (time_leads (dates h k) (latest h) q.moment (not_after h q (judged h q is.accepted))))
 
-pub path : (h : List Request) (q : Request) → IsAccepted h q → (k : ℕ) → HasKey (h ++ q ∷ []) k → Leads (state_of_key h k) (Some (state_at (dates (h ++ q ∷ []) k) q.moment))
+pub path : (h : List Request) (q : Request) → IsAccepted h q → (k : ℕ) → HasKey (h ++ q ∷ []) k
+    → Leads (state_of_key h k) (Some (state_at (dates (h ++ q ∷ []) k) q.moment))
 path h q is k has = elim (which h q k (judged h q is.accepted) has.1) [
   | inl made ↦ made_path h q k made
   | inr (inl on) ↦ on_path h q k is on

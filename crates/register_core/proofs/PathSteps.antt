@@ -1,8 +1,10 @@
 -- The paths along which an accepted command takes its key.
-use Rattle.std.proofs.Common.{◌≡◌, ℕ, Bool, true, false, not, cond, List, [], ◌∷◌, ◌++◌, Option, None, Some, refl, sym, ap, subst, ◌∙◌, ◌⊎◌, inl, inr, le-leb}
+use Rattle.std.proofs.Common.{◌≡◌, ℕ, Bool, true, false, not, cond, List, [], ◌∷◌, ◌++◌, Option, None, Some, refl}
+use Rattle.std.proofs.Common.{sym, ap, subst, ◌∙◌, ◌⊎◌, inl, inr, le-leb}
 use Rattle.std.specs.Prelude.{is_some}
 use Rattle.lifecycle_core.specs.declared.state.State.{State}
-use Rattle.lifecycle_core.specs.declared.state.State.TheVariants.{PreActive, Active, Deactivated, Compromised, Destroyed, DestroyedCompromised}
+use Rattle.lifecycle_core.specs.declared.state.State.TheVariants.{PreActive, Active, Deactivated, Compromised}
+use Rattle.lifecycle_core.specs.declared.state.State.TheVariants.{Destroyed, DestroyedCompromised}
 use Rattle.lifecycle_core.specs.declared.dates.Dates.{Dates}
 use Rattle.lifecycle_core.specs.State.{state_at, is_reached_at}
 use Rattle.lifecycle_core.specs.Reason.{is_compromise}
@@ -11,7 +13,8 @@ use Rattle.lifecycle_core.proofs.Transitions.{is_transition, listed}
 use Rattle.period_core.specs.Period.{Period}
 use Rattle.period_core.specs.Fitting.{with_defaults, within_limits}
 use Rattle.register_core.specs.declared.request.Command.{Command}
-use Rattle.register_core.specs.declared.request.Command.TheVariants.{Register as Registers, Activate, SetDates, Revoke, Destroy}
+use Rattle.register_core.specs.declared.request.Command.TheVariants.{Register as Registers, Activate, SetDates}
+use Rattle.register_core.specs.declared.request.Command.TheVariants.{Revoke, Destroy}
 use Rattle.register_core.specs.declared.request.Edit.{Edit}
 use Rattle.register_core.specs.Effect.{edited_dates, compromised, deactivated, dates_after}
 use Rattle.register_core.specs.CommandRule.{before_compromise, is_one_of, is_for}
@@ -22,9 +25,11 @@ use Rattle.register_core.proofs.Showing.{Shows, shows, state_is, is_pre_active, 
 
 -- ---- paths
 
-joined_paths : (from to : Option State) (path : List (Option State × State)) (mid : Option State) (more : List (Option State × State)) → IsPath from path mid → IsPath mid more to → IsPath from (path ++ more) to
+joined_paths : (from to : Option State) (path : List (Option State × State)) (mid : Option State)
+    (more : List (Option State × State)) → IsPath from path mid → IsPath mid more to → IsPath from (path ++ more) to
 joined_paths from to [] mid more first second = subst (λ (s : Option State). IsPath s more to) (sym first) second
-joined_paths from to (step ∷ path) mid more first second = (first.0, first.1, joined_paths (Some step.1) to path mid more first.2 second)
+joined_paths from to (step ∷ path) mid more first second =
+    (first.0, first.1, joined_paths (Some step.1) to path mid more first.2 second)
 
 pub then : (from mid to : Option State) → Leads from mid → Leads mid to → Leads from to
 then from mid to first second = (first.0 ++ second.0, joined_paths from to first.0 mid second.0 first.1 second.1)
@@ -43,27 +48,33 @@ is_open d = (is_some d.destroy ≡ false) × (is_some d.compromise ≡ false)
 abbrev opened : Bool → Bool → State
 opened active ended = cond (not active) PreActive (cond ended Deactivated Active)
 
-open_state : (d : Dates) (t : ℕ) → is_some d.destroy ≡ false → is_some d.compromise ≡ false → state_at d t ≡ opened (is_reached_at d.activation t) (is_reached_at d.deactivation t)
+open_state : (d : Dates) (t : ℕ) → is_some d.destroy ≡ false → is_some d.compromise ≡ false
+    → state_at d t ≡ opened (is_reached_at d.activation t) (is_reached_at d.deactivation t)
 open_state d t no_destroy no_compromise = rw (no_destroy, no_compromise) refl
 
 from_pre_active : (active ended : Bool) → Leads (Some PreActive) (Some (opened active ended))
 from_pre_active false ended = stays _
 from_pre_active true false = one_step (Some PreActive) Active refl
-from_pre_active true true = then _ (Some Active) _ (one_step (Some PreActive) Active refl) (one_step (Some Active) Deactivated refl)
+from_pre_active true true =
+    then _ (Some Active) _ (one_step (Some PreActive) Active refl) (one_step (Some Active) Deactivated refl)
 
 from_active : (ended : Bool) → Leads (Some Active) (Some (opened true ended))
 from_active false = stays _
 from_active true = one_step (Some Active) Deactivated refl
 
 leads_open : (from : State) (d : Dates) (t : ℕ) → is_some d.destroy ≡ false → is_some d.compromise ≡ false
-    → Leads (Some from) (Some (opened (is_reached_at d.activation t) (is_reached_at d.deactivation t))) → Leads (Some from) (Some (state_at d t))
-leads_open from d t no_destroy no_compromise path = subst (λ (s : State). Leads (Some from) (Some s)) (sym (open_state d t no_destroy no_compromise)) path
+    → Leads (Some from) (Some (opened (is_reached_at d.activation t) (is_reached_at d.deactivation t)))
+    → Leads (Some from) (Some (state_at d t))
+leads_open from d t no_destroy no_compromise path =
+    subst (λ (s : State). Leads (Some from) (Some s)) (sym (open_state d t no_destroy no_compromise)) path
 
 -- a key that is made
-pub path_made : (d : Dates) (t : ℕ) → is_some d.destroy ≡ false → is_some d.compromise ≡ false → Leads None (Some (state_at d t))
+pub path_made : (d : Dates) (t : ℕ) → is_some d.destroy ≡ false → is_some d.compromise ≡ false
+    → Leads None (Some (state_at d t))
 path_made d t no_destroy no_compromise =
     then None (Some PreActive) _ (one_step None PreActive refl)
-    (leads_open PreActive d t no_destroy no_compromise (from_pre_active (is_reached_at d.activation t) (is_reached_at d.deactivation t)))
+    (leads_open PreActive d t no_destroy no_compromise
+    (from_pre_active (is_reached_at d.activation t) (is_reached_at d.deactivation t)))
 
 -- ---- each command
 
@@ -88,7 +99,9 @@ activated_path period d t early =
     let new : Dates = within_limits period (record d { activation = Some t }) in
     let keeps = trimmed_keeps period (record d { activation = Some t }) in
     let old = its_shows d t PreActive early in
-    as_from d new t PreActive early (leads_open PreActive new t (still_unset _ _ keeps.destroy old.0) (still_unset _ _ keeps.compromise old.1) (from_pre_active _ _))
+    as_from d new t PreActive early
+    (leads_open PreActive new t (still_unset _ _ keeps.destroy old.0) (still_unset _ _ keeps.compromise old.1)
+    (from_pre_active _ _))
 
 edited_path : (period : Period) (d : Dates) (t : ℕ) (activation protect_stop deactivation : Edit)
     → (state_at d t ≡ PreActive) ⊎ (state_at d t ≡ Active)
@@ -100,34 +113,70 @@ edited_path period d t activation protect_stop deactivation early moves =
     elim early [
       | inl pre ↦
           let old = its_shows d t PreActive pre in
-          as_from d new t PreActive pre (leads_open PreActive new t (still_unset _ _ keeps.destroy old.0) (still_unset _ _ keeps.compromise old.1) (from_pre_active _ _))
+          as_from d new t PreActive pre
+          (leads_open PreActive new t (still_unset _ _ keeps.destroy old.0) (still_unset _ _ keeps.compromise old.1)
+          (from_pre_active _ _))
       | inr active ↦
           let old = its_shows d t Active active in
-          let kept : new.activation ≡ d.activation = elim moves.activation [ inl pre ↦ absurd (let e = sym pre ∙ active in cc) | inr same ↦ same ] in
+          let kept : new.activation
+          ≡ d.activation = elim moves.activation [
+            | inl pre ↦ absurd (let e = sym pre ∙ active in cc)
+            | inr same ↦
+                same
+          ] in
           let reached : is_reached_at new.activation t ≡ true = ap (λ (x : Option ℕ). is_reached_at x t) kept ∙ old.2 in
-          as_from d new t Active active (leads_open Active new t (still_unset _ _ keeps.destroy old.0) (still_unset _ _ keeps.compromise old.1)
-          (subst (λ (b : Bool). Leads (Some Active) (Some (opened b (is_reached_at new.deactivation t)))) (sym reached) (from_active (is_reached_at new.deactivation t))))
+          as_from d new t Active active
+          (leads_open Active new t (still_unset _ _ keeps.destroy old.0) (still_unset _ _ keeps.compromise old.1)
+          (subst (λ (b : Bool). Leads (Some Active) (Some (opened b (is_reached_at new.deactivation t))))
+          (sym reached) (from_active (is_reached_at new.deactivation t))))
     ]
 
 deactivated_path : (d : Dates) (t : ℕ) → state_at d t ≡ Active → Goes d t (deactivated t d)
 deactivated_path d t active =
     let old = its_shows d t Active active in
-    let now : state_at (deactivated t d) t ≡ Deactivated = state_is Deactivated (deactivated t d) t (old.0, old.1, old.2, le-leb t t (omega Rattle.std.proofs.Common.arith)) in
-    as_from d (deactivated t d) t Active active (subst (λ (s : State). Leads (Some Active) (Some s)) (sym now) (one_step (Some Active) Deactivated refl))
+    let now : state_at (deactivated t d) t
+    ≡ Deactivated = state_is Deactivated (deactivated t d) t (
+      old.0,
+      old.1,
+      old.2,
+      le-leb t t (omega Rattle.std.proofs.Common.arith),
+    ) in
+    as_from d (deactivated t d) t Active active
+    (subst (λ (s : State). Leads (Some Active) (Some s)) (sym now) (one_step (Some Active) Deactivated refl))
 
-compromised_by : (s : State) (d : Dates) (t : ℕ) (occurrence : Option ℕ) → Shows s d t → is_one_of (PreActive ∷ Active ∷ Deactivated ∷ Destroyed ∷ []) s ≡ true → From s t (compromised t occurrence d)
-compromised_by PreActive d t occurrence h e = subst (λ (s : State). Leads (Some PreActive) (Some s)) (sym (state_is Compromised (compromised t occurrence d) t (h.0, refl))) (one_step (Some PreActive) Compromised refl)
-compromised_by Active d t occurrence h e = subst (λ (s : State). Leads (Some Active) (Some s)) (sym (state_is Compromised (compromised t occurrence d) t (h.0, refl))) (one_step (Some Active) Compromised refl)
-compromised_by Deactivated d t occurrence h e = subst (λ (s : State). Leads (Some Deactivated) (Some s)) (sym (state_is Compromised (compromised t occurrence d) t (h.0, refl))) (one_step (Some Deactivated) Compromised refl)
+compromised_by : (s : State) (d : Dates) (t : ℕ) (occurrence : Option ℕ) → Shows s d t
+    → is_one_of (PreActive ∷ Active ∷ Deactivated ∷ Destroyed ∷ []) s ≡ true → From s t (compromised t occurrence d)
+compromised_by PreActive d t occurrence h e =
+    subst (λ (s : State). Leads (Some PreActive) (Some s))
+    (sym (state_is Compromised (compromised t occurrence d) t (h.0, refl))) (one_step (Some PreActive) Compromised refl)
+compromised_by Active d t occurrence h e =
+    subst (λ (s : State). Leads (Some Active) (Some s))
+    (sym (state_is Compromised (compromised t occurrence d) t (h.0, refl))) (one_step (Some Active) Compromised refl)
+compromised_by Deactivated d t occurrence h e =
+    subst (λ (s : State). Leads (Some Deactivated) (Some s))
+    (sym (state_is Compromised (compromised t occurrence d) t (h.0, refl)))
+    (one_step (Some Deactivated) Compromised refl)
 compromised_by Compromised d t occurrence h e = absurd cc
-compromised_by Destroyed d t occurrence h e = subst (λ (s : State). Leads (Some Destroyed) (Some s)) (sym (state_is DestroyedCompromised (compromised t occurrence d) t (h.0, refl))) (one_step (Some Destroyed) DestroyedCompromised refl)
+compromised_by Destroyed d t occurrence h e =
+    subst (λ (s : State). Leads (Some Destroyed) (Some s))
+    (sym (state_is DestroyedCompromised (compromised t occurrence d) t (h.0, refl)))
+    (one_step (Some Destroyed) DestroyedCompromised refl)
 compromised_by DestroyedCompromised d t occurrence h e = absurd cc
 
-destroyed_by : (s : State) (d : Dates) (t : ℕ) → Shows s d t → is_one_of (PreActive ∷ Deactivated ∷ Compromised ∷ []) s ≡ true → From s t (record d { destroy = Some t })
-destroyed_by PreActive d t h e = subst (λ (s : State). Leads (Some PreActive) (Some s)) (sym (state_is Destroyed (record d { destroy = Some t }) t (refl, h.1))) (one_step (Some PreActive) Destroyed refl)
+destroyed_by : (s : State) (d : Dates) (t : ℕ) → Shows s d t
+    → is_one_of (PreActive ∷ Deactivated ∷ Compromised ∷ []) s ≡ true → From s t (record d { destroy = Some t })
+destroyed_by PreActive d t h e =
+    subst (λ (s : State). Leads (Some PreActive) (Some s))
+    (sym (state_is Destroyed (record d { destroy = Some t }) t (refl, h.1))) (one_step (Some PreActive) Destroyed refl)
 destroyed_by Active d t h e = absurd cc
-destroyed_by Deactivated d t h e = subst (λ (s : State). Leads (Some Deactivated) (Some s)) (sym (state_is Destroyed (record d { destroy = Some t }) t (refl, h.1))) (one_step (Some Deactivated) Destroyed refl)
-destroyed_by Compromised d t h e = subst (λ (s : State). Leads (Some Compromised) (Some s)) (sym (state_is DestroyedCompromised (record d { destroy = Some t }) t (refl, h.1))) (one_step (Some Compromised) DestroyedCompromised refl)
+destroyed_by Deactivated d t h e =
+    subst (λ (s : State). Leads (Some Deactivated) (Some s))
+    (sym (state_is Destroyed (record d { destroy = Some t }) t (refl, h.1)))
+    (one_step (Some Deactivated) Destroyed refl)
+destroyed_by Compromised d t h e =
+    subst (λ (s : State). Leads (Some Compromised) (Some s))
+    (sym (state_is DestroyedCompromised (record d { destroy = Some t }) t (refl, h.1)))
+    (one_step (Some Compromised) DestroyedCompromised refl)
 destroyed_by Destroyed d t h e = absurd cc
 destroyed_by DestroyedCompromised d t h e = absurd cc
 

@@ -1,5 +1,7 @@
 -- Each field's reader reads exactly the texts of its values, and finds what the code finds.
-use Rattle.std.proofs.Common.{◌≡◌, ◌≢◌, ℕ, suc, ◌-◌, ◌<◌, ◌≤◌, ◌^◌, nat_le, Bool, true, false, not, ◌&&◌, cond, List, [], ◌∷◌, length, get_or, Option, Some, None, IfSome, IfNone, IsSome, ◌↔◌, ◌⊎◌, inl, inr, refl, sym, ap, subst, ◌∙◌, arith}
+use Rattle.std.proofs.Common.{◌≡◌, ◌≢◌, ℕ, suc, ◌-◌, ◌<◌, ◌≤◌, ◌^◌, nat_le, Bool, true, false, not, ◌&&◌, cond, List}
+use Rattle.std.proofs.Common.{[], ◌∷◌, length, get_or, Option, Some, None, IfSome, IfNone, IsSome, ◌↔◌, ◌⊎◌, inl, inr}
+use Rattle.std.proofs.Common.{refl, sym, ap, subst, ◌∙◌, arith}
 use Rattle.std.specs.Prelude.{◌==◌, decimal, find, codes}
 use Rattle.std.specs.List.{All, list_all}
 use Rattle.std.specs.Str.{bytes_eq, is_utf8}
@@ -12,10 +14,11 @@ use Rattle.std.proofs.lemmas.Slice.Eq.{bytes_eq-Decides}
 use Rattle.std.proofs.lemmas.Str.{IsUtf8-from_is_utf8, is_utf8-from_IsUtf8}
 use Rattle.moment_core.specs.Moment.{last_second, IsMoment}
 use Rattle.lifecycle_core.specs.declared.reason.Reason.{Reason}
-use Rattle.lifecycle_core.specs.declared.reason.Reason.TheVariants.{Unspecified, KeyCompromise, CaCompromise, AffiliationChanged, Superseded, CessationOfOperation, PrivilegeWithdrawn}
+use Rattle.lifecycle_core.specs.declared.reason.Reason.TheVariants.{Unspecified, KeyCompromise, CaCompromise}
+use Rattle.lifecycle_core.specs.declared.reason.Reason.TheVariants.{AffiliationChanged, Superseded}
+use Rattle.lifecycle_core.specs.declared.reason.Reason.TheVariants.{CessationOfOperation, PrivilegeWithdrawn}
 use Rattle.lifecycle_core.specs.Reason.{reason_code, is_compromise}
 use Rattle.period_core.specs.declared.key_type.KeyType.{KeyType}
-use Rattle.period_core.specs.declared.key_type.KeyType.TheVariants.{DataEncryption, Authentication, KeyWrapping, PrivateSignature, PrivateAuthentication, PrivateTransport, Master}
 use Rattle.register_core.specs.declared.command_kind.CommandKind.{CommandKind}
 use Rattle.register_core.specs.declared.command_kind.CommandKind.TheVariants.{Advance}
 use Rattle.register_core.specs.declared.request.Edit.{Edit}
@@ -25,9 +28,13 @@ use Rattle.register_core.specs.Number.{max_request_number, IsNumber}
 use Rattle.register_core.specs.Quorum.{min_approvals, max_approvals, IsQuorum}
 use Rattle.register_core.specs.Purpose.{is_purpose_byte, max_purpose_length, IsPurpose}
 use Rattle.period_core.specs.KeyType.{key_type_text}
+use Rattle.period_core.proofs.Types.{of_each_type}
 use Rattle.period_core.specs.Period.{max_months}
 use Rattle.register_core.specs.CommandKind.{command_kind_text}
-use Rattle.register_core.specs.RequestLine.{◌>>=◌, number_at, moment_at, date_at, edit_at, key_number_at, reasons, reason_at, occurrence_at, request_number_at, quorum_at, originator_at, recipient_at, name_at, purpose_at, key_types, key_type_at, command_kinds, kind_at, is_space, is_trimmed}
+use Rattle.register_core.specs.RequestLine.{◌>>=◌, number_at, moment_at, date_at, edit_at, key_number_at, reasons}
+use Rattle.register_core.specs.RequestLine.{reason_at, occurrence_at, request_number_at, quorum_at, originator_at}
+use Rattle.register_core.specs.RequestLine.{recipient_at, name_at, purpose_at, key_types, key_type_at, command_kinds}
+use Rattle.register_core.specs.RequestLine.{kind_at, is_space, is_trimmed}
 use Rattle.register_core.specs.Request.{IsDate, IsKeyNumber, IsEdit, date_text, edit_text}
 use Rattle.register_core.proofs.FieldReading.{IsReader, is_read, bind_some, some_is}
 
@@ -36,16 +43,19 @@ use Rattle.register_core.proofs.FieldReading.{IsReader, is_read, bind_some, some
 abbrev IsWithin : ℕ → ℕ → ℕ → Type 0
 IsWithin least most n = (least ≤ n) × (n ≤ most)
 
-number_takes : (least most : ℕ) (field : List ℕ) (n : ℕ) → number_at least most field ≡ Some n → IsWithin least most n × (field ≡ decimal n)
+number_takes : (least most : ℕ) (field : List ℕ) (n : ℕ) → number_at least most field ≡ Some n
+    → IsWithin least most n × (field ≡ decimal n)
 number_takes least most field n e =
     let v = digits_value 10 field in
     let got = cond_some (nat_le least v && nat_le v most && bytes_eq (decimal v) field) v n e in
     let outer = and_parts (nat_le least v && nat_le v most) (bytes_eq (decimal v) field) got.0 in
     let bounds = and_parts (nat_le least v) (nat_le v most) outer.0 in
     let written : decimal v ≡ field = (bytes_eq-Decides (decimal v) field).0 outer.1 in
-    subst (λ (m : ℕ). IsWithin least most m × (field ≡ decimal m)) got.1 ((leb-true least v bounds.0, leb-true v most bounds.1), sym written)
+    subst (λ (m : ℕ). IsWithin least most m × (field ≡ decimal m)) got.1
+    ((leb-true least v bounds.0, leb-true v most bounds.1), sym written)
 
-number_again : (least most : ℕ) → most < 2 ^ 64 → (n : ℕ) → IsWithin least most n → number_at least most (decimal n) ≡ Some n
+number_again : (least most : ℕ) → most < 2 ^ 64 → (n : ℕ) → IsWithin least most n
+    → number_at least most (decimal n) ≡ Some n
 number_again least most small n within =
     let value : digits_value 10 (decimal n) ≡ n = (decimal_is_IsNumeral n (omega arith)).1 in
     let low : nat_le least n ≡ true = le-leb least n within.0 in
@@ -79,15 +89,18 @@ dash_no_number m lt = sign_no_number (codes "-") (λ digits. omega (arith, digit
 equals_no_number : (m : ℕ) → m < 2 ^ 64 → bytes_eq (decimal m) (codes "=") ≡ false
 equals_no_number m lt = sign_no_number (codes "=") (λ digits. omega (arith, digits.0)) m lt
 
-chosen : {A : Type 0} (b : Bool) (y z : Option A) (x : A) → cond b y z ≡ Some x → ((b ≡ true) × (y ≡ Some x)) ⊎ ((b ≡ false) × (z ≡ Some x))
+chosen : {A : Type 0} (b : Bool) (y z : Option A) (x : A) → cond b y z ≡ Some x → ((b ≡ true) × (y ≡ Some x))
+    ⊎ ((b ≡ false) × (z ≡ Some x))
 chosen true y z x e = inl (refl, e)
 chosen false y z x e = inr (refl, e)
 
-date_of_none : (field : List ℕ) (x : Option ℕ) → field ≡ codes "-" → Some None ≡ Some x → IsDate x × (field ≡ date_text x)
+date_of_none : (field : List ℕ) (x : Option ℕ) → field ≡ codes "-" → Some None ≡ Some x
+    → IsDate x × (field ≡ date_text x)
 date_of_none field None text e = (tt, text)
 date_of_none field (Some m) text e = absurd cc
 
-date_of_moment : (field : List ℕ) (m : ℕ) (x : Option ℕ) → moment_at field ≡ Some m → Some (Some m) ≡ Some x → IsDate x × (field ≡ date_text x)
+date_of_moment : (field : List ℕ) (m : ℕ) (x : Option ℕ) → moment_at field ≡ Some m → Some (Some m) ≡ Some x
+    → IsDate x × (field ≡ date_text x)
 date_of_moment field m None read e = absurd cc
 date_of_moment field m (Some n) read e =
     let same : m ≡ n = cc in
@@ -95,10 +108,11 @@ date_of_moment field m (Some n) read e =
 
 date_takes : (field : List ℕ) (x : Option ℕ) → date_at field ≡ Some x → IsDate x × (field ≡ date_text x)
 unfolding date_at
-date_takes field x e = elim (chosen (bytes_eq field (codes "-")) (Some None) (moment_at field >>= λ m. Some (Some m)) x e) [
-  | inl none ↦ date_of_none field x ((bytes_eq-Decides field (codes "-")).0 none.0) none.1
-  | inr some ↦ let m = bind_some (moment_at field) (λ m. Some (Some m)) x some.1 in date_of_moment field m.0 x m.1 m.2
-]
+date_takes field x e =
+    elim (chosen (bytes_eq field (codes "-")) (Some None) (moment_at field >>= λ m. Some (Some m)) x e) [
+      | inl none ↦ date_of_none field x ((bytes_eq-Decides field (codes "-")).0 none.0) none.1
+      | inr some ↦ let m = bind_some (moment_at field) (λ m. Some (Some m)) x some.1 in date_of_moment field m.0 x m.1 m.2
+    ]
 
 date_again : (x : Option ℕ) → IsDate x → date_at (date_text x) ≡ Some x
 unfolding date_at
@@ -110,34 +124,46 @@ date_reader = record { takes = date_takes; again = date_again }
 
 -- ---- edits
 
-edit_of_moment : (field : List ℕ) (m : ℕ) (x : Edit) → moment_at field ≡ Some m → Some (Set m) ≡ Some x → IsEdit x × (field ≡ edit_text x)
+edit_of_moment : (field : List ℕ) (m : ℕ) (x : Edit) → moment_at field ≡ Some m → Some (Set m) ≡ Some x
+    → IsEdit x × (field ≡ edit_text x)
 edit_of_moment field m x read e =
     let same : Set m ≡ x = cc in
     subst (λ (y : Edit). IsEdit y × (field ≡ edit_text y)) same (moment_reader.takes field m read)
 
-edit_of_sign : (field sign : List ℕ) (y x : Edit) → bytes_eq field sign ≡ true → IsEdit y → edit_text y ≡ sign → Some y ≡ Some x → IsEdit x × (field ≡ edit_text x)
+edit_of_sign : (field sign : List ℕ) (y x : Edit) → bytes_eq field sign ≡ true → IsEdit y → edit_text y ≡ sign
+    → Some y ≡ Some x → IsEdit x × (field ≡ edit_text x)
 edit_of_sign field sign y x here in_range text e =
     let same : y ≡ x = cc in
-    subst (λ (z : Edit). IsEdit z × (field ≡ edit_text z)) same (in_range, (bytes_eq-Decides field sign).0 here ∙ sym text)
+    subst (λ (z : Edit). IsEdit z × (field ≡ edit_text z)) same (
+      in_range,
+      (bytes_eq-Decides field sign).0 here ∙ sym text,
+    )
 
 abbrev set_to : List ℕ → Option Edit
 set_to field = moment_at field >>= λ m. Some (Set m)
 
 edit_takes : (field : List ℕ) (x : Edit) → edit_at field ≡ Some x → IsEdit x × (field ≡ edit_text x)
 unfolding edit_at
-edit_takes field x e = elim (chosen (bytes_eq field (codes "=")) (Some Keep) (cond (bytes_eq field (codes "-")) (Some Clear) (set_to field)) x e) [
-  | inl keep ↦ edit_of_sign field (codes "=") Keep x keep.0 tt refl keep.1
-  | inr other ↦ elim (chosen (bytes_eq field (codes "-")) (Some Clear) (set_to field) x other.1) [
-    | inl clear ↦ edit_of_sign field (codes "-") Clear x clear.0 tt refl clear.1
-    | inr some ↦ let m = bind_some (moment_at field) (λ m. Some (Set m)) x some.1 in edit_of_moment field m.0 x m.1 m.2
-  ]
-]
+edit_takes field x e =
+    elim (chosen (bytes_eq field (codes "=")) (Some Keep)
+    (cond (bytes_eq field (codes "-")) (Some Clear) (set_to field)) x e) [
+      | inl keep ↦ edit_of_sign field (codes "=") Keep x keep.0 tt refl keep.1
+      | inr other ↦ elim (chosen (bytes_eq field (codes "-")) (Some Clear) (set_to field) x other.1) [
+        | inl clear ↦ edit_of_sign field (codes "-") Clear x clear.0 tt refl clear.1
+        | inr some ↦ let m = bind_some (moment_at field) (λ m. Some (Set m)) x some.1 in edit_of_moment field m.0 x m.1 m.2
+      ]
+    ]
 
 edit_again : (x : Edit) → IsEdit x → edit_at (edit_text x) ≡ Some x
 unfolding edit_at
 edit_again Keep in_range = refl
 edit_again Clear in_range = refl
-edit_again (Set m) in_range = rw (equals_no_number m (omega (arith, in_range)), dash_no_number m (omega (arith, in_range)), moment_reader.again m in_range) refl
+edit_again (Set m) in_range =
+    rw (
+      equals_no_number m (omega (arith, in_range)),
+      dash_no_number m (omega (arith, in_range)),
+      moment_reader.again m in_range,
+    ) refl
 
 pub edit_reader : IsReader edit_at edit_text IsEdit
 edit_reader = record { takes = edit_takes; again = edit_again }
@@ -192,15 +218,18 @@ pub months_small : (least n : ℕ) → IsMonths least n → n < 2 ^ 64
 months_small least n in_range = omega (arith, in_range.1)
 
 -- a number that was made of the number in the field
-pub made_of_number : {read_by : List ℕ → Option ℕ} {P : ℕ → Type 0} → IsReader read_by decimal P → ((x : ℕ) → P x → x < 2 ^ 64) → (field : List ℕ) (o : Option ℕ) (n : ℕ) → n < 2 ^ 64
+pub made_of_number : {read_by : List ℕ → Option ℕ} {P : ℕ → Type 0} → IsReader read_by decimal P
+    → ((x : ℕ) → P x → x < 2 ^ 64) → (field : List ℕ) (o : Option ℕ) (n : ℕ) → n < 2 ^ 64
     → field ≡ decimal n → (IsSome o ↔ P n) → IfSome o (λ m. m ≡ n) → o ≡ read_by field
 made_of_number {read_by} {P} own small field (Some m) n lt e in_range value =
     is_read own field (Some m) (subst P (sym value) (in_range.0 refl), e ∙ ap decimal (sym value)) tt
 made_of_number {read_by} {P} own small field None n lt e in_range value =
-    is_read own field None tt (λ x px ex. let same : x ≡ n = decimal_injective x n (small x px) lt (sym ex ∙ e) in absurd (cc (in_range.1 (subst P same px))))
+    is_read own field None tt (λ x px ex. let same : x
+    ≡ n = decimal_injective x n (small x px) lt (sym ex ∙ e) in absurd (cc (in_range.1 (subst P same px))))
 
 -- no number is in the field
-pub no_number : {read_by : List ℕ → Option ℕ} {P : ℕ → Type 0} → IsReader read_by decimal P → ((x : ℕ) → P x → x < 2 ^ 64) → (field : List ℕ)
+pub no_number : {read_by : List ℕ → Option ℕ} {P : ℕ → Type 0} → IsReader read_by decimal P
+    → ((x : ℕ) → P x → x < 2 ^ 64) → (field : List ℕ)
     → ((n : ℕ) → n < 2 ^ 64 → field ≢ decimal n) → None ≡ read_by field
 no_number {read_by} {P} own small field none = is_read own field None tt (λ x px ex. none x (small x px) ex)
 
@@ -216,19 +245,30 @@ abbrev itself : List ℕ → List ℕ
 itself bytes = bytes
 
 -- a text that was made of the field
-pub made_of_text : {read_by : List ℕ → Option (List ℕ)} {P : List ℕ → Type 0} → IsReader read_by itself P → (field : List ℕ) (o : Option (List ℕ))
+pub made_of_text : {read_by : List ℕ → Option (List ℕ)} {P : List ℕ → Type 0} → IsReader read_by itself P
+    → (field : List ℕ) (o : Option (List ℕ))
     → (IsSome o ↔ P field) → IfSome o (λ n. n ≡ field) → o ≡ read_by field
-made_of_text {read_by} {P} own field (Some n) in_range value = is_read own field (Some n) (subst P (sym value) (in_range.0 refl), sym value) tt
-made_of_text {read_by} {P} own field None in_range value = is_read own field None tt (λ x px ex. absurd (cc (in_range.1 (subst P (sym ex) px))))
+made_of_text {read_by} {P} own field (Some n) in_range value =
+    is_read own field (Some n) (subst P (sym value) (in_range.0 refl), sym value) tt
+made_of_text {read_by} {P} own field None in_range value =
+    is_read own field None tt (λ x px ex. absurd (cc (in_range.1 (subst P (sym ex) px))))
 
 pub name_reader : IsReader name_at itself IsName
 unfolding name_at
 name_reader = record {
   takes = λ field x e.
-      let got = cond_some (nat_le 1 (length field) && nat_le (length field) max_name_length && list_all is_name_byte field) field x e in
-      let outer = and_parts (nat_le 1 (length field) && nat_le (length field) max_name_length) (list_all is_name_byte field) got.0 in
-      let bounds = and_parts (nat_le 1 (length field)) (nat_le (length field) max_name_length) outer.0 in
-      (subst IsName got.1 (leb-true 1 (length field) bounds.0, leb-true (length field) max_name_length bounds.1, outer.1), got.1);
+      let got = cond_some (nat_le 1 (length field) && nat_le (length field) max_name_length
+      && list_all is_name_byte field) field x e in
+      let outer = and_parts (nat_le 1 (length field) && nat_le (length field) max_name_length)
+      (list_all is_name_byte field) got.0 in
+      let bounds = and_parts (nat_le 1 (length field)) (nat_le (length field) max_name_length) outer.0 in (
+        subst IsName got.1 (
+          leb-true 1 (length field) bounds.0,
+          leb-true (length field) max_name_length bounds.1,
+          outer.1,
+        ),
+        got.1,
+      );
   again = λ x name.
       let low : nat_le 1 (length x) ≡ true = le-leb 1 (length x) name.0 in
       let high : nat_le (length x) max_name_length ≡ true = le-leb (length x) max_name_length name.1 in
@@ -241,22 +281,28 @@ space_not b e = grind (arith, nat_tests)
 pub not_space : (b : ℕ) → b ≢ 32 → not (is_space b) ≡ true
 not_space b other = grind (arith, nat_tests)
 
-trimmed_ends : (bytes : List ℕ) → is_trimmed bytes ≡ true → (get_or bytes 0 0 ≢ 32) × (get_or bytes (length bytes - 1) 0 ≢ 32)
+trimmed_ends : (bytes : List ℕ) → is_trimmed bytes ≡ true
+    → (get_or bytes 0 0 ≢ 32) × (get_or bytes (length bytes - 1) 0 ≢ 32)
 trimmed_ends bytes e =
     let both = and_parts (not (is_space (get_or bytes 0 0))) (not (is_space (get_or bytes (length bytes - 1) 0))) e in
     (space_not (get_or bytes 0 0) both.0, space_not (get_or bytes (length bytes - 1) 0) both.1)
 
-ends_trimmed : (bytes : List ℕ) → (get_or bytes 0 0 ≢ 32) → (get_or bytes (length bytes - 1) 0 ≢ 32) → is_trimmed bytes ≡ true
-ends_trimmed bytes first last = and_from _ _ (not_space (get_or bytes 0 0) first) (not_space (get_or bytes (length bytes - 1) 0) last)
+ends_trimmed : (bytes : List ℕ) → (get_or bytes 0 0 ≢ 32) → (get_or bytes (length bytes - 1) 0 ≢ 32)
+    → is_trimmed bytes ≡ true
+ends_trimmed bytes first last =
+    and_from _ _ (not_space (get_or bytes 0 0) first) (not_space (get_or bytes (length bytes - 1) 0) last)
 
 pub purpose_reader : IsReader purpose_at itself IsPurpose
 unfolding purpose_at
 purpose_reader = record {
   takes = λ bytes x e.
       let n = length bytes in
-      let got = cond_some (nat_le 1 n && nat_le n max_purpose_length && is_utf8 bytes && list_all is_purpose_byte bytes && is_trimmed bytes) bytes x e in
-      let p4 = and_parts (nat_le 1 n && nat_le n max_purpose_length && is_utf8 bytes && list_all is_purpose_byte bytes) (is_trimmed bytes) got.0 in
-      let p3 = and_parts (nat_le 1 n && nat_le n max_purpose_length && is_utf8 bytes) (list_all is_purpose_byte bytes) p4.0 in
+      let got = cond_some (nat_le 1 n && nat_le n max_purpose_length && is_utf8 bytes
+      && list_all is_purpose_byte bytes && is_trimmed bytes) bytes x e in
+      let p4 = and_parts (nat_le 1 n && nat_le n max_purpose_length && is_utf8 bytes
+      && list_all is_purpose_byte bytes) (is_trimmed bytes) got.0 in
+      let p3 = and_parts (nat_le 1 n && nat_le n max_purpose_length && is_utf8 bytes) (list_all is_purpose_byte bytes)
+      p4.0 in
       let p2 = and_parts (nat_le 1 n && nat_le n max_purpose_length) (is_utf8 bytes) p3.0 in
       let p1 = and_parts (nat_le 1 n) (nat_le n max_purpose_length) p2.0 in
       let ends = trimmed_ends bytes p4.1 in
@@ -279,7 +325,8 @@ purpose_reader = record {
 
 -- ---- types of keys, kinds of commands and reasons
 
-found_step : {A : Type 0} (b : Bool) (x : A) (o : Option A) (k : A) → cond b (Some x) o ≡ Some k → ((b ≡ true) × (x ≡ k)) ⊎ (o ≡ Some k)
+found_step : {A : Type 0} (b : Bool) (x : A) (o : Option A) (k : A) → cond b (Some x) o ≡ Some k
+    → ((b ≡ true) × (x ≡ k)) ⊎ (o ≡ Some k)
 found_step true x o k e = inl (refl, cc)
 found_step false x o k e = inr e
 
@@ -292,17 +339,13 @@ find_passes p (x ∷ ks) k e = elim (found_step (p x) x (find p ks) k e) [
 
 key_type_again : (k : KeyType) → key_type_at (key_type_text k) ≡ Some k
 unfolding key_type_at
-key_type_again DataEncryption = refl
-key_type_again Authentication = refl
-key_type_again KeyWrapping = refl
-key_type_again PrivateSignature = refl
-key_type_again PrivateAuthentication = refl
-key_type_again PrivateTransport = refl
-key_type_again Master = refl
+key_type_again = of_each_type (λ k. key_type_at (key_type_text k) ≡ Some k) refl refl refl refl refl refl refl
 
 key_type_takes : (field : List ℕ) (k : KeyType) → key_type_at field ≡ Some k → field ≡ key_type_text k
 unfolding key_type_at
-key_type_takes field k e = sym ((bytes_eq-Decides (key_type_text k) field).0 (find_passes (λ kind. bytes_eq (key_type_text kind) field) key_types k e))
+key_type_takes field k e =
+    sym ((bytes_eq-Decides (key_type_text k) field).0
+    (find_passes (λ kind. bytes_eq (key_type_text kind) field) key_types k e))
 
 pub key_type_reader : IsReader key_type_at key_type_text (λ _. Unit {0})
 key_type_reader = record { takes = λ field k e. (tt, key_type_takes field k e); again = λ k _. key_type_again k }
@@ -376,14 +419,17 @@ reason_takes : (field : List ℕ) (r : Reason) → reason_at field ≡ Some r �
 unfolding reason_at
 reason_takes field r e =
     let code = bind_some (number_at 1 7 field) reason_with r e in
-    let same : reason_code r ≡ code.0 = eqb-true (reason_code r) code.0 (find_passes (λ reason. reason_code reason == code.0) reasons r code.2) in
+    let same : reason_code r
+    ≡ code.0 = eqb-true (reason_code r) code.0
+    (find_passes (λ reason. reason_code reason == code.0) reasons r code.2) in
     (number_takes 1 7 field code.0 code.1).1 ∙ ap decimal (sym same)
 
 pub reason_reader : IsReader reason_at reason_text (λ _. Unit {0})
 reason_reader = record { takes = λ field r e. (tt, reason_takes field r e); again = λ r _. reason_again r }
 
 -- a reason that was made of the number in the field
-pub made_of_code : (field : List ℕ) (o : Option Reason) (n : ℕ) → n < 2 ^ 64 → field ≡ decimal n → IfSome o (λ r. reason_code r ≡ n) → IfNone o ((n < 1) ⊎ (7 < n)) → o ≡ reason_at field
+pub made_of_code : (field : List ℕ) (o : Option Reason) (n : ℕ) → n < 2 ^ 64 → field ≡ decimal n
+    → IfSome o (λ r. reason_code r ≡ n) → IfNone o ((n < 1) ⊎ (7 < n)) → o ≡ reason_at field
 made_of_code field (Some r) n lt e found none = is_read reason_reader field (Some r) (tt, e ∙ ap decimal (sym found)) tt
 made_of_code field None n lt e found none = is_read reason_reader field None tt (λ r _ ex.
     let within = reason_code_within r in
@@ -392,7 +438,9 @@ made_of_code field None n lt e found none = is_read reason_reader field None tt 
 
 -- no number is in the field, and so no reason
 pub no_code : (field : List ℕ) → ((n : ℕ) → n < 2 ^ 64 → field ≢ decimal n) → None ≡ reason_at field
-no_code field none = is_read reason_reader field None tt (λ r _ ex. let within = reason_code_within r in none (reason_code r) (omega (arith, within.1)) ex)
+no_code field none =
+    is_read reason_reader field None tt
+    (λ r _ ex. let within = reason_code_within r in none (reason_code r) (omega (arith, within.1)) ex)
 
 -- ---- occurrences
 
@@ -400,24 +448,32 @@ no_code field none = is_read reason_reader field None tt (λ r _ ex. let within 
 abbrev pub IsOccurrence : Reason → Option ℕ → Type 0
 IsOccurrence reason x = IsDate x × (is_compromise reason ≡ false → x ≡ None)
 
-no_date : (field : List ℕ) (x : Option ℕ) → cond (bytes_eq field (codes "-")) (Some None) None ≡ Some x → (x ≡ None) × (field ≡ codes "-")
+no_date : (field : List ℕ) (x : Option ℕ) → cond (bytes_eq field (codes "-")) (Some None) None ≡ Some x
+    → (x ≡ None) × (field ≡ codes "-")
 no_date field x e =
     let got = cond_some (bytes_eq field (codes "-")) None x e in
     (sym got.1, (bytes_eq-Decides field (codes "-")).0 got.0)
 
-occurrence_takes : (reason : Reason) (field : List ℕ) (x : Option ℕ) → occurrence_at reason field ≡ Some x → IsOccurrence reason x × (field ≡ date_text x)
+occurrence_takes : (reason : Reason) (field : List ℕ) (x : Option ℕ) → occurrence_at reason field ≡ Some x
+    → IsOccurrence reason x × (field ≡ date_text x)
 unfolding occurrence_at
-occurrence_takes reason field x e = elim (chosen (is_compromise reason) (date_at field) (cond (bytes_eq field (codes "-")) (Some None) None) x e) [
-  | inl dated ↦ let taken = date_reader.takes field x dated.1 in ((taken.0, λ other. absurd (cc (dated.0, other))), taken.1)
-  | inr other ↦ let none = no_date field x other.1 in
-      subst (λ (y : Option ℕ). IsOccurrence reason y × (field ≡ date_text y)) (sym none.0) ((tt, λ _. refl), none.1)
-]
+occurrence_takes reason field x e =
+    elim (chosen (is_compromise reason) (date_at field) (cond (bytes_eq field (codes "-")) (Some None) None) x e) [
+      | inl dated ↦ let taken = date_reader.takes field x dated.1 in (
+        (taken.0, λ other. absurd (cc (dated.0, other))),
+        taken.1,
+      )
+      | inr other ↦ let none = no_date field x other.1 in
+          subst (λ (y : Option ℕ). IsOccurrence reason y × (field ≡ date_text y)) (sym none.0) ((tt, λ _. refl), none.1)
+    ]
 
-occurrence_by : (b : Bool) (x : Option ℕ) → IsDate x → (b ≡ false → x ≡ None) → cond b (date_at (date_text x)) (cond (bytes_eq (date_text x) (codes "-")) (Some None) None) ≡ Some x
+occurrence_by : (b : Bool) (x : Option ℕ) → IsDate x → (b ≡ false → x ≡ None)
+    → cond b (date_at (date_text x)) (cond (bytes_eq (date_text x) (codes "-")) (Some None) None) ≡ Some x
 occurrence_by true x in_range none = date_reader.again x in_range
 occurrence_by false x in_range none = rw (none refl) refl
 
-occurrence_again : (reason : Reason) (x : Option ℕ) → IsOccurrence reason x → occurrence_at reason (date_text x) ≡ Some x
+occurrence_again : (reason : Reason) (x : Option ℕ) → IsOccurrence reason x
+    → occurrence_at reason (date_text x) ≡ Some x
 unfolding occurrence_at
 occurrence_again reason x h = occurrence_by (is_compromise reason) x h.0 h.1
 

@@ -5,8 +5,11 @@ use Rattle.period_core.specs.Period.{Period}
 use Rattle.register_core.specs.declared.request.Request.{Request}
 use Rattle.register_core.specs.declared.version.Version.{Version}
 use Rattle.register_core.specs.declared.view.Held.{Held}
-use Rattle.register_core.specs.CustodyRefusal.{already_custodian, no_such_custodian, too_many_custodians, owner_custodian, already_approved, no_approval, approvals_missing}
-use Rattle.register_core.specs.Verdict.{moment_refusal, key_refusal, owner_refusal, custodian_refusal, office_refusal, state_refusal, freeze_refusal, dates_refusal, occurrence_refusal, limit_refusal, judge_in}
+use Rattle.register_core.specs.CustodyRefusal.{already_custodian, no_such_custodian, too_many_custodians}
+use Rattle.register_core.specs.CustodyRefusal.{owner_custodian, already_approved, no_approval, approvals_missing}
+use Rattle.register_core.specs.Verdict.{moment_refusal, key_refusal, owner_refusal, custodian_refusal, office_refusal}
+use Rattle.register_core.specs.Verdict.{state_refusal, freeze_refusal, dates_refusal, occurrence_refusal}
+use Rattle.register_core.specs.Verdict.{limit_refusal, judge_in}
 use Rattle.register_core.proofs.Filling.{past}
 
 pub record IsPassed (version : Version) (last keys : ℕ) (periods : KeyType → Period) (key : Option Held) (q : Request)

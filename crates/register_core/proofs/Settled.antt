@@ -1,6 +1,6 @@
 -- The lists of what was set say what the history says of each type and of each key.
-use Rattle.std.proofs.Common.{◌≡◌, ◌==◌, inl, inr, ℕ, ◌≤◌, not, Bool, true, false, cond, List, [], ◌∷◌, ◌++◌, Option, None, Some}
-use Rattle.std.proofs.Common.{IfSome, refl, sym, ap, subst, ◌∙◌, arith}
+use Rattle.std.proofs.Common.{◌≡◌, ◌==◌, inl, inr, ℕ, ◌≤◌, not, Bool, true, false, cond, List, [], ◌∷◌, ◌++◌, Option}
+use Rattle.std.proofs.Common.{None, Some, IfSome, refl, sym, ap, subst, ◌∙◌, arith}
 use Rattle.std.specs.Prelude.{filter, find, fold, unwrap_or}
 use Rattle.std.specs.List.{AllByRecursion}
 use Rattle.std.specs.Option.{option_map}
@@ -29,8 +29,10 @@ need_step before p = need_after before p.request.command
 pub needs_next : (h : List Request) (q : Request) → all_needs (h ++ q ∷ []) ≡ needs_after (all_needs h) q.command
 needs_next h q = fold-append (λ (before : List KeyNeed) (p : Request). needs_after before p.command) [] h (q ∷ [])
 
-pub periods_next : (h : List Request) (q : Request) → all_periods (h ++ q ∷ []) ≡ periods_after (all_periods h) q.command
-periods_next h q = fold-append (λ (before : List TypePeriod) (p : Request). periods_after before p.command) [] h (q ∷ [])
+pub periods_next : (h : List Request) (q : Request)
+    → all_periods (h ++ q ∷ []) ≡ periods_after (all_periods h) q.command
+periods_next h q =
+    fold-append (λ (before : List TypePeriod) (p : Request). periods_after before p.command) [] h (q ∷ [])
 
 -- ---- what stands for a key after another entry took the place of its own
 

@@ -1,5 +1,6 @@
 -- Where the office set no period of a type, its keys' dates were all set by the type's own.
-use Rattle.std.proofs.Common.{◌≡◌, ◌==◌, ◌||◌, ℕ, Bool, true, false, not, cond, List, [], ◌∷◌, ◌++◌, Option, None, Some, refl, sym, ap, subst, ◌∙◌, append_assoc}
+use Rattle.std.proofs.Common.{◌≡◌, ◌==◌, ◌||◌, ℕ, Bool, true, false, not, cond, List, [], ◌∷◌, ◌++◌, Option, None}
+use Rattle.std.proofs.Common.{Some, refl, sym, ap, subst, ◌∙◌, append_assoc}
 use Rattle.std.specs.Prelude.{fold, unwrap_or}
 use Rattle.std.proofs.lemmas.List.Sums.{fold-append}
 use Rattle.period_core.specs.declared.key_type.KeyType.{KeyType}
@@ -30,31 +31,40 @@ still_set kind (SetPeriod other set) p e = by (key_type_code other == key_type_c
     by false e = cc
 still_set kind c p e = cc
 
-none_before : (kind : KeyType) (first : Option Period) (later : List Request) → fold (step kind) first later ≡ None → first ≡ None
+none_before : (kind : KeyType) (first : Option Period) (later : List Request) → fold (step kind) first later ≡ None
+    → first ≡ None
 none_before kind first [] e = e
 none_before kind None (q ∷ later) e = refl
-none_before kind (Some p) (q ∷ later) e = absurd (still_set kind q.command p (none_before kind (step kind (Some p) q) later e))
+none_before kind (Some p) (q ∷ later) e =
+    absurd (still_set kind q.command p (none_before kind (step kind (Some p) q) later e))
 
 module _ (kind : KeyType) where
   abbrev dated : Period → Placed → Period
   dated before p = cond (sets_dates p.request.command) (period p.before kind) before
 
-  own_there : (before later : List Request) → set_period (before ++ later) kind ≡ None → period before kind ≡ periods kind
-  own_there before later none = ap (λ (o : Option Period). unwrap_or o (periods kind)) (none_before kind (set_period before kind) later (sym (fold-append (step kind) None before later) ∙ none))
+  own_there : (before later : List Request) → set_period (before ++ later) kind ≡ None
+      → period before kind ≡ periods kind
+  own_there before later none =
+      ap (λ (o : Option Period). unwrap_or o (periods kind))
+      (none_before kind (set_period before kind) later (sym (fold-append (step kind) None before later) ∙ none))
 
-  dated_once : (before later : List Request) (q : Request) (k : ℕ) (start : Period) → start ≡ periods kind → set_period (before ++ later) kind ≡ None → fold dated start (concerning before q k) ≡ periods kind
-  dated_once before later q k start own none = by (is_key k (key_of (count before) q.command)) (sets_dates q.command) refl
+  dated_once : (before later : List Request) (q : Request) (k : ℕ) (start : Period) → start ≡ periods kind
+      → set_period (before ++ later) kind ≡ None → fold dated start (concerning before q k) ≡ periods kind
+  dated_once before later q k start own none =
+      by (is_key k (key_of (count before) q.command)) (sets_dates q.command) refl
     where
       by : (b c : Bool) → sets_dates q.command ≡ c → fold dated start (cond b (placed before q ∷ []) []) ≡ periods kind
       by true true is = ap (λ d. cond d (period before kind) start) is ∙ own_there before later none
       by true false is = ap (λ d. cond d (period before kind) start) is ∙ own
       by false c is = own
 
-  dated_from : (later before : List Request) (k : ℕ) (start : Period) → start ≡ periods kind → set_period (before ++ later) kind ≡ None → fold dated start (own_from before later k) ≡ periods kind
+  dated_from : (later before : List Request) (k : ℕ) (start : Period) → start ≡ periods kind
+      → set_period (before ++ later) kind ≡ None → fold dated start (own_from before later k) ≡ periods kind
   dated_from [] before k start own none = own
   dated_from (q ∷ later) before k start own none =
       fold-append dated start (concerning before q k) (own_from (before ++ q ∷ []) later k)
-      ∙ dated_from later (before ++ q ∷ []) k _ (dated_once before (q ∷ later) q k start own none) (subst (λ (h : List Request). set_period h kind ≡ None) (sym (append_assoc before (q ∷ []) later)) none)
+      ∙ dated_from later (before ++ q ∷ []) k _ (dated_once before (q ∷ later) q k start own none)
+      (subst (λ (h : List Request). set_period h kind ≡ None) (sym (append_assoc before (q ∷ []) later)) none)
 
 -- dates that fit are not long
 fitting : (p : Period) (d : Dates) → Fits p d → is_long p d ≡ false

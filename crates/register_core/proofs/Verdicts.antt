@@ -8,7 +8,8 @@ use Rattle.register_core.specs.declared.reply.Refusal.{Refusal}
 use Rattle.register_core.specs.declared.reply.Refusal.TheVariants.{BadLine, RequestReused}
 use Rattle.register_core.specs.KeptReply.{kept, kept_under}
 use Rattle.register_core.specs.Version.{knows}
-use Rattle.register_core.specs.Verdict.{Verdict, Accepts, Repeats, Refuses, verdict, verdict_by, judgement, judgement_in, verdict_in, is_accepted, is_same_command, repeated, unless_kept}
+use Rattle.register_core.specs.Verdict.{Verdict, Accepts, Repeats, Refuses, verdict, verdict_by, judgement}
+use Rattle.register_core.specs.Verdict.{judgement_in, verdict_in, is_accepted, is_same_command, repeated, unless_kept}
 
 none_by : (j : Option Refusal) → verdict_by j ≡ Accepts → j ≡ None
 none_by None e = refl
@@ -32,7 +33,9 @@ is_new h q accepted = (new_by (kept_under q.caller q.number (kept h)) q.command 
 
 -- an accepted request is judged so
 pub judged : (h : List Request) (q : Request) → verdict h q ≡ Accepts → judgement h q ≡ None
-judged h q accepted = none_by (judgement h q) (new_by (kept_under q.caller q.number (kept h)) q.command (verdict_by (judgement h q)) accepted).1
+judged h q accepted =
+    none_by (judgement h q)
+    (new_by (kept_under q.caller q.number (kept h)) q.command (verdict_by (judgement h q)) accepted).1
 
 -- what is accepted in a version is known there, new, and judged so
 pub record IsJudged (version : Version) (h : List Request) (q : Request) : Type 0 where
@@ -54,8 +57,10 @@ judged_in version h q accepted = by (knows version q.command) refl accepted
     by false known e = absurd cc
 
 -- where nothing is kept under its caller and number, the verdict is what the judgement comes to
-pub verdict_is : (h : List Request) (q : Request) (j : Option Refusal) → kept_under q.caller q.number (kept h) ≡ [] → judgement h q ≡ j → verdict h q ≡ verdict_by j
-verdict_is h q j none is = ap (λ (l : List KeptReply). unless_kept l q.command (verdict_by (judgement h q))) none ∙ ap verdict_by is
+pub verdict_is : (h : List Request) (q : Request) (j : Option Refusal) → kept_under q.caller q.number (kept h) ≡ []
+    → judgement h q ≡ j → verdict h q ≡ verdict_by j
+verdict_is h q j none is =
+    ap (λ (l : List KeptReply). unless_kept l q.command (verdict_by (judgement h q))) none ∙ ap verdict_by is
 
 -- a request that was accepted before is not accepted again, by the check
 pub no_longer_accepted : (before : KeptReply) (c : Command) → is_accepted (repeated before c) ≡ false
@@ -66,5 +71,7 @@ no_longer_accepted before c = by (is_same_command before.command c)
     by false = refl
 
 -- where something is, it decides
-pub verdict_again : (h : List Request) (q : Request) (before : KeptReply) (more : List KeptReply) → kept_under q.caller q.number (kept h) ≡ before ∷ more → verdict h q ≡ repeated before q.command
-verdict_again h q before more found = ap (λ (l : List KeptReply). unless_kept l q.command (verdict_by (judgement h q))) found
+pub verdict_again : (h : List Request) (q : Request) (before : KeptReply) (more : List KeptReply)
+    → kept_under q.caller q.number (kept h) ≡ before ∷ more → verdict h q ≡ repeated before q.command
+verdict_again h q before more found =
+    ap (λ (l : List KeptReply). unless_kept l q.command (verdict_by (judgement h q))) found

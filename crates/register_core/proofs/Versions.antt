@@ -1,6 +1,6 @@
 -- What is lawful in a version is lawful in this program's, and answered alike; and what the first version sets.
-use Rattle.std.proofs.Common.{◌≡◌, ℕ, Bool, true, false, cond, List, [], ◌∷◌, ◌++◌, length, fold, Option, None, Some, Result}
-use Rattle.std.proofs.Common.{refl, sym, ap, subst, ◌∙◌, arith}
+use Rattle.std.proofs.Common.{◌≡◌, ℕ, Bool, true, false, cond, List, [], ◌∷◌, ◌++◌, length, fold, Option, None, Some}
+use Rattle.std.proofs.Common.{Result, refl, sym, ap, subst, ◌∙◌, arith}
 use Rattle.std.specs.Prelude.{nat_le, IfSome}
 use Rattle.std.specs.List.{AllByRecursion}
 use Rattle.std.proofs.lemmas.Bool.{leb-false, lt-leb}
@@ -18,8 +18,9 @@ use Rattle.register_core.specs.declared.version.Version.{Version}
 use Rattle.register_core.specs.declared.version.Version.TheVariants.{First, Second}
 use Rattle.register_core.specs.declared.view.Held.{Held}
 use Rattle.register_core.specs.Answer.{outcome}
-use Rattle.register_core.specs.CustodyRefusal.{already_custodian, no_such_custodian, too_many_custodians, owner_custodian}
-use Rattle.register_core.specs.CustodyRefusal.{already_approved, no_approval, approvals_missing, custody_refusal_in}
+use Rattle.register_core.specs.CustodyRefusal.{already_custodian, no_such_custodian, too_many_custodians}
+use Rattle.register_core.specs.CustodyRefusal.{owner_custodian, already_approved, no_approval, approvals_missing}
+use Rattle.register_core.specs.CustodyRefusal.{custody_refusal_in}
 use Rattle.register_core.specs.Effect.{period_after}
 use Rattle.register_core.specs.Fold.{answer_to_in, answers_in, history_after_in, history_in}
 use Rattle.register_core.specs.Fold.{items, IsLawful, IsLawfulIn}
@@ -27,9 +28,9 @@ use Rattle.register_core.specs.History.{latest, count, period, set_period}
 use Rattle.register_core.specs.KeptReply.{kept, kept_under, reply}
 use Rattle.register_core.specs.Request.{IsRequest}
 use Rattle.register_core.specs.Settings.{KeyNeed, TypePeriod, all_needs, all_periods, needs_after, periods_after}
-use Rattle.register_core.specs.Verdict.{Verdict, Accepts, answer_by, freeze_refusal, judge_in, judgement, judgement_in, named_key}
-use Rattle.register_core.specs.Verdict.{occurrence_refusal, entry_refusal, limit_refusal, dates_refusal, unless_kept, verdict, verdict_by}
-use Rattle.register_core.specs.Verdict.{verdict_in}
+use Rattle.register_core.specs.Verdict.{Verdict, Accepts, answer_by, freeze_refusal, judge_in, judgement}
+use Rattle.register_core.specs.Verdict.{judgement_in, named_key, occurrence_refusal, entry_refusal, limit_refusal}
+use Rattle.register_core.specs.Verdict.{dates_refusal, unless_kept, verdict, verdict_by, verdict_in}
 use Rattle.register_core.specs.Version.{current, custodians_of, is_of_first, knows}
 use Rattle.register_core.proofs.CustodyLeads.{not_refused}
 use Rattle.register_core.proofs.Filling.{past}
@@ -40,7 +41,8 @@ use Rattle.register_core.proofs.Verdicts.{judged_in}
 -- ---- one request
 
 -- a key with room for one of eight has room for one of sixteen
-room : (key : Option Held) (c : Command) → too_many_custodians First key c ≡ None → too_many_custodians current key c ≡ None
+room : (key : Option Held) (c : Command) → too_many_custodians First key c ≡ None
+    → too_many_custodians current key c ≡ None
 room (Some held) (AddCustodian key name) none =
     let few = leb-false _ _ (not_refused (nat_le (custodians_of First) (length held.custodians)) _ none) in
     ap (λ (b : Bool). cond b (Some TooManyCustodians) None)
@@ -137,7 +139,8 @@ module _ (version : Version) where
   pub all_known : (h : List Request) → IsLawfulIn version h → AllByRecursion (λ q. knows version q.command ≡ true) h
   all_known h lawful = (stays h lawful).known
 
-  pub answered_still : (h : List Request) → IsLawfulIn version h → answers_in current [] (items h) ≡ answers_in version [] (items h)
+  pub answered_still : (h : List Request) → IsLawfulIn version h
+      → answers_in current [] (items h) ≡ answers_in version [] (items h)
   answered_still h lawful = (stays h lawful).answers
 
 -- ---- items
@@ -161,7 +164,8 @@ versions_follow version old new all_old all_new =
 
 -- ---- what the first version sets: nothing
 
-module _ {X : Type 0} (step : X → Request → X) (start : X) (stays_so : (q : Request) → IsKnown First q → step start q ≡ start) where
+module _ {X : Type 0} (step : X → Request → X) (start : X) (stays_so : (q : Request) → IsKnown First q
+    → step start q ≡ start) where
   unmoved : (h : List Request) → AllByRecursion (IsKnown First) h → fold step start h ≡ start
   unmoved [] all = refl
   unmoved (q ∷ later) all = ap (λ x. fold step x later) (stays_so q all.0) ∙ unmoved later all.1

@@ -1,11 +1,14 @@
--- Custodians of keys, and approvals of their destruction, as the accepted requests say. All of it is this register's own.
-use Rattle.std.specs.Prelude.{ℕ, nat_le, Bool, false, not, ◌&&◌, ◌||◌, List, [], ◌∷◌, ◌++◌, filter, fold, Option, None, Some, is_none, unwrap_or, if◌then◌else◌}
+-- Custodians of keys, and approvals of their destruction, as the accepted requests say. All of it is this register's
+-- own.
+use Rattle.std.specs.Prelude.{ℕ, nat_le, Bool, false, not, ◌&&◌, ◌||◌, List, [], ◌∷◌, ◌++◌, filter, fold, Option}
+use Rattle.std.specs.Prelude.{None, Some, is_none, unwrap_or, if◌then◌else◌}
 use Rattle.std.specs.List.{list_any}
 use Rattle.lifecycle_core.specs.State.{state_at}
 use Rattle.lifecycle_core.specs.Reason.{is_compromise}
 use Rattle.register_core.specs.declared.request.Request.{Request}
 use Rattle.register_core.specs.declared.request.Command.{Command}
-use Rattle.register_core.specs.declared.request.Command.TheVariants.{Revoke, AddCustodian, RemoveCustodian, Approve, Withdraw}
+use Rattle.register_core.specs.declared.request.Command.TheVariants.{Revoke, AddCustodian, RemoveCustodian, Approve}
+use Rattle.register_core.specs.declared.request.Command.TheVariants.{Withdraw}
 use Rattle.register_core.specs.declared.view.Held.{Held}
 use Rattle.register_core.specs.KeyName.{KeyName, key_name, is_key_name, is_at, names_at}
 use Rattle.register_core.specs.Names.{sorted_names}
@@ -56,7 +59,8 @@ abbrev pub ends_by : List Request → KeyName → List ℕ → Command → Bool
 ends_by before entry caller (Approve key) = is_key_name key caller entry
 ends_by before entry caller (Withdraw key) = is_key_name key caller entry
 ends_by before entry caller (RemoveCustodian key name) = is_key_name key name entry
-ends_by before entry caller (Revoke key reason occurrence) = is_at key entry && is_compromise reason && is_none (dates before key).destroy
+ends_by before entry caller (Revoke key reason occurrence) =
+    is_at key entry && is_compromise reason && is_none (dates before key).destroy
 ends_by before entry caller _ = false
 
 -- one of the later requests, which follow these, ends the approval
@@ -66,7 +70,8 @@ is_ended before entry (q ∷ later) = ends_by before entry q.caller q.command ||
 
 -- the approval that a request between these gives, where no later one ends it
 abbrev pub approval_of : List Request → Request → List Request → List (KeyName)
-approval_of before q later = filter (λ entry. not (is_ended (before ++ q ∷ []) entry later)) (approved_by q.caller q.command)
+approval_of before q later =
+    filter (λ entry. not (is_ended (before ++ q ∷ []) entry later)) (approved_by q.caller q.command)
 
 -- the approvals that the later requests, which follow these, gave and did not end
 abbrev pub approvals_from : List Request → List Request → List (KeyName)

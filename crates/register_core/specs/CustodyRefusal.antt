@@ -3,22 +3,27 @@ use Rattle.std.specs.Prelude.{ℕ, nat_lt, nat_le, List, [], ◌∷◌, Option, 
 use Rattle.std.specs.Str.{bytes_eq}
 use Rattle.period_core.specs.Fitting.{first_that_holds}
 use Rattle.register_core.specs.declared.request.Command.{Command}
-use Rattle.register_core.specs.declared.request.Command.TheVariants.{Assign, AddCustodian, RemoveCustodian, Approve, Withdraw, Destroy}
+use Rattle.register_core.specs.declared.request.Command.TheVariants.{Assign, AddCustodian, RemoveCustodian, Approve}
+use Rattle.register_core.specs.declared.request.Command.TheVariants.{Withdraw, Destroy}
 use Rattle.register_core.specs.declared.view.Held.{Held}
 use Rattle.register_core.specs.declared.reply.Refusal.{Refusal}
-use Rattle.register_core.specs.declared.reply.Refusal.TheVariants.{AlreadyCustodian, NoSuchCustodian, TooManyCustodians, OwnerCustodian, AlreadyApproved, NoApproval, ApprovalsMissing}
+use Rattle.register_core.specs.declared.reply.Refusal.TheVariants.{AlreadyCustodian, NoSuchCustodian}
+use Rattle.register_core.specs.declared.reply.Refusal.TheVariants.{TooManyCustodians, OwnerCustodian, AlreadyApproved}
+use Rattle.register_core.specs.declared.reply.Refusal.TheVariants.{NoApproval, ApprovalsMissing}
 use Rattle.register_core.specs.Name.{is_among}
 use Rattle.register_core.specs.declared.version.Version.{Version}
 use Rattle.register_core.specs.Version.{current, custodians_of}
 
 -- the name to add is a custodian of the key already
 abbrev pub already_custodian : Option Held → Command → Option Refusal
-already_custodian (Some held) (AddCustodian key name) = if is_among name held.custodians then Some AlreadyCustodian else None
+already_custodian (Some held) (AddCustodian key name) =
+    if is_among name held.custodians then Some AlreadyCustodian else None
 already_custodian _ _ = None
 
 -- the name to remove is no custodian of the key
 abbrev pub no_such_custodian : Option Held → Command → Option Refusal
-no_such_custodian (Some held) (RemoveCustodian key name) = if is_among name held.custodians then None else Some NoSuchCustodian
+no_such_custodian (Some held) (RemoveCustodian key name) =
+    if is_among name held.custodians then None else Some NoSuchCustodian
 no_such_custodian _ _ = None
 
 -- the key has as many custodians as it may have in this version
@@ -35,7 +40,8 @@ owner_custodian _ _ = None
 
 -- the caller approves, and its approval stands already
 abbrev pub already_approved : Option Held → List ℕ → Command → Option Refusal
-already_approved (Some held) caller (Approve key) = if is_among caller held.approvals then Some AlreadyApproved else None
+already_approved (Some held) caller (Approve key) =
+    if is_among caller held.approvals then Some AlreadyApproved else None
 already_approved _ caller _ = None
 
 -- the caller withdraws, and no approval of its stands

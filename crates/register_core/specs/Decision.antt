@@ -12,7 +12,9 @@ use Rattle.register_core.specs.declared.reply.Reply.{Reply}
 use Rattle.register_core.specs.declared.view.Held.{Held}
 use Rattle.register_core.specs.declared.view.View.{View}
 use Rattle.register_core.specs.declared.change.CustodyChange.{CustodyChange}
-use Rattle.register_core.specs.declared.change.CustodyChange.TheVariants.{Kept, CustodianAdded, CustodianRemoved, Approved, Withdrawn, ApprovalsEnded, NeedSet}
+use Rattle.register_core.specs.declared.change.CustodyChange.TheVariants.{Kept, CustodianAdded, CustodianRemoved}
+use Rattle.register_core.specs.declared.change.CustodyChange.TheVariants.{Approved, Withdrawn, ApprovalsEnded}
+use Rattle.register_core.specs.declared.change.CustodyChange.TheVariants.{NeedSet}
 use Rattle.register_core.specs.declared.change.Change.{Change}
 use Rattle.register_core.specs.declared.change.Change.TheVariants as change
 use Rattle.register_core.specs.History.{latest, count, period, type}
@@ -126,8 +128,10 @@ Stands h k kind owner row = held h k ≡ Some (record {
   approvals = approvals h k;
 })
 
--- The key that the change is of stands as the change says, once the request is at the end of this history. Its custodians
--- and approvals are those that the change leaves; at no other key does anybody come or go. So are the periods that are set.
+-- The key that the change is of stands as the change says, once the request is at the end of this history. Its
+-- custodians
+-- and approvals are those that the change leaves; at no other key does anybody come or go. So are the periods that
+-- are set.
 abbrev pub LeadsTo : List Request → Request → Change → Type 0
 LeadsTo h q (change.Made key) =
     Stands (h ++ q ∷ []) (count h + 1) key.kind key.owner key.row × CustodyLead h q (count h + 1) Kept

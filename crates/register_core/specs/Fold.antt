@@ -1,4 +1,5 @@
--- What a list of items makes of a history, and what they are answered. An item is a request, or none for a line that is no
+-- What a list of items makes of a history, and what they are answered. An item is a request, or none for a line that
+-- is no
 -- request. The words that end in _in are said of a version, the others of this program's.
 use Rattle.std.specs.Prelude.{◌≡◌, List, [], ◌∷◌, ◌++◌, map, fold, Option, None, Some, Result, Err, if◌then◌else◌}
 use Rattle.std.specs.List.{AllByRecursion}
@@ -38,7 +39,8 @@ answer_to = answer_to_in current
 -- what the items are answered, one after the other
 abbrev pub answers_in : Version → List Request → List (Option Request) → List (Result Reply Refusal)
 answers_in version h [] = []
-answers_in version h (item ∷ items) = answer_to_in version h item ∷ answers_in version (history_after_in version h item) items
+answers_in version h (item ∷ items) =
+    answer_to_in version h item ∷ answers_in version (history_after_in version h item) items
 
 abbrev pub answers : List Request → List (Option Request) → List (Result Reply Refusal)
 answers = answers_in current

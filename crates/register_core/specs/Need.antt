@@ -1,4 +1,5 @@
--- What a request needs of the register: of the key that it names and of the periods, no more than its decision looks at.
+-- What a request needs of the register: of the key that it names and of the periods, no more than its decision looks
+-- at.
 use Rattle.std.specs.Prelude.{◌≡◌, nat_lt, List, [], Option, None, Some, IfSome, if◌then◌else◌}
 use Rattle.std.specs.Option.{option_map}
 use Rattle.period_core.specs.declared.key_type.KeyType.{KeyType}

@@ -1,5 +1,6 @@
 -- Requests in their ranges, and the one line of each. All of it is this register's own.
-use Rattle.std.specs.Prelude.{◌≡◌, Bool, true, false, ◌&&◌, nat_lt, ℕ, ◌≤◌, List, [], ◌++◌, length, codes, decimal, Option, None, Some}
+use Rattle.std.specs.Prelude.{◌≡◌, Bool, true, false, ◌&&◌, nat_lt, ℕ, ◌≤◌, List, [], ◌++◌, length, codes, decimal}
+use Rattle.std.specs.Prelude.{Option, None, Some}
 use Rattle.moment_core.specs.Moment.{IsMoment}
 use Rattle.register_core.specs.Name.{IsName}
 use Rattle.register_core.specs.Number.{IsNumber}
@@ -10,8 +11,8 @@ use Rattle.period_core.specs.Period.{IsPeriod}
 use Rattle.register_core.specs.declared.request.Request.{Request}
 use Rattle.register_core.specs.declared.request.Command.{Command}
 use Rattle.register_core.specs.declared.fields.Fields.{Fields}
-use Rattle.register_core.specs.declared.fields.Fields.TheVariants.{Nothing, Key, KeyAndName, KeyAndOwner}
-use Rattle.register_core.specs.declared.fields.Fields.TheVariants.{KeyAndNeed, TypeAndPeriod, Registration, DateEdits, Revocation}
+use Rattle.register_core.specs.declared.fields.Fields.TheVariants.{Nothing, Key, KeyAndName, KeyAndOwner, KeyAndNeed}
+use Rattle.register_core.specs.declared.fields.Fields.TheVariants.{TypeAndPeriod, Registration, DateEdits, Revocation}
 use Rattle.register_core.specs.Fields.{fields_of}
 use Rattle.register_core.specs.declared.request.Edit.{Edit}
 use Rattle.register_core.specs.declared.request.Edit.TheVariants.{Keep, Clear, Set}
@@ -119,7 +120,8 @@ abbrev pub command_text : Command → List ℕ
 command_text c = command_kind_text (kind_of c) ++ fields_text (fields_of c)
 
 abbrev pub request_text : Request → List ℕ
-request_text q = decimal q.moment ++ codes " " ++ q.caller ++ codes " " ++ decimal q.number ++ codes " " ++ command_text q.command
+request_text q =
+    decimal q.moment ++ codes " " ++ q.caller ++ codes " " ++ decimal q.number ++ codes " " ++ command_text q.command
 
 -- the bytes, which have no LF after them, are the line of the request
 pub record IsLineOf (bytes : List ℕ) (q : Request) : Type 0 where

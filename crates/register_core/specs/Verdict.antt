@@ -1,5 +1,6 @@
 -- What a request comes to after a history: it is accepted, it repeats one that was, or it is refused.
-use Rattle.std.specs.Prelude.{ℕ, nat_lt, nat_le, Bool, true, false, not, ◌&&◌, ◌||◌, List, [], ◌∷◌, codes, Option, None, Some, is_some, Result, Ok, Err, if◌then◌else◌}
+use Rattle.std.specs.Prelude.{ℕ, nat_lt, nat_le, Bool, true, false, not, ◌&&◌, ◌||◌, List, [], ◌∷◌, codes, Option}
+use Rattle.std.specs.Prelude.{None, Some, is_some, Result, Ok, Err, if◌then◌else◌}
 use Rattle.std.specs.Option.{option_and_then}
 use Rattle.std.specs.Str.{bytes_eq}
 use Rattle.lifecycle_core.specs.declared.state.State.TheVariants.{PreActive}
@@ -16,10 +17,13 @@ use Rattle.register_core.specs.declared.view.View.{View}
 use Rattle.register_core.specs.declared.kept_reply.KeptReply.{KeptReply}
 use Rattle.register_core.specs.declared.reply.Reply.{Reply}
 use Rattle.register_core.specs.declared.reply.Refusal.{Refusal}
-use Rattle.register_core.specs.declared.reply.Refusal.TheVariants.{BadLine, RequestReused, MomentBehind, UnknownKey, NotOwner, NotCustodian, WrongState, DateFrozen, DateOrder, PeriodTooLong, DateRange, OccurrenceLater, Full, NotOffice}
+use Rattle.register_core.specs.declared.reply.Refusal.TheVariants.{BadLine, RequestReused, MomentBehind, UnknownKey}
+use Rattle.register_core.specs.declared.reply.Refusal.TheVariants.{NotOwner, NotCustodian, WrongState, DateFrozen}
+use Rattle.register_core.specs.declared.reply.Refusal.TheVariants.{DateOrder, PeriodTooLong, DateRange}
+use Rattle.register_core.specs.declared.reply.Refusal.TheVariants.{OccurrenceLater, Full, NotOffice}
 use Rattle.lifecycle_core.specs.declared.dates.Dates.{Dates}
-use Rattle.period_core.specs.declared.filling.DateRefusal.{DateRefusal}
-use Rattle.period_core.specs.declared.filling.DateRefusal.TheVariants as dates
+use Rattle.period_core.specs.declared.fitting.DateRefusal.{DateRefusal}
+use Rattle.period_core.specs.declared.fitting.DateRefusal.TheVariants as dates
 use Rattle.period_core.specs.Fitting.{first_that_holds, fill_of, trim_of}
 use Rattle.period_core.specs.declared.key_type.KeyType.{KeyType}
 use Rattle.period_core.specs.Period.{Period}
@@ -73,7 +77,8 @@ owner_refusal (Some held) caller c = if is_owners c && not (bytes_eq caller held
 -- the command is a custodian's, and the caller is no custodian of the key
 abbrev pub custodian_refusal : Option Held → List ℕ → Command → Option Refusal
 custodian_refusal None caller c = None
-custodian_refusal (Some held) caller c = if is_custodians c && not (is_among caller held.custodians) then Some NotCustodian else None
+custodian_refusal (Some held) caller c =
+    if is_custodians c && not (is_among caller held.custodians) then Some NotCustodian else None
 
 -- who sets the periods of types (own)
 abbrev pub office : List ℕ
@@ -86,7 +91,8 @@ office_refusal caller c = if is_offices c && not (bytes_eq caller office) then S
 -- the command is not for the state that the key has at t
 abbrev pub state_refusal : Option Held → ℕ → Command → Option Refusal
 state_refusal None t c = None
-state_refusal (Some held) t c = let state = state_at held.row.dates t in if is_for c state then None else Some (WrongState state)
+state_refusal (Some held) t c =
+    let state = state_at held.row.dates t in if is_for c state then None else Some (WrongState state)
 
 -- an edit keeps a date only where it is =
 abbrev pub keeps_date : Edit → Bool
@@ -97,7 +103,8 @@ keeps_date _ = false
 abbrev pub freeze_refusal : Option Held → ℕ → Command → Option Refusal
 freeze_refusal (Some held) t (SetDates key activation protect_stop deactivation) =
     let d = held.row.dates in
-    if (not (keeps_date activation) && not (is_one_of (PreActive ∷ []) (state_at d t))) || (not (keeps_date protect_stop) && is_reached_at d.protect_stop t)
+    if (not (keeps_date activation) && not (is_one_of (PreActive ∷ []) (state_at d t)))
+    || (not (keeps_date protect_stop) && is_reached_at d.protect_stop t)
     then Some DateFrozen else None
 freeze_refusal _ t _ = None
 
@@ -112,7 +119,8 @@ max_keys = 1_000_000
 
 -- the command makes a key, and there are as many as the register takes
 abbrev pub limit_refusal : ℕ → Command → Option Refusal
-limit_refusal keys (Register kind owner activation protect_stop deactivation purpose) = if nat_le max_keys keys then Some Full else None
+limit_refusal keys (Register kind owner activation protect_stop deactivation purpose) =
+    if nat_le max_keys keys then Some Full else None
 limit_refusal keys _ = None
 
 -- Each refusal of a request, in order, where its condition holds; the key is the one that it names, as it stands. First
@@ -141,7 +149,8 @@ refusals version last keys periods key q =
     ∷ limit_refusal keys q.command
     ∷ []
 
--- The refusal of a request in a version where the latest moment, the number of keys, the periods of the types and the key
+-- The refusal of a request in a version where the latest moment, the number of keys, the periods of the types and the
+-- key
 -- that it names are these, or none: it is accepted.
 abbrev pub judge_in : Version → ℕ → ℕ → (KeyType → Period) → Option Held → Request → Option Refusal
 judge_in version last keys periods key q = first_that_holds (refusals version last keys periods key q)

@@ -1,9 +1,10 @@
-//! The text of a command, which is the end of a request's line: the word of its kind, and after it the kind's fields.
+//! The text of a command, which is the end of a request's line: the word of its kind, and after it
+//! the kind's fields.
 ghost use Rattle.std.specs.Prelude.{◌≡◌, ◌+◌, ◌≤◌, ◌++◌, codes, decimal, length, option_map};
 ghost use Rattle.arrayvec.specs.ArrayString.{array_string_len};
 ghost use Rattle.register_core.specs.declared.fields.Fields.TheVariants.{Registration, DateEdits, TypeAndPeriod};
 ghost use Rattle.register_core.specs.declared.fields.Fields.TheVariants.{Revocation};
-ghost use Rattle.register_core.specs.Request.{fields_text, command_text};
+ghost use Rattle.register_core.specs.Request.{fields_text, command_text, date_text, edit_text};
 ghost use Rattle.register_core.specs.CommandText.{IsCommandItem};
 ghost use Rattle.register_core.specs.RequestLine.{register_at, edits_at, revoke_at, key_and_name_at};
 ghost use Rattle.register_core.specs.RequestLine.{key_and_need_at, shaped_at, after_at, word_at};
@@ -12,8 +13,8 @@ ghost use Rattle.register_core.specs.RequestLine.{command_at, type_and_period_at
 use crate::command_kind::MAX_WORD_LENGTH;
 use crate::field::{
     command_kind_of, date_of, edit_of, key_number_of, key_type_of, name_of, next_field,
-    occurrence_of, originator_of, purpose_of, put_date, put_edit, put_number, quorum_of, reason_of,
-    recipient_of, split_field, split_key_number,
+    occurrence_of, originator_of, purpose_of, quorum_of, reason_of, recipient_of, split_field,
+    split_key_number,
 };
 use crate::fields::{Fields, Shape};
 use crate::name::Name;
@@ -22,6 +23,7 @@ use crate::quorum::Quorum;
 use crate::request::{Command, Edit};
 use crate::short_text::ShortText;
 use arrayvec::ArrayString;
+use itoa::Buffer;
 use lifecycle_core::Reason;
 use moment_core::Moment;
 use period_core::{KeyType, Period};
@@ -178,6 +180,43 @@ pub fn read_command(bytes: &[u8]) -> Option<Command>
 
 /// The text of a command.
 pub type CommandText = ShortText<MAX_COMMAND_LENGTH>;
+
+/// Appends the number in decimal.
+pub(crate) fn put_number<const N: usize>(line: &mut ArrayString<N>, number: u64)
+    requires { array_string_len line.old + 20 ≤ N }
+    ensures bytes { line.new.bytes ≡ line.old.bytes ++ decimal number }
+    ensures short { array_string_len line.new ≤ array_string_len line.old + 20 }
+{
+    let mut digits = Buffer::new();
+    line.push_str(digits.format(number));
+}
+
+/// Appends a space, and after it the date, `-` for none.
+fn put_date<const N: usize>(line: &mut ArrayString<N>, date: Option<Moment>)
+    requires { array_string_len line.old + 21 ≤ N }
+    ensures bytes { line.new.bytes ≡ line.old.bytes ++ codes " " ++ date_text date }
+    ensures short { array_string_len line.new ≤ array_string_len line.old + 21 }
+{
+    line.push_str(" ");
+    match date {
+        Some(moment) => put_number(line, moment.seconds()),
+        None => line.push_str("-"),
+    }
+}
+
+/// Appends a space, and after it what becomes of a date.
+fn put_edit<const N: usize>(line: &mut ArrayString<N>, edit: Edit)
+    requires { array_string_len line.old + 21 ≤ N }
+    ensures bytes { line.new.bytes ≡ line.old.bytes ++ codes " " ++ edit_text edit }
+    ensures short { array_string_len line.new ≤ array_string_len line.old + 21 }
+{
+    line.push_str(" ");
+    match edit {
+        Edit::Keep => line.push_str("="),
+        Edit::Clear => line.push_str("-"),
+        Edit::Set(moment) => put_number(line, moment.seconds()),
+    }
+}
 
 /// Appends a space, and after it the number of a key.
 fn put_key(text: &mut ArrayString<MAX_COMMAND_LENGTH>, key: u32)

@@ -17,7 +17,8 @@ pub enum Giver {
     Office,
 }
 
-/// What is asked of a command beside its moment, its key and its dates: all of it is this register's own.
+/// What is asked of a command beside its moment, its key and its dates: all of it is this
+/// register's own.
 #[derive(Clone, Copy, Debug)]
 pub struct Rule {
     pub kind: CommandKind,
@@ -150,8 +151,8 @@ impl Command {
         self.rule().states.contains(&state)
     }
 
-    /// Whether the command is one that the approvals of custodians are needed for. A decision on any other does not look at
-    /// how many those are.
+    /// Whether the command is one that the approvals of custodians are needed for. A decision on
+    /// any other does not look at how many those are.
     pub fn needs_approvals(&self) -> bool
         ensures { result ≡ needs_approvals self.now }
     {

@@ -2,73 +2,17 @@
 ghost use Rattle.std.specs.Prelude.{◌≡◌, ◌≤◌, List, Some, IfOk, IfErr, None};
 ghost use Rattle.register_core.specs.KeptReply.{reply};
 ghost use Rattle.register_core.specs.Verdict.{always, max_keys, judge_view, judgement};
-ghost use Rattle.register_core.specs.Decision.{IsRightKey, IsViewOf, LeadsTo, held_change};
-ghost use Rattle.register_core.specs.Decision.{change_without_key};
+ghost use Rattle.register_core.specs.Decision.{IsRightKey, IsViewOf, LeadsTo};
 ghost use Rattle.register_core.specs.Decision.{change_by, reply_to, reply_of_view};
 ghost use Rattle.register_core.specs.Need.{Suffices};
 
 use crate::change::{Accept, Change};
-use crate::effect::{custody_change, dates_after, no_dates, owner_after, row_at};
-use crate::key::Key;
+use crate::effect::change_by;
 use crate::reply::{Refusal, Reply};
-use crate::request::{Command, Request};
+use crate::request::Request;
 use crate::verdict::judge;
-use crate::view::{Held, View};
+use crate::view::View;
 use moment_core::Moment;
-use period_core::Period;
-
-/// What the accepted request makes of the key that it names by this number, by this period.
-fn held_change(period: Period, key: u32, held: &Held, request: &Request) -> Change
-    ensures { result ≡ held_change (always period) key held.now request.now }
-{
-    let at = request.moment;
-    let command = &request.command;
-    let dates = &held.row.dates;
-    Change::Held {
-        key,
-        owner: owner_after(held.owner, command),
-        row: row_at(dates_after(period, dates, at, command), at),
-        custody: custody_change(dates, request.caller, command),
-    }
-}
-
-/// What the accepted command changes that is about no key, of what the register keeps besides keys.
-fn change_without_key(command: &Command) -> Change
-    ensures { result ≡ change_without_key command.now }
-{
-    match *command {
-        Command::SetPeriod { kind, period } => Change::PeriodSet { kind, period },
-        _ => Change::Nothing,
-    }
-}
-
-/// What the accepted request changes, where it names this key, by this period.
-fn change_by(period: Period, named: &Option<Held>, request: &Request) -> Change
-    ensures { result ≡ change_by (always period) named.now request.now }
-{
-    let at = request.moment;
-    let command = &request.command;
-    if let Command::Register {
-        kind,
-        owner,
-        purpose,
-        ..
-    } = *command
-    {
-        let row = row_at(dates_after(period, &no_dates(), at, command), at);
-        return Change::Made(Key {
-            kind,
-            owner,
-            purpose,
-            row,
-        });
-    }
-    match (command.key(), named) {
-        (Some(key), Some(held)) => held_change(period, key, held, request),
-        (Some(_), None) => Change::Nothing,
-        (None, _) => change_without_key(command),
-    }
-}
 
 /// The reply to an accepted request with this change, where this many keys were made before it.
 fn reply_to(keys: u32, at: Moment, change: &Change) -> Reply

@@ -1,18 +1,23 @@
-//! What a command does to a key: to its dates, its owner and its custody.
+//! What a command does to a key, to its dates, its owner and its custody, and what it changes
+//! besides.
 ghost use Rattle.std.specs.Prelude.{◌≡◌};
 ghost use Rattle.register_core.specs.Effect.{owner_after, no_dates, given_dates, apply_edit};
 ghost use Rattle.register_core.specs.Effect.{edited_dates, cut_at, dates_after, row_at};
 ghost use Rattle.register_core.specs.Effect.{custody_change};
+ghost use Rattle.register_core.specs.Decision.{change_by, change_without_key, held_change};
+ghost use Rattle.register_core.specs.Verdict.{always};
 
-use crate::change::CustodyChange;
+use crate::change::{Change, CustodyChange};
+use crate::key::Key;
 use crate::name::Name;
-use crate::request::{Command, Edit};
+use crate::request::{Command, Edit, Request};
+use crate::view::Held;
 use lifecycle_core::{Dates, Row, state_of};
 use moment_core::Moment;
 use period_core::{Period, with_defaults, within_limits};
 
 /// The dates of a key before it is registered: none is set.
-pub(crate) fn no_dates() -> Dates
+fn no_dates() -> Dates
     ensures { result ≡ no_dates }
 {
     Dates {
@@ -73,7 +78,7 @@ pub(crate) fn edited_dates(
 }
 
 /// The dates with the state that they give at the moment.
-pub(crate) fn row_at(dates: Dates, at: Moment) -> Row
+fn row_at(dates: Dates, at: Moment) -> Row
     ensures { result ≡ row_at dates at }
 {
     Row {
@@ -145,7 +150,7 @@ pub fn dates_after(period: Period, dates: &Dates, at: Moment, command: &Command)
 }
 
 /// What becomes of the custody of a key with these dates, by the caller's command.
-pub(crate) fn custody_change(dates: &Dates, caller: Name, command: &Command) -> CustodyChange
+fn custody_change(dates: &Dates, caller: Name, command: &Command) -> CustodyChange
     ensures { result ≡ custody_change dates.now caller command.now }
 {
     match *command {
@@ -162,11 +167,64 @@ pub(crate) fn custody_change(dates: &Dates, caller: Name, command: &Command) -> 
 }
 
 /// The owner after the command.
-pub(crate) fn owner_after(before: Name, command: &Command) -> Name
+fn owner_after(before: Name, command: &Command) -> Name
     ensures { result ≡ owner_after before command.now }
 {
     match *command {
         Command::Register { owner, .. } | Command::Assign { owner, .. } => owner,
         _ => before,
+    }
+}
+
+/// What the accepted request makes of the key that it names by this number, by this period.
+fn held_change(period: Period, key: u32, held: &Held, request: &Request) -> Change
+    ensures { result ≡ held_change (always period) key held.now request.now }
+{
+    let at = request.moment;
+    let command = &request.command;
+    let dates = &held.row.dates;
+    Change::Held {
+        key,
+        owner: owner_after(held.owner, command),
+        row: row_at(dates_after(period, dates, at, command), at),
+        custody: custody_change(dates, request.caller, command),
+    }
+}
+
+/// What the accepted command changes that is about no key, of what the register keeps besides keys.
+fn change_without_key(command: &Command) -> Change
+    ensures { result ≡ change_without_key command.now }
+{
+    match *command {
+        Command::SetPeriod { kind, period } => Change::PeriodSet { kind, period },
+        _ => Change::Nothing,
+    }
+}
+
+/// What the accepted request changes, where it names this key, by this period.
+pub(crate) fn change_by(period: Period, named: &Option<Held>, request: &Request) -> Change
+    ensures { result ≡ change_by (always period) named.now request.now }
+{
+    let at = request.moment;
+    let command = &request.command;
+    if let Command::Register {
+        kind,
+        owner,
+        purpose,
+        ..
+    } = *command
+    {
+        let row = row_at(dates_after(period, &no_dates(), at, command), at);
+        return Change::Made(Key {
+            kind,
+            owner,
+            purpose,
+            row,
+        });
+    }
+    match (command.key(), named) {
+        (Some(key), Some(held)) => held_change(period, key, held, request),
+        (Some(_), None) => Change::Nothing,
+        (None, _) => change_without_key(command),
     }
 }

@@ -1,9 +1,8 @@
 //! The fields of a line: what stands between its spaces.
-ghost use Rattle.std.specs.Prelude.{◌≡◌, ◌≢◌, ℕ, ◌+◌, ◌<◌, ◌≤◌, ◌^◌, ◌↔◌, ◌⊎◌, ◌++◌, decimal};
-ghost use Rattle.std.specs.Prelude.{codes, length, position, IsSome, IfSome, IfNone};
-ghost use Rattle.arrayvec.specs.ArrayString.{array_string_len};
+ghost use Rattle.std.specs.Prelude.{◌≡◌, ◌≢◌, ℕ, ◌<◌, ◌≤◌, ◌^◌, ◌↔◌, ◌⊎◌, decimal};
+ghost use Rattle.std.specs.Prelude.{length, position, IsSome, IfSome, IfNone};
 ghost use Rattle.lifecycle_core.specs.Reason.{reason_code};
-ghost use Rattle.register_core.specs.Request.{IsKeyNumber, date_text, edit_text};
+ghost use Rattle.register_core.specs.Request.{IsKeyNumber};
 ghost use Rattle.register_core.specs.RequestLine.{Gives, is_space, field_at, field_as, moment_at};
 ghost use Rattle.register_core.specs.RequestLine.{date_at, edit_at, key_number_at, reason_at};
 ghost use Rattle.register_core.specs.RequestLine.{occurrence_at, request_number_at, name_at};
@@ -18,7 +17,6 @@ use crate::number::RequestNumber;
 use crate::purpose::Purpose;
 use crate::quorum::Quorum;
 use crate::request::Edit;
-use arrayvec::ArrayString;
 use itoa::Buffer;
 use lifecycle_core::Reason;
 use moment_core::Moment;
@@ -51,7 +49,8 @@ pub(crate) fn next_field<'a>(rest: &mut &'a [u8]) -> Option<&'a [u8]>
     Some(field)
 }
 
-/// The number that the field writes in decimal, with no sign and no leading zero, or `None` where it writes none below 2^64.
+/// The number that the field writes in decimal, with no sign and no leading zero, or `None` where
+/// it writes none below 2^64.
 pub fn read_decimal(field: &[u8]) -> Option<u64>
     ensures found { IfSome result (λ n. field.now ≡ decimal n) }
     ensures none { IfNone result ((n : ℕ) → n < 2 ^ 64 → field.now ≢ decimal n) }
@@ -238,41 +237,4 @@ pub(crate) fn purpose_of(bytes: &[u8]) -> Option<Purpose>
     ensures { result ≡ purpose_at bytes.now }
 {
     Purpose::new(bytes)
-}
-
-/// Appends the number in decimal.
-pub(crate) fn put_number<const N: usize>(line: &mut ArrayString<N>, number: u64)
-    requires { array_string_len line.old + 20 ≤ N }
-    ensures bytes { line.new.bytes ≡ line.old.bytes ++ decimal number }
-    ensures short { array_string_len line.new ≤ array_string_len line.old + 20 }
-{
-    let mut digits = Buffer::new();
-    line.push_str(digits.format(number));
-}
-
-/// Appends a space, and after it the date, `-` for none.
-pub(crate) fn put_date<const N: usize>(line: &mut ArrayString<N>, date: Option<Moment>)
-    requires { array_string_len line.old + 21 ≤ N }
-    ensures bytes { line.new.bytes ≡ line.old.bytes ++ codes " " ++ date_text date }
-    ensures short { array_string_len line.new ≤ array_string_len line.old + 21 }
-{
-    line.push_str(" ");
-    match date {
-        Some(moment) => put_number(line, moment.seconds()),
-        None => line.push_str("-"),
-    }
-}
-
-/// Appends a space, and after it what becomes of a date.
-pub(crate) fn put_edit<const N: usize>(line: &mut ArrayString<N>, edit: Edit)
-    requires { array_string_len line.old + 21 ≤ N }
-    ensures bytes { line.new.bytes ≡ line.old.bytes ++ codes " " ++ edit_text edit }
-    ensures short { array_string_len line.new ≤ array_string_len line.old + 21 }
-{
-    line.push_str(" ");
-    match edit {
-        Edit::Keep => line.push_str("="),
-        Edit::Clear => line.push_str("-"),
-        Edit::Set(moment) => put_number(line, moment.seconds()),
-    }
 }

@@ -1,5 +1,5 @@
-//! The fields of a command, by their shape. A command is its kind and its fields, and what is read off the fields has
-//! no row for a command.
+//! The fields of a command, by their shape. A command is its kind and its fields, and what is read
+//! off the fields has no row for a command.
 ghost use Rattle.std.specs.Prelude.{◌≡◌};
 ghost use Rattle.register_core.specs.declared.fields.Fields.TheVariants.{Nothing, Key, KeyAndName};
 ghost use Rattle.register_core.specs.Fields.{fields_of, command_with};

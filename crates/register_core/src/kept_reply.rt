@@ -34,8 +34,8 @@ impl KeptReply {
         }
     }
 
-    /// Whether the reply has a key and a state exactly where the command is about a key: one with no
-    /// fields, or with a type and its period, is about none.
+    /// Whether the reply has a key and a state exactly where the command is about a key: one with
+    /// no fields, or with a type and its period, is about none.
     pub fn is_whole(&self) -> bool
         ensures { result ≡ is_whole self.now }
     {

@@ -4,8 +4,8 @@ ghost use Rattle.std.specs.Prelude.{Option, None, Some, is_some, IsSome, IsTrue,
 ghost use Rattle.std.specs.List.{AllByRecursion};
 ghost use Rattle.lifecycle_core.specs.State.{state_at};
 ghost use Rattle.lifecycle_core.specs.Transition.{Leads};
-ghost use Rattle.period_core.specs.Period.{periods};
 ghost use Rattle.period_core.specs.Fitting.{Fits, is_long, is_not_after};
+ghost use Rattle.period_core.specs.Period.{periods};
 ghost use Rattle.register_core.specs.declared.request.Request.{Request};
 ghost use Rattle.register_core.specs.declared.request.Command.{Command};
 ghost use Rattle.register_core.specs.declared.reply.Refusal.TheVariants.{RequestReused};
@@ -62,16 +62,18 @@ pub fn kept_replies_are_in_range()
     ensures { (h : List Request) → IsLawful h → AllByRecursion (IsKeptIn h) (kept h) }
 {}
 
-/// The dates of each key fit the period that they were held to when a command gave it dates last, after each request that
-/// is accepted.
+/// The dates of each key fit the period that they were held to when a command gave it dates last,
+/// after each request that is accepted.
 pub fn dates_fit()
     ensures { (h : List Request) (q : Request) → IsAccepted h q → (k : ℕ) → HasKey (h ++ q ∷ []) k →
         Fits (dated_by (h ++ q ∷ []) k) (dates (h ++ q ∷ []) k) }
 {}
 
-/// Where the office set no period of a key's type, the key is not used for longer than the period allows.
+/// Where the office set no period of a key's type, the key is not used for longer than the period
+/// allows.
 pub fn no_key_is_long_by_its_type()
-    ensures { (h : List Request) → IsLawful h → (k : ℕ) → HasKey h k → set_period h (type h k) ≡ None
+    ensures { (h : List Request) → IsLawful h → (k : ℕ) → HasKey h k
+        → set_period h (type h k) ≡ None
         → is_long (period h (type h k)) (dates h k) ≡ false }
 {}
 
@@ -176,7 +178,8 @@ pub fn lawful_histories_stay_lawful()
         answers [] (items h) ≡ answers_in version [] (items h) }
 {}
 
-/// Items that were answered in a version, and then others in this program's, come to a lawful history.
+/// Items that were answered in a version, and then others in this program's, come to a lawful
+/// history.
 pub fn versions_follow()
     ensures { (version : Version) (old new : List (Option Request)) →
         AllByRecursion (λ item. IfSome item IsRequest) old →

@@ -6,8 +6,9 @@ use crate::request::Command;
 use crate::view::Held;
 use period_core::KeyType;
 
-/// The type whose usage period the dates that the command gives are held to: the registered type, or that of the key
-/// that the command names. `None` where it gives no dates, or the key is not there.
+/// The type whose usage period the dates that the command gives are held to: the registered type,
+/// or that of the key that the command names. `None` where it gives no dates, or the key is not
+/// there.
 pub fn needed_type(key: &Option<Held>, command: &Command) -> Option<KeyType>
     ensures { result ≡ needed_type key.now command.now }
 {

@@ -5,8 +5,8 @@ ghost use Rattle.register_core.specs.Quorum.{IsQuorum};
 use crate::limits::{MAX_APPROVALS, MIN_APPROVALS};
 use std::marker::Model;
 
-/// How many approvals, of different custodians, the destruction of a key needs: from [`MIN_APPROVALS`] to
-/// [`MAX_APPROVALS`] (this register's own). In a contract it is that number.
+/// How many approvals, of different custodians, the destruction of a key needs: from
+/// [`MIN_APPROVALS`] to [`MAX_APPROVALS`] (this register's own). In a contract it is that number.
 #[derive(Clone, Copy, Debug, PartialEq, Eq)]
 pub struct Quorum {
     approvals: u8,

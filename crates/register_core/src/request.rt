@@ -101,9 +101,9 @@ impl Command {
         self.fields().key()
     }
 
-    /// Whether the command has a text, as that of each line has: a key that it names has a number from 1 on, and an
-    /// occurrence is given only with a reason that is a compromise (this register's own). The rest is in its ranges by
-    /// its types.
+    /// Whether the command has a text, as that of each line has: a key that it names has a number
+    /// from 1 on, and an occurrence is given only with a reason that is a compromise (this
+    /// register's own). The rest is in its ranges by its types.
     pub fn has_text(&self) -> bool
         ensures { result ≡ has_text self.now }
     {

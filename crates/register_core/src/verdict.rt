@@ -2,8 +2,9 @@
 ghost use Rattle.std.specs.Prelude.{◌≡◌, IsSome};
 ghost use Rattle.register_core.specs.Verdict.{refused_dates, moment_refusal, key_refusal, owner_refusal};
 ghost use Rattle.register_core.specs.Verdict.{custodian_refusal, office_refusal, state_refusal};
-ghost use Rattle.register_core.specs.Verdict.{keeps_date, freeze_refusal, dates_refusal, entry_refusal, occurrence_refusal};
-ghost use Rattle.register_core.specs.Verdict.{limit_refusal, always, judge_view};
+ghost use Rattle.register_core.specs.Verdict.{keeps_date, freeze_refusal, dates_refusal};
+ghost use Rattle.register_core.specs.Verdict.{entry_refusal, occurrence_refusal, limit_refusal};
+ghost use Rattle.register_core.specs.Verdict.{always, judge_view};
 ghost use Rattle.period_core.specs.Fitting.{fill_of, trim_of};
 
 use crate::custody_refusal::custody_refusal;

@@ -1,5 +1,5 @@
-//! What a decision rests on: the latest moment, the number of keys, the usage period that the dates are held to, and the
-//! key that the request names.
+//! What a decision rests on: the latest moment, the number of keys, the usage period that the dates
+//! are held to, and the key that the request names.
 use crate::name::Name;
 use crate::names::Names;
 use lifecycle_core::Row;
@@ -27,7 +27,8 @@ pub struct View {
     pub latest: Moment,
     /// How many keys were made.
     pub keys: u32,
-    /// The usage period of the type that [`type_needed`](crate::type_needed) gives; any where that is none.
+    /// The usage period of the type that [`type_needed`](crate::type_needed) gives; any where that
+    /// is none.
     pub period: Period,
     /// The key that the request names, as it stands at the latest moment; `None` where it names
     /// none, or there is no such key. What its decision does not look at may be left out.

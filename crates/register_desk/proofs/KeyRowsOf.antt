@@ -1,5 +1,6 @@
 -- The rows of a history's keys, and those of them that a report lists.
-use Rattle.std.proofs.Common.{◌≡◌, inl, inr, ℕ, ◌+◌, ◌≤◌, ◌<◌, ◌==◌, ◌&&◌, ◌||◌, Bool, true, false, List, length, slice_get, Option, None, Some, refl, sym, ap, subst, ◌∙◌, arith}
+use Rattle.std.proofs.Common.{◌≡◌, inl, inr, ℕ, ◌+◌, ◌≤◌, ◌<◌, ◌==◌, ◌&&◌, ◌||◌, Bool, true, false, List, length}
+use Rattle.std.proofs.Common.{slice_get, Option, None, Some, refl, sym, ap, subst, ◌∙◌, arith}
 use Rattle.std.specs.List.{Contains}
 use Rattle.std.proofs.lemmas.Bool.{cases_lt, le-leb, leb-true}
 use Rattle.std.proofs.lemmas.Option.{slice_get_past}
@@ -30,7 +31,7 @@ use Rattle.register_store.proofs.KeyFound.{at_number}
 use Rattle.register_desk.specs.Register.{tables}
 use Rattle.register_desk.specs.KeyRows.{all_rows, row_of}
 use Rattle.register_desk.proofs.Grows.{found_key, keys_counted}
-use Rattle.register_desk.proofs.RowWalk.{key_next}
+use Rattle.register_desk.proofs.RowScan.{key_next}
 
 -- a row is that of a key, under the key's number
 record IsRowOf (h : List Request) (r : KeyRow) : Type 0 where
@@ -76,7 +77,8 @@ pub own_numbers : (h : List Request) → HaveOwnNumbers (all_rows h)
 own_numbers h r s of_r of_s same =
     let x = numbered_in h r of_r in
     let y = numbered_in h s of_s in
-    let number : x.0.0 ≡ y.0.0 = sym (ap (λ (row : KeyRow). row.number) x.2) ∙ same ∙ ap (λ (row : KeyRow). row.number) y.2 in
+    let number : x.0.0 ≡ y.0.0 = sym (ap (λ (row : KeyRow). row.number) x.2) ∙ same
+    ∙ ap (λ (row : KeyRow). row.number) y.2 in
     x.2 ∙ ap row_of (sym (one_number (tables h) x.0 y.0 x.1 y.1 number)) ∙ sym y.2
 
 -- ---- those that are listed
@@ -94,7 +96,8 @@ long_stop p d long = by d.protect_stop d.deactivation refl long
 reached_by : (stop : Option ℕ) (until last : ℕ) → is_reached_at stop until ≡ true → until ≤ last
     → is_reached_at stop last ≡ true
 reached_by None until last reached le = absurd cc
-reached_by (Some x) until last reached le = le-leb x last (let here = leb-true x until reached in omega (arith, here, le))
+reached_by (Some x) until last reached le =
+    le-leb x last (let here = leb-true x until reached in omega (arith, here, le))
 
 reached_at_last : (stop : Option ℕ) (x : ℕ) → stop ≡ Some x → IsDate stop → is_reached_at stop last_second ≡ true
 reached_at_last None x is range = absurd cc

@@ -1,10 +1,12 @@
 -- Calls of a desk that only read, and calls that do nothing.
-use Rattle.std.proofs.Common.{◌≡◌, ℕ, ◌≢◌, ◌≤◌, List, Result, Ok, Err, inl, inr, refl, sym, subst, ◌∙◌}
+use Rattle.std.proofs.Common.{◌≡◌, ℕ, ◌≢◌, ◌≤◌, false, cond, List, [], ◌∷◌, ◌++◌, Some, Result, Ok, Err}
+use Rattle.std.proofs.Common.{inl, inr, refl, sym, ap, subst, ◌∙◌}
 use Rattle.sqlite_trees.specs.declared.store.Store as store
 use Rattle.sqlite.specs.State.{State, HasCleanDisk, IsUnchanged, Survives}
 use Rattle.register_store.specs.declared.counted.Counted.{Counted}
 use Rattle.register_core.specs.declared.request.Request.{Request}
-use Rattle.register_core.specs.Verdict.{max_keys}
+use Rattle.register_core.specs.Fold.{history_after}
+use Rattle.register_core.specs.Verdict.{is_accepted, max_keys, verdict}
 use Rattle.register_store.specs.declared.error.StoreError.{StoreError}
 use Rattle.register_store.specs.declared.error.StoreError.TheVariants.{Database, Memory, NoRegister}
 use Rattle.register_store.specs.TableReads.{seen, Calls, HoldsWhereOpen, KeepsSight, ReadsBy}
@@ -70,6 +72,12 @@ module _ {S : Type 0} (g : store.Ghosts S) where
     right = subst (λ (latest : ℕ). AreRightAt latest t) (sym nothing.counts.latest) over.right;
     sees = nothing.rows t over.sees;
   }
+
+  -- after a request that is not accepted the history is the same
+  pub stands_unaccepted : (desk : Desk S g) (h : List Request) (q : Request) → is_accepted (verdict h q) ≡ false
+      → StandsFor g desk h → StandsFor g desk (history_after h (Some q))
+  stands_unaccepted desk h q refused stands =
+      subst (StandsFor g desk) (sym (ap (λ b. cond b (h ++ q ∷ []) h) refused)) stands
 
   pub nothing_done : (desk : Desk S g) → ChangesNothing g desk desk
   nothing_done desk = record {

@@ -1,13 +1,17 @@
 -- What the office set for the types, one after the other.
-use Rattle.std.proofs.Common.{◌≡◌, ◌≢◌, inl, inr, ℕ, ◌+◌, ◌≤◌, nat_le, ◌==◌, Bool, true, false, cond, List, Option, refl, sym, ap, ◌∙◌, arith}
+use Rattle.std.proofs.Common.{◌≡◌, ◌≢◌, inl, inr, ℕ, ◌+◌, ◌≤◌, nat_le, ◌==◌, Bool, true, false, cond, List, Option}
+use Rattle.std.proofs.Common.{refl, sym, ap, ◌∙◌, arith}
 use Rattle.std.specs.Prelude.{find}
 use Rattle.std.specs.Option.{option_map}
 use Rattle.std.proofs.lemmas.Bool.{leb-true, leb-false}
 use Rattle.std.proofs.lemmas.Bool.Decides.{eqb_tells}
 use Rattle.period_core.specs.declared.key_type.KeyType.{KeyType}
-use Rattle.period_core.specs.declared.key_type.KeyType.TheVariants.{DataEncryption, Authentication, KeyWrapping, PrivateSignature, PrivateAuthentication, PrivateTransport, Master}
+use Rattle.period_core.specs.declared.key_type.KeyType.TheVariants.{DataEncryption, Authentication, KeyWrapping}
+use Rattle.period_core.specs.declared.key_type.KeyType.TheVariants.{PrivateSignature, PrivateAuthentication}
+use Rattle.period_core.specs.declared.key_type.KeyType.TheVariants.{PrivateTransport, Master}
 use Rattle.period_core.specs.declared.office.OfficePeriods.{OfficePeriods}
 use Rattle.period_core.specs.KeyType.{key_type_code}
+use Rattle.period_core.proofs.Types.{of_each_type}
 use Rattle.period_core.specs.Office.{set_in, with_set}
 use Rattle.period_core.specs.Period.{Period}
 use Rattle.period_core.proofs.Sets.{set_then}
@@ -56,10 +60,8 @@ one_more_set t n set kind period next is those other low =
 
 pub all_set : (t : Tables) (set : OfficePeriods) → AreSet t 7 set → (kind : KeyType)
     → set_in set kind ≡ period_at kind t.periods
-all_set t set those DataEncryption = those DataEncryption (omega arith)
-all_set t set those Authentication = those Authentication (omega arith)
-all_set t set those KeyWrapping = those KeyWrapping (omega arith)
-all_set t set those PrivateSignature = those PrivateSignature (omega arith)
-all_set t set those PrivateAuthentication = those PrivateAuthentication (omega arith)
-all_set t set those PrivateTransport = those PrivateTransport (omega arith)
-all_set t set those Master = those Master (omega arith)
+all_set t set those =
+    of_each_type (λ kind. set_in set kind ≡ period_at kind t.periods)
+    (those DataEncryption (omega arith)) (those Authentication (omega arith)) (those KeyWrapping (omega arith))
+    (those PrivateSignature (omega arith)) (those PrivateAuthentication (omega arith))
+    (those PrivateTransport (omega arith)) (those Master (omega arith))

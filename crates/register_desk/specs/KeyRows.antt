@@ -6,14 +6,14 @@ use Rattle.key_rows.specs.declared.key_row.KeyRow.{KeyRow}
 use Rattle.key_rows.specs.DueRows.{AreDue, AreFirstDue, stop_of}
 use Rattle.register_core.specs.declared.key.Key.{Key}
 use Rattle.register_core.specs.declared.request.Request.{Request}
-use Rattle.register_store.specs.declared.key_walk.DuePlace.{DuePlace}
-use Rattle.register_store.specs.KeyWalk.{HasNextDue, next_tie}
+use Rattle.register_store.specs.declared.key_scan.DueCursor.{DueCursor}
+use Rattle.register_store.specs.KeyScan.{HasNextDue, next_run}
 use Rattle.register_store.specs.TableChanges.{key_at}
 use Rattle.register_store.specs.Tables.{Tables, numbered}
 use Rattle.register_desk.specs.declared.rows.KeyRows.{KeyRows}
 use Rattle.register_desk.specs.declared.rows.Progress.TheVariants.{Going, Ended, Broken}
-use Rattle.register_desk.specs.declared.rows.Walk.{Walk}
-use Rattle.register_desk.specs.declared.rows.Walk.TheVariants.{ByNumber, ByStop}
+use Rattle.register_desk.specs.declared.rows.Scan.{Scan}
+use Rattle.register_desk.specs.declared.rows.Scan.TheVariants.{ByNumber, ByStop}
 use Rattle.register_desk.specs.Register.{tables}
 
 -- ---- the rows of tables
@@ -42,36 +42,36 @@ AreAll (Some until) all given = AreDue all until given
 
 -- ---- how far they are
 
-abbrev pub due_until : Walk → Option ℕ
+abbrev pub due_until : Scan → Option ℕ
 due_until (ByNumber last) = None
-due_until (ByStop until last tie) = Some until
+due_until (ByStop until last run) = Some until
 
 -- before the first row that is due
-abbrev pub first_place : DuePlace
-first_place = record { stop = 0; number = 0 }
+abbrev pub first_cursor : DueCursor
+first_cursor = record { stop = 0; number = 0 }
 
-abbrev pub place_of_row : KeyRow → DuePlace
-place_of_row r = record { stop = stop_of r; number = r.number }
+abbrev pub cursor_of_row : KeyRow → DueCursor
+cursor_of_row r = record { stop = stop_of r; number = r.number }
 
--- the place of the last of these rows
-abbrev pub last_place : DuePlace → List KeyRow → DuePlace
-last_place place [] = place
-last_place place (r ∷ rows) = last_place (place_of_row r) rows
+-- the cursor of the last of these rows
+abbrev pub last_cursor : DueCursor → List KeyRow → DueCursor
+last_cursor cursor [] = cursor
+last_cursor cursor (r ∷ rows) = last_cursor (cursor_of_row r) rows
 
--- the walk is after these rows, and no further
-abbrev pub IsAfterRows : Walk → List KeyRow → Type 0
+-- the scan is after these rows, and no further
+abbrev pub IsAfterRows : Scan → List KeyRow → Type 0
 IsAfterRows (ByNumber last) given = last ≡ length given
-IsAfterRows (ByStop until last tie) given = last ≡ last_place first_place given
+IsAfterRows (ByStop until last run) given = last ≡ last_cursor first_cursor given
 
-abbrev pub after_row : Walk → KeyRow → Walk
+abbrev pub after_row : Scan → KeyRow → Scan
 after_row (ByNumber last) r = ByNumber r.number
-after_row (ByStop until last tie) r = ByStop until (place_of_row r) (next_tie last (stop_of r))
+after_row (ByStop until last run) r = ByStop until (cursor_of_row r) (next_run last (stop_of r))
 
--- the row after the walk's last, or none where there is none
-abbrev pub HasNextRow : Walk → Tables → Option KeyRow → Type 0
+-- the row after the scan's last, or none where there is none
+abbrev pub HasNextRow : Scan → Tables → Option KeyRow → Type 0
 HasNextRow (ByNumber last) t found = found ≡ option_map (λ k. row_of (last + 1, k)) (key_at t.keys (last + 1))
-HasNextRow (ByStop until last tie) t None = HasNextDue until last t None
-HasNextRow (ByStop until last tie) t (Some row) = (x : ℕ × Key) × (row ≡ row_of x) × HasNextDue until last t (Some x)
+HasNextRow (ByStop until last run) t None = HasNextDue until last t None
+HasNextRow (ByStop until last run) t (Some row) = (x : ℕ × Key) × (row ≡ row_of x) × HasNextDue until last t (Some x)
 
 module _ {S : Type 0} {g : Ghosts S} where
   -- the rows go on, came to their end, or are broken by a call that the database refused
@@ -86,12 +86,12 @@ module _ {S : Type 0} {g : Ghosts S} where
 
   -- None for all rows, or the moment up to which rows are due
   abbrev pub until_of : KeyRows S g → Option ℕ
-  until_of rows = due_until rows.walk
+  until_of rows = due_until rows.scan
 
   -- of all these rows, these were given so far; where the end is reached, they are all that are to be given
   pub record HaveGiven (rows : KeyRows S g) (all given : List KeyRow) : Type 0 where
     pub so_far : AreSoFar (until_of rows) all given
-    pub after : IsAfterRows rows.walk given
+    pub after : IsAfterRows rows.scan given
     pub ended : AreEnded rows → AreAll (until_of rows) all given
 
   -- what comes of the next row, or of none

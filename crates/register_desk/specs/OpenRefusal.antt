@@ -75,7 +75,8 @@ abbrev pub LeavesCommitted : State → State → Type 0
 LeavesCommitted old new =
     IsTrue old.is_open → HasCleanDisk new → (trees : Trees) → new.may_leave trees → trees ≡ old.committed.trees
 
--- these trees are those of the database taken to this program's version, where what it shows passes the checks of the first
+-- these trees are those of the database taken to this program's version, where what it shows passes the checks of the
+-- first
 abbrev pub IsTakenIn : State → Trees → Type 0
 IsTakenIn = MigratesTo
 
@@ -89,7 +90,8 @@ abbrev pub LeavesBehind : OpenRefusal → State → State → Type 0
 LeavesBehind Store old new = LeavesMigrated old new
 LeavesBehind refusal old new = LeavesCommitted old new
 
--- after the refusal of tables that are committed and meet the checks of their version: what was committed, or tables of the
+-- after the refusal of tables that are committed and meet the checks of their version: what was committed, or tables
+-- of the
 -- first version in this program's
 abbrev pub LeavesStored : Stored → State → State → Type 0
 LeavesStored t old new = IsTrue old.is_open → HasCleanDisk new → (trees : Trees) → new.may_leave trees

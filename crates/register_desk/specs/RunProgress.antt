@@ -41,7 +41,8 @@ module _ {S : Type 0} (g : Ghosts S) where
   -- the item was applied, and this is the line of its answer
   abbrev pub AnswersItem : Desk S g → Desk S g → Option Request → List ℕ → Type 0
   AnswersItem kept now item line =
-      (h : List Request) → StandsFor g kept h → HasCleanDisk (seen g now.connection) → (line ≡ answer_line (answer_to h item)) × StandsFor g now (history_after h item)
+      (h : List Request) → StandsFor g kept h → HasCleanDisk (seen g now.connection)
+      → (line ≡ answer_line (answer_to h item)) × StandsFor g now (history_after h item)
 
   -- a disk that is clean was so before
   abbrev pub WasClean : Desk S g → Desk S g → Type 0
@@ -52,13 +53,14 @@ module _ {S : Type 0} (g : Ghosts S) where
   IsQuiet kept item line = kept.is_broken ≡ true → (item ≡ None) × (line ≡ answer_line (Err BadLine))
 
   -- the item was answered by a whole line, of this number of bytes, and applied
-  pub record ServesItem (kept now : Desk S g) (old new : Option (List ℕ)) (item : Option Request) (count : ℕ) : Type 0 where
-    pub line : List ℕ
-    pub written : Appends old new line
-    pub counted : count ≡ length line
-    pub answers : AnswersItem kept now item line
-    pub clean : WasClean kept now
-    pub quiet : IsQuiet kept item line
+  pub record ServesItem (kept now : Desk S g) (old new : Option (List ℕ)) (item : Option Request) (count : ℕ) : Type 0
+    where
+      pub line : List ℕ
+      pub written : Appends old new line
+      pub counted : count ≡ length line
+      pub answers : AnswersItem kept now item line
+      pub clean : WasClean kept now
+      pub quiet : IsQuiet kept item line
 
   -- the database refused the item, which broke the desk
   pub record BreaksAt (kept now : Desk S g) (item : Option Request) : Type 0 where
@@ -67,7 +69,8 @@ module _ {S : Type 0} (g : Ghosts S) where
     pub was : kept.is_broken ≡ false
     pub broken : now.is_broken ≡ true
     pub stands : (h : List Request) → StandsFor g kept h → StandsFor g now h
-    pub leaves : (h : List Request) → StandsFor g kept h → HasCleanDisk (seen g now.connection) → LeavesOneOf h (history_after h (Some request)) (seen g now.connection)
+    pub leaves : (h : List Request) → StandsFor g kept h → HasCleanDisk (seen g now.connection)
+        → LeavesOneOf h (history_after h (Some request)) (seen g now.connection)
     pub clean : WasClean kept now
 
   -- the desk was broken when the item came, and nothing changed
@@ -93,7 +96,8 @@ module _ {S : Type 0} (g : Ghosts S) where
   StopsItem kept now item BadHeader = ⊥
 
   -- the item was applied, and so much of its answer's line was written
-  pub record WritesInPart (kept now : Desk S g) (old new : Option (List ℕ)) (item : Option Request) (part : ℕ) : Type 0 where
+  pub record WritesInPart (kept now : Desk S g) (old new : Option (List ℕ)) (item : Option Request) (part : ℕ) : Type
+      0 where
     pub line : List ℕ
     pub written : Appends old new (take part line)
     pub within : part ≤ length line
@@ -128,10 +132,12 @@ module _ {S : Type 0} (g : Ghosts S) where
     pub written : Appends old new (bad_lines items)
 
   -- these items were answered, each by its whole line, and applied, wherever they came from
-  pub record AnsweredItems (old new : Option (List ℕ)) (kept now : Desk S g) (items : List (Option Request)) : Type 0 where
-    pub answered : (h : List Request) → StandsFor g kept h → HasCleanDisk (seen g now.connection) → Appends old new (answer_lines (answers h items)) × StandsFor g now (history h items)
-    pub clean : WasClean kept now
-    pub quiet : kept.is_broken ≡ true → Quiet kept now old new items
+  pub record AnsweredItems (old new : Option (List ℕ)) (kept now : Desk S g) (items : List (Option Request)) : Type 0
+    where
+      pub answered : (h : List Request) → StandsFor g kept h → HasCleanDisk (seen g now.connection)
+          → Appends old new (answer_lines (answers h items)) × StandsFor g now (history h items)
+      pub clean : WasClean kept now
+      pub quiet : kept.is_broken ≡ true → Quiet kept now old new items
 
   -- as many items as there are replies were taken, each from its line, and answered
   pub record Served (before after old new : Option (List ℕ)) (kept now : Desk S g) (replies : ℕ) : Type 0 where
@@ -158,17 +164,18 @@ module _ {S : Type 0} (g : Ghosts S) where
     pub served : Served before middle old new kept now replies
 
   -- some lines were served, and of the next one this is left
-  pub record ServedInPart (before old new : Option (List ℕ)) (kept now : Desk S g) (replies : ℕ) (end : End) : Type 0 where
-    pub middle : Option (List ℕ)
-    pub after : Option (List ℕ)
-    pub so_far : Option (List ℕ)
-    pub mid : Desk S g
-    pub line : List ℕ
-    pub item : Option Request
-    pub part : ℕ
-    pub served : Served before middle old so_far kept mid replies
-    pub next : IsNextLine middle after line item
-    pub leaves : LeavesItem mid now so_far new item end part
+  pub record ServedInPart (before old new : Option (List ℕ)) (kept now : Desk S g) (replies : ℕ) (end : End) : Type 0
+    where
+      pub middle : Option (List ℕ)
+      pub after : Option (List ℕ)
+      pub so_far : Option (List ℕ)
+      pub mid : Desk S g
+      pub line : List ℕ
+      pub item : Option Request
+      pub part : ℕ
+      pub served : Served before middle old so_far kept mid replies
+      pub next : IsNextLine middle after line item
+      pub leaves : LeavesItem mid now so_far new item end part
 
   abbrev pub ServesTo : Option (List ℕ) → Option (List ℕ) → Option (List ℕ) → Desk S g → Desk S g → ℕ → Finish → Type 0
   ServesTo before old new kept now replies (AtEnd left) = ServedAll before old new kept now replies left

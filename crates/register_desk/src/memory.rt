@@ -11,7 +11,8 @@ use std::alloc::Global;
 /// Makes an empty register in memory.
 ///
 /// # Errors
-/// [`OpenRefusal::Memory`] where memory gave out before the database was there; [`OpenRefusal::Store`] after it.
+/// [`OpenRefusal::Memory`] where memory gave out before the database was there;
+/// [`OpenRefusal::Store`] after it.
 pub fn create_in_memory(alloc: Global) -> Result<Desk<MemStore>, OpenRefusal>
     ensures stands { IfOk result (λ desk. StandsFor over_memory desk []) }
     ensures refused { IfErr result (λ refusal.

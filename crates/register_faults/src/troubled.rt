@@ -17,8 +17,8 @@ pub enum Trouble {
 
 /// What the turns of a stream come to.
 pub trait Troubling {
-    /// Begins a turn. It goes well as long as good turns are left, of which it takes one, and is troubled else. `false`
-    /// says that it takes no byte.
+    /// Begins a turn. It goes well as long as good turns are left, of which it takes one, and is
+    /// troubled else. `false` says that it takes no byte.
     ///
     /// # Errors
     /// That of the trouble, by `BrokenPipe` or `Interrupted`; never in a good turn.

@@ -1,7 +1,7 @@
 //! The files of a register, whoever opens them.
 ghost use Rattle.std.specs.Prelude.{◌≡◌, false, IfOk, IfErr, IsTrue};
-ghost use Rattle.sqlite.specs.Files.{HoldsDatabase};
 ghost use Rattle.sqlite.specs.Held.{AreDatabases, state};
+ghost use Rattle.sqlite.specs.Files.{HoldsDatabase};
 ghost use Rattle.sqlite.specs.Recovery.{Image};
 ghost use Rattle.sqlite.specs.State.{HasCleanDisk};
 ghost use Rattle.sqlite.specs.Tree.{Trees};
@@ -28,8 +28,8 @@ pub trait Files {
     /// A connection to the file, which is made where there is none.
     ///
     /// # Errors
-    /// [`OpenRefusal::Store`] where the file cannot be opened, or is no database; [`OpenRefusal::Memory`] where memory gave
-    /// out.
+    /// [`OpenRefusal::Store`] where the file cannot be opened, or is no database;
+    /// [`OpenRefusal::Memory`] where memory gave out.
     fn connect(self, rt: &HostRuntime, file: &str) -> Result<Connection<Self::Opened>, OpenRefusal>
         // The connection shows what the files hold.
         ensures shows { IfOk result (λ connection. HasCleanDisk (state Self.Opened.Store connection)
@@ -37,7 +37,8 @@ pub trait Files {
         ensures idle { IfOk result (λ connection. connection.in_transaction ≡ false) }
         ensures blames_none { IfErr result RefusesNoTable };
 
-    /// Copies the log into the database file. What cannot be copied stays in the log, where the next opening finds it.
+    /// Copies the log into the database file. What cannot be copied stays in the log, where the
+    /// next opening finds it.
     fn checkpoint(left: Self::Opened);
 
     /// An opening of what a stop leaves finds a database that the store may come back as.

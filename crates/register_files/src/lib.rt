@@ -1,4 +1,5 @@
-//! The register in a file, whoever opens it: its lives, the serving of connections, and the values that a command is given.
+//! The register in a file, whoever opens it: its lives, the serving of connections, and the values
+//! that a command is given.
 #![tactic(auto)]
 
 mod files;

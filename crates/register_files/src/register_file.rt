@@ -88,11 +88,13 @@ fn into_files<F: Files>(desk: Desk<F::Opened>) -> F::Opened
     close(desk.into_connection())
 }
 
-/// Makes an empty register in the file, which is made where there is none. Gives the files as it left them.
+/// Makes an empty register in the file, which is made where there is none. Gives the files as it
+/// left them.
 ///
 /// # Errors
-/// [`OpenRefusal::NotARegister`] where the file has a table of a register; [`OpenRefusal::Store`] where the file cannot
-/// be opened, or the database refused; [`OpenRefusal::Memory`] where memory gave out.
+/// [`OpenRefusal::NotARegister`] where the file has a table of a register; [`OpenRefusal::Store`]
+/// where the file cannot be opened, or the database refused; [`OpenRefusal::Memory`] where memory
+/// gave out.
 pub fn init_file<F: Files>(
     rt: &HostRuntime,
     file: &str,
@@ -108,7 +110,8 @@ pub fn init_file<F: Files>(
 /// Opens the register in the file. Where there is no file none is made.
 ///
 /// # Errors
-/// As [`Desk::open`]; [`OpenRefusal::Store`] also where there is no file, or it cannot be opened, or is no database.
+/// As [`Desk::open`]; [`OpenRefusal::Store`] also where there is no file, or it cannot be opened,
+/// or is no database.
 pub fn open_file<F: Files + Drop>(
     rt: &HostRuntime,
     file: &str,
@@ -154,8 +157,8 @@ pub fn run_file<F: Files + Drop, R: Read, W: Write>(
     })
 }
 
-/// Opens the register in the file, and registers a key for each row of the table that `reader` gives, as
-/// [`import`](register_report::import).
+/// Opens the register in the file, and registers a key for each row of the table that `reader`
+/// gives, as [`import`](register_report::import).
 ///
 /// # Errors
 /// As [`open_file`]; nothing was read or written then.
@@ -211,8 +214,8 @@ pub fn export_file<F: Files + Drop, W: Write>(
     })
 }
 
-/// Opens the register in the file, and writes which keys are due for rotation in this number of days, as
-/// [`rotation`](register_report::rotation).
+/// Opens the register in the file, and writes which keys are due for rotation in this number of
+/// days, as [`rotation`](register_report::rotation).
 ///
 /// # Errors
 /// As [`open_file`]; nothing was written then.

@@ -23,7 +23,8 @@ pub struct GivenTerms<'a> {
     pub first: &'a str,
 }
 
-/// At which moment, of whom, and under which number for the first one the rows of an import are registered.
+/// At which moment, of whom, and under which number for the first one the rows of an import are
+/// registered.
 #[derive(Clone, Copy)]
 pub struct Terms {
     pub moment: Moment,

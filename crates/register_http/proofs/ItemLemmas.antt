@@ -1,5 +1,6 @@
 -- An exchange hands at most one request to the register.
-use Rattle.std.proofs.Common.{◌≡◌, ◌≢◌, inl, inr, ℕ, List, [], ◌∷◌, Option, Some, None, String, Result, Ok, Err, refl, sym, subst, ◌∙◌}
+use Rattle.std.proofs.Common.{◌≡◌, ◌≢◌, inl, inr, ℕ, List, [], ◌∷◌, Option, Some, None, String, Result, Ok, Err, refl}
+use Rattle.std.proofs.Common.{sym, subst, ◌∙◌}
 use Rattle.std.specs.declared.alloc.Global.{Global}
 use Rattle.sqlite_trees.specs.declared.store.Store.{Ghosts}
 use Rattle.register_core.specs.declared.request.Request.{Request}
@@ -29,7 +30,8 @@ item_of moment (ShowKey key) = None
 item_of moment (ShowUsage key) = None
 item_of moment (Apply sent) = Some (request_at moment sent)
 
-handed : (h : List Request) (moment : ℕ) (asked : Asked) → history_after h moment asked ≡ history h (item_of moment asked ∷ [])
+handed : (h : List Request) (moment : ℕ) (asked : Asked)
+    → history_after h moment asked ≡ history h (item_of moment asked ∷ [])
 handed h moment (Reject rejection) = refl
 handed h moment (ShowKey key) = refl
 handed h moment (ShowUsage key) = refl
@@ -37,7 +39,8 @@ handed h moment (Apply sent) = refl
 
 module _ {S : Type 0} (g : Ghosts S) (moment : ℕ) (kept now : Desk S g) where
   -- the desk after an answer, or after an end that is not the database's
-  went_on : (asked : Asked) (result : Result (String Global) End) → Acts g moment asked kept now result → (h : List Request) → StandsFor g kept h → IsWhole kept → IsClean g now
+  went_on : (asked : Asked) (result : Result (String Global) End) → Acts g moment asked kept now result
+      → (h : List Request) → StandsFor g kept h → IsWhole kept → IsClean g now
       → (result ≢ Err Store) → IsWhole now × StandsForEither g h (history_after h moment asked) now
   went_on asked (Ok text) acts h s whole clean other = (acts.ends.whole whole, inr (acts.stands h s clean))
   went_on asked (Err Memory) acts h s whole clean other = (acts.ends.whole whole, acts.memory h s clean refl)
@@ -47,7 +50,8 @@ module _ {S : Type 0} (g : Ghosts S) (moment : ℕ) (kept now : Desk S g) where
   went_on asked (Err WriteFault) acts h s whole clean other = absurd acts.ends
   went_on asked (Err BadHeader) acts h s whole clean other = absurd acts.ends
 
-  not_store : (result : Result (String Global) End) (end : Finish) (replies : ℕ) → EndsAs result end replies → end ≢ Ended Store → result ≢ Err Store
+  not_store : (result : Result (String Global) End) (end : Finish) (replies : ℕ) → EndsAs result end replies
+      → end ≢ Ended Store → result ≢ Err Store
   not_store (Ok text) end replies ends other e = absurd (cc)
   not_store (Err Memory) end replies ends other e = absurd (cc)
   not_store (Err Store) end replies ends other e = other ends
@@ -56,10 +60,12 @@ module _ {S : Type 0} (g : Ghosts S) (moment : ℕ) (kept now : Desk S g) where
   not_store (Err WriteFault) end replies ends other e = absurd (cc)
   not_store (Err BadHeader) end replies ends other e = absurd (cc)
 
-  one_of : (asked : Asked) (outcome : Outcome) (old new : Option (List ℕ)) → Serves g moment asked kept now old new outcome
+  one_of : (asked : Asked) (outcome : Outcome) (old new : Option (List ℕ))
+      → Serves g moment asked kept now old new outcome
       → (h : List Request) → StandsFor g kept h → IsWhole kept → IsClean g now → LeavesOne g h now outcome.end
   one_of asked outcome old new s h stands whole clean =
-      let on = λ (other : outcome.end ≢ Ended Store). went_on asked s.result s.acts h stands whole clean (not_store s.result outcome.end outcome.replies s.ends other) in
+      let on = λ (other : outcome.end ≢ Ended Store). went_on asked s.result s.acts h stands whole clean
+      (not_store s.result outcome.end outcome.replies s.ends other) in
       record {
         item = item_of moment asked;
         leaves = subst (λ k. LeavesEither g h k now) (handed h moment asked) (s.acts.leaves h stands whole clean);
@@ -68,20 +74,30 @@ module _ {S : Type 0} (g : Ghosts S) (moment : ℕ) (kept now : Desk S g) where
       }
 
   -- the desk was not asked
-  none_of : (end : Finish) → now ≡ kept → (h : List Request) → StandsFor g kept h → IsWhole kept → IsClean g now → LeavesOne g h now end
+  none_of : (end : Finish) → now ≡ kept → (h : List Request) → StandsFor g kept h → IsWhole kept → IsClean g now
+      → LeavesOne g h now end
   none_of end same h stands whole clean =
       let stood = subst (λ (d : Desk S g). StandsFor g d h) (sym same) stands in
       let is_whole = subst (λ (d : Desk S g). IsWhole d) (sym same) whole in
-      record { item = None; leaves = leaves_alone g h now stood is_whole clean; whole = λ other. is_whole; stands = λ other. inl stood }
+      record {
+        item = None;
+        leaves = leaves_alone g h now stood is_whole clean;
+        whole = λ other. is_whole;
+        stands = λ other. inl stood;
+      }
 
-  pub leaves_one : (asked : Result (Option Asked) AskFault) (outcome : Outcome) (old new : Option (List ℕ)) → ServesAsked g moment asked kept now old new outcome
+  pub leaves_one : (asked : Result (Option Asked) AskFault) (outcome : Outcome) (old new : Option (List ℕ))
+      → ServesAsked g moment asked kept now old new outcome
       → (h : List Request) → StandsFor g kept h → IsWhole kept → IsClean g now → LeavesOne g h now outcome.end
-  leaves_one (Ok (Some asked)) outcome old new s h stands whole clean = one_of asked outcome old new s h stands whole clean
+  leaves_one (Ok (Some asked)) outcome old new s h stands whole clean = one_of asked outcome old new s h stands whole
+      clean
   leaves_one (Ok None) outcome old new (s, none) h stands whole clean = none_of outcome.end s.same h stands whole clean
   leaves_one (Err fault.Memory) outcome old new s h stands whole clean = none_of outcome.end s.same h stands whole clean
-  leaves_one (Err fault.ReadFault) outcome old new (s, none) h stands whole clean = none_of outcome.end s.same h stands whole clean
+  leaves_one (Err fault.ReadFault) outcome old new (s, none) h stands whole clean =
+      none_of outcome.end s.same h stands whole clean
 
-  pub was_clean : (asked : Result (Option Asked) AskFault) (outcome : Outcome) (old new : Option (List ℕ)) → ServesAsked g moment asked kept now old new outcome
+  pub was_clean : (asked : Result (Option Asked) AskFault) (outcome : Outcome) (old new : Option (List ℕ))
+      → ServesAsked g moment asked kept now old new outcome
       → IsClean g now → IsClean g kept
   was_clean (Ok (Some asked)) outcome old new s clean = s.acts.clean clean
   was_clean (Ok None) outcome old new (s, none) clean = subst (λ (d : Desk S g). IsClean g d) s.same clean

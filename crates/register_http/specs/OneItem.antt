@@ -10,7 +10,8 @@ use Rattle.register_desk.specs.declared.runs.Finish.TheVariants.{Ended}
 use Rattle.register_desk.specs.Desk.{IsWhole, LeavesEither}
 use Rattle.register_desk.specs.Register.{StandsFor}
 
--- A whole desk of the history h is one of h still, or of h with the item after it; but where the database refused a stop
+-- A whole desk of the history h is one of h still, or of h with the item after it; but where the database refused a
+-- stop
 -- leaves the register of one of the two.
 pub record LeavesOne {S : Type 0} (g : Ghosts S) (h : List Request) (desk : Desk S g) (end : Finish) : Type 0 where
   pub item : Option Request

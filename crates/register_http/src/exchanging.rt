@@ -149,8 +149,8 @@ fn send_reply<W: Write, S: Alter>(
 }
 
 /// One exchange at this moment: reads one request, asks the register once, and writes one reply.
-/// Where the reader gives no byte it does nothing. Bytes after the request are no request. The routes
-/// may serve one exchange after the other.
+/// Where the reader gives no byte it does nothing. Bytes after the request are no request. The
+/// routes may serve one exchange after the other.
 ///
 /// Its end is that after a 503 or 500 reply, [`End::Memory`], [`End::Store`] or [`End::Broken`],
 /// even where writing that fails; else [`End::ReadFault`] or [`End::WriteFault`] where a stream

@@ -50,7 +50,8 @@ pub fn report_end(end: End, faults: &mut impl Write) -> u8
     end.exit_status()
 }
 
-/// Names what ended a run on `faults`, if anything did before the end of its input, and gives its exit status.
+/// Names what ended a run on `faults`, if anything did before the end of its input, and gives its
+/// exit status.
 fn report_finish(finish: Finish, faults: &mut impl Write) -> u8
     ensures { result ≡ status_of finish }
 {
@@ -130,8 +131,8 @@ pub fn perform<F: Files + Drop, R: Read + Drop, W: Write>(
     }
 }
 
-/// Copies the log of the files that are left into the database file, names on `faults` what kept the task from its end, and
-/// gives the exit status.
+/// Copies the log of the files that are left into the database file, names on `faults` what kept
+/// the task from its end, and gives the exit status.
 fn conclude<F: Files>(done: Done<F::Opened>, faults: &mut impl Write) -> u8
     ensures { result ≡ status_after done }
 {
@@ -152,13 +153,15 @@ fn conclude<F: Files>(done: Done<F::Opened>, faults: &mut impl Write) -> u8
     }
 }
 
-/// Does what the words ask for, over these files where they name one. The first word is the program's own name; with no more
-/// words it is a run over the request lines of `reader`, over a new register in memory. What it has to say of an end, a
-/// refusal or the words it writes to `faults`.
+/// Does what the words ask for, over these files where they name one. The first word is the
+/// program's own name; with no more words it is a run over the request lines of `reader`, over a
+/// new register in memory. What it has to say of an end, a refusal or the words it writes to
+/// `faults`.
 ///
-/// Gives the exit status: 0 where all went well, 1 where the words are no command, ask for help or have a bad value, 2 where
-/// the register could not be made or opened, 3 after an end of the register or want of memory for the words, and 4 after a
-/// fault of a stream or an import without its header row.
+/// Gives the exit status: 0 where all went well, 1 where the words are no command, ask for help or
+/// have a bad value, 2 where the register could not be made or opened, 3 after an end of the
+/// register or want of memory for the words, and 4 after a fault of a stream or an import without
+/// its header row.
 pub fn act<F: Files + Drop, R: Read + Drop, W: Write>(
     rt: &HostRuntime,
     files: F,
@@ -171,8 +174,8 @@ pub fn act<F: Files + Drop, R: Read + Drop, W: Write>(
     // A task is done as it says, or the words are none and nothing is written.
     ensures does { ActsBy F.Opened.Store F.may_leave F.start (R.remaining reader)
         (W.contents writer.old.inner) (W.contents writer.new.inner) result }
-    // With no words but its name, what is written and the status are those of a run from the empty history, where the
-    // reader's bytes are known.
+    // With no words but its name, what is written and the status are those of a run from the empty
+    // history, where the reader's bytes are known.
     ensures acts { (bytes : List ℕ) (items : List (Option Request)) (rest : List ℕ) →
         length words.now ≤ 1 → R.remaining reader ≡ Some bytes → HasItems bytes items rest →
         Acts items rest result (W.contents writer.old.inner) (W.contents writer.new.inner) }

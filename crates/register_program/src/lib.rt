@@ -1,4 +1,5 @@
-//! What the program does with its words, over the streams that it is given and whatever files there are.
+//! What the program does with its words, over the streams that it is given and whatever files there
+//! are.
 #![tactic(auto)]
 
 mod acting;

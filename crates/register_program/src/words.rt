@@ -83,7 +83,8 @@ const PORT: &str = "The port, from 1 to 65535";
 
 const EXCHANGES: &str = "How many connections it serves before it ends, from 1 to 1000000";
 
-/// An option whose value has to be given. The word after its name is the value, whatever it begins with.
+/// An option whose value has to be given. The word after its name is the value, whatever it begins
+/// with.
 fn required_option<'a>(alloc: Global, name: &'a str, value: &'a str, help: &'a str) -> Arg<'a> {
     Arg::new(alloc, name)
         .long(name)

@@ -1,5 +1,6 @@
 -- The text of a report is that of the table of the rows which the desk gives.
-use Rattle.std.proofs.Common.{◌≡◌, ◌⊎◌, inl, inr, ℕ, ◌≤◌, Bool, true, false, cond, List, [], ◌∷◌, ◌++◌, length, filter, Option, None, refl, sym, ap, ap₂, subst, ◌∙◌, append_assoc}
+use Rattle.std.proofs.Common.{◌≡◌, ◌⊎◌, inl, inr, ℕ, ◌≤◌, Bool, true, false, cond, List, [], ◌∷◌, ◌++◌, length}
+use Rattle.std.proofs.Common.{filter, Option, None, refl, sym, ap, ap₂, subst, ◌∙◌, append_assoc}
 use Rattle.std.specs.Prelude.{flat_map, unwrap_or}
 use Rattle.std.specs.List.{Contains}
 use Rattle.moment_core.specs.Moment.{last_second}
@@ -49,7 +50,8 @@ module _ (latest until : ℕ) (set : OfficePeriods) where
       (lines_of wide ∙ ap (flat_map (report_line latest until)) is) (ap length is)
       ∙ sym (append_assoc (head_text table) (flat_map (report_line latest until) rows) (report_total (length rows)))
 
-  module _ (h : List Request) (lawful : IsLawful h) (found : (kind : KeyType) → set_in set kind ≡ set_period h kind) where
+  module _ (h : List Request) (lawful : IsLawful h) (found : (kind : KeyType)
+      → set_in set kind ≡ set_period h kind) where
     listed_same : (r : KeyRow) → lists table r ≡ is_listed until (period h) r
     listed_same r =
         ap (λ (o : Option Period). is_listed until (λ kind. unwrap_or o (periods r.kind)) r) (found r.kind)

@@ -20,7 +20,8 @@ use Rattle.register_desk.proofs.Readings.{nothing_done, nothing_then, stands_sti
 use Rattle.register_report.specs.declared.table.Table.{Table}
 use Rattle.register_report.specs.Table.{count_in, lines_text, lists, row_text}
 use Rattle.register_report.specs.TextWriter.{Puts, PutsRows, PutsText}
-use Rattle.register_report.proofs.TextLemmas.{prefix_whole, no_fault, passed_on, puts_nothing, puts_well, text_failed, text_same, text_then}
+use Rattle.register_report.proofs.TextLemmas.{prefix_whole, no_fault, passed_on, puts_nothing, puts_well, text_failed}
+use Rattle.register_report.proofs.TextLemmas.{text_same, text_then}
 
 -- the lines of one row more, and their number
 one_line : (table : Table) (given : List KeyRow) (row : KeyRow)

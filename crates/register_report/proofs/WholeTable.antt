@@ -168,7 +168,8 @@ module _ {W S : Type 0} {contents : W → Option (List ℕ)} {g : Ghosts S} {beg
       → IsClean g desk_new → Text h text
       → WritesText text end (contents old) (contents new.inner)
   agrees {old} {end} it inner finish {h} text stands whole clean is =
-      let told = writes_text r it.puts (it.prefix h text stands whole clean is) (it.whole h text stands whole clean is) in
+      let told = writes_text r it.puts (it.prefix h text stands whole clean is)
+      (it.whole h text stands whole clean is) in
       let ended = subst (λ f. WritesText text f (contents begun.inner) (contents new.inner))
       (sym finish) told in
       subst (λ w. WritesText text end (contents w) (contents new.inner)) inner ended

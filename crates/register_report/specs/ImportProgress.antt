@@ -92,7 +92,8 @@ module _ {S R : Type 0} (g : Ghosts S) (remaining : R → Option (List ℕ)) (mo
     pub stands_for : IsRowItem moment caller (first + replies) row item
     pub leaves : LeavesItem g mid now so_far new item end part
 
-  -- Why the rows ended before the input did: after those that were served a row came, and they were as many as an import
+  -- Why the rows ended before the input did: after those that were served a row came, and they were as many as an
+  -- import
   -- answers, or what came was none that can be read.
   pub record EndsEarly (start last : Reader R) (old new : Option (List ℕ)) (kept now : Desk S g)
       (replies : ℕ) : Type 0 where

@@ -54,9 +54,9 @@ fn put_all_keys<W: Write, S: Alter>(
     put_table(alloc, &Table::Export, &mut rows, writer, written)
 }
 
-/// Writes the report on the keys that are due in so many days, or are long. Where the office set no period, no key is
-/// long, and the rows that are due are all; where it set one, the rows go on to the last moment, since a long key may have
-/// any Protect Stop Date.
+/// Writes the report on the keys that are due in so many days, or are long. Where the office set no
+/// period, no key is long, and the rows that are due are all; where it set one, the rows go on to
+/// the last moment, since a long key may have any Protect Stop Date.
 fn put_listed_keys<W: Write, S: Alter>(
     alloc: Global,
     desk: &mut Desk<S>,
@@ -132,10 +132,10 @@ pub fn rotation<W: Write, S: Alter>(
         AreListed (all_rows h) (horizon (latest h) days) (period h) rows →
         WritesText (report_text (latest h) (horizon (latest h) days) rows) result.end
         (W.contents writer.old.inner) (W.contents writer.new.inner) }
+    ensures uncounted { (result.read ≡ 0) × (result.replies ≡ 0) }
     ensures alone { LeavesAlone S.Store desk.old desk.new result.end }
     ensures writer { LeavesWriter W.contents writer.old writer.new result }
     ensures ends { EndsAs result.end }
-    ensures uncounted { (result.read ≡ 0) × (result.replies ≡ 0) }
 {
     writer.begin();
     let mut written: u64 = 0;

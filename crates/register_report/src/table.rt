@@ -14,8 +14,8 @@ use std::alloc::{AllocError, Global};
 pub(crate) enum Table {
     /// All keys, as CSV.
     Export,
-    /// The keys that are due for rotation up to the second moment, as of the first, and those that are long by the
-    /// periods that the office set.
+    /// The keys that are due for rotation up to the second moment, as of the first, and those that
+    /// are long by the periods that the office set.
     Report(Moment, Moment, OfficePeriods),
 }
 

@@ -1,5 +1,6 @@
 -- What is read of an answer by a reader that tells what a row shows.
-use Rattle.std.proofs.Common.{◌≡◌, ◌≢◌, Option, None, Some, Result, Ok, Err, IfOk, IfErr, MatchOption, refl, sym, subst, List, ℕ}
+use Rattle.std.proofs.Common.{◌≡◌, ◌≢◌, Option, None, Some, Result, Ok, Err, IfOk, IfErr, MatchOption, refl, sym}
+use Rattle.std.proofs.Common.{subst, List, ℕ}
 use Rattle.sqlite.specs.Order.{Row}
 use Rattle.sqlite.specs.State.{State, HasCleanDisk, QueriesRow, Survives, CommitsShowing}
 use Rattle.sqlite.specs.declared.error.Error.{Error}
@@ -17,15 +18,18 @@ pub record Tells {A : Type 0} (IsOne : A → Type 0) (ShowsOne : Row → A → T
   pub registered : IfErr result (λ error. error ≡ NoRegister → ShowsNone IsOne ShowsOne answer)
 
 -- what is made of the answer to this text, which tells so, is found so
-abbrev pub ReadsRow : {A : Type 0} → (A → Type 0) → (Row → A → Type 0) → List ℕ → Row → (Tables → Option A → Type 0) → Type 1
-ReadsRow {A} IsOne ShowsOne sql params Found = (old new : State) (answer : Result Row Error) (result : Result (Option A) StoreError)
+abbrev pub ReadsRow : {A : Type 0} → (A → Type 0) → (Row → A → Type 0) → List ℕ → Row → (Tables → Option A → Type 0)
+    → Type 1
+ReadsRow {A} IsOne ShowsOne sql params Found =
+    (old new : State) (answer : Result Row Error) (result : Result (Option A) StoreError)
     → Tells IsOne ShowsOne answer result
     → (HasCleanDisk new → QueriesRow sql params old new answer) → Survives old new (CommitsShowing sql params old)
     → ReadsBy Found old new result
 
 -- a reader that gives what a row shows, and of a row that shows none gives nothing
 pub tells : {A : Type 0} {Gives : Row → Option A → Type 0} {IsOne : A → Type 0} {ShowsOne : Row → A → Type 0}
-    → ((row : Row) (given : Option A) → Gives row given → MatchOption given ((x : A) → IsOne x → ¬ ShowsOne row x) (ShowsOne row))
+    → ((row : Row) (given : Option A) → Gives row given
+    → MatchOption given ((x : A) → IsOne x → ¬ ShowsOne row x) (ShowsOne row))
     → (answer : Result Row Error) (result : Result (Option A) StoreError) → AnswersBy Gives answer result
     → Tells IsOne ShowsOne answer result
 tells {A} {Gives} {IsOne} {ShowsOne} reads (Ok row) result gives =

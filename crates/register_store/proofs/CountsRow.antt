@@ -49,7 +49,8 @@ module _ (latest key_count : ℕ) where
   changed_is : (counts : Counts) → changed counts ≡ after
   changed_is counts = rw (compares Eq (pos 1) (pos 1))
 
-  pub records : IsMoment latest → (old new : State) (count : ℕ) → Executes counts_text params old new (Ok count) → Makes Always (with_counts latest key_count) old.now new.now
+  pub records : IsMoment latest → (old new : State) (count : ℕ) → Executes counts_text params old new (Ok count)
+      → Makes Always (with_counts latest key_count) old.now new.now
   records in_range old new count h t holds always =
       let l = holds.schema.layout in
       let m = sets (schema_with l) (meta l) (classes l (placed t old.now holds) Meta) _ _ _ (sets_counts l) in
@@ -59,4 +60,5 @@ module _ (latest key_count : ℕ) where
       m.is m.plain (idle l holds.schema.apart Meta refl 0) (λ db. shows_all db (l.tree Meta))
       (λ counts. simp (cast_int, cast_null)) (λ counts. refl)
       old new count h holds.schema.is (t.counts ∷ []) (holds.shown Meta) ordered in
-      holds_with Meta after t old.now new.now _ holds wrote in_range (ap (λ counts. counts_row counts ∷ []) (changed_is t.counts))
+      holds_with Meta after t old.now new.now _ holds wrote in_range
+      (ap (λ counts. counts_row counts ∷ []) (changed_is t.counts))

@@ -1,9 +1,12 @@
 -- The check of the table of custodians.
-use Rattle.std.proofs.Common.{◌≡◌, ◌≢◌, ◌⊎◌, ◌↔◌, ◌==◌, ◌≤◌, ◌<◌, ◌+◌, inl, inr, ℕ, zero, suc, Bool, true, false, cond, List, [], ◌∷◌, ◌++◌, length, map, filter, slice_get, get_or, Option, None, Some, Result, Ok, Err, IsTrue, refl, sym, ap, subst, ◌∙◌, arith, bytes_eq}
+use Rattle.std.proofs.Common.{◌≡◌, ◌≢◌, ◌⊎◌, ◌↔◌, ◌==◌, ◌≤◌, ◌<◌, ◌+◌, inl, inr, ℕ, zero, suc, Bool, true, false}
+use Rattle.std.proofs.Common.{cond, List, [], ◌∷◌, ◌++◌, length, map, filter, slice_get, get_or, Option, None, Some}
+use Rattle.std.proofs.Common.{Result, Ok, Err, IsTrue, refl, sym, ap, subst, ◌∙◌, arith, bytes_eq}
 use Rattle.std.proofs.lemmas.Bool.{eq-eqb, eqb-true}
 use Rattle.std.proofs.lemmas.Bool.Decides.{eqb_tells}
 use Rattle.std.proofs.lemmas.List.{append-nil, length-append}
 use Rattle.std.proofs.lemmas.List.Sorted.{IsPermutation-map, length_permutation, list_any-IsPermutation}
+use Rattle.std.specs.Prelude.{IsErrAnd}
 use Rattle.std.specs.List.{AllByRecursion}
 use Rattle.std.specs.List.Sorted.{IsPermutation}
 use Rattle.std.specs.Global.{Vec}
@@ -29,7 +32,8 @@ use Rattle.register_store.specs.declared.table.TableName.TheVariants.{Custodian}
 use Rattle.register_store.specs.CheckedTables.{IsOdd, IsReasonAt, ShowsName, ChecksTable, check_error, check_text}
 use Rattle.register_store.specs.Stored.{HoldsStored, Stored}
 use Rattle.register_store.specs.Tables.{IsNamed, name_cells}
-use Rattle.register_store.specs.CheckedRows.{AreEmpty, AreKept, HasCustodians, IsListed, KnowsCustodians, RefusesCustodians}
+use Rattle.register_store.specs.CheckedRows.{AreEmpty, AreKept, HasCustodians, IsListed, KnowsCustodians}
+use Rattle.register_store.specs.CheckedRows.{RefusesCustodians}
 use Rattle.register_store.specs.OpeningChecks.{AreCustodians, IsCustodian, MayBeCustodian, owner_at, owners_of}
 use Rattle.register_store.proofs.Actions.{shows_all}
 use Rattle.register_store.proofs.Asked.{AnswersTo, IsWithin, ShowsOwn, in_both, shown_of_table, checks_table}
@@ -50,60 +54,83 @@ one_list = show_same ShowsName one_name
 
 -- ---- the names at a key
 
-names_more : (key : ℕ) (entries others : List KeyName) → names_at key (entries ++ others) ≡ names_at key entries ++ names_at key others
+names_more : (key : ℕ) (entries others : List KeyName)
+    → names_at key (entries ++ others) ≡ names_at key entries ++ names_at key others
 names_more key [] others = refl
 names_more key (e ∷ entries) others = by (is_at key e) (names_more key entries others)
   where
     by : (b : Bool) → names_at key (entries ++ others) ≡ names_at key entries ++ names_at key others
-        → map (λ (entry : KeyName). entry.name) (cond b (e ∷ filter (is_at key) (entries ++ others)) (filter (is_at key) (entries ++ others))) ≡ map (λ (entry : KeyName). entry.name) (cond b (e ∷ filter (is_at key) entries) (filter (is_at key) entries)) ++ names_at key others
+        → map (λ (entry : KeyName). entry.name)
+        (cond b (e ∷ filter (is_at key) (entries ++ others)) (filter (is_at key) (entries ++ others)))
+        ≡ map (λ (entry : KeyName). entry.name) (cond b (e ∷ filter (is_at key) entries) (filter (is_at key) entries))
+        ++ names_at key others
     by true same = ap (λ l. e.name ∷ l) same
     by false same = same
 
-names_one : (key : ℕ) (entry : KeyName) (b : Bool) → is_at key entry ≡ b → names_at key (entry ∷ []) ≡ cond b (entry.name ∷ []) []
+names_one : (key : ℕ) (entry : KeyName) (b : Bool) → is_at key entry ≡ b
+    → names_at key (entry ∷ []) ≡ cond b (entry.name ∷ []) []
 names_one key entry true is = ap (λ c. map (λ (entry : KeyName). entry.name) (cond c (entry ∷ []) [])) is
 names_one key entry false is = ap (λ c. map (λ (entry : KeyName). entry.name) (cond c (entry ∷ []) [])) is
 
-either_at : (key : ℕ) (entry : KeyName) → ((entry.key ≡ key) × (is_at key entry ≡ true)) ⊎ ((entry.key ≢ key) × (is_at key entry ≡ false))
+either_at : (key : ℕ) (entry : KeyName) → ((entry.key ≡ key) × (is_at key entry ≡ true))
+    ⊎ ((entry.key ≢ key) × (is_at key entry ≡ false))
 either_at key entry = elim (eqb_tells entry.key key) [
   | inl both ↦ inl (both.1, both.0)
   | inr apart ↦ inr (apart.1, apart.0)
 ]
 
-more_here : (key : ℕ) (entries : List KeyName) (entry : KeyName) → entry.key ≡ key → names_at key (entries ++ entry ∷ []) ≡ names_at key entries ++ entry.name ∷ []
-more_here key entries entry here = names_more key entries (entry ∷ []) ∙ ap (λ l. names_at key entries ++ l) (names_one key entry true (eq-eqb entry.key key here))
+more_here : (key : ℕ) (entries : List KeyName) (entry : KeyName) → entry.key ≡ key
+    → names_at key (entries ++ entry ∷ []) ≡ names_at key entries ++ entry.name ∷ []
+more_here key entries entry here =
+    names_more key entries (entry ∷ [])
+    ∙ ap (λ l. names_at key entries ++ l) (names_one key entry true (eq-eqb entry.key key here))
 
-more_other : (key : ℕ) (entries : List KeyName) (entry : KeyName) → is_at key entry ≡ false → names_at key (entries ++ entry ∷ []) ≡ names_at key entries
-more_other key entries entry off = names_more key entries (entry ∷ []) ∙ ap (λ l. names_at key entries ++ l) (names_one key entry false off) ∙ append-nil (names_at key entries)
+more_other : (key : ℕ) (entries : List KeyName) (entry : KeyName) → is_at key entry ≡ false
+    → names_at key (entries ++ entry ∷ []) ≡ names_at key entries
+more_other key entries entry off =
+    names_more key entries (entry ∷ []) ∙ ap (λ l. names_at key entries ++ l) (names_one key entry false off)
+    ∙ append-nil (names_at key entries)
 
 -- an entry at the key of a name that is among those at it
-among_at : (key : ℕ) (name : List ℕ) (entries : List KeyName) → is_among name (names_at key entries) ≡ true → (entry : KeyName) × Has entries entry × (entry.key ≡ key)
+among_at : (key : ℕ) (name : List ℕ) (entries : List KeyName) → is_among name (names_at key entries) ≡ true
+    → (entry : KeyName) × Has entries entry × (entry.key ≡ key)
 among_at key name [] among = absurd (cc)
 among_at key name (e ∷ entries) among = by (is_at key e) refl (among_at key name entries) among
   where
-    by : (b : Bool) → is_at key e ≡ b → (is_among name (names_at key entries) ≡ true → (entry : KeyName) × Has entries entry × (entry.key ≡ key))
-        → is_among name (map (λ (entry : KeyName). entry.name) (cond b (e ∷ filter (is_at key) entries) (filter (is_at key) entries))) ≡ true → (entry : KeyName) × Has (e ∷ entries) entry × (entry.key ≡ key)
+    by : (b : Bool) → is_at key e ≡ b
+        → (is_among name (names_at key entries) ≡ true → (entry : KeyName) × Has entries entry × (entry.key ≡ key))
+        → is_among name
+        (map (λ (entry : KeyName). entry.name) (cond b (e ∷ filter (is_at key) entries) (filter (is_at key) entries)))
+        ≡ true → (entry : KeyName) × Has (e ∷ entries) entry × (entry.key ≡ key)
     by true at later among = (e, inl refl, eqb-true e.key key at)
     by false at later among = let it = later among in (it.0, inr it.1, it.2)
 
 names_permuted : (key : ℕ) (c d : List KeyName) → IsPermutation c d → IsPermutation (names_at key c) (names_at key d)
-names_permuted key c d same = IsPermutation-map (λ (entry : KeyName). entry.name) _ _ (filter_permutation (is_at key) c d same)
+names_permuted key c d same =
+    IsPermutation-map (λ (entry : KeyName). entry.name) _ _ (filter_permutation (is_at key) c d same)
 
-pub custodian_permuted : (c d : List KeyName) → IsPermutation c d → (entry : KeyName) → is_among entry.name (names_at entry.key c) ≡ is_among entry.name (names_at entry.key d)
-custodian_permuted c d same entry = list_any-IsPermutation (λ other. bytes_eq other entry.name) _ _ (names_permuted entry.key c d same)
+pub custodian_permuted : (c d : List KeyName) → IsPermutation c d → (entry : KeyName)
+    → is_among entry.name (names_at entry.key c) ≡ is_among entry.name (names_at entry.key d)
+custodian_permuted c d same entry =
+    list_any-IsPermutation (λ other. bytes_eq other entry.name) _ _ (names_permuted entry.key c d same)
 
 -- ---- owners
 
-owner_range : (owners : List (List ℕ)) (key : ℕ) (owner : List ℕ) → owner_at owners key ≡ Some owner → (1 ≤ key) × (key ≤ length owners)
+owner_range : (owners : List (List ℕ)) (key : ℕ) (owner : List ℕ) → owner_at owners key ≡ Some owner
+    → (1 ≤ key) × (key ≤ length owners)
 owner_range owners zero owner e = absurd cc
 owner_range owners (suc k) owner e = let below = get_below owners k owner e in (omega arith, omega (arith, below))
 
-pub owner_seen : (owners : List (List ℕ)) (key at : ℕ) (seen : List ℕ) → key ≡ suc at → at < length owners → seen ≡ get_or owners at seen → owner_at owners key ≡ Some seen
+pub owner_seen : (owners : List (List ℕ)) (key at : ℕ) (seen : List ℕ) → key ≡ suc at → at < length owners
+    → seen ≡ get_or owners at seen → owner_at owners key ≡ Some seen
 owner_seen owners key at seen e low is =
     let it = get_some owners at low in
     ap (owner_at owners) e ∙ it.1 ∙ ap (λ (n : List ℕ). Some n) (sym (is ∙ it.2 seen))
 
 -- the list at a place has the names at its key
-pub kept_at : (entries : List KeyName) (lists : List (Vec (List ℕ))) (key at : ℕ) (seen : Vec (List ℕ)) → key ≡ suc at → at < length lists → AreKept entries lists → seen ≡ get_or lists at seen → seen.items ≡ names_at key entries
+pub kept_at : (entries : List KeyName) (lists : List (Vec (List ℕ))) (key at : ℕ) (seen : Vec (List ℕ))
+    → key ≡ suc at → at < length lists → AreKept entries lists → seen ≡ get_or lists at seen
+    → seen.items ≡ names_at key entries
 kept_at entries lists key at seen e low kept is =
     let it = get_some lists at low in
     let same : seen ≡ it.0 = is ∙ it.2 seen in
@@ -111,7 +138,8 @@ kept_at entries lists key at seen e low kept is =
 
 -- ---- one row after the other
 
-pub begin_custodians : (most : ℕ) (owners : List (List ℕ)) (lists : List (Vec (List ℕ))) → AreEmpty lists → length lists ≡ length owners → HasCustodians most owners lists []
+pub begin_custodians : (most : ℕ) (owners : List (List ℕ)) (lists : List (Vec (List ℕ))) → AreEmpty lists
+    → length lists ≡ length owners → HasCustodians most owners lists []
 begin_custodians most owners lists none counted = record {
   entries = [];
   shown = tt;
@@ -120,9 +148,13 @@ begin_custodians most owners lists none counted = record {
   kept = λ k names is. none k names is;
 }
 
-module _ (most : ℕ) (owners : List (List ℕ)) (lists : List (Vec (List ℕ))) (rows : List Row) (row : Row) (taken : HasCustodians most owners lists rows) where
-  pub custodians_more : (entry : KeyName) → ShowsName row entry → MayBeCustodian owners entry → length (names_at entry.key taken.entries) < most → (at : ℕ) → entry.key ≡ suc at → (new : List (Vec (List ℕ))) → length new ≡ length lists
-      → ((names : Vec (List ℕ)) → slice_get new at ≡ Some names → (before : Vec (List ℕ)) × (slice_get lists at ≡ Some before) × (names.items ≡ before.items ++ entry.name ∷ []))
+module _ (most : ℕ) (owners : List (List ℕ)) (lists : List (Vec (List ℕ))) (rows : List Row) (row : Row)
+    (taken : HasCustodians most owners lists rows) where
+  pub custodians_more : (entry : KeyName) → ShowsName row entry → MayBeCustodian owners entry
+      → length (names_at entry.key taken.entries) < most → (at : ℕ) → entry.key ≡ suc at → (new : List (Vec (List ℕ)))
+      → length new ≡ length lists
+      → ((names : Vec (List ℕ)) → slice_get new at ≡ Some names
+      → (before : Vec (List ℕ)) × (slice_get lists at ≡ Some before) × (names.items ≡ before.items ++ entry.name ∷ []))
       → ((k : ℕ) → k ≢ at → slice_get new k ≡ slice_get lists k) → HasCustodians most owners new (rows ++ row ∷ [])
   custodians_more entry shows may room at key new counted added others = record {
     entries = taken.entries ++ entry ∷ [];
@@ -131,8 +163,15 @@ module _ (most : ℕ) (owners : List (List ℕ)) (lists : List (Vec (List ℕ)))
       each = all_more (MayBeCustodian owners) taken.entries entry taken.are.each may;
       few = λ k. elim (either_at k entry) [
         | inl here ↦
-            let at_key : names_at entry.key taken.entries ≡ names_at k taken.entries = ap (λ n. names_at n taken.entries) here.0 in
-            omega (arith, ap length (more_here k taken.entries entry here.0), length-append (names_at k taken.entries) (entry.name ∷ []), ap length at_key, room)
+            let at_key : names_at entry.key taken.entries
+            ≡ names_at k taken.entries = ap (λ n. names_at n taken.entries) here.0 in
+            omega (
+              arith,
+              ap length (more_here k taken.entries entry here.0),
+              length-append (names_at k taken.entries) (entry.name ∷ []),
+              ap length at_key,
+              room,
+            )
         | inr off ↦ let few = taken.are.few k in omega (arith, ap length (more_other k taken.entries entry off.1), few)
       ];
     };
@@ -141,7 +180,9 @@ module _ (most : ℕ) (owners : List (List ℕ)) (lists : List (Vec (List ℕ)))
       | inl here ↦
           let same : k ≡ at = let e = here.0 in omega arith in
           let it = added names (subst (λ n. slice_get new n ≡ Some names) same is) in
-          let before : it.0.items ≡ names_at (suc k) taken.entries = taken.kept k it.0 (subst (λ n. slice_get lists n ≡ Some it.0) (sym same) it.1) in
+          let before : it.0.items
+          ≡ names_at (suc k) taken.entries = taken.kept k it.0
+          (subst (λ n. slice_get lists n ≡ Some it.0) (sym same) it.1) in
           it.2 ∙ ap (λ l. l ++ entry.name ∷ []) before ∙ sym (more_here (suc k) taken.entries entry here.0)
       | inr off ↦
           let apart : k ≢ at = λ e. off.0 (key ∙ ap suc (sym e)) in
@@ -150,7 +191,9 @@ module _ (most : ℕ) (owners : List (List ℕ)) (lists : List (Vec (List ℕ)))
   }
 
   -- what the row would have to show
-  would : (entries : List KeyName) → ShowEach ShowsName (rows ++ row ∷ []) entries → AreCustodians most owners entries → (entry : KeyName) × ShowsName row entry × MayBeCustodian owners entry × (length (names_at entry.key taken.entries) < most)
+  would : (entries : List KeyName) → ShowEach ShowsName (rows ++ row ∷ []) entries → AreCustodians most owners entries
+      → (entry : KeyName) × ShowsName row entry × MayBeCustodian owners entry
+      × (length (names_at entry.key taken.entries) < most)
   would entries shown are =
       let it = show_less ShowsName rows row entries shown in
       let same : it.0 ≡ taken.entries = one_list rows it.0 taken.entries it.3 taken.shown in
@@ -159,7 +202,13 @@ module _ (most : ℕ) (owners : List (List ℕ)) (lists : List (Vec (List ℕ)))
         it.1,
         it.4,
         all_last (MayBeCustodian owners) it.0 it.1 (subst (AllByRecursion (MayBeCustodian owners)) it.2 are.each),
-        omega (arith, ap length grown, length-append (names_at it.1.key it.0) (it.1.name ∷ []), few, ap length (ap (names_at it.1.key) same)),
+        omega (
+          arith,
+          ap length grown,
+          length-append (names_at it.1.key it.0) (it.1.name ∷ []),
+          few,
+          ap length (ap (names_at it.1.key) same),
+        ),
       )
 
   pub not_shown : ((entry : KeyName) → ¬ ShowsName row entry) → RefusesCustodians most owners (rows ++ row ∷ [])
@@ -170,7 +219,10 @@ module _ (most : ℕ) (owners : List (List ℕ)) (lists : List (Vec (List ℕ)))
     not_there off entries shown are =
         let it = would entries shown are in
         let same = same_number (column row 0) it.0.key key it.1.key key_is in
-        let r = owner_range owners it.0.key it.2.owner it.2.there in off (omega (arith, r.0, same), omega (arith, r.1, same))
+        let r = owner_range owners it.0.key it.2.owner it.2.there in off (
+          omega (arith, r.0, same),
+          omega (arith, r.1, same),
+        )
 
     pub is_full : most ≤ length (names_at key taken.entries) → RefusesCustodians most owners (rows ++ row ∷ [])
     is_full full entries shown are =
@@ -179,7 +231,8 @@ module _ (most : ℕ) (owners : List (List ℕ)) (lists : List (Vec (List ℕ)))
         let room = it.3 in
         omega (arith, room, full, ap length (ap (λ n. names_at n taken.entries) same))
 
-    pub is_owner : (name : List ℕ) → column row 1 ≡ Words name → owner_at owners key ≡ Some name → RefusesCustodians most owners (rows ++ row ∷ [])
+    pub is_owner : (name : List ℕ) → column row 1 ≡ Words name → owner_at owners key ≡ Some name
+        → RefusesCustodians most owners (rows ++ row ∷ [])
     is_owner name name_is owns entries shown are =
         let it = would entries shown are in
         let same = same_number (column row 0) it.0.key key it.1.key key_is in
@@ -189,14 +242,18 @@ module _ (most : ℕ) (owners : List (List ℕ)) (lists : List (Vec (List ℕ)))
 
 -- ---- a register's own rows
 
-pub names_past : (r : Row) → eval_all (shown_of_table Custodian) ([] ∷ r ∷ []) ≡ eval_all (shown_of_table Custodian) ([] ∷ (Null ∷ Rattle.std.specs.Prelude.drop 1 r) ∷ [])
+pub names_past : (r : Row)
+    → eval_all (shown_of_table Custodian) ([] ∷ r ∷ [])
+    ≡ eval_all (shown_of_table Custodian) ([] ∷ (Null ∷ Rattle.std.specs.Prelude.drop 1 r) ∷ [])
 names_past [] = refl
 names_past (v ∷ vs) = refl
 
-pub own_row : (entry : KeyName) → IsNamed entry → ShowsName (eval_all (shown_of_table Custodian) ([] ∷ (Null ∷ name_cells entry) ∷ [])) entry
+pub own_row : (entry : KeyName) → IsNamed entry
+    → ShowsName (eval_all (shown_of_table Custodian) ([] ∷ (Null ∷ name_cells entry) ∷ [])) entry
 own_row entry is = record { key = refl; name = refl; in_range = is }
 
-are_permuted : (most : ℕ) (owners : List (List ℕ)) (c d : List KeyName) → IsPermutation c d → AreCustodians most owners c → AreCustodians most owners d
+are_permuted : (most : ℕ) (owners : List (List ℕ)) (c d : List KeyName) → IsPermutation c d
+    → AreCustodians most owners c → AreCustodians most owners d
 are_permuted most owners c d same are = record {
   each = all_permuted (MayBeCustodian owners) c d same are.each;
   few = λ key. let few = are.few key in omega (arith, few, length_permutation _ _ (names_permuted key c d same));
@@ -208,9 +265,15 @@ own_custodians t db rows holds sure =
     let it = own_entries name_cells ShowsName IsNamed (holds.schema.layout.tree Custodian) (shown_of_table Custodian)
     names_past own_row db t.tables.custodians rows (holds.in_range Custodian) (holds.shown Custodian)
     (shows_all db.trees (holds.schema.layout.tree Custodian)) sure in
-    record { c = it.0; shows = it.2; like = it.1; meets = are_permuted (custodians_of t.version) (owners_of t.tables.keys) t.tables.custodians it.0 it.1 }
+    record {
+      c = it.0;
+      shows = it.2;
+      like = it.1;
+      meets = are_permuted (custodians_of t.version) (owners_of t.tables.keys) t.tables.custodians it.0 it.1;
+    }
 
-knows_like : (c d : List KeyName) (lists : Vec (Vec (List ℕ))) → IsPermutation d c → KnowsCustodians c lists → KnowsCustodians d lists
+knows_like : (c d : List KeyName) (lists : Vec (Vec (List ℕ))) → IsPermutation d c → KnowsCustodians c lists
+    → KnowsCustodians d lists
 knows_like c d lists same knows entry =
     let alike = custodian_permuted d c same entry in
     ((λ listed. alike ∙ (knows entry).0 listed), (λ is. (knows entry).1 (sym alike ∙ is)))
@@ -220,14 +283,17 @@ knows_like c d lists same knows entry =
 custodians_within : (t : Stored) → IsWithin Custodian t.version
 custodians_within t = in_both Custodian (omega arith) t.version
 
-knows_so : (most : ℕ) (owners : List (List ℕ)) (lists : Vec (Vec (List ℕ))) (rows : List Row) → (taken : HasCustodians most owners lists.items rows) → KnowsCustodians taken.entries lists
+knows_so : (most : ℕ) (owners : List (List ℕ)) (lists : Vec (Vec (List ℕ))) (rows : List Row)
+    → (taken : HasCustodians most owners lists.items rows) → KnowsCustodians taken.entries lists
 knows_so most owners lists rows taken entry = ((λ listed. forth entry.key refl listed), (λ is. back entry.key refl is))
   where
     forth : (key : ℕ) → entry.key ≡ key → IsListed lists.items entry → IsCustodian taken.entries entry
-    forth zero at listed = absurd (let e = sym (ap (Rattle.register_store.specs.CheckedRows.list_at lists.items) at) ∙ listed.there in cc)
+    forth zero at listed =
+        absurd (let e = sym (ap (Rattle.register_store.specs.CheckedRows.list_at lists.items) at) ∙ listed.there in cc)
     forth (suc k) at listed =
         let there = sym (ap (Rattle.register_store.specs.CheckedRows.list_at lists.items) at) ∙ listed.there in
-        ap (is_among entry.name) (ap (λ n. names_at n taken.entries) at ∙ sym (taken.kept k listed.names there)) ∙ listed.among
+        ap (is_among entry.name) (ap (λ n. names_at n taken.entries) at ∙ sym (taken.kept k listed.names there))
+        ∙ listed.among
 
     back : (key : ℕ) → entry.key ≡ key → IsCustodian taken.entries entry → IsListed lists.items entry
     back key at is =
@@ -243,18 +309,29 @@ knows_so most owners lists rows taken entry = ((λ listed. forth entry.key refl 
             record {
               names = here.0;
               there = ap (Rattle.register_store.specs.CheckedRows.list_at lists.items) at ∙ here.1;
-              among = ap (is_among entry.name) (taken.kept k here.0 here.1 ∙ ap (λ n. names_at n taken.entries) (sym at)) ∙ is;
+              among = ap (is_among entry.name)
+                  (taken.kept k here.0 here.1 ∙ ap (λ n. names_at n taken.entries) (sym at)) ∙ is;
             }
 
-module _ (t : Stored) (most : ℕ) (most_is : most ≡ custodians_of t.version) (owners : List (List ℕ)) (are : owners ≡ owners_of t.tables.keys) (old new : State) (survives : Survives old new (λ _. ⊥)) where
+module _ (t : Stored) (most : ℕ) (most_is : most ≡ custodians_of t.version) (owners : List (List ℕ)) (are : owners
+    ≡ owners_of t.tables.keys) (old new : State) (survives : Survives old new (λ _. ⊥)) where
   abbrev Checked : Result (Vec (Vec (List ℕ))) CheckError → Type 0
   Checked q = ChecksTable Custodian t KnowsCustodians old new q
 
-  pub custodians_read : (lists : Vec (Vec (List ℕ))) → (HasCleanDisk new → ShowsAll (check_text Custodian) (HasCustodians most owners lists.items) old new) → Checked (Ok lists)
-  custodians_read lists all = checks_table Custodian t (custodians_within t) (own_custodians t) (newer_not t) KnowsCustodians (λ c d x like says. knows_like c d x like says) one_list old new (Ok lists)
+  pub custodians_read : (lists : Vec (Vec (List ℕ)))
+      → (HasCleanDisk new → ShowsAll (check_text Custodian) (HasCustodians most owners lists.items) old new)
+      → Checked (Ok lists)
+  custodians_read lists all =
+      checks_table Custodian t (custodians_within t) (own_custodians t) (newer_not t) KnowsCustodians
+      (λ c d x like says. knows_like c d x like says) one_list old new (Ok lists)
       (λ clean.
-      let it = all clean in
-      (it.holds.entries, record { rows = it.rows; shown = it.shown; holds = it.holds.shown; same = it.same }, subst (λ m. AreCustodians m (owners_of t.tables.keys) it.holds.entries) most_is (subst (λ o. AreCustodians most o it.holds.entries) are it.holds.are), knows_so most owners lists it.rows it.holds))
+      let it = all clean in (
+        it.holds.entries,
+        record { rows = it.rows; shown = it.shown; holds = it.holds.shown; same = it.same },
+        subst (λ m. AreCustodians m (owners_of t.tables.keys) it.holds.entries) most_is
+            (subst (λ o. AreCustodians most o it.holds.entries) are it.holds.are),
+        knows_so most owners lists it.rows it.holds,
+      ))
       (λ clean. tt) survives
 
   odd : (rows : List Row) → RefusesCustodians most owners rows → (tail : List Row) → IsOdd Custodian t (rows ++ tail)
@@ -278,31 +355,66 @@ module _ (t : Stored) (most : ℕ) (most_is : most ≡ custodians_of t.version) 
     no_newer = λ none. none;
   }
 
-  pub custodians_fail : (error : RowsError) (e : CheckError) → e ≡ check_error error → (HasCleanDisk new → error ≡ NoMeaning → HasNoMeaning (check_text Custodian) old new)
-      → (HasCleanDisk new → error ≡ Refused → ShowsFirst (check_text Custodian) (RefusesCustodians most owners) old new) → (HasCleanDisk new → error ≡ Memory → IsUnchanged old new) → Checked (Err e)
-  custodians_fail error e is meaning refused memory = checks_table Custodian t (custodians_within t) (own_custodians t) (newer_not t) KnowsCustodians (λ c d x like says. knows_like c d x like says) one_list old new (Err e) (λ clean. tt)
-      (λ clean. subst (IsReasonAt Custodian t old new) (sym is) (reason_of Custodian t old new (RefusesCustodians most owners) error (meaning clean) (refused clean) (memory clean) (λ _. odd))) survives
+  pub custodians_fail : (error : RowsError) (q : Result (Vec (Vec (List ℕ))) CheckError)
+      → IsErrAnd q (λ e. e ≡ check_error error)
+      → (HasCleanDisk new → error ≡ NoMeaning → HasNoMeaning (check_text Custodian) old new)
+      → (HasCleanDisk new → error ≡ Refused
+      → ShowsFirst (check_text Custodian) (RefusesCustodians most owners) old new)
+      → (HasCleanDisk new → error ≡ Memory → IsUnchanged old new) → Checked q
+  custodians_fail error (Ok x) is meaning refused memory = absurd is
+  custodians_fail error (Err e) is meaning refused memory =
+      checks_table Custodian t (custodians_within t) (own_custodians t) (newer_not t) KnowsCustodians
+      (λ c d x like says. knows_like c d x like says) one_list old new (Err e) (λ clean. tt)
+      (λ clean. subst (IsReasonAt Custodian t old new) (sym is)
+      (reason_of Custodian t old new (RefusesCustodians most owners) error (meaning clean) (refused clean)
+      (memory clean) (λ _. odd))) survives
 
 -- ---- approvals
 
 -- the list at a place
-pub list_seen : (lists : List (Vec (List ℕ))) (key at : ℕ) (seen : Vec (List ℕ)) → key ≡ suc at → at < length lists → seen ≡ get_or lists at seen → Rattle.register_store.specs.CheckedRows.list_at lists key ≡ Some seen
+pub list_seen : (lists : List (Vec (List ℕ))) (key at : ℕ) (seen : Vec (List ℕ)) → key ≡ suc at → at < length lists
+    → seen ≡ get_or lists at seen → Rattle.register_store.specs.CheckedRows.list_at lists key ≡ Some seen
 list_seen lists key at seen e low is =
     let it = get_some lists at low in
-    ap (Rattle.register_store.specs.CheckedRows.list_at lists) e ∙ it.1 ∙ ap (λ (v : Vec (List ℕ)). Some v) (sym (is ∙ it.2 seen))
+    ap (Rattle.register_store.specs.CheckedRows.list_at lists) e ∙ it.1
+    ∙ ap (λ (v : Vec (List ℕ)). Some v) (sym (is ∙ it.2 seen))
 
 -- a key that is not there has no list
-pub not_listed : (lists : List (Vec (List ℕ))) (entry : KeyName) → ((1 ≤ entry.key) × (entry.key ≤ length lists) → ⊥) → ¬ IsListed lists entry
+pub not_listed : (lists : List (Vec (List ℕ))) (entry : KeyName) → ((1 ≤ entry.key) × (entry.key ≤ length lists) → ⊥)
+    → ¬ IsListed lists entry
 not_listed lists entry off listed = by entry.key refl
   where
     by : (key : ℕ) → entry.key ≡ key → ⊥
-    by zero at = absurd (let e = sym (ap (Rattle.register_store.specs.CheckedRows.list_at lists) at) ∙ listed.there in cc)
+    by zero at =
+        absurd (let e = sym (ap (Rattle.register_store.specs.CheckedRows.list_at lists) at) ∙ listed.there in cc)
     by (suc k) at =
-        let below = get_below lists k listed.names (sym (ap (Rattle.register_store.specs.CheckedRows.list_at lists) at) ∙ listed.there) in
+        let below = get_below lists k listed.names
+        (sym (ap (Rattle.register_store.specs.CheckedRows.list_at lists) at) ∙ listed.there) in
         off (omega (arith, at), omega (arith, at, below))
 
 -- nothing was read: want of memory
-pub custodians_none : (t : Stored) (old : State) → (HasCleanDisk old → IsTrue old.is_open) → (e : CheckError) → e ≡ Ran_out → ChecksTable {T = Vec (Vec (List ℕ))} Custodian t KnowsCustodians old old (Err e)
-custodians_none t old is_open e is = subst (λ e. ChecksTable {T = Vec (Vec (List ℕ))} Custodian t KnowsCustodians old old (Err e)) (sym is)
-    (checks_table Custodian t (custodians_within t) (own_custodians t) (newer_not t) KnowsCustodians (λ c d x like says. knows_like c d x like says) one_list old old (Err Ran_out) (λ clean. tt)
-    (λ clean. (record { was_open = is_open clean; is_open = is_open clean; now_is = refl; committed_is = refl; mode = refl }, record { changes = refl; last_rowid = refl }, refl)) (survives_none old))
+
+custodians_none : (t : Stored) (old : State) → (HasCleanDisk old → IsTrue old.is_open) → (e : CheckError)
+    → e ≡ Ran_out → ChecksTable {T = Vec (Vec (List ℕ))} Custodian t KnowsCustodians old old (Err e)
+custodians_none t old is_open e is =
+    subst (λ e. ChecksTable {T = Vec (Vec (List ℕ))} Custodian t KnowsCustodians old old (Err e)) (sym is)
+    (checks_table Custodian t (custodians_within t) (own_custodians t) (newer_not t) KnowsCustodians
+    (λ c d x like says. knows_like c d x like says) one_list old old (Err Ran_out) (λ clean. tt)
+    (λ clean. (
+      record {
+        was_open = is_open clean;
+        is_open = is_open clean;
+        now_is = refl;
+        committed_is = refl;
+        mode = refl;
+      },
+      record { changes = refl; last_rowid = refl },
+      refl,
+    )) (survives_none old))
+
+-- memory gave out before the rows were read
+pub custodians_unread : (t : Stored) (old : State) → (HasCleanDisk old → IsTrue old.is_open) → (e : CheckError)
+    → e ≡ Ran_out → (q : Result (Vec (Vec (List ℕ))) CheckError) → IsErrAnd q (λ x. x ≡ e)
+    → ChecksTable Custodian t KnowsCustodians old old q
+custodians_unread t old is_open e out (Ok x) is = absurd is
+custodians_unread t old is_open e out (Err x) is = custodians_none t old is_open x (is ∙ out)

@@ -1,5 +1,6 @@
 -- What the UPDATEs of the states of due keys do.
-use Rattle.std.proofs.Common.{◌≡◌, ◌==◌, ◌&&◌, ℕ, ◌+◌, pos, List, [], ◌∷◌, map, Bool, true, Ok, Option, None, Some, nat_le, inl, inr, refl, ap, ap₂, subst, ◌∙◌, arith}
+use Rattle.std.proofs.Common.{◌≡◌, ◌==◌, ◌&&◌, ℕ, ◌+◌, pos, List, [], ◌∷◌, map, Bool, true, Ok, Option, None, Some}
+use Rattle.std.proofs.Common.{nat_le, inl, inr, refl, ap, ap₂, subst, ◌∙◌, arith}
 use Rattle.std.proofs.Math.Bool.{and-true}
 use Rattle.std.proofs.lemmas.Bool.Decides.{leb_tells}
 use Rattle.std.specs.List.{enumerate_from}
@@ -16,8 +17,8 @@ use Rattle.sql_steps.proofs.Statements.{cast_int, cast_null}
 use Rattle.moment_core.specs.Moment.{IsMoment}
 use Rattle.lifecycle_core.specs.State.{is_reached_at, state_code}
 use Rattle.register_core.specs.declared.key.Key.{Key}
-use Rattle.register_store.specs.declared.due_date.DueDate.{DueDate}
-use Rattle.register_store.specs.declared.due_date.DueDate.TheVariants.{Activation, Deactivation}
+use Rattle.register_store.specs.declared.accepted_request.DueDate.{DueDate}
+use Rattle.register_store.specs.declared.accepted_request.DueDate.TheVariants.{Activation, Deactivation}
 use Rattle.register_store.specs.Tables.{IsKey, key_row, date_cell, unset}
 use Rattle.register_store.specs.Schema.{Holds}
 use Rattle.register_store.specs.TableChanges.{Makes, Always, in_state}
@@ -32,12 +33,15 @@ column Deactivation = 9
 
 -- the row has the state before, and its date is at most the moment that is given
 abbrev passes : DueDate → List Term
-passes date = op2 (Compare Eq Binary) (col 1 5) (lit (Int (pos (state_code (state_before date))))) ∷ op2 (Compare Le Binary) (col 1 (column date)) (col 0 0) ∷ []
+passes date =
+    op2 (Compare Eq Binary) (col 1 5) (lit (Int (pos (state_code (state_before date)))))
+    ∷ op2 (Compare Le Binary) (col 1 (column date)) (col 0 0) ∷ []
 
 -- a row with the state after
 abbrev shown : DueDate → List Term
 shown date =
-    col 1 0 ∷ lit Null ∷ col 1 2 ∷ col 1 3 ∷ col 1 4 ∷ lit (Int (pos (state_code (state_after date)))) ∷ col 1 6 ∷ col 1 7 ∷ col 1 8 ∷ col 1 9 ∷ col 1 10 ∷ col 1 11 ∷ col 1 12 ∷ []
+    col 1 0 ∷ lit Null ∷ col 1 2 ∷ col 1 3 ∷ col 1 4 ∷ lit (Int (pos (state_code (state_after date)))) ∷ col 1 6
+    ∷ col 1 7 ∷ col 1 8 ∷ col 1 9 ∷ col 1 10 ∷ col 1 11 ∷ col 1 12 ∷ []
 
 parts : (date : DueDate) → IsUpdate (update_text date) (passes date) (shown date)
 unfolding everything first
@@ -46,7 +50,8 @@ parts Deactivation l = record { p = _; name = _; sets = _; check = _; d = _; par
 
 -- a date is reached where its cell is at most the moment
 reached : (date : Option ℕ) (at : ℕ) → IsMoment at → nat_le (date_cell date) at ≡ is_reached_at date at
-reached None at moment = elim (leb_tells unset at) [ inl it ↦ absurd (let high = it.1 in omega (arith, moment)) | inr it ↦ it.0 ]
+reached None at moment =
+    elim (leb_tells unset at) [ inl it ↦ absurd (let high = it.1 in omega (arith, moment)) | inr it ↦ it.0 ]
 reached (Some date) at moment = refl
 
 module _ (at : ℕ) (moment : IsMoment at) where
@@ -57,32 +62,46 @@ module _ (at : ℕ) (moment : IsMoment at) where
     abbrev is_for : ℕ × Key → Bool
     is_for p = is_due date at p.1
 
-    in_any_place : (n : ℕ) (ks : List Key) → map (changed_where is_for (in_state (state_after date))) (enumerate_from n ks) ≡ map (moved_on date at) ks
+    in_any_place : (n : ℕ) (ks : List Key)
+        → map (changed_where is_for (in_state (state_after date))) (enumerate_from n ks) ≡ map (moved_on date at) ks
     in_any_place n [] = refl
     in_any_place n (k ∷ ks) = ap (λ others. moved_on date at k ∷ others) (in_any_place (n + 1) ks)
 
     stays_key : (k : Key) → IsKey k → IsKey (in_state (state_after date) k)
     stays_key k is = record { owner = is.owner; purpose = is.purpose; dates = is.dates }
 
-    both : (k : Key) (a b : Bool) → a ≡ (state_code k.row.state == state_code (state_before date)) → b ≡ nat_le (date_cell (date_of date k.row.dates)) at → (a && (b && true)) ≡ is_due date at k
+    both : (k : Key) (a b : Bool) → a ≡ (state_code k.row.state == state_code (state_before date))
+        → b ≡ nat_le (date_cell (date_of date k.row.dates)) at → (a && (b && true)) ≡ is_due date at k
     both k a b p q = ap₂ (λ x y. x && y) p (and-true b ∙ q ∙ reached (date_of date k.row.dates) at moment)
 
     abbrev Image : Type 0
-    Image = (p : ℕ × Key) → image_of (update_text date) (passes date) (shown date) (parts date) params is_for (in_state (state_after date)) stays_key p ≡ key_row (p.0, in_state (state_after date) p.1)
+    Image =
+        (p : ℕ × Key)
+        → image_of (update_text date) (passes date) (shown date) (parts date) params is_for
+        (in_state (state_after date)) stays_key p ≡ key_row (p.0, in_state (state_after date) p.1)
 
     abbrev Check : Type 0
-    Check = (p : ℕ × Key) → passes_row (update_text date) (passes date) (shown date) (parts date) params is_for (in_state (state_after date)) stays_key p ≡ is_for p
+    Check =
+        (p : ℕ × Key)
+        → passes_row (update_text date) (passes date) (shown date) (parts date) params is_for
+        (in_state (state_after date)) stays_key p ≡ is_for p
 
   image : (date : DueDate) → Image date
   image Activation p = simp (cast_int, cast_null)
   image Deactivation p = simp (cast_int, cast_null)
 
   check : (date : DueDate) → Check date
-  check Activation p = both Activation p.1 _ _ (equal_numbers (state_code p.1.row.state) 1) (most_numbers (date_cell p.1.row.dates.activation) at)
-  check Deactivation p = both Deactivation p.1 _ _ (equal_numbers (state_code p.1.row.state) 2) (most_numbers (date_cell p.1.row.dates.deactivation) at)
+  check Activation p =
+      both Activation p.1 _ _ (equal_numbers (state_code p.1.row.state) 1)
+      (most_numbers (date_cell p.1.row.dates.activation) at)
+  check Deactivation p =
+      both Deactivation p.1 _ _ (equal_numbers (state_code p.1.row.state) 2)
+      (most_numbers (date_cell p.1.row.dates.deactivation) at)
 
-  pub moves : (date : DueDate) (old new : View) (count : ℕ) → Executes (update_text date) params old new (Ok count) → Makes Always (with_each (moved_on date at)) old.now new.now
+  pub moves : (date : DueDate) (old new : View) (count : ℕ) → Executes (update_text date) params old new (Ok count)
+      → Makes Always (with_each (moved_on date at)) old.now new.now
   moves date old new count ran t holds always =
       let to = in_state (state_after date) in
-      let made = changes_keys (update_text date) (passes date) (shown date) (parts date) params (is_for date) to (stays_key date) (check date) (image date) old new count ran in
+      let made = changes_keys (update_text date) (passes date) (shown date) (parts date) params (is_for date) to
+      (stays_key date) (check date) (image date) old new count ran in
       subst (λ ks. Holds (record t { keys = ks }) new.now) (in_any_place date 1 t.keys) (made t holds tt)

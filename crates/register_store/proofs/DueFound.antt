@@ -1,5 +1,6 @@
 -- What the searches for the next key that is due find.
-use Rattle.std.proofs.Common.{◌≡◌, ◌⊎◌, ◌<◌, ◌≤◌, inl, inr, ℕ, pos, List, [], ◌∷◌, ◌++◌, codes, map, slice_get, Bool, true, false, Some, None, Ok, Err, refl, sym, ap, subst, ◌∙◌, arith}
+use Rattle.std.proofs.Common.{◌≡◌, ◌⊎◌, ◌<◌, ◌≤◌, inl, inr, ℕ, pos, List, [], ◌∷◌, ◌++◌, codes, map, slice_get, Bool}
+use Rattle.std.proofs.Common.{true, false, Some, None, Ok, Err, refl, sym, ap, subst, ◌∙◌, arith}
 use Rattle.std.proofs.lemmas.Bool.{cases_lt}
 use Rattle.std.proofs.lemmas.Int.{ints}
 use Rattle.std.specs.Cmp.{int_ranks}
@@ -31,12 +32,12 @@ use Rattle.row_checks.specs.ShownRows.{IsQuery}
 use Rattle.row_checks.proofs.Selects.{IsSelect, select_plain}
 use Rattle.register_core.specs.declared.key.Key.{Key}
 use Rattle.register_store.specs.declared.table.TableName.TheVariants.{Keys}
-use Rattle.register_store.specs.declared.key_walk.DueSearch.{DueSearch}
-use Rattle.register_store.specs.declared.key_walk.DueSearch.TheVariants.{Past, SameStop}
-use Rattle.register_store.specs.KeyWalk.{IsAfter}
+use Rattle.register_store.specs.declared.key_scan.DueSearch.{DueSearch}
+use Rattle.register_store.specs.declared.key_scan.DueSearch.TheVariants.{Past, SameStop}
+use Rattle.register_store.specs.KeyScan.{IsAfter}
 use Rattle.register_store.specs.TableReads.{ShowsAt}
 use Rattle.register_store.specs.Schema.{Holds, schema_with}
-use Rattle.register_store.specs.DueSearch.{HasFirst, IsFirst, IsNumbered, cell_place, search_text, stop_cell}
+use Rattle.register_store.specs.DueSearch.{HasFirst, IsFirst, IsNumbered, cell_cursor, search_text, stop_cell}
 use Rattle.register_store.specs.Tables.{Layout, Tables, keys, key_row, numbered}
 use Rattle.register_store.proofs.Asked.{shown_of_table}
 use Rattle.register_store.proofs.Decoding.{same_number, one_key}
@@ -60,15 +61,19 @@ past_text = search_text Past
 
 abbrev pub passes_same : List Term
 passes_same =
-    op2 (Compare Eq Binary) (col 1 5) (lit (Int (pos 2))) ∷ op2 (Compare Eq Binary) (col 1 8) (col 0 0) ∷ op2 (Compare Le Binary) (col 1 8) (col 0 1)
+    op2 (Compare Eq Binary) (col 1 5) (lit (Int (pos 2))) ∷ op2 (Compare Eq Binary) (col 1 8) (col 0 0)
+    ∷ op2 (Compare Le Binary) (col 1 8) (col 0 1)
     ∷ op2 (Compare Gt Binary) (col 1 0) (col 0 2) ∷ []
 
 abbrev pub passes_later : List Term
-passes_later = op2 (Compare Eq Binary) (col 1 5) (lit (Int (pos 2))) ∷ op2 (Compare Gt Binary) (col 1 8) (col 0 0) ∷ op2 (Compare Le Binary) (col 1 8) (col 0 1) ∷ []
+passes_later =
+    op2 (Compare Eq Binary) (col 1 5) (lit (Int (pos 2))) ∷ op2 (Compare Gt Binary) (col 1 8) (col 0 0)
+    ∷ op2 (Compare Le Binary) (col 1 8) (col 0 1) ∷ []
 
 abbrev pub passes_past : List Term
 passes_past =
-    op2 (Compare Eq Binary) (col 1 5) (lit (Int (pos 2))) ∷ op2 (Compare Ge Binary) (col 1 8) (col 0 0) ∷ op2 (Compare Le Binary) (col 1 8) (col 0 1)
+    op2 (Compare Eq Binary) (col 1 5) (lit (Int (pos 2))) ∷ op2 (Compare Ge Binary) (col 1 8) (col 0 0)
+    ∷ op2 (Compare Le Binary) (col 1 8) (col 0 1)
     ∷ op2 Or (op2 (Compare Gt Binary) (col 1 8) (col 0 0)) (op2 (Compare Gt Binary) (col 1 0) (col 0 2)) ∷ []
 
 abbrev pub shown : List Term
@@ -141,17 +146,23 @@ search_is Past = past_is
 -- ---- places
 
 -- what does not come before another by its stop and its number
-not_before : (sy sx ny nx : ℕ) → is_lt (ordering_then (int_cmp (pos sy) (pos sx)) (ordering_then (int_cmp (pos ny) (pos nx)) Equal)) ≡ false → (sx < sy) ⊎ ((sx ≡ sy) × (nx ≤ ny))
+not_before : (sy sx ny nx : ℕ)
+    → is_lt (ordering_then (int_cmp (pos sy) (pos sx)) (ordering_then (int_cmp (pos ny) (pos nx)) Equal)) ≡ false
+    → (sx < sy) ⊎ ((sx ≡ sy) × (nx ≤ ny))
 not_before sy sx ny nx h = ranked (int_cmp (pos sy) (pos sx)) (int_ranks (pos sy) (pos sx)) h
   where
-    then_number : (o : Ordering) → MatchOrdering o (pos ny <ℤ pos nx) (pos ny ≡ pos nx) (pos nx <ℤ pos ny) → is_lt (ordering_then o Equal) ≡ false → nx ≤ ny
+    then_number : (o : Ordering) → MatchOrdering o (pos ny <ℤ pos nx) (pos ny ≡ pos nx) (pos nx <ℤ pos ny)
+        → is_lt (ordering_then o Equal) ≡ false → nx ≤ ny
     then_number Less low h = absurd cc
     then_number Equal same h = omega (arith, ints)
     then_number Greater high h = omega (arith, ints)
 
-    ranked : (o : Ordering) → MatchOrdering o (pos sy <ℤ pos sx) (pos sy ≡ pos sx) (pos sx <ℤ pos sy) → is_lt (ordering_then o (ordering_then (int_cmp (pos ny) (pos nx)) Equal)) ≡ false → (sx < sy) ⊎ ((sx ≡ sy) × (nx ≤ ny))
+    ranked : (o : Ordering) → MatchOrdering o (pos sy <ℤ pos sx) (pos sy ≡ pos sx) (pos sx <ℤ pos sy)
+        → is_lt (ordering_then o (ordering_then (int_cmp (pos ny) (pos nx)) Equal)) ≡ false
+        → (sx < sy) ⊎ ((sx ≡ sy) × (nx ≤ ny))
     ranked Less low h = absurd cc
-    ranked Equal same h = let is : sx ≡ sy = cc in inr (is, then_number (int_cmp (pos ny) (pos nx)) (int_ranks (pos ny) (pos nx)) h)
+    ranked Equal same h =
+        let is : sx ≡ sy = cc in inr (is, then_number (int_cmp (pos ny) (pos nx)) (int_ranks (pos ny) (pos nx)) h)
     ranked Greater high h = inl (omega (arith, ints))
 
 -- a number has one key
@@ -165,85 +176,94 @@ one_number t x y here there same =
 
 -- ---- one search
 
-module _ (sql : List ℕ) (query : IsQuery sql) (passes : List Term) (search : IsDueSearch sql passes) (params : Cells) where
-  abbrev pub pick : ℕ × Key → Bool
-  pick x = is_picked params 0 passes shown (key_row x)
+module _ (sql : List ℕ) (query : IsQuery sql) (passes : List Term) (search : IsDueSearch sql passes) (params : Cells)
+  where
+    abbrev pub pick : ℕ × Key → Bool
+    pick x = is_picked params 0 passes shown (key_row x)
 
-  -- the cells of the answer
-  abbrev cells_of : ℕ × Key → Cells
-  cells_of x = eval_all shown (params ∷ key_row x ∷ [])
+    -- the cells of the answer
+    abbrev cells_of : ℕ × Key → Cells
+    cells_of x = eval_all shown (params ∷ key_row x ∷ [])
 
-  abbrev Passing : List (ℕ × Key) → List Cells
-  Passing ns = passing 0 passes shown order params (map key_row ns)
+    abbrev Passing : List (ℕ × Key) → List Cells
+    Passing ns = passing 0 passes shown order params (map key_row ns)
 
-  -- what passes came from a key that does
-  came_from : (ns : List (ℕ × Key)) (r : Cells) → Has (Passing ns) r → (x : ℕ × Key) × Has ns x × (pick x ≡ true) × (r ≡ key_row x)
-  came_from ns r there = from_picked key_row pick ns r
-      (subst (λ rs. Has rs r) (filter-map (is_picked params 0 passes shown) key_row ns) there)
+    -- what passes came from a key that does
+    came_from : (ns : List (ℕ × Key)) (r : Cells) → Has (Passing ns) r → (x : ℕ × Key) × Has ns x × (pick x ≡ true)
+        × (r ≡ key_row x)
+    came_from ns r there = from_picked key_row pick ns r
+        (subst (λ rs. Has rs r) (filter-map (is_picked params 0 passes shown) key_row ns) there)
 
-  goes_to : (ns : List (ℕ × Key)) (x : ℕ × Key) → Has ns x → pick x ≡ true → Has (Passing ns) (key_row x)
-  goes_to ns x there is = subst (λ rs. Has rs (key_row x))
-      (sym (filter-map (is_picked params 0 passes shown) key_row ns)) (to_picked key_row pick ns x there is)
+    goes_to : (ns : List (ℕ × Key)) (x : ℕ × Key) → Has ns x → pick x ≡ true → Has (Passing ns) (key_row x)
+    goes_to ns x there is = subst (λ rs. Has rs (key_row x))
+        (sym (filter-map (is_picked params 0 passes shown) key_row ns)) (to_picked key_row pick ns x there is)
 
-  compared : (x y : ℕ × Key) → is_lt (output_cmp (ordered_by 0 passes shown order)
-      (out_of 0 passes shown order params (key_row y)) (out_of 0 passes shown order params (key_row x))) ≡ false
-      → (stop_cell x < stop_cell y) ⊎ ((stop_cell x ≡ stop_cell y) × (x.0 ≤ y.0))
-  compared x y h =
-      not_before (stop_cell y) (stop_cell x) y.0 x.0
-      (subst (λ (p : Ordering × Ordering). is_lt (ordering_then p.0 (ordering_then p.1 Equal)) ≡ false)
-      (λ i. (value_cmp-Int (pos (stop_cell y)) (pos (stop_cell x)) i, value_cmp-Int (pos y.0) (pos x.0) i)) h)
+    compared : (x y : ℕ × Key) → is_lt (output_cmp (ordered_by 0 passes shown order)
+        (out_of 0 passes shown order params (key_row y)) (out_of 0 passes shown order params (key_row x))) ≡ false
+        → (stop_cell x < stop_cell y) ⊎ ((stop_cell x ≡ stop_cell y) × (x.0 ≤ y.0))
+    compared x y h =
+        not_before (stop_cell y) (stop_cell x) y.0 x.0
+        (subst (λ (p : Ordering × Ordering). is_lt (ordering_then p.0 (ordering_then p.1 Equal)) ≡ false)
+        (λ i. (value_cmp-Int (pos (stop_cell y)) (pos (stop_cell x)) i, value_cmp-Int (pos y.0) (pos x.0) i)) h)
 
-  first_so : (t : Tables) (x y : ℕ × Key) → Has (numbered t.keys) x → Has (numbered t.keys) y → (stop_cell x < stop_cell y) ⊎ ((stop_cell x ≡ stop_cell y) × (x.0 ≤ y.0)) → (y ≡ x) ⊎ IsAfter (cell_place x) (cell_place y)
-  first_so t x y here there (inl later) = inr (inl later)
-  first_so t x y here there (inr (same, high)) = elim (cases_lt x.0 y.0) [
-    | inl below ↦ inr (inr (same, below))
-    | inr not_below ↦ inl (one_number t x y here there (omega (arith, high, not_below)))
-  ]
+    first_so : (t : Tables) (x y : ℕ × Key) → Has (numbered t.keys) x → Has (numbered t.keys) y
+        → (stop_cell x < stop_cell y) ⊎ ((stop_cell x ≡ stop_cell y) × (x.0 ≤ y.0))
+        → (y ≡ x) ⊎ IsAfter (cell_cursor x) (cell_cursor y)
+    first_so t x y here there (inl later) = inr (inl later)
+    first_so t x y here there (inr (same, high)) = elim (cases_lt x.0 y.0) [
+      | inl below ↦ inr (inr (same, below))
+      | inr not_below ↦ inl (one_number t x y here there (omega (arith, high, not_below)))
+    ]
 
-  module _ (check : ℕ × Key → Bool) (check_is : (x : ℕ × Key) → pick x ≡ check x) where
-    row_is : (old new : State) (t : Tables) → Holds t old.now → (row : Cells) → QueriesRow sql params old new (Ok row) → (x : ℕ × Key) × IsFirst check t x × (row ≡ cells_of x)
-    row_is old new t holds row h =
-        let l = holds.schema.layout in
-        let m = due_meant sql passes search l (placed t old.now holds) in
-        let given = gives_first (l.tree Keys) passes shown order params sql old new _ holds.schema.is names m.is
-        m.plain m.unlisted (shows_all old.now.trees (l.tree Keys)) row h in
-        let it = subst (λ rs. ShowsLeast (l.tree Keys) passes shown order params rs row) (holds.shown Keys) given in
-        let came = came_from (numbered t.keys) it.least it.passes_too in
-        let x = came.0 in (
-          x,
-          record {
-            there = came.1;
-            passes = sym (check_is x) ∙ came.2;
-            first = λ y there is.
-                let after = it.first (key_row y) (goes_to (numbered t.keys) y there (check_is y ∙ is)) in
-                first_so t x y came.1 there (compared x y
-                (subst (λ (r : Cells). is_lt (output_cmp (ordered_by 0 passes shown order)
-                (out_of 0 passes shown order params (key_row y)) (out_of 0 passes shown order params r)) ≡ false)
-                came.3 after));
-          },
-          it.is ∙ ap (λ (r : Cells). eval_all shown (params ∷ r ∷ [])) came.3,
-        )
+    module _ (check : ℕ × Key → Bool) (check_is : (x : ℕ × Key) → pick x ≡ check x) where
+      row_is : (old new : State) (t : Tables) → Holds t old.now → (row : Cells) → QueriesRow sql params old new (Ok row)
+          → (x : ℕ × Key) × IsFirst check t x × (row ≡ cells_of x)
+      row_is old new t holds row h =
+          let l = holds.schema.layout in
+          let m = due_meant sql passes search l (placed t old.now holds) in
+          let given = gives_first (l.tree Keys) passes shown order params sql old new _ holds.schema.is names m.is
+          m.plain m.unlisted (shows_all old.now.trees (l.tree Keys)) row h in
+          let it = subst (λ rs. ShowsLeast (l.tree Keys) passes shown order params rs row) (holds.shown Keys) given in
+          let came = came_from (numbered t.keys) it.least it.passes_too in
+          let x = came.0 in (
+            x,
+            record {
+              there = came.1;
+              passes = sym (check_is x) ∙ came.2;
+              first = λ y there is.
+                  let after = it.first (key_row y) (goes_to (numbered t.keys) y there (check_is y ∙ is)) in
+                  first_so t x y came.1 there (compared x y
+                  (subst (λ (r : Cells). is_lt (output_cmp (ordered_by 0 passes shown order)
+                  (out_of 0 passes shown order params (key_row y)) (out_of 0 passes shown order params r)) ≡ false)
+                  came.3 after));
+            },
+            it.is ∙ ap (λ (r : Cells). eval_all shown (params ∷ r ∷ [])) came.3,
+          )
 
-    none_is : (old new : State) (t : Tables) → Holds t old.now → QueriesRow sql params old new (Err QueryReturnedNoRows) → HasFirst check t None
-    none_is old new t holds h x there is =
-        let l = holds.schema.layout in
-        let m = due_meant sql passes search l (placed t old.now holds) in
-        let given = gives_no_row (l.tree Keys) passes shown order params sql old new _ holds.schema.is names m.is
-        m.plain m.unlisted (shows_all old.now.trees (l.tree Keys)) h in
-        let none = subst (λ rs. passing (l.tree Keys) passes shown order params rs ≡ []) (holds.shown Keys) given in
-        subst (λ rs. Has rs (key_row x)) none (goes_to (numbered t.keys) x there (check_is x ∙ is))
+      none_is : (old new : State) (t : Tables) → Holds t old.now
+          → QueriesRow sql params old new (Err QueryReturnedNoRows) → HasFirst check t None
+      none_is old new t holds h x there is =
+          let l = holds.schema.layout in
+          let m = due_meant sql passes search l (placed t old.now holds) in
+          let given = gives_no_row (l.tree Keys) passes shown order params sql old new _ holds.schema.is names m.is
+          m.plain m.unlisted (shows_all old.now.trees (l.tree Keys)) h in
+          let none = subst (λ rs. passing (l.tree Keys) passes shown order params rs ≡ []) (holds.shown Keys) given in
+          subst (λ rs. Has rs (key_row x)) none (goes_to (numbered t.keys) x there (check_is x ∙ is))
 
-    each : (t : Tables) (old : State) → Holds t old.now → (x : ℕ × Key) → IsFirst check t x → IsNumbered x × ShowsAt (cells_of x) x
-    each t old holds x is =
-        let at = at_number 1 t.keys x is.there in
-        let own = in_range_at t.keys at.0 x.1 at.2 (holds.in_range Keys) in
-        (own, record { cells = shows_key x.1 (Int (pos x.0) ∷ []) own; number = refl })
+      each : (t : Tables) (old : State) → Holds t old.now → (x : ℕ × Key) → IsFirst check t x
+          → IsNumbered x × ShowsAt (cells_of x) x
+      each t old holds x is =
+          let at = at_number 1 t.keys x is.there in
+          let own = in_range_at t.keys at.0 x.1 at.2 (holds.in_range Keys) in
+          (own, record { cells = shows_key x.1 (Int (pos x.0) ∷ []) own; number = refl })
 
-    same : (x y : ℕ × Key) → IsNumbered x → ShowsAt (cells_of x) x → ShowsAt (cells_of x) y → y ≡ x
-    same x y own mine theirs =
-        let key : y.1 ≡ x.1 = one_key (cells_of x) y.1 x.1 theirs.cells mine.cells in
-        let number : y.0 ≡ x.0 = same_number _ y.0 x.0 theirs.number mine.number in
-        λ i. (number i, key i)
+      same : (x y : ℕ × Key) → IsNumbered x → ShowsAt (cells_of x) x → ShowsAt (cells_of x) y → y ≡ x
+      same x y own mine theirs =
+          let key : y.1 ≡ x.1 = one_key (cells_of x) y.1 x.1 theirs.cells mine.cells in
+          let number : y.0 ≡ x.0 = same_number _ y.0 x.0 theirs.number mine.number in
+          λ i. (number i, key i)
 
-    pub due_read : ReadsRow IsNumbered ShowsAt sql params (HasFirst check)
-    due_read = answer_read IsNumbered ShowsAt cells_of sql query params (IsFirst check) (λ t. HasFirst check t None) row_is none_is each same (HasFirst check) (λ t x is. is) (λ t none. none)
+      pub due_read : ReadsRow IsNumbered ShowsAt sql params (HasFirst check)
+      due_read =
+          answer_read IsNumbered ShowsAt cells_of sql query params (IsFirst check) (λ t. HasFirst check t None) row_is
+          none_is each same (HasFirst check) (λ t x is. is) (λ t none. none)

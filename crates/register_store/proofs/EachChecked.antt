@@ -10,7 +10,8 @@ module _ {A : Type 0} (Shows : Row → A → Type 0) (P : A → Type 0) where
   pub none_shown : HasShown Shows P []
   none_shown = record { values = []; shown = tt; each = tt }
 
-  pub one_more : (rows : List Row) (row : Row) (value : A) → HasShown Shows P rows → Shows row value → P value → HasShown Shows P (rows ++ row ∷ [])
+  pub one_more : (rows : List Row) (row : Row) (value : A) → HasShown Shows P rows → Shows row value → P value
+      → HasShown Shows P (rows ++ row ∷ [])
   one_more rows row value taken shows passes = record {
     values = taken.values ++ value ∷ [];
     shown = show_more Shows rows taken.values row value taken.shown shows;
@@ -18,13 +19,19 @@ module _ {A : Type 0} (Shows : Row → A → Type 0) (P : A → Type 0) where
   }
 
   -- a row that shows no value of which P holds
-  pub one_odd : (rows : List Row) (row : Row) → ((value : A) → Shows row value → ¬ P value) → RefusesEach Shows P (rows ++ row ∷ [])
+  pub one_odd : (rows : List Row) (row : Row) → ((value : A) → Shows row value → ¬ P value)
+      → RefusesEach Shows P (rows ++ row ∷ [])
   one_odd rows row odd whole =
       let it = show_less Shows rows row whole.values whole.shown in
       odd it.1 it.4 (all_last P it.0 it.1 (subst (AllByRecursion P) it.2 whole.each))
 
   -- rows that do not pass do not begin rows that do
-  pub odd_on : (rows : List Row) → RefusesEach Shows P rows → (tail : List Row) (values : List A) → ShowEach Shows (rows ++ tail) values → ¬ AllByRecursion P values
+  pub odd_on : (rows : List Row) → RefusesEach Shows P rows → (tail : List Row) (values : List A)
+      → ShowEach Shows (rows ++ tail) values → ¬ AllByRecursion P values
   odd_on rows refuses tail values shows each =
       let it = show_prefix Shows rows tail values shows in
-      refuses (record { values = it.0; shown = it.3; each = all_prefix P it.0 it.1 (subst (AllByRecursion P) it.2 each) })
+      refuses (record {
+        values = it.0;
+        shown = it.3;
+        each = all_prefix P it.0 it.1 (subst (AllByRecursion P) it.2 each);
+      })

@@ -1,5 +1,6 @@
 -- The check of a table of entries that pass each by itself, and of which nothing is found.
 use Rattle.std.proofs.Common.{◌≡◌, Result, Ok, Err, List, ◌++◌, sym, ap, subst, ◌∙◌}
+use Rattle.std.specs.Prelude.{IsErrAnd}
 use Rattle.sqlite.specs.Effect.{Database as Db}
 use Rattle.sqlite.specs.Order.{Row}
 use Rattle.sqlite.specs.State.{State, HasCleanDisk, IsUnchanged, Survives}
@@ -8,7 +9,8 @@ use Rattle.row_checks.specs.declared.error.RowsError.TheVariants.{NoMeaning, Ref
 use Rattle.row_checks.specs.ShownRows.{HasNoMeaning, ShowsAll, ShowsFirst}
 use Rattle.register_store.specs.declared.error.CheckError.{CheckError}
 use Rattle.register_store.specs.declared.table.TableName.{TableName}
-use Rattle.register_store.specs.CheckedTables.{AreNewer, IsOdd, IsReasonAt, ShowsRows, ChecksTable, check_error, check_text}
+use Rattle.register_store.specs.CheckedTables.{AreNewer, IsOdd, IsReasonAt, ShowsRows, ChecksTable, check_error}
+use Rattle.register_store.specs.CheckedTables.{check_text}
 use Rattle.register_store.specs.Stored.{HoldsStored, Part, Stored, with_part}
 use Rattle.register_store.specs.CheckedRows.{HasShown, IsAny, RefusesEach}
 use Rattle.register_store.specs.OpeningChecks.{MeetsCheck}
@@ -43,7 +45,8 @@ module _ (name : TableName) {A : Type 0} (Shows : Row → A → Type 0) (P : A
   Checked q = ChecksTable name t IsAny old new q
 
   pub entries_read : (HasCleanDisk new → ShowsAll (check_text name) (HasShown Shows P) old new) → Checked (Ok tt)
-  entries_read all = checks_table name t are.within are.own (newer_not t) IsAny (λ c d x like says. tt) are.one old new (Ok tt)
+  entries_read all =
+      checks_table name t are.within are.own (newer_not t) IsAny (λ c d x like says. tt) are.one old new (Ok tt)
       (λ clean.
       let it = all clean in
       let met = are.taken it.rows it.holds in
@@ -54,7 +57,12 @@ module _ (name : TableName) {A : Type 0} (Shows : Row → A → Type 0) (P : A
   pub entries_read_beside : {Kept : Type 0}
       → (HasCleanDisk new → ShowsAll (check_text name) (λ rows. Kept × HasShown Shows P rows) old new) → Checked (Ok tt)
   entries_read_beside all =
-      entries_read (λ clean. let it = all clean in record { rows = it.rows; shown = it.shown; holds = it.holds.1; same = it.same })
+      entries_read (λ clean. let it = all clean in record {
+        rows = it.rows;
+        shown = it.shown;
+        holds = it.holds.1;
+        same = it.same;
+      })
 
   odd : (rows : List Row) → RefusesEach Shows P rows → (tail : List Row) → IsOdd name t (rows ++ tail)
   odd rows refuses tail = record {
@@ -69,16 +77,16 @@ module _ (name : TableName) {A : Type 0} (Shows : Row → A → Type 0) (P : A
       → (HasCleanDisk new → error ≡ Refused → ShowsFirst (check_text name) (RefusesEach Shows P) old new)
       → (HasCleanDisk new → error ≡ Memory → IsUnchanged old new) → Checked (Err e)
   entries_fail error e is meaning refused memory =
-      checks_table name t are.within are.own (newer_not t) IsAny (λ c d x like says. tt) are.one old new (Err e) (λ clean. tt)
+      checks_table name t are.within are.own (newer_not t) IsAny (λ c d x like says. tt) are.one old new (Err e)
+      (λ clean. tt)
       (λ clean. subst (IsReasonAt name t old new) (sym is)
       (reason_of name t old new (RefusesEach Shows P) error (meaning clean) (refused clean) (memory clean) (λ _. odd)))
       survives
 
-  -- the same of what reading the rows gave
-  pub entries_failed : {T : Type 0} (result : Result T RowsError) (error : RowsError) (e : CheckError) → result ≡ Err error → e ≡ check_error error
-      → (HasCleanDisk new → result ≡ Err NoMeaning → HasNoMeaning (check_text name) old new)
-      → (HasCleanDisk new → result ≡ Err Refused → ShowsFirst (check_text name) (RefusesEach Shows P) old new)
-      → (HasCleanDisk new → result ≡ Err Memory → IsUnchanged old new) → Checked (Err e)
-  entries_failed result error e failed is meaning refused memory =
-      entries_fail error e is (λ clean it. meaning clean (failed ∙ ap Err it)) (λ clean it. refused clean (failed ∙ ap Err it))
-      (λ clean it. memory clean (failed ∙ ap Err it))
+  -- the same of the error that a call hands on
+  pub entries_stopped : (error : RowsError) (q : Result (Unit {0}) CheckError) → IsErrAnd q (λ e. e ≡ check_error error)
+      → (HasCleanDisk new → error ≡ NoMeaning → HasNoMeaning (check_text name) old new)
+      → (HasCleanDisk new → error ≡ Refused → ShowsFirst (check_text name) (RefusesEach Shows P) old new)
+      → (HasCleanDisk new → error ≡ Memory → IsUnchanged old new) → Checked q
+  entries_stopped error (Ok x) is meaning refused memory = absurd is
+  entries_stopped error (Err e) is meaning refused memory = entries_fail error e is meaning refused memory

@@ -1,5 +1,6 @@
 -- What an UPDATE of keys does: of the one with a number, or of any others.
-use Rattle.std.proofs.Common.{◌≡◌, ◌==◌, ℕ, ◌+◌, pos, List, [], ◌∷◌, codes, map, Bool, cond, Ok, Option, Some, not, ◌&&◌, true, false, refl, sym, ap, ap₂, subst, ◌∙◌}
+use Rattle.std.proofs.Common.{◌≡◌, ◌==◌, ℕ, ◌+◌, pos, List, [], ◌∷◌, codes, map, Bool, cond, Ok, Option, Some, not}
+use Rattle.std.proofs.Common.{◌&&◌, true, false, refl, sym, ap, ap₂, subst, ◌∙◌}
 use Rattle.std.proofs.Math.Bool.{and-true}
 use Rattle.std.specs.List.{AllByRecursion, enumerate_from}
 use Rattle.sqlite.specs.declared.types.Value.{Value}
@@ -44,7 +45,8 @@ IsUpdate sql passes shown = (l : Layout) → Sets (schema_with l) (keys l) (plac
 abbrev pub changed_where : (ℕ × Key → Bool) → (Key → Key) → ℕ × Key → Key
 changed_where is_for f p = cond (is_for p) (f p.1) p.1
 
-module _ (sql : List ℕ) (passes shown : List Term) (parts : IsUpdate sql passes shown) (params : Cells) (is_for : ℕ × Key → Bool) (f : Key → Key) (keeps : (k : Key) → IsKey k → IsKey (f k)) where
+module _ (sql : List ℕ) (passes shown : List Term) (parts : IsUpdate sql passes shown) (params : Cells) (is_for : ℕ
+    × Key → Bool) (f : Key → Key) (keeps : (k : Key) → IsKey k → IsKey (f k)) where
   abbrev set : ℕ × Key → ℕ × Key
   set p = (p.0, f p.1)
 
@@ -62,7 +64,8 @@ module _ (sql : List ℕ) (passes shown : List Term) (parts : IsUpdate sql passe
   one n k true = refl
   one n k false = refl
 
-  in_range : (n : ℕ) (ks : List Key) → AllByRecursion IsKey ks → AllByRecursion IsKey (map (changed_where is_for f) (enumerate_from n ks))
+  in_range : (n : ℕ) (ks : List Key) → AllByRecursion IsKey ks
+      → AllByRecursion IsKey (map (changed_where is_for f) (enumerate_from n ks))
   in_range n [] all = tt
   in_range n (k ∷ ks) all = (stays (is_for (n, k)), in_range (n + 1) ks all.1)
     where
@@ -71,15 +74,19 @@ module _ (sql : List ℕ) (passes shown : List Term) (parts : IsUpdate sql passe
       stays false = all.0
 
   module _ (is : (p : ℕ × Key) → passes_row p ≡ is_for p) where
-    each : (n : ℕ) (ks : List Key) → map key_row (map changed (enumerate_from n ks)) ≡ map key_row (enumerate_from n (map (changed_where is_for f) (enumerate_from n ks)))
+    each : (n : ℕ) (ks : List Key)
+        → map key_row (map changed (enumerate_from n ks))
+        ≡ map key_row (enumerate_from n (map (changed_where is_for f) (enumerate_from n ks)))
     each n [] = refl
     each n (k ∷ ks) =
-        ap (λ b. key_row (cond b (set (n, k)) (n, k)) ∷ map key_row (map changed (enumerate_from (n + 1) ks))) (is (n, k))
+        ap (λ b. key_row (cond b (set (n, k)) (n, k)) ∷ map key_row (map changed (enumerate_from (n + 1) ks)))
+        (is (n, k))
         ∙ ap (λ row. row ∷ map key_row (map changed (enumerate_from (n + 1) ks))) (one n k (is_for (n, k)))
         ∙ ap (λ rows. key_row (n, changed_where is_for f (n, k)) ∷ rows) (each (n + 1) ks)
 
     -- each key that passes is changed, and no other
-    pub changes_keys : ((p : ℕ × Key) → image_of p ≡ key_row (set p)) → (old new : View) (count : ℕ) → Executes sql params old new (Ok count)
+    pub changes_keys : ((p : ℕ × Key) → image_of p ≡ key_row (set p)) → (old new : View) (count : ℕ)
+        → Executes sql params old new (Ok count)
         → Makes Always (λ t. record t { keys = map (changed_where is_for f) (numbered t.keys) }) old.now new.now
     changes_keys image old new count h t holds always =
         let l = holds.schema.layout in
@@ -89,7 +96,8 @@ module _ (sql : List ℕ) (passes shown : List Term) (parts : IsUpdate sql passe
         (schema_with l) (place_of Keys) refl
         m.is m.plain (idle l holds.schema.apart Keys refl 0) (λ db. shows_all db (l.tree Keys)) image (λ p. refl) old
         new count h holds.schema.is (numbered t.keys) (holds.shown Keys) ordered in
-        holds_with Keys (map (changed_where is_for f) (numbered t.keys)) t old.now new.now _ holds wrote (in_range 1 t.keys (holds.in_range Keys)) (each 1 t.keys)
+        holds_with Keys (map (changed_where is_for f) (numbered t.keys)) t old.now new.now _ holds wrote
+        (in_range 1 t.keys (holds.in_range Keys)) (each 1 t.keys)
 
 -- ---- what an accepted request can change
 
@@ -101,7 +109,9 @@ abbrev differs : List Term
 differs = op2 (Compare Eq Binary) (col 1 0) (col 0 0) ∷ op1 Not stands_so ∷ []
 
 abbrev key_shown : List Term
-key_shown = col 1 0 ∷ lit Null ∷ col 1 2 ∷ col 0 1 ∷ col 1 4 ∷ col 0 2 ∷ col 1 6 ∷ col 0 3 ∷ col 0 4 ∷ col 0 5 ∷ col 0 6 ∷ col 0 7 ∷ col 0 8 ∷ []
+key_shown =
+    col 1 0 ∷ lit Null ∷ col 1 2 ∷ col 0 1 ∷ col 1 4 ∷ col 0 2 ∷ col 1 6 ∷ col 0 3 ∷ col 0 4 ∷ col 0 5 ∷ col 0 6
+    ∷ col 0 7 ∷ col 0 8 ∷ []
 
 key_parts : IsUpdate key_text differs key_shown
 unfolding everything first
@@ -110,43 +120,57 @@ key_parts l = record { p = _; name = _; sets = _; check = _; d = _; parsed = ref
 abbrev pub key_params : ℕ → List ℕ → Row → Cells
 key_params number owner row =
     let d = row.dates in
-    Int (pos number) ∷ Words owner ∷ Int (pos (state_code row.state)) ∷ Int (pos (date_cell d.activation)) ∷ Int (pos (date_cell d.protect_stop)) ∷ Int (pos (date_cell d.deactivation))
-    ∷ Int (pos (date_cell d.destroy)) ∷ Int (pos (date_cell d.compromise)) ∷ Int (pos (date_cell d.compromise_occurrence)) ∷ []
+    Int (pos number) ∷ Words owner ∷ Int (pos (state_code row.state)) ∷ Int (pos (date_cell d.activation))
+    ∷ Int (pos (date_cell d.protect_stop)) ∷ Int (pos (date_cell d.deactivation))
+    ∷ Int (pos (date_cell d.destroy)) ∷ Int (pos (date_cell d.compromise))
+    ∷ Int (pos (date_cell d.compromise_occurrence)) ∷ []
 
 -- the dates that may change are in range, whatever the Initial Date is
 abbrev pub AreLaterDates : Dates → Type 0
 AreLaterDates d = (initial : ℕ) → IsMoment initial → AreDates (record d { initial = initial })
 
-stays_key : (owner : List ℕ) (row : Row) → IsName owner → AreLaterDates row.dates → (k : Key) → IsKey k → IsKey (held_by owner row k)
-stays_key owner row name dates k is = record { owner = name; purpose = is.purpose; dates = dates k.row.dates.initial is.dates.initial }
+stays_key : (owner : List ℕ) (row : Row) → IsName owner → AreLaterDates row.dates → (k : Key) → IsKey k
+    → IsKey (held_by owner row k)
+stays_key owner row name dates k is = record {
+  owner = name;
+  purpose = is.purpose;
+  dates = dates k.row.dates.initial is.dates.initial;
+}
 
 module _ (number : ℕ) (owner : List ℕ) (row : Row) where
   abbrev is_to_change : ℕ × Key → Bool
   is_to_change p = (p.0 == number) && not (stands owner row p.1)
 
-  condition_is : (k : Key) → eval stands_so (key_params number owner row ∷ key_row (number, k) ∷ []) ≡ from_truth (Some (stands owner row k))
+  condition_is : (k : Key) → eval stands_so (key_params number owner row ∷ key_row (number, k) ∷ [])
+      ≡ from_truth (Some (stands owner row k))
   condition_is k =
       let d = row.dates in
       let e = k.row.dates in
       let date = λ (a b : Option ℕ). equal_integers (date_cell a) (date_cell b) in
       joined _ _ _ _ (joined _ _ _ _ (joined _ _ _ _ (joined _ _ _ _ (joined _ _ _ _ (joined _ _ _ _
       (joined _ _ _ _ (equal_texts k.owner owner) (equal_integers (state_code k.row.state) (state_code row.state)))
-      (date e.activation d.activation)) (date e.protect_stop d.protect_stop)) (date e.deactivation d.deactivation)) (date e.destroy d.destroy)) (date e.compromise d.compromise))
+      (date e.activation d.activation)) (date e.protect_stop d.protect_stop)) (date e.deactivation d.deactivation))
+      (date e.destroy d.destroy)) (date e.compromise d.compromise))
       (date e.compromise_occurrence d.compromise_occurrence)
 
   all_alike : AreLaterDates row.dates → (n : ℕ) (ks : List Key) → AllByRecursion IsKey ks
-      → map (changed_where is_to_change (held_by owner row)) (enumerate_from n ks) ≡ map (where_number number (held_by owner row)) (enumerate_from n ks)
+      → map (changed_where is_to_change (held_by owner row)) (enumerate_from n ks)
+      ≡ map (where_number number (held_by owner row)) (enumerate_from n ks)
   all_alike dates n [] all = refl
   all_alike dates n (k ∷ ks) all =
       let head = where_it_differs number owner row (n, k) all.0 (dates k.row.dates.initial all.0.dates.initial) in
       let tail = all_alike dates (n + 1) ks all.1 in
       λ i. head i ∷ tail i
 
-  pub updates_key : IsName owner → AreLaterDates row.dates → (old new : View) (count : ℕ) → Executes key_text (key_params number owner row) old new (Ok count)
+  pub updates_key : IsName owner → AreLaterDates row.dates → (old new : View) (count : ℕ)
+      → Executes key_text (key_params number owner row) old new (Ok count)
       → Makes Always (with_key_at number (held_by owner row)) old.now new.now
   updates_key name dates old new count ran t holds always =
-      let made = changes_keys key_text differs key_shown key_parts (key_params number owner row) is_to_change (held_by owner row) (stays_key owner row name dates)
-      (λ p. ap₂ (λ (a : Bool) (v : Value). a && (is_true (unary Not v) && true)) (equal_numbers p.0 number) (condition_is p.1)
+      let made = changes_keys key_text differs key_shown key_parts (key_params number owner row) is_to_change
+      (held_by owner row) (stays_key owner row name dates)
+      (λ p. ap₂ (λ (a : Bool) (v : Value). a && (is_true (unary Not v) && true)) (equal_numbers p.0 number)
+      (condition_is p.1)
       ∙ ap (λ (b : Bool). (p.0 == number) && b) (and-true _ ∙ opposite (stands owner row p.1)))
       (λ p. simp (cast_int, cast_null)) old new count ran in
-      subst (λ ks. Holds (record t { keys = ks }) new.now) (all_alike dates 1 t.keys (holds.in_range Keys)) (made t holds tt)
+      subst (λ ks. Holds (record t { keys = ks }) new.now) (all_alike dates 1 t.keys (holds.in_range Keys))
+      (made t holds tt)

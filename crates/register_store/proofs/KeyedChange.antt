@@ -1,6 +1,6 @@
 -- What the statements do by which an entry is taken out of a table by its number, and by which one is put in.
-use Rattle.std.proofs.Common.{◌≡◌, ◌≢◌, ◌==◌, ℕ, List, [], ◌∷◌, ◌++◌, filter, not, slice_get, true, false, Some, Ok, sym, ap, subst}
-use Rattle.std.proofs.Common.{Bool, Result, ◌∙◌, pos}
+use Rattle.std.proofs.Common.{◌≡◌, ◌≢◌, ◌==◌, ℕ, List, [], ◌∷◌, ◌++◌, filter, not, slice_get, true, false, Some, Ok}
+use Rattle.std.proofs.Common.{sym, ap, subst, Bool, Result, ◌∙◌, pos}
 use Rattle.std.proofs.lemmas.Bool.{eq-eqb}
 use Rattle.std.specs.List.{AllByRecursion}
 use Rattle.sqlite.specs.declared.types.Value.TheVariants.{Int}
@@ -61,64 +61,66 @@ pub record IsSetTable {A : Type 0} (key_of : A → ℕ) (row_of cells_of : A →
 module _ {A : Type 0} {key_of : A → ℕ} {row_of cells_of : A → Cells} {IsOne : A → Type 0}
     {entries : Tables → List A} {with_entries : List A → Tables → Tables} {table_in : Layout → Table} {at : ℕ}
     {clear_text add_text : List ℕ} {terms : List Term} {width : ℕ}
-    (table : IsSetTable key_of row_of cells_of IsOne entries with_entries table_in at clear_text add_text terms width) where
-  abbrev is_other : ℕ → A → Bool
-  is_other n a = not (key_of a == n)
+    (table : IsSetTable key_of row_of cells_of IsOne entries with_entries table_in at clear_text add_text terms width)
+  where
+    abbrev is_other : ℕ → A → Bool
+    is_other n a = not (key_of a == n)
 
-  -- the tables without the entry of the number
-  abbrev pub without : ℕ → Tables → Tables
-  without n t = with_entries (filter (is_other n) (entries t)) t
+    -- the tables without the entry of the number
+    abbrev pub without : ℕ → Tables → Tables
+    without n t = with_entries (filter (is_other n) (entries t)) t
 
-  -- the tables with one entry more
-  abbrev pub more : A → Tables → Tables
-  more a t = with_entries (entries t ++ a ∷ []) t
+    -- the tables with one entry more
+    abbrev pub more : A → Tables → Tables
+    more a t = with_entries (entries t ++ a ∷ []) t
 
-  -- no entry has the number
-  abbrev pub HasNone : ℕ → Tables → Type 0
-  HasNone n t = (a : A) → Has (entries t) a → key_of a ≢ n
+    -- no entry has the number
+    abbrev pub HasNone : ℕ → Tables → Type 0
+    HasNone n t = (a : A) → Has (entries t) a → key_of a ≢ n
 
-  pub takes_out : (n : ℕ) (old new : State) (count : ℕ) → Executes clear_text (number_params n) old new (Ok count)
-      → Makes Always (without n) old.now new.now
-  takes_out n old new count h t holds always =
-      let l = holds.schema.layout in
-      let m = table.clears l (placed t old.now holds) in
-      let shown = table.shown t old.now holds in
-      let rows = old.now.trees (table_in l).tree in
-      let wrote = removes (table_in l) (number_params n) has_number clear_text (schema_with l) at (table.there l) m.is
-      m.plain (λ olds. table.idle l holds.schema.apart olds []) (λ db. shows_all db (table_in l).tree) old new count h
-      holds.schema.is shown.ordered (keyed_counted row_of key_of table.rowid_is (entries t) rows shown) in
-      table.holds_with (filter (is_other n) (entries t)) t old.now new.now _ holds wrote
-      (all-filter IsOne (is_other n) (entries t) (table.in_range t old.now holds))
-      (keyed_left row_of key_of table.rowid_is (λ r. not (is_picked (number_params n) 0 has_number ids_shown r))
-      (is_other n) (λ a. ap not (table.check_is n a)) (entries t) rows shown)
+    pub takes_out : (n : ℕ) (old new : State) (count : ℕ) → Executes clear_text (number_params n) old new (Ok count)
+        → Makes Always (without n) old.now new.now
+    takes_out n old new count h t holds always =
+        let l = holds.schema.layout in
+        let m = table.clears l (placed t old.now holds) in
+        let shown = table.shown t old.now holds in
+        let rows = old.now.trees (table_in l).tree in
+        let wrote = removes (table_in l) (number_params n) has_number clear_text (schema_with l) at (table.there l) m.is
+        m.plain (λ olds. table.idle l holds.schema.apart olds []) (λ db. shows_all db (table_in l).tree) old new count h
+        holds.schema.is shown.ordered (keyed_counted row_of key_of table.rowid_is (entries t) rows shown) in
+        table.holds_with (filter (is_other n) (entries t)) t old.now new.now _ holds wrote
+        (all-filter IsOne (is_other n) (entries t) (table.in_range t old.now holds))
+        (keyed_left row_of key_of table.rowid_is (λ r. not (is_picked (number_params n) 0 has_number ids_shown r))
+        (is_other n) (λ a. ap not (table.check_is n a)) (entries t) rows shown)
 
-  pub puts_in : (a : A) → IsOne a → (old new : State) (count : ℕ) → Executes add_text (cells_of a) old new (Ok count)
-      → Makes (HasNone (key_of a)) (more a) old.now new.now
-  puts_in a is old new count h t holds none =
-      let l = holds.schema.layout in
-      let rows = old.now.trees (table_in l).tree in
-      let wrote = puts (table_in l) (cells_of a) terms width add_text (schema_with l) at (table.there l)
-      (table.adds l).0 (table.adds l).1 (table.idle l holds.schema.apart []) old new count h holds.schema.is in
-      table.holds_with (entries t ++ a ∷ []) t old.now new.now _ holds wrote
-      (all_more IsOne (entries t) a (table.in_range t old.now holds) is)
-      (subst (ShowsKeyed row_of (entries t ++ a ∷ [])) (sym (ap (put_all rows) (table.news_are a l old holds.schema.is)))
-      (keyed_more row_of key_of table.rowid_is (entries t) rows a none (table.shown t old.now holds)))
+    pub puts_in : (a : A) → IsOne a → (old new : State) (count : ℕ) → Executes add_text (cells_of a) old new (Ok count)
+        → Makes (HasNone (key_of a)) (more a) old.now new.now
+    puts_in a is old new count h t holds none =
+        let l = holds.schema.layout in
+        let rows = old.now.trees (table_in l).tree in
+        let wrote = puts (table_in l) (cells_of a) terms width add_text (schema_with l) at (table.there l)
+        (table.adds l).0 (table.adds l).1 (table.idle l holds.schema.apart []) old new count h holds.schema.is in
+        table.holds_with (entries t ++ a ∷ []) t old.now new.now _ holds wrote
+        (all_more IsOne (entries t) a (table.in_range t old.now holds) is)
+        (subst (ShowsKeyed row_of (entries t ++ a ∷ []))
+        (sym (ap (put_all rows) (table.news_are a l old holds.schema.is)))
+        (keyed_more row_of key_of table.rowid_is (entries t) rows a none (table.shown t old.now holds)))
 
-  -- where the entry of a number is taken out, none has it
-  none_left : (n : ℕ) (t : Tables) → HasNone n (without n t)
-  none_left n t a h same =
-      let there = subst (λ rest. Has rest a) (table.entries_are (filter (is_other n) (entries t)) t) h in
-      let passes = (has_filtered (is_other n) (entries t) a there).1 in
-      absurd (let off : not true ≡ true = sym (ap not (eq-eqb _ _ same)) ∙ passes in cc)
+    -- where the entry of a number is taken out, none has it
+    none_left : (n : ℕ) (t : Tables) → HasNone n (without n t)
+    none_left n t a h same =
+        let there = subst (λ rest. Has rest a) (table.entries_are (filter (is_other n) (entries t)) t) h in
+        let passes = (has_filtered (is_other n) (entries t) a there).1 in
+        absurd (let off : not true ≡ true = sym (ap not (eq-eqb _ _ same)) ∙ passes in cc)
 
-  -- an entry is put in the place of that of its number: the one is taken out, then the other is put in
-  pub put_anew : {X Y E F : Type 0} (a : A) (old mid new : State) (x : X) (r : Result Y F)
-      → StepsBy {E = E} (λ _. Makes Always (without (key_of a))) old mid (Ok x)
-      → StepsBy (λ _. Makes (HasNone (key_of a)) (more a)) mid new r
-      → StepsBy (λ _. Makes Always (λ t. more a (without (key_of a) t))) old new r
-  put_anew a old mid new x r one two =
-      let Clears = Makes Always (without (key_of a)) in
-      let Adds = Makes (HasNone (key_of a)) (more a) in
-      steps_weaker (λ _. Then Clears Adds) (λ _. Makes Always (λ t. more a (without (key_of a) t))) old new r
-      (λ _ start end done t holds always. done.2 (without (key_of a) t) (done.1 t holds tt) (none_left (key_of a) t))
-      (steps_then (λ _. Clears) (λ _. Adds) old mid new x r one two)
+    -- an entry is put in the place of that of its number: the one is taken out, then the other is put in
+    pub put_anew : {X Y E F : Type 0} (a : A) (old mid new : State) (x : X) (r : Result Y F)
+        → StepsBy {E = E} (λ _. Makes Always (without (key_of a))) old mid (Ok x)
+        → StepsBy (λ _. Makes (HasNone (key_of a)) (more a)) mid new r
+        → StepsBy (λ _. Makes Always (λ t. more a (without (key_of a) t))) old new r
+    put_anew a old mid new x r one two =
+        let Clears = Makes Always (without (key_of a)) in
+        let Adds = Makes (HasNone (key_of a)) (more a) in
+        steps_weaker (λ _. Then Clears Adds) (λ _. Makes Always (λ t. more a (without (key_of a) t))) old new r
+        (λ _ start end done t holds always. done.2 (without (key_of a) t) (done.1 t holds tt) (none_left (key_of a) t))
+        (steps_then (λ _. Clears) (λ _. Adds) old mid new x r one two)

@@ -46,7 +46,8 @@ pub record IsKeyed {A X : Type 0} (key_of : A → ℕ) (value_of : A → X) (row
   pub same : (x y : X) → ShowsOne (cells x) y → y ≡ x
   pub table_shows : (t : Tables) (db : Database) (holds : Holds t db)
       → ShowsKeyed row_of (entries t) (rows_of holds.schema.layout name db)
-  pub table_in_range : (t : Tables) (db : Database) → Holds t db → AllByRecursion (λ (a : A). IsOne (value_of a)) (entries t)
+  pub table_in_range : (t : Tables) (db : Database) → Holds t db
+      → AllByRecursion (λ (a : A). IsOne (value_of a)) (entries t)
 
 module _ {A X : Type 0} {key_of : A → ℕ} {value_of : A → X} {row_of : A → Cells} {cells : X → Cells}
     {IsOne : X → Type 0} {ShowsOne : Cells → X → Type 0} {shown : List Term} {name : TableName}

@@ -28,7 +28,8 @@ use Rattle.register_store.specs.Tables.{ShowsKeyed}
 
 -- where no row has its rowid, a row is put among the others
 put_new : (new : Cells) (rows : List Cells)
-    → ((x : Cells) → Has rows x → value_cmp (rowid x) (rowid new) ≢ Equal) → IsPermutation (put_row new rows) (new ∷ rows)
+    → ((x : Cells) → Has rows x → value_cmp (rowid x) (rowid new) ≢ Equal)
+    → IsPermutation (put_row new rows) (new ∷ rows)
 put_new new [] none = IsPermutation-refl (new ∷ [])
 put_new new (x ∷ xs) none = go (value_cmp (rowid x) (rowid new)) refl (put_new new xs (λ y h. none y (inr h)))
   where
@@ -53,11 +54,13 @@ number_same : (m n : ℕ) → m ≡ n → int_cmp (pos m) (pos n) ≡ Equal
 number_same m n is =
     subst (λ (k : ℕ). int_cmp (pos m) (pos k) ≡ Equal) is (tied_itself int_cmp_total (pos m))
 
-module _ {A : Type 0} (row_of : A → Cells) (key_of : A → ℕ) (rowid_is : (a : A) → rowid (row_of a) ≡ Int (pos (key_of a))) where
+module _ {A : Type 0} (row_of : A → Cells) (key_of : A → ℕ) (rowid_is : (a : A)
+    → rowid (row_of a) ≡ Int (pos (key_of a))) where
   -- the entry of a row
   pub row_entry : (entries : List A) (rows : List Cells) → ShowsKeyed row_of entries rows → (r : Cells) → Has rows r
       → (a : A) × Has entries a × (r ≡ row_of a)
-  row_entry entries rows shows r h = map_has row_of entries r (has_permutation rows (map row_of entries) r shows.rows_are h)
+  row_entry entries rows shows r h =
+      map_has row_of entries r (has_permutation rows (map row_of entries) r shows.rows_are h)
 
   -- the row of an entry
   entry_row : (entries : List A) (rows : List Cells) → ShowsKeyed row_of entries rows → (a : A) → Has entries a
@@ -92,7 +95,8 @@ module _ {A : Type 0} (row_of : A → Cells) (key_of : A → ℕ) (rowid_is : (a
   keyed_more entries rows new fresh shows =
       let free = λ (x : Cells) (h : Has rows x).
       let it = row_entry entries rows shows x h in
-      subst (λ r. value_cmp (rowid r) (rowid (row_of new)) ≢ Equal) (sym it.2) (apart_rows it.0 new (fresh it.0 it.1)) in
+      subst (λ r. value_cmp (rowid r) (rowid (row_of new)) ≢ Equal) (sym it.2)
+      (apart_rows it.0 new (fresh it.0 it.1)) in
       record {
         rows_are = IsPermutation-trans _ _ _ (put_new (row_of new) rows free)
             (IsPermutation-trans _ _ _ (IsPermutation-append (row_of new ∷ []) (row_of new ∷ []) rows

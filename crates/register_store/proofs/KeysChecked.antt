@@ -1,5 +1,6 @@
 -- The check of the table of keys.
-use Rattle.std.proofs.Common.{◌≡◌, ◌≢◌, ◌==◌, ◌≤◌, ◌<◌, ◌+◌, Bool, true, false, inr, ℕ, suc, pos, Result, Ok, Err, List, [], ◌∷◌, ◌++◌, length, length-append, map, sym, ap, subst, ◌∙◌, refl, arith}
+use Rattle.std.proofs.Common.{◌≡◌, ◌≢◌, ◌==◌, ◌≤◌, ◌<◌, ◌+◌, Bool, true, false, inr, ℕ, suc, pos, Result, Ok, Err}
+use Rattle.std.proofs.Common.{List, [], ◌∷◌, ◌++◌, length, length-append, map, sym, ap, subst, ◌∙◌, refl, arith}
 use Rattle.std.proofs.lemmas.Bool.{eq-eqb, eqb-true}
 use Rattle.std.proofs.lemmas.List.{map-append}
 use Rattle.std.specs.List.{AllByRecursion, enumerate_from}
@@ -14,15 +15,16 @@ use Rattle.row_checks.specs.declared.error.RowsError.{RowsError}
 use Rattle.row_checks.specs.declared.error.RowsError.TheVariants.{NoMeaning, Refused, Memory}
 use Rattle.row_checks.specs.EachRow.{ShowEach}
 use Rattle.row_checks.specs.ShownRows.{HasNoMeaning, ShowsAll, ShowsFirst}
-use Rattle.row_checks.proofs.Each.{all_prefix, all_last, all_more, show_prefix, show_length, show_more, show_same, show_split}
+use Rattle.row_checks.proofs.Each.{all_prefix, all_last, all_more, show_prefix, show_length, show_more, show_same}
+use Rattle.row_checks.proofs.Each.{show_split}
 use Rattle.register_core.specs.declared.key.Key.{Key}
 use Rattle.register_store.specs.declared.found.Found.{Found}
 use Rattle.register_store.specs.declared.error.CheckError.{CheckError}
 use Rattle.register_store.specs.declared.error.CheckError.TheVariants.{NotARegister}
 use Rattle.register_store.specs.declared.table.TableName.TheVariants.{Keys}
 use Rattle.register_core.specs.declared.version.Version.{Version}
-use Rattle.register_store.specs.CheckedTables.{IsOdd, IsReasonAt, ShowsNumbered, ShowsRows, ChecksTable, check_error, check_text}
-use Rattle.register_store.specs.CheckedTables.{mark_of}
+use Rattle.register_store.specs.CheckedTables.{IsOdd, IsReasonAt, ShowsNumbered, ShowsRows, ChecksTable, check_error}
+use Rattle.register_store.specs.CheckedTables.{check_text, mark_of}
 use Rattle.register_store.specs.Schema.{rows_of}
 use Rattle.register_store.specs.Stored.{HoldsStored, Stored, mark}
 use Rattle.register_store.specs.Tables.{Counts, IsKey, key_row, numbered}
@@ -48,7 +50,8 @@ keys_back n [] = refl
 keys_back n (k ∷ keys) = ap (λ l. k ∷ l) (keys_back (n + 1) keys)
 
 -- the first of the numbered keys are the first keys, numbered
-numbered_prefix : (n : ℕ) (keys : List Key) (prefix back : List (ℕ × Key)) → enumerate_from n keys ≡ prefix ++ back → (these : List Key) × (others : List Key) × (keys ≡ these ++ others) × (prefix ≡ enumerate_from n these)
+numbered_prefix : (n : ℕ) (keys : List Key) (prefix back : List (ℕ × Key)) → enumerate_from n keys ≡ prefix ++ back
+    → (these : List Key) × (others : List Key) × (keys ≡ these ++ others) × (prefix ≡ enumerate_from n these)
 numbered_prefix n keys [] back e = ([], keys, refl, refl)
 numbered_prefix n [] (x ∷ prefix) back e = absurd (cc)
 numbered_prefix n (k ∷ keys) (x ∷ prefix) back e =
@@ -57,16 +60,21 @@ numbered_prefix n (k ∷ keys) (x ∷ prefix) back e =
     (k ∷ it.0, it.1, ap (λ l. k ∷ l) it.2, λ i. head i ∷ it.3 i)
 
 -- a list that is not empty has a last
-ends : (n : ℕ) (keys : List Key) → length keys ≡ suc n → (these : List Key) × (last : Key) × (keys ≡ these ++ last ∷ []) × (length these ≡ n)
+ends : (n : ℕ) (keys : List Key) → length keys ≡ suc n → (these : List Key) × (last : Key)
+    × (keys ≡ these ++ last ∷ []) × (length these ≡ n)
 ends n [] e = absurd (omega arith)
 ends n (k ∷ []) e = ([], k, refl, omega arith)
-ends n (k ∷ j ∷ keys) e = let it = ends (length keys) (j ∷ keys) refl in (k ∷ it.0, it.1, ap (λ l. k ∷ l) it.2, omega (arith, it.3))
+ends n (k ∷ j ∷ keys) e =
+    let it = ends (length keys) (j ∷ keys) refl in (k ∷ it.0, it.1, ap (λ l. k ∷ l) it.2, omega (arith, it.3))
 
 -- ---- one row after the other
 
-module _ (found : Found) (count : ℕ) (owners : List (List ℕ)) (rows : List Row) (row : Row) (taken : HasKeys found count owners rows) where
+module _ (found : Found) (count : ℕ) (owners : List (List ℕ)) (rows : List Row) (row : Row)
+    (taken : HasKeys found count owners rows) where
   rows_are : length rows ≡ count
-  rows_are = show_length ShowsNumbered rows (numbered taken.keys) taken.are.shown ∙ length_numbered 1 taken.keys ∙ sym taken.counted
+  rows_are =
+      show_length ShowsNumbered rows (numbered taken.keys) taken.are.shown ∙ length_numbered 1 taken.keys
+      ∙ sym taken.counted
 
   more_are : (keys : List Key) → AreCounted found (rows ++ row ∷ []) keys → length keys ≡ suc count
   more_are keys are =
@@ -78,16 +86,25 @@ module _ (found : Found) (count : ℕ) (owners : List (List ℕ)) (rows : List R
   keys_full full keys are = let within = are.within in omega (arith, more_are keys are, within, full)
 
   -- a row that is not that of the next key
-  pub keys_odd : ((k : Key) → ShowsNumbered row (count + 1, k) → ¬ IsSoundAt found.version found.latest k) → RefusesKeys found (rows ++ row ∷ [])
+  pub keys_odd : ((k : Key) → ShowsNumbered row (count + 1, k) → ¬ IsSoundAt found.version found.latest k)
+      → RefusesKeys found (rows ++ row ∷ [])
   keys_odd odd keys are =
       let it = ends count keys (more_are keys are) in
-      let all : numbered keys ≡ numbered it.0 ++ (1 + length it.0, it.1) ∷ [] = ap numbered it.2 ∙ enumerate_append 1 it.0 it.1 in
-      let last = (show_split ShowsNumbered rows row (numbered it.0) (1 + length it.0, it.1) (subst (ShowEach ShowsNumbered (rows ++ row ∷ [])) all are.shown)).1 in
+      let all : numbered keys ≡ numbered it.0 ++ (1 + length it.0, it.1) ∷ [] = ap numbered it.2
+      ∙ enumerate_append 1 it.0 it.1 in
+      let last = (show_split ShowsNumbered rows row (numbered it.0) (
+        1 + length it.0,
+        it.1,
+      ) (subst (ShowEach ShowsNumbered (rows ++ row ∷ [])) all are.shown)).1 in
       let next : 1 + length it.0 ≡ count + 1 = omega (arith, it.3) in
-      odd it.1 (subst (λ n. ShowsNumbered row (n, it.1)) next last) (all_last (IsSoundAt found.version found.latest) it.0 it.1 (subst (AllByRecursion (IsSoundAt found.version found.latest)) it.2 are.sound))
+      odd it.1 (subst (λ n. ShowsNumbered row (n, it.1)) next last)
+      (all_last (IsSoundAt found.version found.latest) it.0 it.1
+      (subst (AllByRecursion (IsSoundAt found.version found.latest)) it.2 are.sound))
 
   -- the row of the next key
-  pub keys_more : count < found.keys → (k : Key) → ShowsNumbered row (count + 1, k) → IsSoundAt found.version found.latest k → (more : List (List ℕ)) → more ≡ owners ++ k.owner ∷ [] → HasKeys found (count + 1) more (rows ++ row ∷ [])
+  pub keys_more : count < found.keys → (k : Key) → ShowsNumbered row (count + 1, k)
+      → IsSoundAt found.version found.latest k → (more : List (List ℕ)) → more ≡ owners ++ k.owner ∷ []
+      → HasKeys found (count + 1) more (rows ++ row ∷ [])
   keys_more room k shows sound more is =
       let counted = taken.counted in
       let next : count + 1 ≡ 1 + length taken.keys = omega (arith, counted) in
@@ -96,12 +113,16 @@ module _ (found : Found) (count : ℕ) (owners : List (List ℕ)) (rows : List R
         keys = taken.keys ++ k ∷ [];
         are = record {
           shown = subst (ShowEach ShowsNumbered (rows ++ row ∷ [])) (sym (enumerate_append 1 taken.keys k))
-              (show_more ShowsNumbered rows (numbered taken.keys) row (1 + length taken.keys, k) taken.are.shown (subst (λ n. ShowsNumbered row (n, k)) next shows));
+              (show_more ShowsNumbered rows (numbered taken.keys) row (
+                1 + length taken.keys,
+                k,
+              ) taken.are.shown (subst (λ n. ShowsNumbered row (n, k)) next shows));
           sound = all_more (IsSoundAt found.version found.latest) taken.keys k taken.are.sound sound;
           within = omega (arith, long, counted, room);
         };
         counted = omega (arith, long, counted);
-        owners_are = is ∙ ap (λ l. l ++ k.owner ∷ []) taken.owners_are ∙ sym (map-append (λ (k : Key). k.owner) taken.keys (k ∷ []));
+        owners_are = is ∙ ap (λ l. l ++ k.owner ∷ []) taken.owners_are
+            ∙ sym (map-append (λ (k : Key). k.owner) taken.keys (k ∷ []));
       }
 
 -- ---- a register's own rows
@@ -126,7 +147,8 @@ own_keys t db rows holds sure =
     ∙ holds.shown Keys) in
     record {
       c = t.tables.keys;
-      shows = subst (λ rs. ShowEach ShowsNumbered rs (numbered t.tables.keys)) (sym is) (own_shown 1 t.tables.keys (holds.in_range Keys));
+      shows = subst (λ rs. ShowEach ShowsNumbered rs (numbered t.tables.keys)) (sym is)
+          (own_shown 1 t.tables.keys (holds.in_range Keys));
       like = refl;
       meets = λ meets. meets;
     }
@@ -135,15 +157,24 @@ one_numbered : (row : Row) (a b : ℕ × Key) → ShowsNumbered row a → ShowsN
 one_numbered row a b x y = λ i. (same_number _ _ _ x.number y.number i, one_key row a.1 b.1 x.cells y.cells i)
 
 pub one_keys : (rows : List Row) (c d : List Key) → ShowsRows Keys rows c → ShowsRows Keys rows d → c ≡ d
-one_keys rows c d x y = sym (keys_back 1 c) ∙ ap (map (λ (x : ℕ × Key). x.1)) (show_same ShowsNumbered one_numbered rows (numbered c) (numbered d) x y) ∙ keys_back 1 d
+one_keys rows c d x y =
+    sym (keys_back 1 c)
+    ∙ ap (map (λ (x : ℕ × Key). x.1)) (show_same ShowsNumbered one_numbered rows (numbered c) (numbered d) x y)
+    ∙ keys_back 1 d
 
 -- ---- what was read
 
 -- no row yet
 pub keys_begin : (found : Found) (owners : List (List ℕ)) → owners ≡ [] → HasKeys found 0 owners []
-keys_begin found owners none = record { keys = []; are = record { shown = tt; sound = tt; within = omega arith }; counted = refl; owners_are = none }
+keys_begin found owners none = record {
+  keys = [];
+  are = record { shown = tt; sound = tt; within = omega arith };
+  counted = refl;
+  owners_are = none;
+}
 
-module _ (t : Stored) (found : Found) (told : mark_of found ≡ mark t) (old new : State) (survives : Survives old new (λ _. ⊥)) where
+module _ (t : Stored) (found : Found) (told : mark_of found ≡ mark t) (old new : State)
+    (survives : Survives old new (λ _. ⊥)) where
   latest_is : found.latest ≡ t.tables.counts.latest
   latest_is = ap (λ (m : Version × Counts). m.1.latest) told
 
@@ -178,22 +209,34 @@ module _ (t : Stored) (found : Found) (told : mark_of found ≡ mark t) (old new
   Checked q = ChecksTable Keys t AreOwners old new q
 
   -- all of them
-  pub keys_read : (count : ℕ) (owners : Vec (List ℕ)) → (HasCleanDisk new → ShowsAll (check_text Keys) (HasKeys found count owners.items) old new) → (HasCleanDisk new → count ≡ found.keys) → Checked (Ok owners)
-  keys_read count owners all is = checks_table Keys t keys_within (own_keys t) (newer_not t) AreOwners (λ c d x like says. says ∙ ap owners_of like) one_keys old new (Ok owners)
+  pub keys_read : (count : ℕ) (owners : Vec (List ℕ))
+      → (HasCleanDisk new → ShowsAll (check_text Keys) (HasKeys found count owners.items) old new)
+      → (HasCleanDisk new → count ≡ found.keys) → Checked (Ok owners)
+  keys_read count owners all is =
+      checks_table Keys t keys_within (own_keys t) (newer_not t) AreOwners
+      (λ c d x like says. says ∙ ap owners_of like) one_keys old new (Ok owners)
       (λ clean.
       let it = all clean in
       let keys = it.holds.keys in
       let counted = it.holds.counted in (
         keys,
         record { rows = it.rows; shown = it.shown; holds = it.holds.are.shown; same = it.same },
-        record { counted = sym counted ∙ is clean ∙ key_count_is; sound = subst (λ l. AllByRecursion (IsSoundAt t.version l) keys) latest_is (subst (λ v. AllByRecursion (IsSoundAt v found.latest) keys) version_is it.holds.are.sound) },
+        record {
+          counted = sym counted ∙ is clean ∙ key_count_is;
+          sound = subst (λ l. AllByRecursion (IsSoundAt t.version l) keys) latest_is
+              (subst (λ v. AllByRecursion (IsSoundAt v found.latest) keys) version_is it.holds.are.sound);
+        },
         it.holds.owners_are,
       ))
       (λ clean. tt) survives
 
   -- fewer than are counted
-  pub keys_fewer : (count : ℕ) (owners : List (List ℕ)) → (HasCleanDisk new → ShowsAll (check_text Keys) (HasKeys found count owners) old new) → (HasCleanDisk new → count ≢ found.keys) → Checked (Err NotARegister)
-  keys_fewer count owners all off = checks_table Keys t keys_within (own_keys t) (newer_not t) AreOwners (λ c d x like says. says ∙ ap owners_of like) one_keys old new (Err NotARegister) (λ clean. tt)
+  pub keys_fewer : (count : ℕ) (owners : List (List ℕ))
+      → (HasCleanDisk new → ShowsAll (check_text Keys) (HasKeys found count owners) old new)
+      → (HasCleanDisk new → count ≢ found.keys) → Checked (Err NotARegister)
+  keys_fewer count owners all off =
+      checks_table Keys t keys_within (own_keys t) (newer_not t) AreOwners
+      (λ c d x like says. says ∙ ap owners_of like) one_keys old new (Err NotARegister) (λ clean. tt)
       (λ clean.
       let it = all clean in (
         inr (inr (record {
@@ -212,14 +255,22 @@ module _ (t : Stored) (found : Found) (told : mark_of found ≡ mark t) (old new
       survives
 
   -- an error of the reader
-  pub keys_fail : (error : RowsError) (q : Result (Vec (List ℕ)) CheckError) → Rattle.std.specs.Prelude.IsErrAnd q (λ e. e ≡ check_error error) → (HasCleanDisk new → error ≡ NoMeaning → HasNoMeaning (check_text Keys) old new)
-      → (HasCleanDisk new → error ≡ Refused → ShowsFirst (check_text Keys) (RefusesKeys found) old new) → (HasCleanDisk new → error ≡ Memory → IsUnchanged old new) → Checked q
+  pub keys_fail : (error : RowsError) (q : Result (Vec (List ℕ)) CheckError)
+      → Rattle.std.specs.Prelude.IsErrAnd q (λ e. e ≡ check_error error)
+      → (HasCleanDisk new → error ≡ NoMeaning → HasNoMeaning (check_text Keys) old new)
+      → (HasCleanDisk new → error ≡ Refused → ShowsFirst (check_text Keys) (RefusesKeys found) old new)
+      → (HasCleanDisk new → error ≡ Memory → IsUnchanged old new) → Checked q
   keys_fail error (Ok x) is meaning refused memory = absurd is
-  keys_fail error (Err e) is meaning refused memory = checks_table Keys t keys_within (own_keys t) (newer_not t) AreOwners (λ c d x like says. says ∙ ap owners_of like) one_keys old new (Err e) (λ clean. tt)
-      (λ clean. subst (IsReasonAt Keys t old new) (sym is) (reason_of Keys t old new (RefusesKeys found) error (meaning clean) (refused clean) (memory clean) (λ _. odd_on))) survives
+  keys_fail error (Err e) is meaning refused memory =
+      checks_table Keys t keys_within (own_keys t) (newer_not t) AreOwners
+      (λ c d x like says. says ∙ ap owners_of like) one_keys old new (Err e) (λ clean. tt)
+      (λ clean. subst (IsReasonAt Keys t old new) (sym is)
+      (reason_of Keys t old new (RefusesKeys found) error (meaning clean) (refused clean) (memory clean)
+      (λ _. odd_on))) survives
 
   -- what is given of them
-  module _ (seen : Found) (count : ℕ) (owners : Vec (List ℕ)) (all : HasCleanDisk new → ShowsAll (check_text Keys) (λ rows. (seen ≡ found) × HasKeys found count owners.items rows) old new) where
+  module _ (seen : Found) (count : ℕ) (owners : Vec (List ℕ)) (all : HasCleanDisk new
+      → ShowsAll (check_text Keys) (λ rows. (seen ≡ found) × HasKeys found count owners.items rows) old new) where
     taken : HasCleanDisk new → ShowsAll (check_text Keys) (HasKeys found count owners.items) old new
     taken clean = let it = all clean in record { rows = it.rows; shown = it.shown; holds = it.holds.1; same = it.same }
 
@@ -228,7 +279,9 @@ module _ (t : Stored) (found : Found) (told : mark_of found ≡ mark t) (old new
 
     given_by : (enough : Bool) → (count == seen.keys) ≡ enough → Checked (owners_where enough owners)
     given_by true is = keys_read count owners taken (λ clean. eqb-true count seen.keys is ∙ seen_is clean)
-    given_by false is = keys_fewer count owners.items taken (λ clean same. absurd (let e = sym is ∙ eq-eqb count seen.keys (same ∙ sym (seen_is clean)) in cc))
+    given_by false is =
+        keys_fewer count owners.items taken
+        (λ clean same. absurd (let e = sym is ∙ eq-eqb count seen.keys (same ∙ sym (seen_is clean)) in cc))
 
     pub keys_given : (q : Result (Vec (List ℕ)) CheckError) → q ≡ owners_where (count == seen.keys) owners → Checked q
     keys_given q is = subst Checked (sym is) (given_by (count == seen.keys) refl)

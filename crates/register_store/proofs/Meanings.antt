@@ -39,8 +39,8 @@ use Rattle.register_store.specs.declared.table.TableName.{TableName}
 use Rattle.register_core.specs.declared.version.Version.{Version}
 use Rattle.register_core.specs.declared.version.Version.TheVariants.{First, Second}
 use Rattle.register_core.specs.Version.{current}
-use Rattle.register_store.specs.Tables.{Layout, AreApart, AreApartBelow, AreApartIn, Tables, all_tables, place_of, table_count}
-use Rattle.register_store.specs.Tables.{table_of}
+use Rattle.register_store.specs.Tables.{Layout, AreApart, AreApartBelow, AreApartIn, Tables, all_tables, place_of}
+use Rattle.register_store.specs.Tables.{table_count, table_of}
 use Rattle.register_store.specs.Schema.{Holds, HoldsIn, schema_in, schema_with}
 use Rattle.register_store.proofs.EachTable.{each, in_version, low_in_version, placed_low, same_place}
 
@@ -199,7 +199,8 @@ module _ (version : Version) where
       record {
         apart = apart_below version l apart;
         low = λ name within. subst (λ n. n < 65536) ((each name).tree_is l)
-            (low_in rows (schema_in version l).tables listed (table_of l name) ((each name).listed_in version l within));
+            (low_in rows (schema_in version l).tables listed (table_of l name)
+            ((each name).listed_in version l within));
       }
 
   pub placed_as : (t : Tables) (db : Database) (holds : HoldsIn version t db) → IsPlacedIn version holds.schema.layout
@@ -242,7 +243,8 @@ classes_in version l is name within =
     let low : nat_le (2 ^ 31) tree ≡ false = lt-leb 2147483648 tree (omega (arith, is.low name within)) in
     subst (λ n. table_classes (schema_in version l) [] n ≡ Some (row_classes (table_of l name)))
     (sym ((each name).tree_is l))
-    (ap (λ b. cond b None (option_map row_classes (find (λ (t : Table). t.tree == tree) (schema_in version l).tables))) low
+    (ap (λ b. cond b None
+    (option_map row_classes (find (λ (t : Table). t.tree == tree) (schema_in version l).tables))) low
     ∙ ap (option_map row_classes) (found_in l name names
     (λ n has. is.apart n name (low_in_version version n has) within) (in_version version name within)))
 

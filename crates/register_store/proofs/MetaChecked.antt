@@ -1,5 +1,6 @@
 -- The check of the table meta.
-use Rattle.std.proofs.Common.{◌≡◌, ◌≤◌, inl, inr, ℕ, Option, None, Some, Result, Ok, Err, List, [], ◌∷◌, ◌++◌, IfOk, IfErr, IsErrAnd, sym, ap, subst, ◌∙◌, refl, arith}
+use Rattle.std.proofs.Common.{◌≡◌, ◌≤◌, inl, inr, ℕ, Option, None, Some, Result, Ok, Err, List, [], ◌∷◌, ◌++◌, IfOk}
+use Rattle.std.proofs.Common.{IfErr, IsErrAnd, sym, ap, subst, ◌∙◌, refl, arith}
 use Rattle.sqlite.specs.Effect.{Database as Db}
 use Rattle.sqlite.specs.Order.{Row, column}
 use Rattle.sqlite.specs.Program.{overlay}
@@ -19,8 +20,8 @@ use Rattle.register_core.specs.Verdict.{max_keys}
 use Rattle.register_core.specs.declared.version.Version.{Version}
 use Rattle.register_core.specs.declared.version.Version.TheVariants.{First, Second}
 use Rattle.register_core.specs.Version.{version_number}
-use Rattle.register_store.specs.CheckedTables.{HasNewer, IsOdd, IsReasonAt, ShowsCounts, ShowsNewer, ShowsRows, ChecksTable}
-use Rattle.register_store.specs.CheckedTables.{check_error, check_text, mark_of}
+use Rattle.register_store.specs.CheckedTables.{HasNewer, IsOdd, IsReasonAt, ShowsCounts, ShowsNewer, ShowsRows}
+use Rattle.register_store.specs.CheckedTables.{ChecksTable, check_error, check_text, mark_of}
 use Rattle.register_store.specs.Schema.{rows_of}
 use Rattle.register_store.specs.Stored.{HoldsStored, Stored, mark, with_part}
 use Rattle.register_store.specs.Tables.{Counts, counts_row_in, version}
@@ -43,13 +44,15 @@ pub own_meta : (t : Stored) (db : Db) (rows : List Row) (holds : HoldsStored t d
     → AnswersTo holds.schema.layout Meta db rows → ShowsOwn Meta t rows
 own_meta t db rows holds sure =
     let table : IsTable (rows_of holds.schema.layout Meta db) = subst IsTable (sym (holds.shown Meta)) (tt, tt) in
-    let is : rows ≡ the_row t.version t.tables.counts ∷ [] = in_order (holds.schema.layout.tree Meta) (shown_of_table Meta)
+    let is : rows
+    ≡ the_row t.version t.tables.counts ∷ [] = in_order (holds.schema.layout.tree Meta) (shown_of_table Meta)
     (overlay db.trees []) rows (subst IsTable (sym (shows_all db.trees (holds.schema.layout.tree Meta))) table)
     sure ∙ ap (Rattle.std.specs.Prelude.map (shown_of 0 (shown_of_table Meta)))
     (shows_all db.trees (holds.schema.layout.tree Meta) ∙ holds.shown Meta) in
     record {
       c = mark t;
-      shows = subst (λ rs. ShowEach ShowsCounts rs (mark t ∷ [])) (sym is) (record { id = refl; version_is = refl; latest = refl; key_count = refl; moment = holds.in_range Meta }, tt);
+      shows = subst (λ rs. ShowEach ShowsCounts rs (mark t ∷ [])) (sym is)
+          (record { id = refl; version_is = refl; latest = refl; key_count = refl; moment = holds.in_range Meta }, tt);
       like = refl;
       meets = λ meets. meets;
     }
@@ -64,7 +67,8 @@ newer_not t found old new holds newer =
     let it = shown_own Meta t (meta_within t) (own_meta t) old new holds newer.shown in
     let shows = subst (λ rows. ShowEach ShowsCounts rows (it.c ∷ [])) newer.shown.holds it.shows in
     let above = newer.newer.above in
-    let same = same_number (column newer.row 1) found (version_number it.c.0) newer.newer.version_is shows.0.version_is in
+    let same = same_number (column newer.row 1) found (version_number it.c.0) newer.newer.version_is
+    shows.0.version_is in
     absurd (omega (arith, above, same, known_below it.c.0))
 
 -- what was told is what the rows have
@@ -119,7 +123,8 @@ module _ (t : Stored) (old new : State) (survives : Survives old new (λ _. ⊥)
       → IfOk q (λ found. (c : Version × Counts) × ShowsAll (check_text Meta) (λ rows. ShowsRows Meta rows c) old new
       × MeetsCheck Meta (with_part Meta c t) × IsCounts c found))
       → (HasCleanDisk new → IfErr q (IsReasonAt Meta t old new)) → Checked q
-  checked q passed refused = checks_table Meta t (meta_within t) (own_meta t) (newer_not t) IsCounts (λ c d x like says. says ∙ like)
+  checked q passed refused =
+      checks_table Meta t (meta_within t) (own_meta t) (newer_not t) IsCounts (λ c d x like says. says ∙ like)
       one_meta old new q passed refused survives
 
   -- all rows were read

@@ -1,5 +1,6 @@
 -- What the DELETEs of custodians and of approvals do.
-use Rattle.std.proofs.Common.{◌≡◌, ◌≢◌, ◌⊎◌, inl, inr, ◌&&◌, ◌||◌, ℕ, pos, List, [], ◌∷◌, codes, drop, filter, not, Bool, true, false, Some, Ok, refl, sym, ap, subst, ◌∙◌, arith}
+use Rattle.std.proofs.Common.{◌≡◌, ◌≢◌, ◌⊎◌, inl, inr, ◌&&◌, ◌||◌, ℕ, pos, List, [], ◌∷◌, codes, drop, filter, not}
+use Rattle.std.proofs.Common.{Bool, true, false, Some, Ok, refl, sym, ap, subst, ◌∙◌, arith}
 use Rattle.std.specs.List.{AllByRecursion}
 use Rattle.sqlite.specs.declared.types.Value.TheVariants.{Null, Int}
 use Rattle.sqlite.specs.Effect.{Database}
@@ -30,9 +31,11 @@ use Rattle.register_store.specs.declared.table.TableName.TheVariants.{Custodian,
 use Rattle.register_store.specs.declared.custody.RoleChange.{RoleChange}
 use Rattle.register_store.specs.declared.custody.RoleChange.TheVariants.{Given, Taken}
 use Rattle.register_store.specs.Roles.{change_text, with_role_changed}
-use Rattle.register_store.specs.Tables.{custodian, approval, to_custodian, place_of, table_of, Layout, Tables, ShowsEntries, Shows, IsNamed, IsInRange, content, name_cells}
+use Rattle.register_store.specs.Tables.{custodian, approval, to_custodian, place_of, table_of, Layout, Tables}
+use Rattle.register_store.specs.Tables.{ShowsEntries, Shows, IsNamed, IsInRange, content, name_cells}
 use Rattle.register_store.specs.Schema.{schema_with, Holds, rows_of}
-use Rattle.register_store.specs.TableChanges.{Makes, Always, without_custodian, without_approval, without_approvals, without_name}
+use Rattle.register_store.specs.TableChanges.{Makes, Always, without_custodian, without_approval, without_approvals}
+use Rattle.register_store.specs.TableChanges.{without_name}
 use Rattle.register_store.proofs.Actions.{idle, custodian_drops, shows_all}
 use Rattle.register_store.proofs.EachTable.{each, content_with}
 use Rattle.sqlite_resolve.specs.Compile.{first}
@@ -40,7 +43,8 @@ use Rattle.register_store.proofs.Meanings.{Takes, classes, placed, takes}
 use Rattle.register_store.proofs.Frame.{holds_with, rows_kept}
 use Rattle.register_store.proofs.NameAdded.{adds_name}
 use Rattle.register_store.proofs.EntryRows.{entry_of, shows_filtered}
-use Rattle.register_store.proofs.NameChecks.{at_key, at_name, places, key_past, key_is, name_past, name_is, same_cells, agree_same, loses_name}
+use Rattle.register_store.proofs.NameChecks.{at_key, at_name, places, key_past, key_is, name_past, name_is}
+use Rattle.register_store.proofs.NameChecks.{same_cells, agree_same, loses_name}
 
 -- the text takes rows that pass out of the table at this place
 abbrev IsDelete : List ℕ → TableName → List Term → Type 0
@@ -56,7 +60,8 @@ module _ (sql : List ℕ) (params : Cells) (at : List Term) (parts : IsDelete sq
   abbrev left : Tables → Tables
   left t = record t { approvals = filter (λ entry. not (q entry)) t.approvals }
 
-  drops_approvals : (old new : State) (count : ℕ) → Executes sql params old new (Ok count) → Makes Always left old.now new.now
+  drops_approvals : (old new : State) (count : ℕ) → Executes sql params old new (Ok count)
+      → Makes Always left old.now new.now
   drops_approvals old new count h t holds always =
       let l = holds.schema.layout in
       let m = takes (schema_with l) (approval l) (classes l (placed t old.now holds) Approval) _ _ _ (parts l) in
@@ -66,14 +71,19 @@ module _ (sql : List ℕ) (params : Cells) (at : List Term) (parts : IsDelete sq
       count h holds.schema.is shown.ordered shown.counted in
       let rows = shows_filtered name_cells (λ r. not (is_picked params 0 at ids_shown r)) (λ entry. not (q entry))
       (λ r. ap not (past r)) (λ entry. ap not (each entry)) t.approvals (rows_of l Approval old.now) shown in
-      holds_with Approval (left t).approvals t old.now new.now _ holds wrote (all-filter IsNamed (λ entry. not (q entry)) t.approvals (holds.in_range Approval)) rows
+      holds_with Approval (left t).approvals t old.now new.now _ holds wrote
+      (all-filter IsNamed (λ entry. not (q entry)) t.approvals (holds.in_range Approval)) rows
 
 approval_parts : IsDelete (change_text (Taken role.Approver)) Approval at_name
 unfolding everything first
 approval_parts l = record { p = _; name = _; check = _; d = _; parsed = refl; untimed = refl; is = refl; named = refl; there = refl; drafted = refl; same = refl; from = refl; accepted = refl }
 
-removes_approval : (key : ℕ) (name : List ℕ) (old new : State) (count : ℕ) → Executes (change_text (Taken role.Approver)) (name_cells (key_name key name)) old new (Ok count) → Makes Always (without_approval key name) old.now new.now
-removes_approval key name = drops_approvals (change_text (Taken role.Approver)) (name_cells (key_name key name)) at_name approval_parts (is_key_name key name)
+removes_approval : (key : ℕ) (name : List ℕ) (old new : State) (count : ℕ)
+    → Executes (change_text (Taken role.Approver)) (name_cells (key_name key name)) old new (Ok count)
+    → Makes Always (without_approval key name) old.now new.now
+removes_approval key name =
+    drops_approvals (change_text (Taken role.Approver)) (name_cells (key_name key name)) at_name approval_parts
+    (is_key_name key name)
     (name_past 0 ids_shown key name) (name_is 0 ids_shown key name)
 
 abbrev pub approvals_text : List ℕ
@@ -83,7 +93,9 @@ approvals_parts : IsDelete approvals_text Approval at_key
 unfolding everything first
 approvals_parts l = record { p = _; name = _; check = _; d = _; parsed = refl; untimed = refl; is = refl; named = refl; there = refl; drafted = refl; same = refl; from = refl; accepted = refl }
 
-pub removes_approvals : (key : ℕ) (old new : State) (count : ℕ) → Executes approvals_text (Int (pos key) ∷ []) old new (Ok count) → Makes Always (without_approvals key) old.now new.now
+pub removes_approvals : (key : ℕ) (old new : State) (count : ℕ)
+    → Executes approvals_text (Int (pos key) ∷ []) old new (Ok count)
+    → Makes Always (without_approvals key) old.now new.now
 removes_approvals key = drops_approvals approvals_text (Int (pos key) ∷ []) at_key approvals_parts (is_at key)
     (key_past 0 ids_shown key) (key_is 0 ids_shown key)
 
@@ -116,7 +128,8 @@ approver : (db : Database) (t : Tables) (holds : Holds t db) (r : Cells)
 approver db t holds r h =
     let l = holds.schema.layout in
     let a = entry_of name_cells t.approvals (rows_of l Approval db) (holds.shown Approval) r h in
-    let rules = subst (λ (s : Schema). Keeps ForeignKey s db.trees) holds.schema.is (holds.sound.obeys.rules ForeignKey) in
+    let rules = subst (λ (s : Schema). Keeps ForeignKey s db.trees) holds.schema.is
+    (holds.sound.obeys.rules ForeignKey) in
     let followed = all_has (λ (table : Table). AllByRecursion
     (λ row. passes ForeignKey (schema_with l) db.trees table row ≡ true) (db.trees table.tree))
     (schema_with l).tables (approval l) rules ((each Approval).listed l) in
@@ -162,12 +175,15 @@ module _ (key : ℕ) (name : List ℕ) where
         let b = entry_of name_cells t.custodians (rows_of l Custodian db) (holds.shown Custodian) x k in
         same_check r x (same_cells r x a.0 b.0 a.1 b.1 agrees) ∙ is
 
-  without : (entries : List KeyName) (rows : List Cells) → ShowsEntries name_cells entries rows → ShowsEntries name_cells (without_name key name entries) (filter (λ r. not (passing r)) rows)
+  without : (entries : List KeyName) (rows : List Cells) → ShowsEntries name_cells entries rows
+      → ShowsEntries name_cells (without_name key name entries) (filter (λ r. not (passing r)) rows)
   without entries rows shows = shows_filtered name_cells (λ r. not (passing r))
       (λ entry. not (is_key_name key name entry)) (λ r. ap not (past r))
       (λ entry. ap not (name_is 0 ids_shown key name entry)) entries rows shows
 
-  removes_custodian : (old new : State) (count : ℕ) → Executes (change_text (Taken role.Custodian)) params old new (Ok count) → Makes Always (without_custodian key name) old.now new.now
+  removes_custodian : (old new : State) (count : ℕ)
+      → Executes (change_text (Taken role.Custodian)) params old new (Ok count)
+      → Makes Always (without_custodian key name) old.now new.now
   removes_custodian old new count h t holds always =
       let l = holds.schema.layout in
       let m = takes (schema_with l) (custodian l) (classes l (placed t old.now holds) Custodian) _ _ _
@@ -179,7 +195,8 @@ module _ (key : ℕ) (name : List ℕ) where
       (custodian_drops l holds.schema.apart) (λ olds. idle l holds.schema.apart Approval refl 1 olds [])
       (λ db. shows_all db (l.tree Custodian)) ((each Custodian).listed l) ((each Approval).listed l)
       (λ same. two_places (holds.schema.apart Approval Custodian same)) old new count h holds.schema.is
-      custodians.ordered custodians.counted approvals.ordered approvals.counted passing (from_custodian old.now t holds) (of_custodian old.now t holds) in
+      custodians.ordered custodians.counted approvals.ordered approvals.counted passing
+      (from_custodian old.now t holds) (of_custodian old.now t holds) in
       let other = rows_kept l (λ (tree : ℕ). (tree ≡ l.tree Custodian) ⊎ (tree ≡ l.tree Approval)) old.now new.now
       did.kept in
       let left = without_name key name t.custodians in
@@ -188,8 +205,11 @@ module _ (key : ℕ) (name : List ℕ) where
       record {
         schema = record { layout = l; apart = holds.schema.apart; is = did.kept.schema_is };
         sound = did.kept.sound;
-        in_range = λ n. content_with IsInRange Approval n approving fewer (all-filter IsNamed (λ entry. not (is_key_name key name entry)) t.approvals (holds.in_range Approval))
-            (λ _. content_with IsInRange Custodian n left t (all-filter IsNamed (λ entry. not (is_key_name key name entry)) t.custodians (holds.in_range Custodian)) (λ _. holds.in_range n));
+        in_range = λ n. content_with IsInRange Approval n approving fewer
+            (all-filter IsNamed (λ entry. not (is_key_name key name entry)) t.approvals (holds.in_range Approval))
+            (λ _. content_with IsInRange Custodian n left t
+            (all-filter IsNamed (λ entry. not (is_key_name key name entry)) t.custodians (holds.in_range Custodian))
+            (λ _. holds.in_range n));
         shown = λ n. content_with (λ m held. Shows m held (rows_of l m new.now)) Approval n approving fewer
             (subst (ShowsEntries name_cells approving) (sym did.children_are)
             (without t.approvals (rows_of l Approval old.now) approvals))
@@ -206,12 +226,14 @@ module _ (key : ℕ) (name : List ℕ) where
 
 -- ---- either
 
-pub removes_name : (role : Role) (key : ℕ) (name : List ℕ) (old new : State) (count : ℕ) → Executes (change_text (Taken role)) (name_cells (key_name key name)) old new (Ok count)
+pub removes_name : (role : Role) (key : ℕ) (name : List ℕ) (old new : State) (count : ℕ)
+    → Executes (change_text (Taken role)) (name_cells (key_name key name)) old new (Ok count)
     → Makes Always (with_role_changed (Taken role) key name) old.now new.now
 removes_name role.Custodian key name = removes_custodian key name
 removes_name role.Approver key name = removes_approval key name
 
-pub changes_role : (change : RoleChange) (key : ℕ) (name : List ℕ) → IsName name → (old new : State) (count : ℕ) → Executes (change_text change) (name_cells (key_name key name)) old new (Ok count)
+pub changes_role : (change : RoleChange) (key : ℕ) (name : List ℕ) → IsName name → (old new : State) (count : ℕ)
+    → Executes (change_text change) (name_cells (key_name key name)) old new (Ok count)
     → Makes Always (with_role_changed change key name) old.now new.now
 changes_role (Given role) key name is = adds_name role key name is
 changes_role (Taken role) key name is = removes_name role key name

@@ -1,5 +1,6 @@
 -- What the searches for the names of a key's custodians and approvals find.
-use Rattle.std.proofs.Common.{◌≡◌, ◌≢◌, ℕ, pos, List, [], ◌∷◌, length, map, filter, drop, codes, Result, Ok, Err, IfOk, IfErr, OnOk, refl, sym, ap, subst, ◌∙◌}
+use Rattle.std.proofs.Common.{◌≡◌, ◌≢◌, ℕ, pos, List, [], ◌∷◌, length, map, filter, drop, codes, Result, Ok, Err}
+use Rattle.std.proofs.Common.{IfOk, IfErr, OnOk, refl, sym, ap, subst, ◌∙◌}
 use Rattle.std.proofs.lemmas.List.Sorted.{IsPermutation-map, IsPermutation-sym, IsPermutation-trans, length_permutation}
 use Rattle.std.proofs.lemmas.List.{length-map}
 use Rattle.std.specs.List.Sorted.{IsPermutation}
@@ -50,13 +51,19 @@ back [] = refl
 back (name ∷ names) = ap (λ others. name ∷ others) (back names)
 
 -- the cells of names determine them, but for their order
-pub same_names : (names others : List (List ℕ)) → IsPermutation (map Words names) (map Words others) → IsPermutation names others
-same_names names others same = subst (λ l. IsPermutation l others) (back names) (subst (IsPermutation (map words_in (map Words names))) (back others) (IsPermutation-map words_in _ _ same))
+pub same_names : (names others : List (List ℕ)) → IsPermutation (map Words names) (map Words others)
+    → IsPermutation names others
+same_names names others same =
+    subst (λ l. IsPermutation l others) (back names)
+    (subst (IsPermutation (map words_in (map Words names))) (back others) (IsPermutation-map words_in _ _ same))
 
 -- names that are put in order are those that the rows show
-pub sorted_so : (rows : List Cells) (names sorted : List (List ℕ)) → map (λ row. column row 0) rows ≡ map Words names → ((others : List (List ℕ)) → IsPermutation names others → sorted ≡ sorted_names others)
-    → (others : List (List ℕ)) → IsPermutation (map (λ row. column row 0) rows) (map Words others) → sorted ≡ sorted_names others
-sorted_so rows names sorted are sorts others shown = sorts others (same_names names others (subst (λ cells. IsPermutation cells (map Words others)) are shown))
+pub sorted_so : (rows : List Cells) (names sorted : List (List ℕ)) → map (λ row. column row 0) rows ≡ map Words names
+    → ((others : List (List ℕ)) → IsPermutation names others → sorted ≡ sorted_names others)
+    → (others : List (List ℕ)) → IsPermutation (map (λ row. column row 0) rows) (map Words others)
+    → sorted ≡ sorted_names others
+sorted_so rows names sorted are sorts others shown =
+    sorts others (same_names names others (subst (λ cells. IsPermutation cells (map Words others)) are shown))
 
 -- ---- the rows of the answer
 
@@ -70,7 +77,8 @@ name_column = codes "name" ∷ []
 abbrev pub IsNameSearch : List ℕ → TableName → Type 0
 IsNameSearch sql table = IsSearch sql table at_key name_shown name_column
 
-shown_past : (params r : Cells) → eval_all name_shown (params ∷ r ∷ []) ≡ eval_all name_shown (params ∷ (Null ∷ drop 1 r) ∷ [])
+shown_past : (params r : Cells)
+    → eval_all name_shown (params ∷ r ∷ []) ≡ eval_all name_shown (params ∷ (Null ∷ drop 1 r) ∷ [])
 shown_past params [] = refl
 shown_past params (v ∷ vs) = refl
 
@@ -84,7 +92,8 @@ module _ (sql : List ℕ) (table : TableName) (search_is : IsNameSearch sql tabl
       (map Words (names_at key entries))
   found_names entries rows shows =
       let among = filter (is_at key) entries in
-      let right : map (λ (row : Cells). column row 0) (map (λ (entry : KeyName). Words entry.name ∷ []) among) ≡ map Words (names_at key entries) =
+      let right : map (λ (row : Cells). column row 0) (map (λ (entry : KeyName). Words entry.name ∷ []) among)
+      ≡ map Words (names_at key entries) =
       map-map _ _ among ∙ sym (map-map Words (λ (entry : KeyName). entry.name) among) in
       subst (IsPermutation (map (λ row. column row 0) (picked params 0 at_key name_shown rows))) right
       (IsPermutation-map (λ (row : Cells). column row 0) _ _
@@ -99,7 +108,8 @@ module _ (sql : List ℕ) (table : TableName) (search_is : IsNameSearch sql tabl
     Found t names = names ≡ sorted_names (names_at key (entries_of t))
 
     -- an answer leaves all as it was
-    unchanged_so : (t : Tables) → Holds t old.now → (rows : List Cells) → Shown sql params old new rows → IsUnchanged old new
+    unchanged_so : (t : Tables) → Holds t old.now → (rows : List Cells) → Shown sql params old new rows
+        → IsUnchanged old new
     unchanged_so t holds rows asked =
         let l = holds.schema.layout in
         let at = placed t old.now holds in
@@ -108,7 +118,8 @@ module _ (sql : List ℕ) (table : TableName) (search_is : IsNameSearch sql tabl
         (shows_all old.now.trees (l.tree table)) rows asked
 
     -- the rows show the names at the key
-    shown_names : (t : Tables) → Holds t old.now → (rows : List Cells) → Shown sql params old new rows → IsPermutation (map (λ row. column row 0) rows) (map Words (names_at key (entries_of t)))
+    shown_names : (t : Tables) → Holds t old.now → (rows : List Cells) → Shown sql params old new rows
+        → IsPermutation (map (λ row. column row 0) rows) (map Words (names_at key (entries_of t)))
     shown_names t holds rows asked =
         let l = holds.schema.layout in
         let at = placed t old.now holds in
@@ -119,14 +130,17 @@ module _ (sql : List ℕ) (table : TableName) (search_is : IsNameSearch sql tabl
         (found_names (entries_of t) (old.now.trees (l.tree table)) (shown t old holds))
 
     -- the rows are as many as the names
-    pub rows_counted : (t : Tables) → HoldsWhereOpen t old → (rows : List Cells) → Shown sql params old new rows → length rows ≡ length (names_at key (entries_of t))
+    pub rows_counted : (t : Tables) → HoldsWhereOpen t old → (rows : List Cells) → Shown sql params old new rows
+        → length rows ≡ length (names_at key (entries_of t))
     rows_counted t seen rows asked =
         let holds = seen (shown_same sql params search_is.query old new rows asked).0.was_open in
         let names = names_at key (entries_of t) in
-        sym (length-map rows (λ (row : Cells). column row 0)) ∙ sym (length_permutation _ (map Words names) (shown_names t holds rows asked)) ∙ length-map names Words
+        sym (length-map rows (λ (row : Cells). column row 0))
+        ∙ sym (length_permutation _ (map Words names) (shown_names t holds rows asked)) ∙ length-map names Words
 
     -- what is read of it is the names, in order
-    found_so : (t : Tables) → Holds t old.now → (rows : List Cells) (q : Result (List (List ℕ)) StoreError) → IfOk q (AreNamesOf rows) → Shown sql params old new rows
+    found_so : (t : Tables) → Holds t old.now → (rows : List Cells) (q : Result (List (List ℕ)) StoreError)
+        → IfOk q (AreNamesOf rows) → Shown sql params old new rows
         → IfOk q (λ names. Found t names × IsUnchanged old new)
     found_so t holds rows (Err e) reads asked = tt
     found_so t holds rows (Ok names) reads asked =
@@ -136,32 +150,42 @@ module _ (sql : List ℕ) (table : TableName) (search_is : IsNameSearch sql tabl
     no_other : (t : Tables) → Holds t old.now → (rows : List Cells) → Shown sql params old new rows → HasNoName rows → ⊥
     no_other t holds rows asked none =
         let names = names_at key (entries_of t) in
-        let there = has_permutation _ (map Words names) (column none.0 0) (shown_names t holds rows asked) (has_map (λ row. column row 0) rows none.0 none.1) in
+        let there = has_permutation _ (map Words names) (column none.0 0) (shown_names t holds rows asked)
+        (has_map (λ row. column row 0) rows none.0 none.1) in
         let word = map_has Words names (column none.0 0) there in
         let entry = map_has (λ (entry : KeyName). entry.name) (filter (is_at key) (entries_of t)) word.0 word.1 in
-        let is = all_has IsNamed (filter (is_at key) (entries_of t)) entry.0 (all-filter IsNamed (is_at key) (entries_of t) (in_range t old holds)) entry.1 in
+        let is = all_has IsNamed (filter (is_at key) (entries_of t)) entry.0
+        (all-filter IsNamed (is_at key) (entries_of t) (in_range t old holds)) entry.1 in
         none.2 word.0 (subst IsName (sym entry.2) is) word.2
 
-    registered_so : (t : Tables) → Holds t old.now → (rows : List Cells) (q : Result (List (List ℕ)) StoreError) → IfErr q (λ error. error ≡ NoRegister → HasNoName rows) → Shown sql params old new rows
+    registered_so : (t : Tables) → Holds t old.now → (rows : List Cells) (q : Result (List (List ℕ)) StoreError)
+        → IfErr q (λ error. error ≡ NoRegister → HasNoName rows) → Shown sql params old new rows
         → IfErr q (λ error. error ≢ NoRegister)
     registered_so t holds rows (Ok names) none asked = tt
     registered_so t holds rows (Err e) none asked = λ is. no_other t holds rows asked (none is)
 
-    given_open : (rows : List Cells) (q : Result (List (List ℕ)) StoreError) → Shown sql params old new rows → OnOk q (IsOpenStill old new)
+    given_open : (rows : List Cells) (q : Result (List (List ℕ)) StoreError) → Shown sql params old new rows
+        → OnOk q (IsOpenStill old new)
     given_open rows (Ok names) asked = open_still old new (shown_same sql params search_is.query old new rows asked)
     given_open rows (Err e) asked = tt
 
     -- the rows were given
-    pub names_read : (rows : List Cells) (q : Result (List (List ℕ)) StoreError) → IfOk q (AreNamesOf rows) → IfErr q (λ error. error ≡ NoRegister → HasNoName rows) → (HasCleanDisk new → Shown sql params old new rows)
+    pub names_read : (rows : List Cells) (q : Result (List (List ℕ)) StoreError) → IfOk q (AreNamesOf rows)
+        → IfErr q (λ error. error ≡ NoRegister → HasNoName rows) → (HasCleanDisk new → Shown sql params old new rows)
         → ReadsBy Found old new q
     names_read rows q reads none asked =
-        let opened = λ (clean : HasCleanDisk new). (shown_same sql params search_is.query old new rows (asked clean)).0.was_open in
-        reads_by sql params search_is.query old new survives Found q (λ clean. given_open rows q (asked clean)) (λ clean t holds. found_so t (holds (opened clean)) rows q reads (asked clean))
-        (λ clean t holds. fails_unchanged q old new (unchanged_so t (holds (opened clean)) rows (asked clean)) (registered_so t (holds (opened clean)) rows q none (asked clean)))
+        let opened = λ (clean : HasCleanDisk new).
+        (shown_same sql params search_is.query old new rows (asked clean)).0.was_open in
+        reads_by sql params search_is.query old new survives Found q (λ clean. given_open rows q (asked clean))
+        (λ clean t holds. found_so t (holds (opened clean)) rows q reads (asked clean))
+        (λ clean t holds. fails_unchanged q old new (unchanged_so t (holds (opened clean)) rows (asked clean))
+        (registered_so t (holds (opened clean)) rows q none (asked clean)))
 
     -- the database refused
     pub names_refused : (error : Error) → ReadsBy Found old new (Err (Database error))
-    names_refused error = reads_by sql params search_is.query old new survives Found (Err (Database error)) (λ clean. tt) (λ clean t holds. tt)
+    names_refused error =
+        reads_by sql params search_is.query old new survives Found (Err (Database error)) (λ clean. tt)
+        (λ clean t holds. tt)
         (λ clean t holds. fails_refused {A = List (List ℕ)} (Err (Database error)) old new (λ e. cc) (λ e. cc))
 
 -- ---- the two tables

@@ -1,5 +1,6 @@
 -- What the statements that make the two tables of the second version do, whatever trees the file has.
-use Rattle.std.proofs.Common.{◌≡◌, ◌⊎◌, ◌<◌, ◌≤◌, ◌==◌, ℕ, ◌+◌, max, true, false, Option, None, Some, List, inl, inr, [], ◌∷◌, ◌++◌, fold, Result, Ok, Err, refl, sym, ap, subst, ◌∙◌, arith}
+use Rattle.std.proofs.Common.{◌≡◌, ◌⊎◌, ◌<◌, ◌≤◌, ◌==◌, ℕ, ◌+◌, max, true, false, Option, None, Some, List, inl, inr}
+use Rattle.std.proofs.Common.{[], ◌∷◌, ◌++◌, fold, Result, Ok, Err, refl, sym, ap, subst, ◌∙◌, arith}
 use Rattle.std.proofs.lemmas.Bool.{cases_Bool, cases_lt, eq-eqb, eqb-true}
 use Rattle.sqlite.specs.Change.{created, next_tree, past_views, KeepsRows}
 use Rattle.sqlite.specs.Command.TheVariants.{CreateTable as MakeTable}
@@ -26,7 +27,8 @@ use Rattle.sqlite_tied.specs.Compute.{everything}
 use Rattle.sql_steps.specs.CreatedTables.{Created}
 use Rattle.sql_steps.proofs.Creating.{makes}
 use Rattle.register_store.specs.declared.table.TableName.{TableName}
-use Rattle.register_store.specs.declared.table.TableName.TheVariants.{Meta, Keys, Custodian, Approval, Request, Period, Quorum}
+use Rattle.register_store.specs.declared.table.TableName.TheVariants.{Meta, Keys, Custodian, Approval, Request}
+use Rattle.register_store.specs.declared.table.TableName.TheVariants.{Period, Quorum}
 use Rattle.register_core.specs.declared.version.Version.TheVariants.{First}
 use Rattle.register_store.specs.Migration.{MakesNext}
 use Rattle.register_store.specs.Schema.{rows_of, schema_below}
@@ -54,7 +56,13 @@ abbrev parsed : TableName → Parsed
 parsed name = read_as (first (create_text name))
 
 abbrev no_table : CreateTable
-no_table = record { if_missing = true; name = []; body = record { columns = []; rules = [] }; is_strict = false; resolves = false }
+no_table = record {
+  if_missing = true;
+  name = [];
+  body = record { columns = []; rules = [] };
+  is_strict = false;
+  resolves = false;
+}
 
 abbrev written_as : Statement → CreateTable
 written_as (written.CreateTable def) = def
@@ -94,7 +102,8 @@ is_made Period is = record { whole = refl; plain = (refl, refl) }
 is_made Quorum is = record { whole = refl; plain = (refl, refl) }
 is_made name is = absurd is
 
-uncounted : (name : TableName) → IsNew name → (l : Layout) → lacks_sequence (created (before name l) (unplaced name)) ≡ false
+uncounted : (name : TableName) → IsNew name → (l : Layout) → lacks_sequence (created (before name l) (unplaced name))
+    ≡ false
 uncounted Period is l = refl
 uncounted Quorum is l = refl
 uncounted name is l = absurd is
@@ -105,33 +114,39 @@ defined_as Period is = refl
 defined_as Quorum is = refl
 defined_as name is = absurd is
 
-not_executed : (text : List ℕ) (old new : State) (count : ℕ) (s : Schema) (e : CompileError) → old.now.schema ≡ s → understood s text ≡ Err e → Executes text [] old new (Ok count) → ⊥
+not_executed : (text : List ℕ) (old new : State) (count : ℕ) (s : Schema) (e : CompileError) → old.now.schema ≡ s
+    → understood s text ≡ Err e → Executes text [] old new (Ok count) → ⊥
 unfolding ExecutesIn
 not_executed text old new count s e has is h = let known = sym h.1.is ∙ ap (λ x. understood x text) has ∙ is in cc
 
 -- where an index has the table's name the statement is refused, and else it makes the table
-creates : (name : TableName) → IsNew name → (l : Layout) (old new : State) (count : ℕ) → Executes (create_text name) [] old new (Ok count) → old.now.schema ≡ before name l
+creates : (name : TableName) → IsNew name → (l : Layout) (old new : State) (count : ℕ)
+    → Executes (create_text name) [] old new (Ok count) → old.now.schema ≡ before name l
     → Created (before name l) (unplaced name) old.now new.now × IsDatabase new.now
 creates name is l old new count h has = by (index_named (before name l) (def_of name).name) refl
   where
     s : Schema
     s = before name l
 
-    by : (o : Option ℕ) → index_named s (def_of name).name ≡ o → Created s (unplaced name) old.now new.now × IsDatabase new.now
+    by : (o : Option ℕ) → index_named s (def_of name).name ≡ o → Created s (unplaced name) old.now new.now
+        × IsDatabase new.now
     by None none =
         let free = is_free name is l in
-        let known = makes_table (create_text name) (parsed name) (def_of name) (unplaced name) (text_is name is) s free.bare free.no_table free.no_view none in
+        let known = makes_table (create_text name) (parsed name) (def_of name) (unplaced name) (text_is name is) s
+        free.bare free.no_table free.no_view none in
         let m = is_made name is in
         let plain : IsPlain (understood s (create_text name)) = subst IsPlain (sym known) m.plain in
         let w = runs_as (create_text name) [] old new s has MakeTable (ap command_of known) plain count h in (
-          makes s (unplaced name) (create_text name) (ap command_of known) (ap (statement_of (create_text name)) known ∙ m.whole) plain (unplaced name) (defined_as name is) refl
+          makes s (unplaced name) (create_text name) (ap command_of known) (ap (statement_of (create_text name)) known
+              ∙ m.whole) plain (unplaced name) (defined_as name is) refl
               (uncounted name is l) old new count h has,
           w.sound,
         )
     by (Some n) some =
         let free = is_free name is l in
         absurd (not_executed (create_text name) old new count s Exists has
-        (refused (create_text name) (parsed name) (def_of name) (unplaced name) (text_is name is) s free.bare free.no_table free.no_view n some) h)
+        (refused (create_text name) (parsed name) (def_of name) (unplaced name) (text_is name is) s free.bare
+        free.no_table free.no_view n some) h)
 
 -- ---- trees
 
@@ -143,14 +158,21 @@ none_lower : (tables : List Table) (n : ℕ) → n ≤ fold (λ m (t : Table). m
 none_lower [] n = omega arith
 none_lower (t ∷ tables) n = omega (arith, none_lower tables (max n (t.tree + 1)))
 
-below_in : (tables : List Table) (n : ℕ) (t : Table) → Has tables t → t.tree < fold (λ m (t : Table). max m (t.tree + 1)) n tables
+below_in : (tables : List Table) (n : ℕ) (t : Table) → Has tables t
+    → t.tree < fold (λ m (t : Table). max m (t.tree + 1)) n tables
 below_in [] n t h = absurd h
-below_in (x ∷ tables) n t (inl same) = omega (arith, none_lower tables (max n (x.tree + 1)), ap (λ (y : Table). y.tree) same)
+below_in (x ∷ tables) n t (inl same) =
+    omega (arith, none_lower tables (max n (x.tree + 1)), ap (λ (y : Table). y.tree) same)
 below_in (x ∷ tables) n t (inr later) = below_in tables (max n (x.tree + 1)) t later
 
 -- each table of the schema is below the next tree
 below_next : (s : Schema) (t : Table) → Has s.tables t → t.tree < next_tree s
-below_next s t h = omega (arith, below_in s.tables (past_views s) t h, no_lower s.indexes (fold (λ m (t : Table). max m (t.tree + 1)) (past_views s) s.tables))
+below_next s t h =
+    omega (
+      arith,
+      below_in s.tables (past_views s) t h,
+      no_lower s.indexes (fold (λ m (t : Table). max m (t.tree + 1)) (past_views s) s.tables),
+    )
 
 -- the trees with another one of this table
 abbrev tree_with : TableName → ℕ → Layout → TableName → ℕ
@@ -163,22 +185,29 @@ tree_same Period is n l = refl
 tree_same Quorum is n l = refl
 tree_same name is n l = absurd is
 
-tree_other : (name other : TableName) (n : ℕ) (l : Layout) → (place_of other ≡ place_of name → ⊥) → tree_with name n l other ≡ l.tree other
+tree_other : (name other : TableName) (n : ℕ) (l : Layout) → (place_of other ≡ place_of name → ⊥)
+    → tree_with name n l other ≡ l.tree other
 tree_other Period Period n l off = absurd (off refl)
 tree_other Quorum Quorum n l off = absurd (off refl)
 tree_other name other n l off = refl
 
 abbrev layout_with : TableName → Layout → Layout
-layout_with name l = record { tree = tree_with name (next_tree (before name l)) l; key_tree = l.key_tree; more = l.more ++ [] }
+layout_with name l = record {
+  tree = tree_with name (next_tree (before name l)) l;
+  key_tree = l.key_tree;
+  more = l.more ++ [];
+}
 
 -- the table is the last of the schema
-schema_is : (name : TableName) → IsNew name → (l : Layout) → created (before name l) (unplaced name) ≡ schema_below (place_of name + 1) (layout_with name l)
+schema_is : (name : TableName) → IsNew name → (l : Layout)
+    → created (before name l) (unplaced name) ≡ schema_below (place_of name + 1) (layout_with name l)
 schema_is Period is l = refl
 schema_is Quorum is l = refl
 schema_is name is l = absurd is
 
 -- the tables before it stand in the schema
-listed : (name : TableName) → IsNew name → (l : Layout) (other : TableName) → place_of other < place_of name → (t : Table) × Has (before name l).tables t × (t.tree ≡ l.tree other)
+listed : (name : TableName) → IsNew name → (l : Layout) (other : TableName) → place_of other < place_of name
+    → (t : Table) × Has (before name l).tables t × (t.tree ≡ l.tree other)
 listed Period is l Meta low = (_, inl refl, refl)
 listed Period is l Keys low = (_, inr (inl refl), refl)
 listed Period is l Custodian low = (_, inr (inr (inl refl)), refl)
@@ -199,14 +228,17 @@ module _ (name : TableName) (is : IsNew name) (l : Layout) where
   next = next_tree (before name l)
 
   below : (other : TableName) → place_of other < place_of name → l.tree other < next
-  below other low = let it = listed name is l other low in subst (λ n. n < next) it.2 (below_next (before name l) it.0 it.1)
+  below other low =
+      let it = listed name is l other low in subst (λ n. n < next) it.2 (below_next (before name l) it.0 it.1)
 
   -- a table is this one, or one before it
-  which : (other : TableName) → place_of other < place_of name + 1 → (other ≡ name) ⊎ ((place_of other ≡ place_of name → ⊥) × (place_of other < place_of name))
+  which : (other : TableName) → place_of other < place_of name + 1
+      → (other ≡ name) ⊎ ((place_of other ≡ place_of name → ⊥) × (place_of other < place_of name))
   which other low = elim (cases_Bool (place_of other == place_of name)) [
     | inl same ↦ inl (same_place name other (eqb-true _ _ same))
     | inr differs ↦ inr (
-        let off : place_of other ≡ place_of name → ⊥ = λ e. absurd (let here : (place_of other == place_of name) ≡ true = eq-eqb _ _ e in cc) in
+        let off : place_of other ≡ place_of name
+        → ⊥ = λ e. absurd (let here : (place_of other == place_of name) ≡ true = eq-eqb _ _ e in cc) in
         (off, lower _ _ low off))
   ]
     where
@@ -220,20 +252,34 @@ module _ (name : TableName) (is : IsNew name) (l : Layout) where
   apart_still apart a b low_a low_b same = elim (which a low_a) [
     | inl here ↦ elim (which b low_b) [
       | inl there ↦ ap place_of here ∙ sym (ap place_of there)
-      | inr other ↦ absurd (let under = below b other.1 in omega (arith, under, sym (tree_is a here) ∙ same ∙ tree_other name b next l other.0))
+      | inr other ↦ absurd
+          (let under = below b other.1 in omega (
+            arith,
+            under,
+            sym (tree_is a here) ∙ same ∙ tree_other name b next l other.0,
+          ))
     ]
     | inr other_a ↦ elim (which b low_b) [
-      | inl there ↦ absurd (let under = below a other_a.1 in omega (arith, under, sym (tree_other name a next l other_a.0) ∙ same ∙ tree_is b there))
-      | inr other ↦ apart a b other_a.1 other.1 (sym (tree_other name a next l other_a.0) ∙ same ∙ tree_other name b next l other.0)
+      | inl there ↦ absurd
+          (let under = below a other_a.1 in omega (
+            arith,
+            under,
+            sym (tree_other name a next l other_a.0) ∙ same ∙ tree_is b there,
+          ))
+      | inr other ↦ apart a b other_a.1 other.1 (sym (tree_other name a next l other_a.0) ∙ same
+          ∙ tree_other name b next l other.0)
     ]
   ]
 
   -- the rows of the tables before it stay
-  rows_stay : (old new : Database) → KeepsRows (before name l).tables old.trees new.trees → (other : TableName) → place_of other < place_of name → (place_of other ≡ place_of name → ⊥)
+  rows_stay : (old new : Database) → KeepsRows (before name l).tables old.trees new.trees → (other : TableName)
+      → place_of other < place_of name → (place_of other ≡ place_of name → ⊥)
       → rows_of (layout_with name l) other new ≡ rows_of l other old
   rows_stay old new kept other low off =
       let it = listed name is l other low in
-      let stays : new.trees (l.tree other) ≡ old.trees (l.tree other) = subst (λ n. new.trees n ≡ old.trees n) it.2 (all_has (λ (t : Table). new.trees t.tree ≡ old.trees t.tree) (before name l).tables it.0 kept it.1) in
+      let stays : new.trees (l.tree other)
+      ≡ old.trees (l.tree other) = subst (λ n. new.trees n ≡ old.trees n) it.2
+      (all_has (λ (t : Table). new.trees t.tree ≡ old.trees t.tree) (before name l).tables it.0 kept it.1) in
       ap new.trees (tree_other name other next l off) ∙ stays
 
 is_new : (name : TableName) → table_count First ≤ place_of name → IsNew name
@@ -256,11 +302,14 @@ makes_next name high old new count h t has =
       in_range = has.in_range;
       shown = λ other low.
           let under : place_of other < place_of name = omega (arith, low, high) in
-          subst (ShowsIn First other (content other t)) (sym (rows_stay name is l old.now new.now did.others other under (λ e. absurd (omega (arith, e, under))))) (has.shown other low);
+          subst (ShowsIn First other (content other t))
+          (sym (rows_stay name is l old.now new.now did.others other under (λ e. absurd (omega (arith, e, under)))))
+          (has.shown other low);
       no_periods = has.no_periods;
       no_needs = has.no_needs;
       empty = λ other past low. elim (which name is l other low) [
         | inl here ↦ ap new.now.trees (tree_is name is l other here) ∙ did.empty
-        | inr under ↦ rows_stay name is l old.now new.now did.others other under.1 under.0 ∙ has.empty other past under.1
+        | inr under ↦ rows_stay name is l old.now new.now did.others other under.1 under.0
+            ∙ has.empty other past under.1
       ];
     }

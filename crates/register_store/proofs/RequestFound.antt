@@ -46,7 +46,9 @@ answer_shown = col 1 3 ∷ col 1 4 ∷ col 1 5 ∷ col 1 6 ∷ []
 abbrev answer_names : List (List ℕ)
 answer_names = codes "command" ∷ codes "key_no" ∷ codes "state" ∷ codes "moment" ∷ []
 
-asks_request : (l : Layout) → Asks (schema_with l) (table_of l Request) search_text (plain_query (l.tree Request) under answer_shown) answer_names
+asks_request : (l : Layout)
+    → Asks (schema_with l) (table_of l Request) search_text (plain_query (l.tree Request) under answer_shown)
+    answer_names
 unfolding everything first
 asks_request l = record { p = _; select = _; d = _; by = _; parsed = refl; untimed = refl; is = refl; drafted = refl; same = refl; from = refl; accepted = refl }
 
@@ -57,7 +59,9 @@ search_is = search_by search_text Request under answer_shown answer_names asks_r
 
 -- the cells of the answer
 abbrev answer_cells : KeptReply → Cells
-answer_cells k = Words (command_text k.command) ∷ Int (pos k.reply.key) ∷ Int (pos (state_cell k.reply.state)) ∷ Int (pos k.reply.moment) ∷ []
+answer_cells k =
+    Words (command_text k.command) ∷ Int (pos k.reply.key) ∷ Int (pos (state_cell k.reply.state))
+    ∷ Int (pos k.reply.moment) ∷ []
 
 module _ (caller : List ℕ) (number : ℕ) where
   abbrev pub params : Cells
@@ -70,7 +74,8 @@ module _ (caller : List ℕ) (number : ℕ) where
   past [] = refl
   past (v ∷ vs) = refl
 
-  shown_past : (r : Cells) → eval_all answer_shown (params ∷ r ∷ []) ≡ eval_all answer_shown (params ∷ (Null ∷ drop 1 r) ∷ [])
+  shown_past : (r : Cells)
+      → eval_all answer_shown (params ∷ r ∷ []) ≡ eval_all answer_shown (params ∷ (Null ∷ drop 1 r) ∷ [])
   shown_past [] = refl
   shown_past (v ∷ vs) = refl
 
@@ -89,7 +94,8 @@ module _ (caller : List ℕ) (number : ℕ) where
   abbrev ShowsOne : Cells → KeptReply → Type 0
   ShowsOne = ShowsRequest caller number
 
-  each : (t : Tables) (old : State) → Holds t old.now → (k : KeptReply) → Has (matching t) k → IsKeptReply k × ShowsOne (answer_cells k) k
+  each : (t : Tables) (old : State) → Holds t old.now → (k : KeptReply) → Has (matching t) k
+      → IsKeptReply k × ShowsOne (answer_cells k) k
   each t old holds k among =
       let it = has_filtered (is_under caller number) t.requests k among in
       let own = and_parts (bytes_eq k.caller caller) (k.number == number) it.1 in
@@ -111,4 +117,5 @@ module _ (caller : List ℕ) (number : ℕ) where
   pub request_read : ReadsRow IsKeptReply ShowsOne search_text params (HasRequest caller number)
   request_read = row_read IsKeptReply ShowsOne answer_cells search_text Request under answer_shown answer_names
       search_is params matching picks each
-      (λ k other is own shows. same_request caller number (answer_cells k) other k shows.cells own.cells) (HasRequest caller number) (λ t found among. among)
+      (λ k other is own shows. same_request caller number (answer_cells k) other k shows.cells own.cells)
+      (HasRequest caller number) (λ t found among. among)

@@ -11,8 +11,10 @@ use Rattle.register_store.specs.Schema.{Holds}
 use Rattle.register_store.specs.TableChanges.{Makes, AreRightAt, HasKeys, advanced, with_recorded, with_keys_advanced}
 use Rattle.register_store.specs.AcceptedRequest.{CanTake, with_request}
 
-pub makes_request : (keys latest count : ℕ) (change : Change) (kept : KeptReply) → count ≡ keys + made_count change → (old new : Database)
-    → Then (Then (Makes (AreRightAt latest) (with_keys_advanced kept.reply.moment)) (Makes (HasKeys keys) (with_change change))) (Makes (λ _. IsKeptReply kept) (with_recorded kept count)) old new
+pub makes_request : (keys latest count : ℕ) (change : Change) (kept : KeptReply) → count ≡ keys + made_count change
+    → (old new : Database)
+    → Then (Then (Makes (AreRightAt latest) (with_keys_advanced kept.reply.moment))
+    (Makes (HasKeys keys) (with_change change))) (Makes (λ _. IsKeptReply kept) (with_recorded kept count)) old new
     → Makes (CanTake keys latest kept) (with_request keys change kept) old new
 makes_request keys latest count change kept counted old new all t holds can =
     let at = kept.reply.moment in

@@ -31,7 +31,8 @@ own_periods t second db rows holds sure =
     let it = own_keyed period_row ShowsTypePeriod IsSetPeriod tree (shown_of_table Period)
     (λ set is. record { kind = refl; originator = refl; recipient = refl; in_range = is }) db t.tables.periods rows
     (holds.in_range Period)
-    (subst (λ v. ShowsSinceSecond period_row v t.tables.periods (db.trees tree)) second (holds.shown Period)) (shows_all db.trees tree) sure in
+    (subst (λ v. ShowsSinceSecond period_row v t.tables.periods (db.trees tree)) second (holds.shown Period))
+    (shows_all db.trees tree) sure in
     record { c = it.0; shows = it.2; like = it.1; meets = λ meets. tt }
 
 own_needs : (t : Stored) → t.version ≡ Second → (db : Db) (rows : List Row) (holds : HoldsStored t db)
@@ -41,8 +42,14 @@ own_needs t second db rows holds sure =
     let it = own_keyed need_row ShowsKeyNeed IsSetNeed tree (shown_of_table Quorum)
     (λ set is. record { key = refl; need = refl; in_range = is }) db t.tables.needs rows
     (holds.in_range Quorum)
-    (subst (λ v. ShowsSinceSecond need_row v t.tables.needs (db.trees tree)) second (holds.shown Quorum)) (shows_all db.trees tree) sure in
-    record { c = it.0; shows = it.2; like = it.1; meets = all_permuted (IsNeedOf t.tables.counts) t.tables.needs it.0 it.1 }
+    (subst (λ v. ShowsSinceSecond need_row v t.tables.needs (db.trees tree)) second (holds.shown Quorum))
+    (shows_all db.trees tree) sure in
+    record {
+      c = it.0;
+      shows = it.2;
+      like = it.1;
+      meets = all_permuted (IsNeedOf t.tables.counts) t.tables.needs it.0 it.1;
+    }
 
 -- ---- a row shows one
 
@@ -91,7 +98,11 @@ needs_checked t found second told = record {
   within = second_within Quorum t second (omega arith);
   own = own_needs t second;
   one = show_same ShowsKeyNeed one_need;
-  taken = λ rows it. (it.values, it.shown, subst (λ n. AllByRecursion (IsNeedOf n) it.values) (counted t found told) it.each);
+  taken = λ rows it. (
+    it.values,
+    it.shown,
+    subst (λ n. AllByRecursion (IsNeedOf n) it.values) (counted t found told) it.each,
+  );
   given = λ rows met. record {
     values = met.0;
     shown = met.1;

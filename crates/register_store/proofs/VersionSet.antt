@@ -23,8 +23,8 @@ use Rattle.register_store.specs.declared.table.TableName.TheVariants.{Meta, Keys
 use Rattle.register_store.specs.declared.table.TableName.TheVariants.{Quorum}
 use Rattle.register_store.specs.Migration.{HasTablesBelow, SetsVersion}
 use Rattle.register_store.specs.Schema.{HoldsIn, schema_with, rows_of}
-use Rattle.register_store.specs.Tables.{AreApart, Counts, Layout, Shows, ShowsKeyed, Tables, content, counts_row_in, fresh}
-use Rattle.register_store.specs.Tables.{meta, need_row, period_row, place_of, version}
+use Rattle.register_store.specs.Tables.{AreApart, Counts, Layout, Shows, ShowsKeyed, Tables, content, counts_row_in}
+use Rattle.register_store.specs.Tables.{fresh, meta, need_row, period_row, place_of, version}
 use Rattle.register_store.proofs.Actions.{idle, shows_all}
 use Rattle.register_store.proofs.EachTable.{placed_low}
 use Rattle.register_store.proofs.EntryRows.{keyed_none}
@@ -44,7 +44,8 @@ passes = op2 (Compare Eq Binary) (col 1 0) (lit (Int (pos 1))) ∷ []
 abbrev shown : List Term
 shown = col 1 0 ∷ lit Null ∷ col 0 0 ∷ col 1 3 ∷ col 1 4 ∷ []
 
-sets_version : (l : Layout) → Sets (schema_with l) (meta l) (place_of Meta) version_text (plain_query (l.tree Meta) passes (col 1 0 ∷ shown))
+sets_version : (l : Layout)
+    → Sets (schema_with l) (meta l) (place_of Meta) version_text (plain_query (l.tree Meta) passes (col 1 0 ∷ shown))
 unfolding everything first
 sets_version l = record { p = _; name = _; sets = _; check = _; d = _; parsed = refl; untimed = refl; is = refl; named = refl; there = refl; drafted = refl; same = refl; from = refl; accepted = refl }
 
@@ -61,7 +62,8 @@ changed = changing.changed enc (λ _. pos 1) (λ _. refl) (meta (fresh [])) vers
 changed_is : (row : Version × Counts) → changed row ≡ second row
 changed_is row = rw (compares Eq (pos 1) (pos 1))
 
-module _ (old new : State) (count : ℕ) (h : Executes version_text version_params old new (Ok count)) (t : Tables) (has : HasTablesBelow 7 t old.now) where
+module _ (old new : State) (count : ℕ) (h : Executes version_text version_params old new (Ok count)) (t : Tables)
+    (has : HasTablesBelow 7 t old.now) where
   abbrev l : Layout
   l = has.layout
 
@@ -70,27 +72,44 @@ module _ (old new : State) (count : ℕ) (h : Executes version_text version_para
 
   wrote : Wrote (schema_with l) (l.tree Meta) (map enc (map changed ((First, t.counts) ∷ []))) old.now new.now
   wrote =
-      let m = sets (schema_with l) (meta l) (classes l (placed_in l old.now has.schema apart has.sound) Meta) _ _ _ (sets_version l) in
+      let m = sets (schema_with l) (meta l) (classes l (placed_in l old.now has.schema apart has.sound) Meta) _ _ _
+      (sets_version l) in
       let row : rows_of l Meta old.now ≡ counts_row_in First t.counts ∷ [] = has.shown Meta (omega arith) in
-      changing.changes enc (λ _. pos 1) (λ _. refl) (meta l) version_params passes shown second version_text (schema_with l) (place_of Meta) refl
-      m.is m.plain (idle l apart Meta refl 0) (λ db. shows_all db (l.tree Meta)) (λ row. simp (cast_int, cast_null)) (λ row. refl)
+      changing.changes enc (λ _. pos 1) (λ _. refl) (meta l) version_params passes shown second version_text
+      (schema_with l) (place_of Meta) refl
+      m.is m.plain (idle l apart Meta refl 0) (λ db. shows_all db (l.tree Meta)) (λ row. simp (cast_int, cast_null))
+      (λ row. refl)
       old new count h has.schema ((First, t.counts) ∷ []) row (subst IsTable (sym row) (tt, tt))
 
   other : (name : TableName) → (place_of name ≡ place_of Meta → ⊥) → rows_of l name new.now ≡ rows_of l name old.now
-  other name off = rows_kept l (λ (tree : ℕ). tree ≡ l.tree Meta) old.now new.now wrote.kept name (λ same. off (apart name Meta same))
+  other name off =
+      rows_kept l (λ (tree : ℕ). tree ≡ l.tree Meta) old.now new.now wrote.kept name
+      (λ same. off (apart name Meta same))
 
   shown_now : (name : TableName) → Shows name (content name t) (rows_of l name new.now)
   shown_now Meta = wrote.rows_are ∙ ap (λ row. enc row ∷ []) (changed_is (First, t.counts))
   shown_now Period =
-      subst (ShowsKeyed period_row t.periods) (sym (other Period (λ e. absurd (omega (arith, e))) ∙ has.empty Period (omega arith) (omega arith))) (subst (λ ps. ShowsKeyed period_row ps []) (sym has.no_periods) (keyed_none period_row))
+      subst (ShowsKeyed period_row t.periods)
+      (sym (other Period (λ e. absurd (omega (arith, e))) ∙ has.empty Period (omega arith) (omega arith)))
+      (subst (λ ps. ShowsKeyed period_row ps []) (sym has.no_periods) (keyed_none period_row))
   shown_now Quorum =
-      subst (ShowsKeyed need_row t.needs) (sym (other Quorum (λ e. absurd (omega (arith, e))) ∙ has.empty Quorum (omega arith) (omega arith))) (subst (λ ns. ShowsKeyed need_row ns []) (sym has.no_needs) (keyed_none need_row))
-  shown_now Keys = subst (Shows Keys t.keys) (sym (other Keys (λ e. absurd (omega (arith, e))))) (has.shown Keys (omega arith))
-  shown_now Custodian = subst (Shows Custodian t.custodians) (sym (other Custodian (λ e. absurd (omega (arith, e))))) (has.shown Custodian (omega arith))
-  shown_now Approval = subst (Shows Approval t.approvals) (sym (other Approval (λ e. absurd (omega (arith, e))))) (has.shown Approval (omega arith))
-  shown_now Request = subst (Shows Request t.requests) (sym (other Request (λ e. absurd (omega (arith, e))))) (has.shown Request (omega arith))
+      subst (ShowsKeyed need_row t.needs)
+      (sym (other Quorum (λ e. absurd (omega (arith, e))) ∙ has.empty Quorum (omega arith) (omega arith)))
+      (subst (λ ns. ShowsKeyed need_row ns []) (sym has.no_needs) (keyed_none need_row))
+  shown_now Keys =
+      subst (Shows Keys t.keys) (sym (other Keys (λ e. absurd (omega (arith, e))))) (has.shown Keys (omega arith))
+  shown_now Custodian =
+      subst (Shows Custodian t.custodians) (sym (other Custodian (λ e. absurd (omega (arith, e)))))
+      (has.shown Custodian (omega arith))
+  shown_now Approval =
+      subst (Shows Approval t.approvals) (sym (other Approval (λ e. absurd (omega (arith, e)))))
+      (has.shown Approval (omega arith))
+  shown_now Request =
+      subst (Shows Request t.requests) (sym (other Request (λ e. absurd (omega (arith, e)))))
+      (has.shown Request (omega arith))
 
-pub sets_second : (old new : State) (count : ℕ) → Executes version_text version_params old new (Ok count) → SetsVersion old.now new.now
+pub sets_second : (old new : State) (count : ℕ) → Executes version_text version_params old new (Ok count)
+    → SetsVersion old.now new.now
 sets_second old new count h t has =
     let did = wrote old new count h t has in
     record {

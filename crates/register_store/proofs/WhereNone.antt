@@ -7,7 +7,8 @@ use Rattle.sql_steps.specs.Steps.{Change, StepsBy, Then}
 use Rattle.sql_steps.proofs.Stepping.{steps_as, steps_then}
 use Rattle.register_store.specs.Creation.{Answers}
 
-pub made_where_none : {E F G : Type 0} (HasOne : Schema → Type 0) (Made : Change) (a b d : State) (found : Bool) (x : Unit {0})
+pub made_where_none : {E F G : Type 0} (HasOne : Schema
+    → Type 0) (Made : Change) (a b d : State) (found : Bool) (x : Unit {0})
     → found ≡ false → StepsBy {E = E} (Answers HasOne) a b (Ok found) → StepsBy {E = F} (λ _. Made) b d (Ok x)
     → StepsBy {E = G} (λ _. Made) a d (Ok (tt {0}))
 made_where_none {E = E} {F = F} {G = G} HasOne Made a b d found x none look made =

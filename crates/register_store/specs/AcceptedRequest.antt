@@ -9,7 +9,8 @@ use Rattle.register_store.specs.TableChanges.{AreRightAt, HasKeys, with_recorded
 
 -- each key moved on to the moment of the reply, then the change, then what is kept; this many keys were made before
 abbrev pub with_request : ℕ → Change → KeptReply → Tables → Tables
-with_request keys change kept t = with_recorded kept (keys + made_count change) (with_change change (with_keys_advanced kept.reply.moment t))
+with_request keys change kept t =
+    with_recorded kept (keys + made_count change) (with_change change (with_keys_advanced kept.reply.moment t))
 
 -- the tables have as many keys, each in its state at the latest moment, and what is to be kept is in its ranges
 pub record CanTake (keys latest : ℕ) (kept : KeptReply) (t : Tables) : Type 0 where

@@ -120,12 +120,13 @@ AreKept entries lists =
     (k : ℕ) (names : Vec (List ℕ)) → slice_get lists k ≡ Some names → names.items ≡ names_at (suc k) entries
 
 -- the rows show custodians, and the list at each key's place has those of the key
-pub record HasCustodians (most : ℕ) (owners : List (List ℕ)) (lists : List (Vec (List ℕ))) (rows : List Row) : Type 0 where
-  pub entries : List KeyName
-  pub shown : ShowEach ShowsName rows entries
-  pub are : AreCustodians most owners entries
-  pub counted : length lists ≡ length owners
-  pub kept : AreKept entries lists
+pub record HasCustodians (most : ℕ) (owners : List (List ℕ)) (lists : List (Vec (List ℕ))) (rows : List Row) : Type 0
+  where
+    pub entries : List KeyName
+    pub shown : ShowEach ShowsName rows entries
+    pub are : AreCustodians most owners entries
+    pub counted : length lists ≡ length owners
+    pub kept : AreKept entries lists
 
 abbrev pub RefusesCustodians : ℕ → List (List ℕ) → List Row → Type 0
 RefusesCustodians most owners rows =

@@ -143,7 +143,8 @@ pub record HasNewer (found : ℕ) (old new : State) : Type 0 where
 
 -- ---- checks that fail
 
--- Nothing that the rows of a table show meets the table's check, where the tables before it are those of t; and they are
+-- Nothing that the rows of a table show meets the table's check, where the tables before it are those of t; and they
+-- are
 -- of no later version.
 pub record IsOdd (name : TableName) (t : Stored) (rows : List Row) : Type 0 where
   pub fails : (c : Part name) → ShowsRows name rows c → MeetsCheck name (with_part name c t) → ⊥
@@ -196,7 +197,8 @@ BlamesNone (NewerVersion found) = ⊥
 BlamesNone Memory = Unit {0}
 BlamesNone (Database error) = Unit {0}
 
--- What a check does: where it succeeds the tables that are shown pass, and have this version and these counts; a refusal
+-- What a check does: where it succeeds the tables that are shown pass, and have this version and these counts; a
+-- refusal
 -- has its reason; tables of a register that meet the checks are not refused, and give their version and counts; a stop
 -- leaves what it left before.
 pub record ChecksBy (old new : State) (result : Result Found CheckError) : Type 0 where
@@ -234,7 +236,8 @@ pub record ChecksTable {T : Type 0} (name : TableName) (t : Stored) (Says : Part
 -- ---- the version alone
 
 -- What a look at the version does: where it succeeds meta passes its check and the version is one that this program
--- knows, or it is a later one; tables of a register that meet the checks have theirs; a stop leaves what it left before.
+-- knows, or it is a later one; tables of a register that meet the checks have theirs; a stop leaves what it left
+-- before.
 pub record TellsVersionBy (old new : State) (result : Result ℕ CheckError) : Type 0 where
   pub told : HasCleanDisk new
       → IfOk result (λ found. ((told : Version × Counts) × (found ≡ version_number told.0)

@@ -4,10 +4,10 @@ use Rattle.sqlite_rules.specs.Lists.{Has}
 use Rattle.lifecycle_core.specs.declared.state.State.TheVariants.{Active}
 use Rattle.lifecycle_core.specs.State.{state_code}
 use Rattle.register_core.specs.declared.key.Key.{Key}
-use Rattle.register_store.specs.declared.key_walk.DuePlace.{DuePlace}
-use Rattle.register_store.specs.declared.key_walk.DueSearch.{DueSearch}
-use Rattle.register_store.specs.declared.key_walk.DueSearch.TheVariants.{Past, SameStop}
-use Rattle.register_store.specs.KeyWalk.{IsAfter}
+use Rattle.register_store.specs.declared.key_scan.DueCursor.{DueCursor}
+use Rattle.register_store.specs.declared.key_scan.DueSearch.{DueSearch}
+use Rattle.register_store.specs.declared.key_scan.DueSearch.TheVariants.{Past, SameStop}
+use Rattle.register_store.specs.KeyScan.{IsAfter}
 use Rattle.register_store.specs.Tables.{IsKey, Tables, date_cell, numbered}
 
 -- a numbered key that a register may hold
@@ -21,36 +21,38 @@ abbrev pub is_active : ℕ × Key → Bool
 is_active x = state_code x.1.row.state == state_code Active
 
 -- Active, with this Protect Stop Date up to that moment, and a higher number
-abbrev pub is_same : ℕ → DuePlace → ℕ × Key → Bool
-is_same until last x = is_active x && ((stop_cell x == last.stop) && (nat_le (stop_cell x) until && not (nat_le x.0 last.number)))
+abbrev pub is_same : ℕ → DueCursor → ℕ × Key → Bool
+is_same until last x =
+    is_active x && ((stop_cell x == last.stop) && (nat_le (stop_cell x) until && not (nat_le x.0 last.number)))
 
 -- Active, with a later Protect Stop Date up to that moment
 abbrev pub is_later : ℕ → ℕ → ℕ × Key → Bool
 is_later until stop x = is_active x && (not (nat_le (stop_cell x) stop) && nat_le (stop_cell x) until)
 
 -- Active, with this Protect Stop Date and a higher number or with a later date, up to that moment
-abbrev pub is_past : ℕ → DuePlace → ℕ × Key → Bool
+abbrev pub is_past : ℕ → DueCursor → ℕ × Key → Bool
 is_past until last x =
-    is_active x && (nat_le last.stop (stop_cell x) && (nat_le (stop_cell x) until && (not (nat_le (stop_cell x) last.stop) || not (nat_le x.0 last.number))))
+    is_active x && (nat_le last.stop (stop_cell x)
+    && (nat_le (stop_cell x) until && (not (nat_le (stop_cell x) last.stop) || not (nat_le x.0 last.number))))
 
--- the text of each search after a place
+-- the text of each search after a cursor
 abbrev pub search_text : DueSearch → List ℕ
 search_text SameStop = codes "SELECT kind, owner, purpose, state, initial, activation, protect_stop, deactivation, destroyed, compromised, occurrence, number FROM keys WHERE state = 2 AND protect_stop = ?1 AND protect_stop <= ?2 AND number > ?3 ORDER BY protect_stop, number"
 search_text Past = codes "SELECT kind, owner, purpose, state, initial, activation, protect_stop, deactivation, destroyed, compromised, occurrence, number FROM keys WHERE state = 2 AND protect_stop >= ?1 AND protect_stop <= ?2 AND (protect_stop > ?1 OR number > ?3) ORDER BY protect_stop, number"
 
 -- what it finds the first of
-abbrev pub is_found : DueSearch → ℕ → DuePlace → ℕ × Key → Bool
+abbrev pub is_found : DueSearch → ℕ → DueCursor → ℕ × Key → Bool
 is_found SameStop = is_same
 is_found Past = is_past
 
--- the place of a key by its cells
-abbrev pub cell_place : ℕ × Key → DuePlace
-cell_place x = record { stop = stop_cell x; number = x.0 }
+-- the cursor of a key by its cells
+abbrev pub cell_cursor : ℕ × Key → DueCursor
+cell_cursor x = record { stop = stop_cell x; number = x.0 }
 
 pub record IsFirst (check : ℕ × Key → Bool) (t : Tables) (x : ℕ × Key) : Type 0 where
   pub there : Has (numbered t.keys) x
   pub passes : check x ≡ true
-  pub first : (y : ℕ × Key) → Has (numbered t.keys) y → check y ≡ true → (y ≡ x) ⊎ IsAfter (cell_place x) (cell_place y)
+  pub first : (y : ℕ × Key) → Has (numbered t.keys) y → check y ≡ true → (y ≡ x) ⊎ IsAfter (cell_cursor x) (cell_cursor y)
 
 -- the first of the keys that pass the check, by Protect Stop and number, or none where none passes
 abbrev pub HasFirst : (ℕ × Key → Bool) → Tables → Option (ℕ × Key) → Type 0

@@ -9,8 +9,8 @@ use Rattle.register_store.specs.declared.table.TableName.{TableName}
 use Rattle.register_store.specs.declared.table.TableName.TheVariants.{Period, Quorum}
 use Rattle.register_store.specs.Creation.{FindsIn, HasMeaning}
 use Rattle.register_store.specs.Schema.{Holds, HoldsIn, rows_of, schema_below}
-use Rattle.register_store.specs.Tables.{AreApartBelow, IsInRange, Layout, ShowsIn, Tables, content, count_text, place_of}
-use Rattle.register_store.specs.Tables.{table_count}
+use Rattle.register_store.specs.Tables.{AreApartBelow, IsInRange, Layout, ShowsIn, Tables, content, count_text}
+use Rattle.register_store.specs.Tables.{place_of, table_count}
 
 -- a database that holds tables in the first version, whatever history they are of if any, comes to hold the same tables
 -- in the second

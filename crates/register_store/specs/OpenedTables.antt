@@ -9,7 +9,8 @@ use Rattle.register_core.specs.declared.version.Version.{Version}
 use Rattle.register_core.specs.declared.version.Version.TheVariants.{First, Second}
 use Rattle.register_core.specs.Version.{current}
 use Rattle.register_store.specs.declared.error.CheckError.{CheckError}
-use Rattle.register_store.specs.declared.error.CheckError.TheVariants.{NotARegister, NewerVersion, Memory, Database as Stopped}
+use Rattle.register_store.specs.declared.error.CheckError.TheVariants.{NotARegister, NewerVersion, Memory}
+use Rattle.register_store.specs.declared.error.CheckError.TheVariants.{Database as Stopped}
 use Rattle.register_store.specs.declared.error.CreateError.{CreateError}
 use Rattle.register_store.specs.declared.error.CreateError.TheVariants.{HasTables, Database as Refused}
 use Rattle.register_store.specs.declared.found.Found.{Found}
@@ -60,7 +61,8 @@ IsRefusal old new (Stopped error) = Unit {0}
 
 -- ---- what an opening does
 
--- what passed the checks, in the state before, since they change nothing; tables of this program's version stay as they are
+-- what passed the checks, in the state before, since they change nothing; tables of this program's version stay as
+-- they are
 pub record Opens (old new : State) (found : Version × Counts) : Type 0 where
   pub t : Stored
   pub passes : Passes t old old
@@ -86,9 +88,12 @@ abbrev pub ChangesNothing : CheckError → Type 0
 ChangesNothing (Stopped error) = ⊥
 ChangesNothing error = Unit {0}
 
--- Where it succeeds, what is shown passed the checks of its version; a refusal has its reason. Tables that are committed in
--- a version and meet its checks are not refused, and stand in this program's version after it. A stop leaves what it left
--- before, or the tables taken to this program's version, where they pass the checks of the first; no such thing where they
+-- Where it succeeds, what is shown passed the checks of its version; a refusal has its reason. Tables that are
+-- committed in
+-- a version and meet its checks are not refused, and stand in this program's version after it. A stop leaves what it
+-- left
+-- before, or the tables taken to this program's version, where they pass the checks of the first; no such thing where
+-- they
 -- are of this program's, or after a refusal that changes nothing.
 pub record OpensBy (old new : State) (result : Result Found CheckError) : Type 0 where
   pub passed : HasCleanDisk new → IfOk result (λ found. Opens old new (mark_of found))

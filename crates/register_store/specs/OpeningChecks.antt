@@ -22,7 +22,8 @@ use Rattle.register_store.specs.declared.table.TableName.TheVariants.{Quorum}
 use Rattle.register_store.specs.Stored.{Stored, mark}
 use Rattle.register_store.specs.Tables.{Counts, all_tables, place_of, table_count}
 
--- The dates of a key: in the first version they fit the period of its type; from the second on, where the office may set
+-- The dates of a key: in the first version they fit the period of its type; from the second on, where the office may
+-- set
 -- another, they are in order.
 abbrev pub DatesFit : Version → KeyType → Dates → Type 0
 DatesFit First kind d = Fits (periods kind) d
@@ -72,7 +73,8 @@ pub record AreCustodians (most : ℕ) (owners : List (List ℕ)) (entries : List
 abbrev pub IsCustodian : List KeyName → KeyName → Type 0
 IsCustodian custodians entry = is_among entry.name (names_at entry.key custodians) ≡ true
 
--- the reply is no later than the latest moment, and of a key that is there or of none, and the version knows its command
+-- the reply is no later than the latest moment, and of a key that is there or of none, and the version knows its
+-- command
 pub record IsReplyOf (told : Version × Counts) (k : KeptReply) : Type 0 where
   pub moment : k.reply.moment ≤ told.1.latest
   pub key : k.reply.key ≤ told.1.key_count

@@ -1,5 +1,6 @@
 -- What is read of a register in a database.
-use Rattle.std.specs.Prelude.{◌≡◌, ◌≢◌, ◌+◌, ℕ, pos, true, List, [], length, map, Option, None, Some, Result, Ok, Err, IfOk, IfErr, OnOk, IsTrue, IsPermutation}
+use Rattle.std.specs.Prelude.{◌≡◌, ◌≢◌, ◌+◌, ℕ, pos, true, List, [], length, map, Option, None, Some, Result, Ok, Err}
+use Rattle.std.specs.Prelude.{IfOk, IfErr, OnOk, IsTrue, IsPermutation}
 use Rattle.std.specs.Option.{option_map}
 use Rattle.sqlite.specs.declared.types.Value.TheVariants.{Int, Text as Words}
 use Rattle.sqlite.specs.Order.{Row, column}
@@ -101,10 +102,13 @@ pub record IsOpenStill (old new : State) : Type 0 where
 abbrev pub HoldsWhereOpen : Tables → State → Type 0
 HoldsWhereOpen t s = IsTrue s.is_open → Holds t s.now
 
--- Outside a transaction, where the database holds tables and the disk is clean: what is given is found in them, and nothing is
+-- Outside a transaction, where the database holds tables and the disk is clean: what is given is found in them, and
+-- nothing is
 -- changed; a failure is as above. Only an open connection gives anything, and a stop leaves what it left before.
-pub record ReadsBy {T : Type 0} (Found : Tables → T → Type 0) (old new : State) (result : Result T StoreError) : Type 0 where
-  pub found : HasCleanDisk new → (t : Tables) → HoldsWhereOpen t old → IfOk result (λ value. Found t value × IsUnchanged old new)
+pub record ReadsBy {T : Type 0} (Found : Tables → T → Type 0) (old new : State) (result : Result T StoreError) : Type
+    0 where
+  pub found : HasCleanDisk new → (t : Tables) → HoldsWhereOpen t old
+      → IfOk result (λ value. Found t value × IsUnchanged old new)
   pub failed : HasCleanDisk new → (t : Tables) → HoldsWhereOpen t old → IfErr result (ReadFails old new)
   pub opened : HasCleanDisk new → OnOk result (IsOpenStill old new)
   pub clean : HasCleanDisk new → HasCleanDisk old
@@ -117,7 +121,8 @@ pub record SeesStill (old new : State) : Type 0 where
   pub committed_is : new.committed ≡ old.committed
 
 abbrev pub KeepsSight : State → State → Type 0
-KeepsSight old new = HasCleanDisk new → (IsTrue old.is_open → old.now ≡ old.committed) → IsTrue new.is_open → SeesStill old new
+KeepsSight old new =
+    HasCleanDisk new → (IsTrue old.is_open → old.now ≡ old.committed) → IsTrue new.is_open → SeesStill old new
 
 -- what a counted connection shows
 abbrev pub seen : {S : Type 0} → (g : Ghosts S) → Counted S g → State
@@ -129,9 +134,11 @@ Calls most old new = Rises most old.steps new.steps
 
 -- the same of a clean disk and tables that it holds, where their content says how many
 abbrev pub CallsOver : {S : Type 0} → (g : Ghosts S) → (Tables → ℕ) → Counted S g → Counted S g → Type 0
-CallsOver g most old new = HasCleanDisk (seen g new) → (t : Tables) → HoldsWhereOpen t (seen g old) → Calls (most t) old new
+CallsOver g most old new =
+    HasCleanDisk (seen g new) → (t : Tables) → HoldsWhereOpen t (seen g old) → Calls (most t) old new
 
-abbrev pub Reads : {S T : Type 0} → (g : Ghosts S) → (Tables → T → Type 0) → Counted S g → Counted S g → Result T StoreError → Type 0
+abbrev pub Reads : {S T : Type 0} → (g : Ghosts S) → (Tables → T → Type 0) → Counted S g → Counted S g
+    → Result T StoreError → Type 0
 Reads g Found old new result = ReadsBy Found (seen g old) (seen g new) result
 
 -- ---- what is read of an answer
@@ -144,7 +151,8 @@ pub record ShowsDates (row : Row) (d : Dates) : Type 0 where
   pub deactivation : (column row 7 ≡ Int (pos (date_cell d.deactivation))) × IsDate d.deactivation
   pub destroy : (column row 8 ≡ Int (pos (date_cell d.destroy))) × IsDate d.destroy
   pub compromise : (column row 9 ≡ Int (pos (date_cell d.compromise))) × IsDate d.compromise
-  pub compromise_occurrence : (column row 10 ≡ Int (pos (date_cell d.compromise_occurrence))) × IsDate d.compromise_occurrence
+  pub compromise_occurrence : (column row 10 ≡ Int (pos (date_cell d.compromise_occurrence)))
+      × IsDate d.compromise_occurrence
 
 -- the row shows this key
 pub record ShowsKey (row : Row) (k : Key) : Type 0 where
@@ -195,7 +203,8 @@ given_without QueryReturnedNoRows = Ok None
 given_without error = Err (Database error)
 
 -- the result is what is given so of the answer's row, or what is answered without one
-abbrev pub AnswersBy : {A : Type 0} → (Row → Option A → Type 0) → Result Row Error → Result (Option A) StoreError → Type 0
+abbrev pub AnswersBy : {A : Type 0} → (Row → Option A → Type 0) → Result Row Error → Result (Option A) StoreError
+    → Type 0
 AnswersBy {A} Gives (Ok row) result = (given : Option A) × Gives row given × (result ≡ given_of given)
 AnswersBy Gives (Err error) result = result ≡ given_without error
 
@@ -215,4 +224,6 @@ HasNoName rows = (row : Row) × Has rows row × ((name : List ℕ) → IsName na
 
 -- where the first column of the rows shows some names, these in order
 abbrev pub AreNamesOf : List Row → List (List ℕ) → Type 0
-AreNamesOf rows found = (names : List (List ℕ)) → IsPermutation (map (λ row. column row 0) rows) (map Words names) → found ≡ sorted_names names
+AreNamesOf rows found =
+    (names : List (List ℕ)) → IsPermutation (map (λ row. column row 0) rows) (map Words names)
+    → found ≡ sorted_names names

@@ -8,8 +8,8 @@ use sqlite::{Error, Row};
 /// What the reader gives of the answer's row, `None` where there is no row.
 ///
 /// # Errors
-/// [`StoreError::NoRegister`] where the reader gives nothing of the row, and [`StoreError::Database`] where the database
-/// refused.
+/// [`StoreError::NoRegister`] where the reader gives nothing of the row, and
+/// [`StoreError::Database`] where the database refused.
 pub(crate) fn read_answer<T, F: FnOnce(&Row) -> Option<T>>(
     answer: Result<Row, Error>,
     read: F,

@@ -36,8 +36,8 @@ fn name_at_key_in(row: &Row) -> Option<NameAtKey>
     })
 }
 
-/// The place of the key with this number, of those that are numbered from 1.
-fn place_of(key: u64) -> Option<usize>
+/// The index of the key with this number, of those that are numbered from 1.
+fn key_index(key: u64) -> Option<usize>
     ensures { MatchOption result (key ≡ 0) (λ at. key ≡ suc at) }
 {
     if key == 0 {
@@ -91,7 +91,8 @@ fn empty_lists(alloc: Global, count: usize) -> Result<Vec<Vec<Name>>, CheckError
     Ok(lists)
 }
 
-/// The owners of the keys, and their custodians so far, both in order of the keys' numbers; and how many a key may have.
+/// The owners of the keys, and their custodians so far, both in order of the keys' numbers; and how
+/// many a key may have.
 #[derive(Drop)]
 struct CustodianCheck {
     most: usize,
@@ -113,7 +114,7 @@ impl RowCheck for CustodianCheck {
         let Some(shown) = name_at_key_in(row) else {
             return Ok(false);
         };
-        let Some(at) = place_of(shown.key) else {
+        let Some(at) = key_index(shown.key) else {
             return Ok(false);
         };
         if at >= self.owners.len() || at >= self.custodians.len() {
@@ -127,8 +128,8 @@ impl RowCheck for CustodianCheck {
     }
 }
 
-/// Puts the table of custodians to the check of a version, with the owners of the keys. Gives each key's custodians. It
-/// changes nothing.
+/// Puts the table of custodians to the check of a version, with the owners of the keys. Gives each
+/// key's custodians. It changes nothing.
 ///
 /// # Errors
 /// As the check of all tables.
@@ -148,19 +149,14 @@ pub(crate) fn check_custodians<S: Alter>(
     ensures survives { Survives (state S.Store connection.old)
         (state S.Store connection.new) (λ _. ⊥) }
 {
-    let custodians = match empty_lists(alloc, owners.len()) {
-        Ok(custodians) => custodians,
-        Err(error) => return Err(error),
-    };
+    let custodians = empty_lists(alloc, owners.len())?;
     let mut check = CustodianCheck {
         most: version.max_custodians(),
         owners,
         custodians,
     };
-    match check_rows(connection, "SELECT key_no, name FROM custodian", &mut check) {
-        Ok(()) => Ok(check.custodians),
-        Err(error) => Err(CheckError::from(error)),
-    }
+    check_rows(connection, "SELECT key_no, name FROM custodian", &mut check)?;
+    Ok(check.custodians)
 }
 
 /// The custodians of the keys, in order of the keys' numbers.
@@ -184,7 +180,7 @@ impl RowCheck for ApprovalCheck {
         let Some(shown) = name_at_key_in(row) else {
             return Ok(false);
         };
-        let Some(at) = place_of(shown.key) else {
+        let Some(at) = key_index(shown.key) else {
             return Ok(false);
         };
         if at >= self.custodians.len() {
@@ -211,8 +207,6 @@ pub(crate) fn check_approvals<S: Alter>(
         (state S.Store connection.new) (λ _. ⊥) }
 {
     let mut check = ApprovalCheck { custodians };
-    match check_rows(connection, "SELECT key_no, name FROM approval", &mut check) {
-        Ok(()) => Ok(()),
-        Err(error) => Err(CheckError::from(error)),
-    }
+    check_rows(connection, "SELECT key_no, name FROM approval", &mut check)?;
+    Ok(())
 }

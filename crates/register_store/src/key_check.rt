@@ -118,35 +118,33 @@ fn all_owners(check: KeyCheck) -> Result<Vec<Name>, CheckError>
     }
 }
 
-/// Puts the table of keys to its check, with what meta counts. Gives the keys' owners. It changes nothing.
+/// Puts the table of keys to its check, with what meta counts. Gives the keys' owners. It changes
+/// nothing.
 ///
 /// # Errors
 /// As the check of all tables.
 pub(crate) fn check_keys<S: Alter>(
     alloc: Global,
     connection: &mut Connection<S>,
-    found: Found,
+    found: &Found,
 ) -> Result<Vec<Name>, CheckError>
     requires { connection.old.in_transaction ≡ false }
     ensures idle { connection.new.in_transaction ≡ false }
-    ensures checks { (t : Stored) → mark_of found ≡ mark t → ChecksTable Keys t AreOwners
-        (state S.Store connection.old) (state S.Store connection.new) result }
     ensures survives { Survives (state S.Store connection.old)
         (state S.Store connection.new) (λ _. ⊥) }
+    ensures checks { (t : Stored) → mark_of found.now ≡ mark t → ChecksTable Keys t AreOwners
+        (state S.Store connection.old) (state S.Store connection.new) result }
 {
     let mut check = KeyCheck {
-        found,
+        found: *found,
         count: 0,
         owners: Vec::new(alloc),
     };
-    let read = check_rows(
+    check_rows(
         connection,
         "SELECT kind, owner, purpose, state, initial, activation, protect_stop, deactivation, destroyed, compromised, \
         occurrence, number FROM keys ORDER BY number",
         &mut check,
-    );
-    match read {
-        Ok(()) => all_owners(check),
-        Err(error) => Err(CheckError::from(error)),
-    }
+    )?;
+    all_owners(check)
 }

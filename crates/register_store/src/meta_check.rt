@@ -109,7 +109,8 @@ impl RowCheck for MetaCheck {
 /// Puts the table meta to its check. Gives the version and what it counts. It changes nothing.
 ///
 /// # Errors
-/// [`CheckError::NewerVersion`] where the version is above this program's, and else as the check of all tables.
+/// [`CheckError::NewerVersion`] where the version is above this program's, and else as the check of
+/// all tables.
 pub(crate) fn check_meta<S: Alter>(connection: &mut Connection<S>) -> Result<Found, CheckError>
     requires { connection.old.in_transaction ≡ false }
     ensures idle { connection.new.in_transaction ≡ false }

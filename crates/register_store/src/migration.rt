@@ -63,8 +63,8 @@ impl SchemaChange for Migration {
 /// Takes a register of the first version to the second, whole or not at all, and so over a stop.
 ///
 /// # Errors
-/// [`CreateError::HasTables`] where a table of the second version is there already, and [`CreateError::Database`] where
-/// the database refused.
+/// [`CreateError::HasTables`] where a table of the second version is there already, and
+/// [`CreateError::Database`] where the database refused.
 pub fn migrate<S: Alter>(connection: &mut Connection<S>) -> Result<(), CreateError>
     requires { connection.old.in_transaction ≡ false }
     ensures idle { connection.new.in_transaction ≡ false }

@@ -10,12 +10,13 @@ use register_core::Version;
 use sqlite::{Alter, Connection};
 use std::alloc::Global;
 
-/// Puts the tables of a file to the checks of their version, and takes those of the first version to the second. Gives the
-/// version that they had, and what they count.
+/// Puts the tables of a file to the checks of their version, and takes those of the first version
+/// to the second. Gives the version that they had, and what they count.
 ///
 /// # Errors
-/// As [`check`]; [`CheckError::NotARegister`] too where tables of the first version stand beside one that the second adds;
-/// [`CheckError::Database`] too where the database refused to take them to the second. Then they are of one of the two.
+/// As [`check`]; [`CheckError::NotARegister`] too where tables of the first version stand beside
+/// one that the second adds; [`CheckError::Database`] too where the database refused to take them
+/// to the second. Then they are of one of the two.
 pub fn open_tables<S: Alter>(
     alloc: Global,
     connection: &mut Connection<S>,

@@ -9,10 +9,10 @@ ghost use Rattle.register_store.specs.OpeningChecks.{IsReplyOf};
 ghost use Rattle.register_store.specs.CheckedTables.{ShowsKept, ChecksTable, mark_of};
 ghost use Rattle.register_store.specs.CheckedRows.{IsAny};
 
-use crate::cell::{name_in, request_number_in};
+use crate::cell::name_in;
 use crate::error::CheckError;
 use crate::found::Found;
-use crate::request_row::request_in;
+use crate::request_row::{request_in, request_number_in};
 use register_core::KeptReply;
 use row_checks::{RowCheck, check_rows};
 use sqlite::{Alter, Connection, Row};
@@ -67,23 +67,20 @@ impl RowCheck for RequestCheck {
 /// As the check of all tables.
 pub(crate) fn check_requests<S: Alter>(
     connection: &mut Connection<S>,
-    found: Found,
+    found: &Found,
 ) -> Result<(), CheckError>
     requires { connection.old.in_transaction ≡ false }
     ensures idle { connection.new.in_transaction ≡ false }
-    ensures checks { (t : Stored) → mark_of found ≡ mark t → ChecksTable Request t IsAny
+    ensures checks { (t : Stored) → mark_of found.now ≡ mark t → ChecksTable Request t IsAny
         (state S.Store connection.old) (state S.Store connection.new) result }
     ensures survives { Survives (state S.Store connection.old)
         (state S.Store connection.new) (λ _. ⊥) }
 {
-    let mut check = RequestCheck { found };
-    let read = check_rows(
+    let mut check = RequestCheck { found: *found };
+    check_rows(
         connection,
         "SELECT command, key_no, state, moment, caller, number FROM request",
         &mut check,
-    );
-    match read {
-        Ok(()) => Ok(()),
-        Err(error) => Err(CheckError::from(error)),
-    }
+    )?;
+    Ok(())
 }

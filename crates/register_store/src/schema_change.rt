@@ -7,7 +7,8 @@ ghost use Rattle.register_store.specs.Creation.{FindsIn, FindsInside};
 use crate::error::CreateError;
 use sqlite::{Alter, Connection, Error, Transaction};
 
-/// A change of a database's schema that makes tables. Where one of them is there already it is not made.
+/// A change of a database's schema that makes tables. Where one of them is there already it is not
+/// made.
 pub(crate) trait SchemaChange {
     ghost use Rattle.std.specs.Prelude.{◌≡◌};
     ghost use Rattle.sqlite.specs.Schema.{Schema};
@@ -43,7 +44,8 @@ fn make_where_none<S: Alter, C: SchemaChange>(
     change: &C,
 ) -> Result<(), CreateError>
     ensures same_reference { tx.new.conn.ghost_name ≡ tx.old.conn.ghost_name }
-    ensures made { Steps S.Store (λ _. C.SchemaChange.makes) tx.old.conn.now tx.new.conn.now result }
+    ensures made { Steps S.Store (λ _. C.SchemaChange.makes)
+        tx.old.conn.now tx.new.conn.now result }
     ensures there { result ≡ Err CreateError.HasTables → FindsInside C.SchemaChange.has_one
         (state S.Store tx.old.conn.now) (state S.Store tx.new.conn.now) }
 {
@@ -57,8 +59,8 @@ fn make_where_none<S: Alter, C: SchemaChange>(
 /// Makes the change in one transaction, whole or not at all, and so over a stop.
 ///
 /// # Errors
-/// [`CreateError::HasTables`] where one of the tables that it makes is there, and [`CreateError::Database`] where the
-/// database refused.
+/// [`CreateError::HasTables`] where one of the tables that it makes is there, and
+/// [`CreateError::Database`] where the database refused.
 pub(crate) fn change_schema<S: Alter, C: SchemaChange>(
     connection: &mut Connection<S>,
     change: &C,

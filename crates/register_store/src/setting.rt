@@ -1,5 +1,5 @@
-//! What is set beside the keys themselves: the usage periods of types, and how many approvals the destruction of a key
-//! needs.
+//! What is set beside the keys themselves: the usage periods of types, and how many approvals the
+//! destruction of a key needs.
 ghost use Rattle.std.specs.Prelude.{◌≡◌, MatchOption};
 ghost use Rattle.period_core.specs.Period.{Period as UsagePeriod};
 ghost use Rattle.register_store.specs.StepCount.{Writes};
@@ -81,7 +81,8 @@ fn clear_need<T: Inside>(tx: &mut T, steps: &mut StepCount, key: u32) -> Result<
     Ok(())
 }
 
-/// Adds the need of the key. The database refuses it where one is set, and where there is no such key.
+/// Adds the need of the key. The database refuses it where one is set, and where there is no such
+/// key.
 fn add_need<T: Inside>(
     tx: &mut T,
     steps: &mut StepCount,
@@ -113,12 +114,12 @@ pub(crate) fn set_need<T: Inside>(
     add_need(tx, steps, key, need)
 }
 
-/// How many approvals the destruction of the key with this number needs, or `None` where its owner set no number. It
-/// changes nothing.
+/// How many approvals the destruction of the key with this number needs, or `None` where its owner
+/// set no number. It changes nothing.
 ///
 /// # Errors
-/// [`StoreError::Database`] where the database refused, and [`StoreError::NoRegister`] where the row is one that no
-/// register holds.
+/// [`StoreError::Database`] where the database refused, and [`StoreError::NoRegister`] where the
+/// row is one that no register holds.
 pub fn find_need<S: Alter>(
     connection: &mut Counted<S>,
     key: u32,

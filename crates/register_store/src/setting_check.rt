@@ -91,15 +91,12 @@ pub(crate) fn check_periods<S: Alter>(connection: &mut Connection<S>) -> Result<
         (state S.Store connection.new) (λ _. ⊥) }
 {
     let mut check = PeriodCheck {};
-    let read = check_rows(
+    check_rows(
         connection,
         "SELECT kind, originator, recipient FROM period",
         &mut check,
-    );
-    match read {
-        Ok(()) => Ok(()),
-        Err(error) => Err(CheckError::from(error)),
-    }
+    )?;
+    Ok(())
 }
 
 /// Whether a register with these counts may have the need.
@@ -135,26 +132,24 @@ impl RowCheck for NeedCheck {
     }
 }
 
-/// Puts the table of needs of the second version to its check, with what meta counts. It changes nothing.
+/// Puts the table of needs of the second version to its check, with what meta counts. It changes
+/// nothing.
 ///
 /// # Errors
 /// As the check of all tables.
 pub(crate) fn check_needs<S: Alter>(
     connection: &mut Connection<S>,
-    found: Found,
+    found: &Found,
 ) -> Result<(), CheckError>
     requires { connection.old.in_transaction ≡ false }
     ensures idle { connection.new.in_transaction ≡ false }
-    ensures checks { (t : Stored) → t.version ≡ Second → mark_of found ≡ mark t →
+    ensures checks { (t : Stored) → t.version ≡ Second → mark_of found.now ≡ mark t →
         ChecksTable table.Quorum t IsAny
         (state S.Store connection.old) (state S.Store connection.new) result }
     ensures survives { Survives (state S.Store connection.old)
         (state S.Store connection.new) (λ _. ⊥) }
 {
-    let mut check = NeedCheck { found };
-    let read = check_rows(connection, "SELECT key_no, need FROM quorum", &mut check);
-    match read {
-        Ok(()) => Ok(()),
-        Err(error) => Err(CheckError::from(error)),
-    }
+    let mut check = NeedCheck { found: *found };
+    check_rows(connection, "SELECT key_no, need FROM quorum", &mut check)?;
+    Ok(())
 }

@@ -1,5 +1,6 @@
 -- What is known of a query while its rows are read one at a time.
-use Rattle.std.proofs.Common.{◌≡◌, inl, inr, ℕ, List, [], Option, Ok, Err, OnOk, Result, refl, sym, ap, subst, ◌∙◌, arith}
+use Rattle.std.proofs.Common.{◌≡◌, inl, inr, ℕ, List, [], Option, Ok, Err, OnOk, Result, refl, sym, ap, subst, ◌∙◌}
+use Rattle.std.proofs.Common.{arith}
 use Rattle.sqlite_trees.specs.declared.store.Store as store
 use Rattle.sqlite_trees.specs.declared.error.StoreError.{StoreError}
 use Rattle.sqlite.specs.declared.error.Error.{Error}
@@ -13,7 +14,8 @@ use Rattle.sqlite.specs.Effect.{Database, RefusesToRead}
 use Rattle.sqlite.specs.Given.{HasGiven, HasBegun, Returns, IsPlain}
 use Rattle.sqlite.specs.Held.{Held, state}
 use Rattle.sqlite.specs.Listing.{understood, reads_listing, IsSourceOf}
-use Rattle.sqlite.specs.State.{State, HasCleanDisk, IsUnchanged, IsNotRun, FailsToQuery, FailsToShow, Shown, ShowsRows, Survives, CommitsShowing, store_error}
+use Rattle.sqlite.specs.State.{State, HasCleanDisk, IsUnchanged, IsNotRun, FailsToQuery, FailsToShow, Shown}
+use Rattle.sqlite.specs.State.{ShowsRows, Survives, CommitsShowing, store_error}
 use Rattle.sqlite.specs.Clock.{timed}
 use Rattle.sqlite.proofs.Callers.{never_commits, unchanged_then}
 use Rattle.sqlite.proofs.StateLemmas.{survives_weaker}
@@ -22,14 +24,16 @@ use Rattle.row_checks.specs.ShownRows.{IsQuery, HasNoMeaning, ShowsAll, ShowsFir
 
 -- ---- a text that has no meaning
 
-never_read : (limit : Option ℕ) (command : Command) (db : Database) (params : Row) (fault : CompileError) → ¬ RefusesToRead limit command db params (SqlInputError fault)
+never_read : (limit : Option ℕ) (command : Command) (db : Database) (params : Row) (fault : CompileError)
+    → ¬ RefusesToRead limit command db params (SqlInputError fault)
 never_read limit (Select q names) db params fault (inl h) = let e = h.0 in cc
 never_read limit (Select q names) db params fault (inr (inl h)) = let e = h.0 in cc
 never_read limit (Select q names) db params fault (inr (inr h)) = let e = h.0 in cc
 never_read limit (Rows values width names) db params fault h = let e = h.0 in cc
 never_read limit _ db params fault h = let e = h in cc
 
-not_run : (sql : List ℕ) (params : Row) (old new : State) (fault : CompileError) → IsNotRun old new sql params (SqlInputError fault) → HasNoMeaning sql old new
+not_run : (sql : List ℕ) (params : Row) (old new : State) (fault : CompileError)
+    → IsNotRun old new sql params (SqlInputError fault) → HasNoMeaning sql old new
 unfolding IsNotRun
 not_run sql params old new fault (inl (inl named, same)) = record { fault = named.0; meaning = named.1; same = same }
 not_run sql params old new fault (inl (inr (c, is, inl two), same)) = absurd (let e = two.1 in cc)
@@ -38,7 +42,8 @@ not_run sql params old new fault (inl (inr (c, is, inr (inr clock)), same)) = ab
 not_run sql params old new fault (inr fails) = absurd (never_input fault fails.0 fails.1)
 
 -- the error that names this cause comes with it alone
-pub no_meaning : (sql : List ℕ) (params : Row) (old new : State) (fault : CompileError) → IsQuery sql → FailsToQuery sql params old new (SqlInputError fault) → HasNoMeaning sql old new
+pub no_meaning : (sql : List ℕ) (params : Row) (old new : State) (fault : CompileError) → IsQuery sql
+    → FailsToQuery sql params old new (SqlInputError fault) → HasNoMeaning sql old new
 unfolding FailsToQuery
 no_meaning sql params old new fault query (inl not) = not_run sql params old new fault not
 no_meaning sql params old new fault query (inr h) =
@@ -48,16 +53,20 @@ no_meaning sql params old new fault query (inr h) =
 
 -- ---- a query
 
-plain_of : (sql : List ℕ) (schema : _) (c : Compiled) → IsQuery sql → understood schema sql ≡ Ok c → IsPlain (understood schema sql)
+plain_of : (sql : List ℕ) (schema : _) (c : Compiled) → IsQuery sql → understood schema sql ≡ Ok c
+    → IsPlain (understood schema sql)
 plain_of sql schema c query is = subst IsPlain (sym is) (query schema c is)
 
 -- it commits nothing
-pub commits_none : (sql : List ℕ) (params : Row) (old new : State) → IsQuery sql → Survives old new (CommitsShowing sql params old) → Survives old new (λ _. ⊥)
+pub commits_none : (sql : List ℕ) (params : Row) (old new : State) → IsQuery sql
+    → Survives old new (CommitsShowing sql params old) → Survives old new (λ _. ⊥)
 unfolding CommitsShowing
-commits_none sql params old new query = survives_weaker old new _ _ (λ clean db h. never_commits sql params old db (plain_of sql _ h.0 query h.1.is) h)
+commits_none sql params old new query =
+    survives_weaker old new _ _ (λ clean db h. never_commits sql params old db (plain_of sql _ h.0 query h.1.is) h)
 
 -- the rows that are shown from where nothing had changed
-pub shown_from : (sql : List ℕ) (params : Row) (a b c : State) (rows : List Row) → IsQuery sql → IsUnchanged a b → Shown sql params b c rows → Shown sql params a c rows × IsUnchanged a c
+pub shown_from : (sql : List ℕ) (params : Row) (a b c : State) (rows : List Row) → IsQuery sql → IsUnchanged a b
+    → Shown sql params b c rows → Shown sql params a c rows × IsUnchanged a c
 unfolding Shown
 shown_from sql params a b c rows query same h =
     let now : b.now ≡ a.now = same.0.now_is in
@@ -68,8 +77,18 @@ shown_from sql params a b c rows query same h =
     let all = unchanged_then a b c same it.3 in (
       (
         k,
-        record { is = subst (λ (d : Database). understood d.schema sql ≡ Ok k) now h.1.is; whole = h.1.whole; given = h.1.given; now = h.1.now },
-        subst (ShowsRows a c sql k full rows) (sym none) (it.0, subst (λ (d : Database). IsSourceOf (reads_listing d.schema sql) d it.0) now it.1, it.2, all),
+        record {
+          is = subst (λ (d : Database). understood d.schema sql ≡ Ok k) now h.1.is;
+          whole = h.1.whole;
+          given = h.1.given;
+          now = h.1.now;
+        },
+        subst (ShowsRows a c sql k full rows) (sym none) (
+          it.0,
+          subst (λ (d : Database). IsSourceOf (reads_listing d.schema sql) d it.0) now it.1,
+          it.2,
+          all,
+        ),
       ),
       all,
     )
@@ -77,17 +96,26 @@ shown_from sql params a b c rows query same h =
 -- ---- rows that are taken one after the other
 
 module _ {S : Type 0} (g : store.Ghosts S) (sql : List ℕ) (Begins' : Type 0) where
-  -- where the query was at its start, and the check too: these rows were given, of which P holds, and nothing has changed
+  -- where the query was at its start, and the check too: these rows were given, of which P holds, and nothing has
+  -- changed
   abbrev pub HasTakenSoFar : (List Row → Type 0) → Held S → Held S → Type 0
-  HasTakenSoFar P old new = HasCleanDisk (state g new) → HasGiven g sql [] old [] → Begins' → (given : List Row) × HasGiven g sql [] new given × P given × IsUnchanged (state g old) (state g new)
+  HasTakenSoFar P old new =
+      HasCleanDisk (state g new) → HasGiven g sql [] old [] → Begins'
+      → (given : List Row) × HasGiven g sql [] new given × P given × IsUnchanged (state g old) (state g new)
 
-pub given_same : {S : Type 0} (g : store.Ghosts S) (sql : List ℕ) (params : Row) (h : Held S) (given : List Row) → HasGiven g sql params h given → IsUnchanged (state g h) (state g h)
+pub given_same : {S : Type 0} (g : store.Ghosts S) (sql : List ℕ) (params : Row) (h : Held S) (given : List Row)
+    → HasGiven g sql params h given → IsUnchanged (state g h) (state g h)
 unfolding HasGiven
-given_same g sql params h given it = (record { was_open = it.0.is_open; is_open = it.0.is_open; now_is = refl; committed_is = refl; mode = refl }, record { changes = refl; last_rowid = refl }, refl)
+given_same g sql params h given it = (
+  record { was_open = it.0.is_open; is_open = it.0.is_open; now_is = refl; committed_is = refl; mode = refl },
+  record { changes = refl; last_rowid = refl },
+  refl,
+)
 
 -- ---- a query and what is read of it
 
-pub begun_so : {S : Type 0} (g : store.Ghosts S) (sql : List ℕ) (params : Row) (old new : Held S) → IsQuery sql → HasBegun g sql params old new → HasGiven g sql params new [] × IsUnchanged (state g old) (state g new)
+pub begun_so : {S : Type 0} (g : store.Ghosts S) (sql : List ℕ) (params : Row) (old new : Held S) → IsQuery sql
+    → HasBegun g sql params old new → HasGiven g sql params new [] × IsUnchanged (state g old) (state g new)
 begun_so g sql params old new query (inl h) = h
 begun_so g sql params old new query (inr h) = absurd (never (understood old.schema sql) refl h.0)
   where
@@ -95,32 +123,55 @@ begun_so g sql params old new query (inr h) = absurd (never (understood old.sche
     never (Ok c) is some = absurd (let none = (query old.schema c is).0 in let s = rw none at some in cc)
     never (Err e) is some = some
 
-pub all_from : (sql : List ℕ) (P : List Row → Type 0) (a b c : State) → IsQuery sql → IsUnchanged a b → ShowsAll sql P b c → ShowsAll sql P a c
-all_from sql P a b c query same all = let it = shown_from sql [] a b c all.rows query same all.shown in record { rows = all.rows; shown = it.0; holds = all.holds; same = it.1 }
+pub all_from : (sql : List ℕ) (P : List Row → Type 0) (a b c : State) → IsQuery sql → IsUnchanged a b
+    → ShowsAll sql P b c → ShowsAll sql P a c
+all_from sql P a b c query same all =
+    let it = shown_from sql [] a b c all.rows query same all.shown in record {
+      rows = all.rows;
+      shown = it.0;
+      holds = all.holds;
+      same = it.1;
+    }
 
-pub first_from : (sql : List ℕ) (P : List Row → Type 0) (a b c : State) → IsUnchanged a b → ShowsFirst sql P b c → ShowsFirst sql P a c
-first_from sql P a b c same bad = record { rows = bad.rows; shown = bad.shown; holds = bad.holds; same = unchanged_then a b c same bad.same }
+pub first_from : (sql : List ℕ) (P : List Row → Type 0) (a b c : State) → IsUnchanged a b → ShowsFirst sql P b c
+    → ShowsFirst sql P a c
+first_from sql P a b c same bad = record {
+  rows = bad.rows;
+  shown = bad.shown;
+  holds = bad.holds;
+  same = unchanged_then a b c same bad.same;
+}
 
 pub carry : {A : Type 0} (P : A → Type 0) (a b : A) → a ≡ b → P b → P a
 carry P a b is p = subst P (sym is) p
 
 -- a query that was begun stood at its start, and had changed nothing
-pub at_start : {S : Type 0} (g : store.Ghosts S) (sql : List ℕ) (old mid new : Held S) → IsQuery sql → (HasCleanDisk (state g mid) → HasBegun g sql [] old mid) → Survives (state g mid) (state g new) (λ _. ⊥) → HasCleanDisk (state g new)
+pub at_start : {S : Type 0} (g : store.Ghosts S) (sql : List ℕ) (old mid new : Held S) → IsQuery sql
+    → (HasCleanDisk (state g mid) → HasBegun g sql [] old mid) → Survives (state g mid) (state g new) (λ _. ⊥)
+    → HasCleanDisk (state g new)
     → HasGiven g sql [] mid [] × IsUnchanged (state g old) (state g mid)
 at_start g sql old mid new query begun survives clean =
     let early : HasCleanDisk (state g mid) = omega (arith, survives.clean) in
     begun_so g sql [] old mid query (begun early)
 
-pub met_from : {E G : Type 0} (r : Result (Unit {0}) E) (sql : List ℕ) (P : List Row → Type 0) (a b c : State) → IsQuery sql → G × IsUnchanged a b → (G → OnOk r (ShowsAll sql P b c)) → OnOk r (ShowsAll sql P a c)
+pub met_from : {E G : Type 0} (r : Result (Unit {0}) E) (sql : List ℕ) (P : List Row → Type 0) (a b c : State)
+    → IsQuery sql → G × IsUnchanged a b → (G → OnOk r (ShowsAll sql P b c)) → OnOk r (ShowsAll sql P a c)
 met_from (Ok x) sql P a b c query start all = all_from sql P a b c query start.1 (all start.0)
 met_from (Err e) sql P a b c query start all = tt
 
-pub shows_weaker : {E : Type 0} (r : Result (Unit {0}) E) (sql : List ℕ) (P Q : List Row → Type 0) (a b : State) → ((rows : List Row) → P rows → Q rows) → OnOk r (ShowsAll sql P a b) → OnOk r (ShowsAll sql Q a b)
-shows_weaker (Ok x) sql P Q a b weaker all = record { rows = all.rows; shown = all.shown; holds = weaker all.rows all.holds; same = all.same }
+pub shows_weaker : {E : Type 0} (r : Result (Unit {0}) E) (sql : List ℕ) (P Q : List Row → Type 0) (a b : State)
+    → ((rows : List Row) → P rows → Q rows) → OnOk r (ShowsAll sql P a b) → OnOk r (ShowsAll sql Q a b)
+shows_weaker (Ok x) sql P Q a b weaker all = record {
+  rows = all.rows;
+  shown = all.shown;
+  holds = weaker all.rows all.holds;
+  same = all.same;
+}
 shows_weaker (Err e) sql P Q a b weaker all = tt
 
 -- and to where nothing has changed
-pub shown_to : (sql : List ℕ) (params : Row) (a b c : State) (rows : List Row) → IsQuery sql → Shown sql params a b rows → IsUnchanged b c → Shown sql params a c rows
+pub shown_to : (sql : List ℕ) (params : Row) (a b c : State) (rows : List Row) → IsQuery sql
+    → Shown sql params a b rows → IsUnchanged b c → Shown sql params a c rows
 unfolding Shown
 shown_to sql params a b c rows query h same =
     let k = h.0 in
@@ -137,5 +188,11 @@ no_meaning_from sql a b c same none = record {
   same = unchanged_then a b c same none.same;
 }
 
-pub all_to : (sql : List ℕ) (P : List Row → Type 0) (a b c : State) → IsQuery sql → ShowsAll sql P a b → IsUnchanged b c → ShowsAll sql P a c
-all_to sql P a b c query all same = record { rows = all.rows; shown = shown_to sql [] a b c all.rows query all.shown same; holds = all.holds; same = unchanged_then a b c all.same same }
+pub all_to : (sql : List ℕ) (P : List Row → Type 0) (a b c : State) → IsQuery sql → ShowsAll sql P a b
+    → IsUnchanged b c → ShowsAll sql P a c
+all_to sql P a b c query all same = record {
+  rows = all.rows;
+  shown = shown_to sql [] a b c all.rows query all.shown same;
+  holds = all.holds;
+  same = unchanged_then a b c all.same same;
+}

@@ -1,5 +1,5 @@
-//! Reading the rows of a query one at a time, each of which is put to a check: whatever the file's schema is, and with no
-//! row kept.
+//! Reading the rows of a query one at a time, each of which is put to a check: whatever the file's
+//! schema is, and with no row kept.
 //!
 //! ```
 //! let mut check = PriceCheck { total: 0 };

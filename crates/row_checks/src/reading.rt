@@ -56,9 +56,10 @@ fn take_rows<S: Alter, T: RowCheck>(
 /// Puts each row that the query shows to the check, one at a time. It changes nothing.
 ///
 /// # Errors
-/// [`RowsError::NoMeaning`] where the text has no meaning under the database's schema, [`RowsError::Refused`] where the
-/// rows do not pass, [`RowsError::Memory`] where memory gave out in the check, and [`RowsError::Database`] where the
-/// database refused. After the first three nothing has changed.
+/// [`RowsError::NoMeaning`] where the text has no meaning under the database's schema,
+/// [`RowsError::Refused`] where the rows do not pass, [`RowsError::Memory`] where memory gave out
+/// in the check, and [`RowsError::Database`] where the database refused. After the first three
+/// nothing has changed.
 pub fn check_rows<S: Alter, T: RowCheck>(
     connection: &mut Connection<S>,
     sql: &str,

@@ -12,7 +12,8 @@ pub trait RowCheck {
     /// The check, which began as the first, has taken these rows, which pass.
     ghost has_taken: { Self → Self → List Cells → Type 0 };
 
-    /// The check, which began as the first, refuses these rows: however they go on, they do not pass.
+    /// The check, which began as the first, refuses these rows: however they go on, they do not
+    /// pass.
     ghost refuses: { Self → Self → List Cells → Type 0 };
 
     /// Takes one more row, or finds that the rows do not pass.

@@ -1,5 +1,6 @@
 -- An INSERT below which all rows stand puts its row at the end, and so does one whose rowid is chosen.
-use Rattle.std.proofs.Common.{◌≡◌, ℤ, pos, ◌+ℤ◌, List, [], ◌∷◌, ◌++◌, map, drop, IsTrue, inl, inr, refl, sym, ap, subst, ◌∙◌, arith}
+use Rattle.std.proofs.Common.{◌≡◌, ℤ, pos, ◌+ℤ◌, List, [], ◌∷◌, ◌++◌, map, drop, IsTrue, inl, inr, refl, sym, ap}
+use Rattle.std.proofs.Common.{subst, ◌∙◌, arith}
 use Rattle.std.proofs.lemmas.Cmp.{int_ranked}
 use Rattle.std.proofs.lemmas.Int.{ints}
 use Rattle.std.proofs.lemmas.List.{map-append}
@@ -24,7 +25,8 @@ Below a b = value_cmp (rowid a) (rowid b) ≡ Less
 
 pub put_last : (rows : List Row) (r : Row) → AllByRecursion (λ x. Below x r) rows → put_row r rows ≡ rows ++ r ∷ []
 put_last [] r low = refl
-put_last (x ∷ xs) r low = ap (λ o. match_ordering o (x ∷ put_row r xs) (r ∷ xs) (r ∷ x ∷ xs)) low.0 ∙ ap (λ rs. x ∷ rs) (put_last xs r low.1)
+put_last (x ∷ xs) r low =
+    ap (λ o. match_ordering o (x ∷ put_row r xs) (r ∷ xs) (r ∷ x ∷ xs)) low.0 ∙ ap (λ rs. x ∷ rs) (put_last xs r low.1)
 
 -- ---- a rowid that is chosen
 
@@ -44,10 +46,16 @@ abbrev top : ℤ → List Row → ℤ
 top start [] = start
 top start (r ∷ rs) = top (id_in (rowid r) +ℤ pos 1) rs
 
-below_top : (x : Row) (xs : List Row) (cells : Row) → IsTable (x ∷ xs) → AllByRecursion (λ row. rowid row ≡ Int (id_in (rowid row))) (x ∷ xs)
+below_top : (x : Row) (xs : List Row) (cells : Row) → IsTable (x ∷ xs)
+    → AllByRecursion (λ row. rowid row ≡ Int (id_in (rowid row))) (x ∷ xs)
     → AllByRecursion (λ y. Below y (Int (top (id_in (rowid x) +ℤ pos 1) xs) ∷ cells)) (x ∷ xs)
-below_top x [] cells t i = (ap (λ v. value_cmp v (Int (id_in (rowid x) +ℤ pos 1))) i.0 ∙ value_cmp-Int _ _ ∙ one_more (id_in (rowid x)), tt)
-below_top x (y ∷ ys) cells t i = let rest = below_top y ys cells t.1 i.1 in (value_cmp_total.trans _ _ _ t.0.0 rest.0, rest)
+below_top x [] cells t i = (
+  ap (λ v. value_cmp v (Int (id_in (rowid x) +ℤ pos 1))) i.0 ∙ value_cmp-Int _ _
+      ∙ one_more (id_in (rowid x)),
+  tt,
+)
+below_top x (y ∷ ys) cells t i =
+    let rest = below_top y ys cells t.1 i.1 in (value_cmp_total.trans _ _ _ t.0.0 rest.0, rest)
 
 next_is : (rows : List Row) → next_rowid rows ≡ top (pos 1) rows
 next_is rows = from (pos 1) rows
@@ -61,11 +69,14 @@ module _ (cells : Row) where
   chosen rows = Int (next_rowid rows) ∷ cells
 
   -- the row goes to the end
-  pub chosen_last : (rows : List Row) → IsTable rows → AreCounted rows → map (drop 1) (put_row (chosen rows) rows) ≡ map (drop 1) rows ++ cells ∷ []
+  pub chosen_last : (rows : List Row) → IsTable rows → AreCounted rows
+      → map (drop 1) (put_row (chosen rows) rows) ≡ map (drop 1) rows ++ cells ∷ []
   chosen_last [] t i = refl
   chosen_last (x ∷ xs) t i =
-      let ids = all_weaker (λ row. IsTrue (is_int (rowid row))) (λ row. rowid row ≡ Int (id_in (rowid row))) (λ row is. int_is (rowid row) is) (x ∷ xs) i in
-      let low = subst (λ n. AllByRecursion (λ y. Below y (Int n ∷ cells)) (x ∷ xs)) (sym (next_is (x ∷ xs))) (below_top x xs cells t ids) in
+      let ids = all_weaker (λ row. IsTrue (is_int (rowid row))) (λ row. rowid row ≡ Int (id_in (rowid row)))
+      (λ row is. int_is (rowid row) is) (x ∷ xs) i in
+      let low = subst (λ n. AllByRecursion (λ y. Below y (Int n ∷ cells)) (x ∷ xs)) (sym (next_is (x ∷ xs)))
+      (below_top x xs cells t ids) in
       ap (map (drop 1)) (put_last (x ∷ xs) (chosen (x ∷ xs)) low) ∙ map-append (drop 1) (x ∷ xs) (chosen (x ∷ xs) ∷ [])
 
   pub chosen_ordered : (rows : List Row) → IsTable rows → IsTable (put_row (chosen rows) rows)

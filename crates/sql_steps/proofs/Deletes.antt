@@ -29,7 +29,8 @@ ids_shown = col 1 0 ∷ []
 pub has_own : (x : Row) (id : ℤ) → rowid x ≡ Int id → has_rowid id x ≡ true
 has_own x id e = ap (λ v. is_eq (value_cmp v (Int id))) e ∙ ap is_eq (tied_itself value_cmp_total (Int id))
 
-module _ (params : Row) (tree : ℕ) (passes : List Term) (rows : List Row) (ordered : IsTable rows) (counted : AreCounted rows)
+module _ (params : Row) (tree : ℕ) (passes : List Term) (rows : List Row) (ordered : IsTable rows)
+    (counted : AreCounted rows)
     (answer : List Row) (answered : IsPermutation (picked params tree passes ids_shown rows) answer) where
   abbrev p : Row → Bool
   p = is_picked params tree passes ids_shown
@@ -40,12 +41,14 @@ module _ (params : Row) (tree : ℕ) (passes : List Term) (rows : List Row) (ord
   ids_from : (id : ℤ) → Has (ids_of answer) id → (x : Row) × Has rows x × (p x ≡ true) × (rowid x ≡ Int id)
   ids_from id h =
       let s = map_has (λ r. id_in (rowid r)) answer id h in
-      let x = from_picked (λ r. eval_all ids_shown (env_of params tree passes ids_shown r)) p rows s.0 (has_permutation answer _ s.0 (IsPermutation-sym _ _ answered) s.1) in
+      let x = from_picked (λ r. eval_all ids_shown (env_of params tree passes ids_shown r)) p rows s.0
+      (has_permutation answer _ s.0 (IsPermutation-sym _ _ answered) s.1) in
       (x.0, x.1, x.2, id_of x.0 x.1 ∙ ap (λ r. Int (id_in (rowid r))) (sym x.3) ∙ ap Int (sym s.2))
 
   ids_all : (x : Row) → Has rows x → p x ≡ true → (id : ℤ) × Has (ids_of answer) id × (rowid x ≡ Int id)
   ids_all x h is =
-      let shown = has_permutation _ answer _ answered (to_picked (λ r. eval_all ids_shown (env_of params tree passes ids_shown r)) p rows x h is) in
+      let shown = has_permutation _ answer _ answered
+      (to_picked (λ r. eval_all ids_shown (env_of params tree passes ids_shown r)) p rows x h is) in
       (id_in (rowid x), has_map (λ r. id_in (rowid r)) answer _ shown, id_of x h)
 
   -- the rows that don't pass are left

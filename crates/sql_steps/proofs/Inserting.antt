@@ -33,5 +33,6 @@ module _ (base : Table) (params : Row) (terms : List Term) (width : ℕ) where
   puts sql schema at there is plain idle old new count h has =
       let w = runs_as sql params old new schema has (Insert at (Values terms width)) is plain count h in
       let text = statement_of sql (understood schema sql) in
-      let did = inserts old.step_limit (mode_of old) params old.now schema has at base there terms width text w.tally new.now (idle (edit schema old has at).news) w.changed in
+      let did = inserts old.step_limit (mode_of old) params old.now schema has at base there terms width text w.tally
+      new.now (idle (edit schema old has at).news) w.changed in
       record { rows_are = did.1.rows; kept = record { schema_is = did.0; others = did.1.tables; sound = w.sound } }

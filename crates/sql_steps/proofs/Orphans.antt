@@ -1,5 +1,6 @@
 -- What a DELETE with its cascade leaves of the two tables.
-use Rattle.std.proofs.Common.{◌≡◌, ◌≢◌, ◌⊎◌, inl, inr, ◌&&◌, ℕ, ℤ, List, [], ◌∷◌, filter, not, slice_get, Bool, cond, false, true, Some, Ok, IsTrue, sym, ap, subst, ◌∙◌}
+use Rattle.std.proofs.Common.{◌≡◌, ◌≢◌, ◌⊎◌, inl, inr, ◌&&◌, ℕ, ℤ, List, [], ◌∷◌, filter, not, slice_get, Bool, cond}
+use Rattle.std.proofs.Common.{false, true, Some, Ok, IsTrue, sym, ap, subst, ◌∙◌}
 use Rattle.std.specs.List.Sorted.{IsPermutation}
 use Rattle.sqlite.specs.Command.TheVariants.{Delete}
 use Rattle.sqlite.specs.Edit.{id_in, taken_by, without_all}
@@ -48,7 +49,8 @@ both_parts : (a b : Bool) → a ≡ true → b ≡ true → (a && b) ≡ true
 both_parts true b p q = q
 both_parts false b p q = absurd (cc)
 
-module _ (schema : Schema) (base child : Table) (ref : Reference) (places : List ℕ) (order : Order) (params : Row) (passes : List Term) where
+module _ (schema : Schema) (base child : Table) (ref : Reference) (places : List ℕ) (order : Order) (params : Row)
+    (passes : List Term) where
   -- a table with no AUTOINCREMENT
   abbrev parent : Table
   parent = record base { is_counted = false }
@@ -57,28 +59,45 @@ module _ (schema : Schema) (base child : Table) (ref : Reference) (places : List
   p = is_picked params parent.tree passes ids_shown
 
   module _ (parents children : List Row) (c : Row → Bool)
-      (c_from : (r : Row) → Has children r → c r ≡ true → (x : Row) × Has parents x × (p x ≡ true) × (loses order places (x, []) ≡ true) × (agree order ref.columns r places x ≡ true))
-      (c_all : (r x : Row) → Has children r → Has parents x → p x ≡ true → agree order ref.columns r places x ≡ true → c r ≡ true)
-      (ordered : IsTable children) (counted : AreCounted children) (olds : List Row) (taken : (x : Row) → Has parents x → p x ≡ true → Has olds x) (was : (y : Row) → Has olds y → Has parents y × (p y ≡ true))
-      (next : Trees) (same : next child.tree ≡ children) (ids : List ℤ) (are : AreChildren next (orphans schema parent child ref places order olds) ids) where
-    orphan_passes : (r : Row) → Has children r → is_orphan schema parent child ref places order olds r ≡ true → c r ≡ true
+      (c_from : (r : Row) → Has children r → c r ≡ true → (x : Row) × Has parents x × (p x ≡ true)
+      × (loses order places (x, []) ≡ true) × (agree order ref.columns r places x ≡ true))
+      (c_all : (r x : Row) → Has children r → Has parents x → p x ≡ true → agree order ref.columns r places x ≡ true
+      → c r ≡ true)
+      (ordered : IsTable children) (counted : AreCounted children) (olds : List Row) (taken : (x : Row)
+      → Has parents x → p x ≡ true → Has olds x) (was : (y : Row) → Has olds y → Has parents y × (p y ≡ true))
+      (next : Trees) (same : next child.tree ≡ children) (ids : List ℤ)
+      (are : AreChildren next (orphans schema parent child ref places order olds) ids) where
+    orphan_passes : (r : Row) → Has children r → is_orphan schema parent child ref places order olds r ≡ true
+        → c r ≡ true
     orphan_passes r h is =
         let move = some_has (is_child_of (orphans schema parent child ref places order olds) r) (pairs olds []) is in
         let stood = was move.0.0 (pairs_from olds move.0 move.1) in
         c_all r move.0.0 h stood.0 stood.1 (right_part _ _ move.2)
 
-    passing_orphan : (r : Row) → Has children r → c r ≡ true → is_orphan schema parent child ref places order olds r ≡ true
+    passing_orphan : (r : Row) → Has children r → c r ≡ true
+        → is_orphan schema parent child ref places order olds r ≡ true
     passing_orphan r h is =
         let x = c_from r h is in
-        some_from (is_child_of (orphans schema parent child ref places order olds) r) (pairs olds []) (x.0, []) (pairs_has olds x.0 (taken x.0 x.1 x.2)) (both_parts _ _ x.3 x.4)
+        some_from (is_child_of (orphans schema parent child ref places order olds) r) (pairs olds []) (
+          x.0,
+          [],
+        ) (pairs_has olds x.0 (taken x.0 x.1 x.2)) (both_parts _ _ x.3 x.4)
 
     -- the children that pass are those that go
     children_left : without_all children ids ≡ filter (λ r. not (c r)) children
     children_left = deletes_each children ids c ordered
-        (λ id h. let it = are.sound id h in let here = subst (λ rows. Has rows it.0) same it.1 in (it.0, here, orphan_passes it.0 here it.2, it.3))
+        (λ id h. let it = are.sound id h in let here = subst (λ rows. Has rows it.0) same it.1 in (
+          it.0,
+          here,
+          orphan_passes it.0 here it.2,
+          it.3,
+        ))
         (λ r h is.
-        let own = int_is (rowid r) (all_has (λ row. IsTrue (is_int (rowid row))) children r counted h) in
-        (id_in (rowid r), are.complete r (id_in (rowid r)) (subst (λ rows. Has rows r) (sym same) h) (passing_orphan r h is) own, own))
+        let own = int_is (rowid r) (all_has (λ row. IsTrue (is_int (rowid row))) children r counted h) in (
+          id_in (rowid r),
+          are.complete r (id_in (rowid r)) (subst (λ rows. Has rows r) (sym same) h) (passing_orphan r h is) own,
+          own,
+        ))
 
   -- the rows that pass went, and the rows of the other table for which c holds, and no other
   pub record RemovedBoth (c : Row → Bool) (old new : Database) : Type 0 where
@@ -87,38 +106,58 @@ module _ (schema : Schema) (base child : Table) (ref : Reference) (places : List
     pub kept : Kept schema (λ t. (t ≡ parent.tree) ⊎ (t ≡ child.tree)) old new
 
   pub removes_both : (sql : List ℕ) (at : ℕ) → slice_get schema.tables at ≡ Some parent
-      → command_of (understood schema sql) ≡ Delete at (record { lets = []; body = plain_query parent.tree passes ids_shown }) → IsPlain (understood schema sql)
-      → ((olds : List Row) → works schema Enforced 0 parent.tree olds [] ≡ cond (some_lose schema parent child ref places order olds) (orphans schema parent child ref places order olds ∷ []) [])
-      → ((olds : List Row) → works schema Enforced 1 child.tree olds [] ≡ []) → ((db : Trees) → overlay db [] parent.tree ≡ db parent.tree)
+      → command_of (understood schema sql)
+      ≡ Delete at (record { lets = []; body = plain_query parent.tree passes ids_shown })
+      → IsPlain (understood schema sql)
+      → ((olds : List Row)
+      → works schema Enforced 0 parent.tree olds []
+      ≡ cond (some_lose schema parent child ref places order olds)
+      (orphans schema parent child ref places order olds ∷ []) [])
+      → ((olds : List Row) → works schema Enforced 1 child.tree olds [] ≡ [])
+      → ((db : Trees) → overlay db [] parent.tree ≡ db parent.tree)
       → Has schema.tables parent → Has schema.tables child → child.tree ≢ parent.tree
       → (old new : State) (count : ℕ) → Executes sql params old new (Ok count) → old.now.schema ≡ schema
-      → IsTable (old.now.trees parent.tree) → AreCounted (old.now.trees parent.tree) → IsTable (old.now.trees child.tree) → AreCounted (old.now.trees child.tree) → (c : Row → Bool)
-      → ((r : Row) → Has (old.now.trees child.tree) r → c r ≡ true → (x : Row) × Has (old.now.trees parent.tree) x × (p x ≡ true) × (loses order places (x, []) ≡ true) × (agree order ref.columns r places x ≡ true))
-      → ((r x : Row) → Has (old.now.trees child.tree) r → Has (old.now.trees parent.tree) x → p x ≡ true → agree order ref.columns r places x ≡ true → c r ≡ true)
+      → IsTable (old.now.trees parent.tree) → AreCounted (old.now.trees parent.tree)
+      → IsTable (old.now.trees child.tree) → AreCounted (old.now.trees child.tree) → (c : Row → Bool)
+      → ((r : Row) → Has (old.now.trees child.tree) r → c r ≡ true → (x : Row) × Has (old.now.trees parent.tree) x
+      × (p x ≡ true) × (loses order places (x, []) ≡ true) × (agree order ref.columns r places x ≡ true))
+      → ((r x : Row) → Has (old.now.trees child.tree) r → Has (old.now.trees parent.tree) x → p x ≡ true
+      → agree order ref.columns r places x ≡ true → c r ≡ true)
       → RemovedBoth c old.now new.now
-  removes_both sql at there is plain cascade idle low listed child_listed apart old new count h has ordered counted child_ordered child_counted c c_from c_all =
+  removes_both sql at there is plain cascade idle low listed child_listed apart old new count h has ordered counted
+      child_ordered child_counted c c_from c_all =
       let q = plain_query parent.tree passes ids_shown in
       let w = runs_as sql params old new schema has (Delete at (record { lets = []; body = q })) is plain count h in
       let text = statement_of sql (understood schema sql) in
-      let did = deletes old.step_limit (mode_of old) params old.now schema has at base there q text w.tally new.now w.changed in
+      let did = deletes old.step_limit (mode_of old) params old.now schema has at base there q text w.tally new.now
+      w.changed in
       let parents = old.now.trees parent.tree in
       let children = old.now.trees child.tree in
       let all : IsPermutation (picked params parent.tree passes ids_shown parents) did.1 =
-      subst (λ rs. IsPermutation (picked params parent.tree passes ids_shown rs) did.1) (low old.now.trees) (answers params parent.tree passes ids_shown (overlay old.now.trees []) did.1 did.2) in
-      let fell = drops_after schema parent child ref places order cascade idle old.now.trees new.now.trees (ids_of did.1) did.3 in
-      let olds = taken_by old.now.trees (deleted old.step_limit (mode_of old) params old.now schema has at base did.1) in
-      let same : fell.0 child.tree ≡ children = all_has (λ (t : Table). t.tree ≢ parent.tree → fell.0 t.tree ≡ old.now.trees t.tree) schema.tables child fell.1.tables child_listed apart in
-      let stays = all_has (λ (t : Table). t.tree ≢ child.tree → new.now.trees t.tree ≡ fell.0 t.tree) schema.tables parent fell.2.others listed (λ e. apart (sym e)) in
+      subst (λ rs. IsPermutation (picked params parent.tree passes ids_shown rs) did.1) (low old.now.trees)
+      (answers params parent.tree passes ids_shown (overlay old.now.trees []) did.1 did.2) in
+      let fell = drops_after schema parent child ref places order cascade idle old.now.trees new.now.trees
+      (ids_of did.1) did.3 in
+      let olds = taken_by old.now.trees
+      (deleted old.step_limit (mode_of old) params old.now schema has at base did.1) in
+      let same : fell.0 child.tree ≡ children = all_has (λ (t : Table). t.tree ≢ parent.tree
+      → fell.0 t.tree ≡ old.now.trees t.tree) schema.tables child fell.1.tables child_listed apart in
+      let stays = all_has (λ (t : Table). t.tree ≢ child.tree
+      → new.now.trees t.tree ≡ fell.0 t.tree) schema.tables parent fell.2.others listed (λ e. apart (sym e)) in
       record {
         parents_are = stays ∙ fell.1.rows ∙ left params parent.tree passes parents ordered counted did.1 all;
         children_are = fell.2.rows ∙ ap (λ rows. without_all rows fell.2.ids) same
-            ∙ children_left parents children c c_from c_all child_ordered child_counted olds (taken_all params parent.tree passes parents ordered counted did.1 all) (taken_from params parent.tree passes parents ordered counted did.1 all)
+            ∙ children_left parents children c c_from c_all child_ordered child_counted olds
+            (taken_all params parent.tree passes parents ordered counted did.1 all)
+            (taken_from params parent.tree passes parents ordered counted did.1 all)
             fell.0 same fell.2.ids fell.2.are;
         kept = record {
           schema_is = did.0;
           others = all_from _ schema.tables (λ t h not_written.
-              all_has (λ (t : Table). t.tree ≢ child.tree → new.now.trees t.tree ≡ fell.0 t.tree) schema.tables t fell.2.others h (λ e. not_written (inr e))
-              ∙ all_has (λ (t : Table). t.tree ≢ parent.tree → fell.0 t.tree ≡ old.now.trees t.tree) schema.tables t fell.1.tables h (λ e. not_written (inl e)));
+              all_has (λ (t : Table). t.tree ≢ child.tree
+              → new.now.trees t.tree ≡ fell.0 t.tree) schema.tables t fell.2.others h (λ e. not_written (inr e))
+              ∙ all_has (λ (t : Table). t.tree ≢ parent.tree
+              → fell.0 t.tree ≡ old.now.trees t.tree) schema.tables t fell.1.tables h (λ e. not_written (inl e)));
           sound = w.sound;
         };
       }

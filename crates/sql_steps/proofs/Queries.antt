@@ -1,5 +1,6 @@
 -- What a query of one table gives, whatever the table is.
-use Rattle.std.proofs.Common.{◌≡◌, inl, inr, ℕ, ℤ, List, [], ◌∷◌, Bool, true, false, Option, Some, Ok, Err, refl, sym, ap, subst, ◌∙◌}
+use Rattle.std.proofs.Common.{◌≡◌, inl, inr, ℕ, ℤ, List, [], ◌∷◌, Bool, true, false, Option, Some, Ok, Err, refl, sym}
+use Rattle.std.proofs.Common.{ap, subst, ◌∙◌}
 use Rattle.std.proofs.lemmas.List.Sorted.{length_permutation}
 use Rattle.std.proofs.lemmas.List.{nil_from_length}
 use Rattle.std.specs.List.Sorted.{IsPermutation}
@@ -22,7 +23,8 @@ use Rattle.sqlite.specs.Clock.{timed}
 use Rattle.sqlite.specs.Effect.{Database, RefusesToRead}
 use Rattle.sqlite_trees.specs.declared.error.StoreError.{StoreError}
 use Rattle.sqlite_trees.specs.declared.error.StoreError.TheVariants.{OutOfMemory, Io, Corrupt, Full, Broken, Unstorable}
-use Rattle.sqlite.specs.State.{State, QueriesRow, Shown, FailsToQuery, IsNotRun, FailsToShow, store_error, ShowsRows, IsUnchanged}
+use Rattle.sqlite.specs.State.{State, QueriesRow, Shown, FailsToQuery, IsNotRun, FailsToShow, store_error, ShowsRows}
+use Rattle.sqlite.specs.State.{IsUnchanged}
 use Rattle.sqlite.proofs.Callers.{IsPlain, command_of, first_as, reads_as}
 use Rattle.sqlite_value.proofs.OrderLemmas.{value_cmp-Int}
 use Rattle.sql_steps.proofs.Statements.{plain_query, picked, answers}
@@ -36,7 +38,8 @@ compares op a b = rw (value_cmp-Int a b) (settled (test op (int_cmp a b)))
     settled true = refl
     settled false = refl
 
-never_read : (limit : Option ℕ) (command : Command) (db : Database) (params : Row) → ¬ RefusesToRead limit command db params QueryReturnedNoRows
+never_read : (limit : Option ℕ) (command : Command) (db : Database) (params : Row)
+    → ¬ RefusesToRead limit command db params QueryReturnedNoRows
 never_read limit (Select q names) db params (inl h) = let e = h.0 in cc
 never_read limit (Select q names) db params (inr (inl h)) = let e = h.0 in cc
 never_read limit (Select q names) db params (inr (inr h)) = let e = h.0 in cc
@@ -60,7 +63,8 @@ never_not_run old new sql params (inl (inr (c, is, inr (inr clock)), same)) = le
 never_not_run old new sql params (inr fails) = never_store fails.0 fails.1
 
 -- no failure has this name
-pub never_fails : (sql : List ℕ) (params : Row) (old new : State) → IsPlain (understood old.now.schema sql) → ¬ FailsToQuery sql params old new QueryReturnedNoRows
+pub never_fails : (sql : List ℕ) (params : Row) (old new : State) → IsPlain (understood old.now.schema sql)
+    → ¬ FailsToQuery sql params old new QueryReturnedNoRows
 unfolding FailsToQuery
 never_fails sql params old new plain (inl fault) = never_not_run old new sql params fault
 never_fails sql params old new plain (inr h) =
@@ -68,25 +72,35 @@ never_fails sql params old new plain (inr h) =
     let shows = subst (FailsToShow old new sql h.0 (timed params h.0.formats h.1.now) QueryReturnedNoRows) none h.2 in
     never_read old.step_limit h.0.command shows.0 _ shows.2
 
-module _ (sql : List ℕ) (params : Row) (old new : State) (schema : Schema) (has : old.now.schema ≡ schema) (t : ℕ) (passes shown : List Term) (names : List (List ℕ))
-    (is : command_of (understood schema sql) ≡ Select (record { lets = []; body = plain_query t passes shown }) names) (plain : IsPlain (understood schema sql))
+module _ (sql : List ℕ) (params : Row) (old new : State) (schema : Schema) (has : old.now.schema ≡ schema) (t : ℕ)
+    (passes shown : List Term) (names : List (List ℕ))
+    (is : command_of (understood schema sql) ≡ Select (record { lets = []; body = plain_query t passes shown }) names)
+    (plain : IsPlain (understood schema sql))
     (unlisted : reads_listing schema sql ≡ false) (low : overlay old.now.trees [] t ≡ old.now.trees t) where
   -- all rows
-  pub gives_all : (rows : List Row) → Shown sql params old new rows → IsPermutation (picked params t passes shown (old.now.trees t)) rows
+  pub gives_all : (rows : List Row) → Shown sql params old new rows
+      → IsPermutation (picked params t passes shown (old.now.trees t)) rows
   gives_all rows h =
       let read = reads_as sql params old new schema has _ is plain unlisted rows h in
-      subst (λ rs. IsPermutation (picked params t passes shown rs) rows) low (answers params t passes shown (overlay old.now.trees []) rows read.answer)
+      subst (λ rs. IsPermutation (picked params t passes shown rs) rows) low
+      (answers params t passes shown (overlay old.now.trees []) rows read.answer)
 
   -- the first row
-  pub gives_one : (row : Row) → QueriesRow sql params old new (Ok row) → (tail : List Row) × IsPermutation (picked params t passes shown (old.now.trees t)) (row ∷ tail)
+  pub gives_one : (row : Row) → QueriesRow sql params old new (Ok row)
+      → (tail : List Row) × IsPermutation (picked params t passes shown (old.now.trees t)) (row ∷ tail)
   gives_one row h =
-      let read = first_as sql params old new schema has _ is plain unlisted row h in
-      (read.1.0, subst (λ rs. IsPermutation (picked params t passes shown rs) (row ∷ read.1.0)) low (answers params t passes shown (overlay old.now.trees []) (row ∷ read.1.0) read.1.1))
+      let read = first_as sql params old new schema has _ is plain unlisted row h in (
+        read.1.0,
+        subst (λ rs. IsPermutation (picked params t passes shown rs) (row ∷ read.1.0)) low
+            (answers params t passes shown (overlay old.now.trees []) (row ∷ read.1.0) read.1.1),
+      )
 
   -- no row
-  pub gives_none : QueriesRow sql params old new (Err QueryReturnedNoRows) → picked params t passes shown (old.now.trees t) ≡ []
+  pub gives_none : QueriesRow sql params old new (Err QueryReturnedNoRows)
+      → picked params t passes shown (old.now.trees t) ≡ []
   unfolding QueriesRow
-  gives_none (inl fails) = absurd (never_fails sql params old new (subst (λ s. IsPlain (understood s sql)) (sym has) plain) fails)
+  gives_none (inl fails) =
+      absurd (never_fails sql params old new (subst (λ s. IsPlain (understood s sql)) (sym has) plain) fails)
   gives_none (inr h) = let all = gives_all [] h.1 in nil_from_length _ (sym (length_permutation _ [] all))
 
   -- a query changes nothing
@@ -103,5 +117,6 @@ module _ (sql : List ℕ) (params : Row) (old new : State) (schema : Schema) (ha
 
   pub none_only_reads : QueriesRow sql params old new (Err QueryReturnedNoRows) → IsUnchanged old new
   unfolding QueriesRow
-  none_only_reads (inl fails) = absurd (never_fails sql params old new (subst (λ s. IsPlain (understood s sql)) (sym has) plain) fails)
+  none_only_reads (inl fails) =
+      absurd (never_fails sql params old new (subst (λ s. IsPlain (understood s sql)) (sym has) plain) fails)
   none_only_reads (inr h) = only_reads [] h.1

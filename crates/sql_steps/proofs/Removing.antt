@@ -26,18 +26,29 @@ module _ (base : Table) (params : Row) (passes : List Term) where
 
   -- the rows that pass go, and no other table changes; the new database is sound
   pub removes : (sql : List ℕ) (schema : Schema) (at : ℕ) → slice_get schema.tables at ≡ Some table
-      → command_of (understood schema sql) ≡ Delete at (record { lets = []; body = plain_query table.tree passes ids_shown }) → IsPlain (understood schema sql)
-      → ((olds : List Row) → works schema Enforced 0 table.tree olds [] ≡ []) → ((db : Trees) → overlay db [] table.tree ≡ db table.tree)
-      → (old new : State) (count : ℕ) → Executes sql params old new (Ok count) → old.now.schema ≡ schema → IsTable (old.now.trees table.tree) → AreCounted (old.now.trees table.tree)
-      → Wrote schema table.tree (filter (λ r. not (is_picked params table.tree passes ids_shown r)) (old.now.trees table.tree)) old.now new.now
+      → command_of (understood schema sql)
+      ≡ Delete at (record { lets = []; body = plain_query table.tree passes ids_shown })
+      → IsPlain (understood schema sql)
+      → ((olds : List Row) → works schema Enforced 0 table.tree olds [] ≡ [])
+      → ((db : Trees) → overlay db [] table.tree ≡ db table.tree)
+      → (old new : State) (count : ℕ) → Executes sql params old new (Ok count) → old.now.schema ≡ schema
+      → IsTable (old.now.trees table.tree) → AreCounted (old.now.trees table.tree)
+      → Wrote schema table.tree
+      (filter (λ r. not (is_picked params table.tree passes ids_shown r)) (old.now.trees table.tree)) old.now new.now
   removes sql schema at there is plain idle low old new count h has ordered counted =
       let q = plain_query table.tree passes ids_shown in
       let w = runs_as sql params old new schema has (Delete at (record { lets = []; body = q })) is plain count h in
       let text = statement_of sql (understood schema sql) in
-      let did = deletes old.step_limit (mode_of old) params old.now schema has at base there q text w.tally new.now w.changed in
+      let did = deletes old.step_limit (mode_of old) params old.now schema has at base there q text w.tally new.now
+      w.changed in
       let all : IsPermutation (picked params table.tree passes ids_shown (old.now.trees table.tree)) did.1 =
-      subst (λ rs. IsPermutation (picked params table.tree passes ids_shown rs) did.1) (low old.now.trees) (answers params table.tree passes ids_shown (overlay old.now.trees []) did.1 did.2) in
+      subst (λ rs. IsPermutation (picked params table.tree passes ids_shown rs) did.1) (low old.now.trees)
+      (answers params table.tree passes ids_shown (overlay old.now.trees []) did.1 did.2) in
       let edit = deleted old.step_limit (mode_of old) params old.now schema has at base did.1 in
-      let applies = one_step schema Enforced old.now.trees new.now.trees edit (idle (taken_by old.now.trees edit)) did.3 in
+      let applies = one_step schema Enforced old.now.trees new.now.trees edit (idle (taken_by old.now.trees edit))
+      did.3 in
       let rest = left params table.tree passes (old.now.trees table.tree) ordered counted did.1 all in
-      record { rows_are = applies.rows ∙ rest; kept = record { schema_is = did.0; others = applies.tables; sound = w.sound } }
+      record {
+        rows_are = applies.rows ∙ rest;
+        kept = record { schema_is = did.0; others = applies.tables; sound = w.sound };
+      }

@@ -1,5 +1,6 @@
 -- Two tables with the same rows are one, and what an UPDATE of some rows leaves.
-use Rattle.std.proofs.Common.{◌≡◌, inl, inr, ℤ, List, [], ◌∷◌, map, filter, not, Bool, true, false, cond, refl, sym, ap, subst, ◌∙◌}
+use Rattle.std.proofs.Common.{◌≡◌, inl, inr, ℤ, List, [], ◌∷◌, map, filter, not, Bool, true, false, cond, refl, sym}
+use Rattle.std.proofs.Common.{ap, subst, ◌∙◌}
 use Rattle.std.specs.List.{AllByRecursion}
 use Rattle.std.specs.Ordering.{is_eq}
 use Rattle.std.specs.declared.cmp.Ordering.{Ordering}
@@ -26,14 +27,20 @@ never_both : (a b : Row) → Below a b → Below b a → ⊥
 never_both a b p q = never_below a (value_cmp_total.trans _ _ _ p q)
 
 -- two tables with the same rows are one
-pub same_tables : (xs ys : List Row) → IsTable xs → IsTable ys → ((x : Row) → Has xs x → Has ys x) → ((y : Row) → Has ys y → Has xs y) → xs ≡ ys
+pub same_tables : (xs ys : List Row) → IsTable xs → IsTable ys → ((x : Row) → Has xs x → Has ys x)
+    → ((y : Row) → Has ys y → Has xs y) → xs ≡ ys
 same_tables [] [] tx ty there back = refl
 same_tables [] (y ∷ ys) tx ty there back = absurd (back y (inl refl))
 same_tables (x ∷ xs) [] tx ty there back = absurd (there x (inl refl))
 same_tables (x ∷ xs) (y ∷ ys) tx ty there back =
     let first : x ≡ y = elim (there x (inl refl)) [
       | inl same ↦ same
-      | inr later ↦ elim (back y (inl refl)) [ inl same ↦ sym same | inr after ↦ absurd (never_both x y (all_has (Below x) xs y tx.0 after) (all_has (Below y) ys x ty.0 later)) ]
+      | inr later ↦
+          elim (back y (inl refl)) [
+            | inl same ↦ sym same
+            | inr after ↦ absurd
+                (never_both x y (all_has (Below x) xs y tx.0 after) (all_has (Below y) ys x ty.0 later))
+          ]
     ] in
     let on : (z : Row) → Has xs z → Has ys z = λ z h. elim (there z (inr h)) [
       | inl same ↦ absurd (never_below x (subst (Below x) (same ∙ sym first) (all_has (Below x) xs z tx.0 h)))
@@ -47,11 +54,15 @@ same_tables (x ∷ xs) (y ∷ ys) tx ty there back =
     ap (λ r. r ∷ xs) first ∙ ap (λ rs. y ∷ rs) rest
 
 -- a rowid stands once
-pub same_row : (rows : List Row) (x y : Row) → IsTable rows → Has rows x → Has rows y → value_cmp (rowid x) (rowid y) ≡ Equal → x ≡ y
+pub same_row : (rows : List Row) (x y : Row) → IsTable rows → Has rows x → Has rows y
+    → value_cmp (rowid x) (rowid y) ≡ Equal → x ≡ y
 same_row [] x y t h k e = absurd h
 same_row (r ∷ rows) x y t (inl p) (inl q) e = p ∙ sym q
-same_row (r ∷ rows) x y t (inl p) (inr q) e = absurd (let b = subst (λ z. Below z y) (sym p) (all_has (Below r) rows y t.0 q) in cc)
-same_row (r ∷ rows) x y t (inr p) (inl q) e = absurd (let b = subst (λ z. Below z x) (sym q) (all_has (Below r) rows x t.0 p) in let back = value_cmp_total.congr _ _ (rowid x) e ∙ b in let self = tied_itself value_cmp_total (rowid x) in cc)
+same_row (r ∷ rows) x y t (inl p) (inr q) e =
+    absurd (let b = subst (λ z. Below z y) (sym p) (all_has (Below r) rows y t.0 q) in cc)
+same_row (r ∷ rows) x y t (inr p) (inl q) e =
+    absurd (let b = subst (λ z. Below z x) (sym q) (all_has (Below r) rows x t.0 p) in
+    let back = value_cmp_total.congr _ _ (rowid x) e ∙ b in let self = tied_itself value_cmp_total (rowid x) in cc)
 same_row (r ∷ rows) x y t (inr p) (inr q) e = same_row rows x y t.1 p q e
 
 pub table_put_all : (news rows : List Row) → IsTable rows → IsTable (put_all rows news)
@@ -60,9 +71,12 @@ table_put_all (n ∷ news) rows t = table_put_all news (put_row n rows) (IsTable
 
 table_filter : (p : Row → Bool) (rows : List Row) → IsTable rows → IsTable (filter p rows)
 table_filter p [] t = tt
-table_filter p (r ∷ rows) t = step (p r) (all_from (Below r) (filter p rows) (λ x h. all_has (Below r) rows x t.0 (has_filtered p rows x h).0)) (table_filter p rows t.1)
+table_filter p (r ∷ rows) t =
+    step (p r) (all_from (Below r) (filter p rows) (λ x h. all_has (Below r) rows x t.0 (has_filtered p rows x h).0))
+    (table_filter p rows t.1)
   where
-    step : (b : Bool) → AllByRecursion (Below r) (filter p rows) → IsTable (filter p rows) → IsTable (cond b (r ∷ filter p rows) (filter p rows))
+    step : (b : Bool) → AllByRecursion (Below r) (filter p rows) → IsTable (filter p rows)
+        → IsTable (cond b (r ∷ filter p rows) (filter p rows))
     step true low rest = (low, rest)
     step false low rest = rest
 
@@ -74,14 +88,20 @@ turned : (b : Bool) → not b ≡ true → b ≡ false
 turned true e = absurd cc
 turned false e = refl
 
-pub without_all_drops : (ids : List ℤ) (rows : List Row) (x : Row) (id : ℤ) → Has (without_all rows ids) x → Has ids id → has_rowid id x ≡ false
+pub without_all_drops : (ids : List ℤ) (rows : List Row) (x : Row) (id : ℤ) → Has (without_all rows ids) x
+    → Has ids id → has_rowid id x ≡ false
 without_all_drops [] rows x id h k = absurd k
-without_all_drops (i ∷ ids) rows x id h (inl same) = let was = (has_filtered _ rows x (without_all_has ids (without_rowid i rows) x h)).1 in subst (λ j. has_rowid j x ≡ false) (sym same) (turned (has_rowid i x) was)
+without_all_drops (i ∷ ids) rows x id h (inl same) =
+    let was = (has_filtered _ rows x (without_all_has ids (without_rowid i rows) x h)).1 in subst (λ j. has_rowid j x
+    ≡ false) (sym same) (turned (has_rowid i x) was)
 without_all_drops (i ∷ ids) rows x id h (inr later) = without_all_drops ids (without_rowid i rows) x id h later
 
-pub without_all_keeps : (ids : List ℤ) (rows : List Row) (x : Row) → Has rows x → ((id : ℤ) → Has ids id → has_rowid id x ≡ false) → Has (without_all rows ids) x
+pub without_all_keeps : (ids : List ℤ) (rows : List Row) (x : Row) → Has rows x
+    → ((id : ℤ) → Has ids id → has_rowid id x ≡ false) → Has (without_all rows ids) x
 without_all_keeps [] rows x h none = h
-without_all_keeps (i ∷ ids) rows x h none = without_all_keeps ids (without_rowid i rows) x (has_kept _ rows x h (ap not (none i (inl refl)))) (λ id k. none id (inr k))
+without_all_keeps (i ∷ ids) rows x h none =
+    without_all_keeps ids (without_rowid i rows) x (has_kept _ rows x h (ap not (none i (inl refl))))
+    (λ id k. none id (inr k))
 
 pub has_map : {A B : Type 0} (f : A → B) (xs : List A) (x : A) → Has xs x → Has (map f xs) (f x)
 has_map f [] x h = absurd h
@@ -93,10 +113,16 @@ map_has f [] y h = absurd h
 map_has f (x ∷ xs) y (inl e) = (x, inl refl, e)
 map_has f (x ∷ xs) y (inr h) = let r = map_has f xs y h in (r.0, inr r.1, r.2)
 
-table_map : (f : Row → Row) (rows : List Row) → ((r : Row) → Has rows r → rowid (f r) ≡ rowid r) → IsTable rows → IsTable (map f rows)
+table_map : (f : Row → Row) (rows : List Row) → ((r : Row) → Has rows r → rowid (f r) ≡ rowid r) → IsTable rows
+    → IsTable (map f rows)
 table_map f [] keeps t = tt
 table_map f (r ∷ rows) keeps t = (
-  all_from (Below (f r)) (map f rows) (λ y h. let it = map_has f rows y h in rw (it.2, keeps r (inl refl), keeps it.0 (inr it.1)) (all_has (Below r) rows it.0 t.0 it.1)),
+  all_from (Below (f r)) (map f rows)
+      (λ y h. let it = map_has f rows y h in rw (
+        it.2,
+        keeps r (inl refl),
+        keeps it.0 (inr it.1),
+      ) (all_has (Below r) rows it.0 t.0 it.1)),
   table_map f rows (λ x h. keeps x (inr h)) t.1,
 )
 
@@ -114,13 +140,17 @@ module _ (rows : List Row) (ids : List ℤ) (p : Row → Bool) (table : IsTable 
     (ids_all : (x : Row) → Has rows x → p x ≡ true → (id : ℤ) × Has ids id × (rowid x ≡ Int id)) where
   left_fails : (y : Row) → Has (without_all rows ids) y → p y ≡ false
   left_fails y h = elim (cases_Bool (p y)) [
-    | inl passes ↦ absurd (let it = ids_all y (without_all_has ids rows y h) passes in let out = without_all_drops ids rows y it.0 h it.1 in let in_it = has_its_rowid y it.0 it.2 in cc)
+    | inl passes ↦ absurd
+        (let it = ids_all y (without_all_has ids rows y h) passes in let out = without_all_drops ids rows y it.0 h
+        it.1 in let in_it = has_its_rowid y it.0 it.2 in cc)
     | inr fails ↦ fails
   ]
 
   fails_left : (x : Row) → Has rows x → p x ≡ false → Has (without_all rows ids) x
   fails_left x h fails = without_all_keeps ids rows x h (λ id k. elim (cases_Bool (has_rowid id x)) [
-    | inl has ↦ absurd (let from = ids_from id k in let same = same_row rows x from.0 table h from.1 (ap (value_cmp (rowid x)) from.3 ∙ tied _ has) in let passes = ap p same ∙ from.2 in cc)
+    | inl has ↦ absurd
+        (let from = ids_from id k in let same = same_row rows x from.0 table h from.1 (ap (value_cmp (rowid x)) from.3
+        ∙ tied _ has) in let passes = ap p same ∙ from.2 in cc)
     | inr not_it ↦ not_it
   ])
 
@@ -137,11 +167,13 @@ abbrev pub changed_by : (Row → Bool) → (Row → Row) → Row → Row
 changed_by p g r = cond (p r) (g r) r
 
 -- an UPDATE of the rows that pass changes those and no other
-module _ (rows news : List Row) (ids : List ℤ) (p : Row → Bool) (g : Row → Row) (table : IsTable rows) (keeps : (r : Row) → Has rows r → rowid (g r) ≡ rowid r)
+module _ (rows news : List Row) (ids : List ℤ) (p : Row → Bool) (g : Row
+    → Row) (table : IsTable rows) (keeps : (r : Row) → Has rows r → rowid (g r) ≡ rowid r)
     (ids_from : (id : ℤ) → Has ids id → (x : Row) × Has rows x × (p x ≡ true) × (rowid x ≡ Int id))
     (ids_all : (x : Row) → Has rows x → p x ≡ true → (id : ℤ) × Has ids id × (rowid x ≡ Int id))
     (news_from : (y : Row) → Has news y → (x : Row) × Has rows x × (p x ≡ true) × (y ≡ g x))
-    (news_all : (x : Row) → Has rows x → p x ≡ true → Has news (g x)) (fresh : are_fresh (without_all rows ids) news ≡ true) where
+    (news_all : (x : Row) → Has rows x → p x ≡ true → Has news (g x)) (fresh : are_fresh (without_all rows ids) news
+    ≡ true) where
   abbrev changed : Row → Row
   changed = changed_by p g
 
@@ -150,20 +182,26 @@ module _ (rows news : List Row) (ids : List ℤ) (p : Row → Bool) (g : Row →
 
   on : (y : Row) → Has (put_all (without_all rows ids) news) y → Has (map changed rows) y
   on y h = elim (put_all_has news (without_all rows ids) y h) [
-    | inl new ↦ let it = news_from y new in subst (Has (map changed rows)) (ap (λ b. cond b (g it.0) it.0) it.2 ∙ sym it.3) (has_map changed rows it.0 it.1)
+    | inl new ↦ let it = news_from y new in subst (Has (map changed rows)) (ap (λ b. cond b (g it.0) it.0) it.2
+        ∙ sym it.3) (has_map changed rows it.0 it.1)
     | inr old ↦
         let fails = left_fails rows ids p table ids_from ids_all y old in
-        subst (Has (map changed rows)) (ap (λ b. cond b (g y) y) fails) (has_map changed rows y (without_all_has ids rows y old))
+        subst (Has (map changed rows)) (ap (λ b. cond b (g y) y) fails)
+        (has_map changed rows y (without_all_has ids rows y old))
   ]
 
   off : (y : Row) → Has (map changed rows) y → Has (put_all (without_all rows ids) news) y
   off y h =
       let it = map_has changed rows y h in
       elim (cases_Bool (p it.0)) [
-        | inl passes ↦ put_all_adds news (without_all rows ids) y fresh (subst (Has news) (sym (it.2 ∙ ap (λ b. cond b (g it.0) it.0) passes)) (news_all it.0 it.1 passes))
-        | inr fails ↦ put_all_keeps news (without_all rows ids) y fresh (subst (Has (without_all rows ids)) (sym (it.2 ∙ ap (λ b. cond b (g it.0) it.0) fails))
+        | inl passes ↦ put_all_adds news (without_all rows ids) y fresh
+            (subst (Has news) (sym (it.2 ∙ ap (λ b. cond b (g it.0) it.0) passes)) (news_all it.0 it.1 passes))
+        | inr fails ↦ put_all_keeps news (without_all rows ids) y fresh
+            (subst (Has (without_all rows ids)) (sym (it.2 ∙ ap (λ b. cond b (g it.0) it.0) fails))
             (fails_left rows ids p table ids_from ids_all it.0 it.1 fails))
       ]
 
   pub updates_each : put_all (without_all rows ids) news ≡ map (changed_by p g) rows
-  updates_each = same_tables _ _ (table_put_all news (without_all rows ids) (table_without_all ids rows table)) (table_map changed rows changed_keeps table) on off
+  updates_each =
+      same_tables _ _ (table_put_all news (without_all rows ids) (table_without_all ids rows table))
+      (table_map changed rows changed_keeps table) on off

@@ -1,5 +1,7 @@
 -- What INSERT, UPDATE, DELETE and SELECT of the plain forms make, whatever the schema and the table are.
-use Rattle.std.proofs.Common.{◌≡◌, ◌⊎◌, inl, inr, ℕ, ℤ, pos, negsuc, ◌/◌, List, [], ◌∷◌, length, map, filter, slice_get, Bool, true, false, cond, Some, None, Option, Ok, Err, Result, refl, sym, ap, subst, ◌∙◌}
+use Rattle.std.proofs.Common.{◌≡◌, ◌⊎◌, inl, inr, ℕ, ℤ, pos, negsuc, ◌/◌, List, [], ◌∷◌, length, map, filter}
+use Rattle.std.proofs.Common.{slice_get, Bool, true, false, cond, Some, None, Option, Ok, Err, Result, refl, sym, ap}
+use Rattle.std.proofs.Common.{subst, ◌∙◌}
 use Rattle.std.specs.List.{list_all}
 use Rattle.std.specs.List.Sorted.{IsPermutation}
 use Rattle.sqlite.specs.declared.types.Value.{Value}
@@ -53,7 +55,8 @@ same_value e = cc
 
 -- ---- the writes
 
-module _ (limit : Option ℕ) (mode : Mode) (params : Row) (db : Database) (schema : Schema) (has : db.schema ≡ schema) (at : ℕ) (base : Table) where
+module _ (limit : Option ℕ) (mode : Mode) (params : Row) (db : Database) (schema : Schema) (has : db.schema ≡ schema)
+    (at : ℕ) (base : Table) where
   -- a table with no AUTOINCREMENT
   abbrev table : Table
   table = record base { is_counted = false }
@@ -61,68 +64,99 @@ module _ (limit : Option ℕ) (mode : Mode) (params : Row) (db : Database) (sche
   abbrev task : Task
   task = record { limit = limit; keys = mode.keys; schema = schema; table = table; params = params }
 
-  on_table : (command : Command) (text : List ℕ) (out : Result (Tally × Database) (Option Error)) → slice_get schema.tables at ≡ Some table
-      → AtPlace (λ table. OnRows (record { limit = limit; keys = mode.keys; schema = db.schema; table = table; params = params }) mode None command db.trees) (slice_get db.schema.tables at) out
+  on_table : (command : Command) (text : List ℕ) (out : Result (Tally × Database) (Option Error))
+      → slice_get schema.tables at ≡ Some table
+      → AtPlace (λ table. OnRows
+      (record { limit = limit; keys = mode.keys; schema = db.schema; table = table; params = params }) mode None
+      command db.trees) (slice_get db.schema.tables at) out
       → OnRows task mode None command db.trees out
   on_table command text out there h =
-      subst (λ o. AtPlace (λ table. OnRows (record { limit = limit; keys = mode.keys; schema = schema; table = table; params = params }) mode None command db.trees) o out) there
-      (subst (λ (s : Schema). AtPlace (λ table. OnRows (record { limit = limit; keys = mode.keys; schema = s; table = table; params = params }) mode None command db.trees) (slice_get s.tables at) out) has h)
+      subst (λ o. AtPlace
+      (λ table. OnRows (record { limit = limit; keys = mode.keys; schema = schema; table = table; params = params })
+      mode None command db.trees) o out) there
+      (subst (λ (s : Schema). AtPlace
+      (λ table. OnRows (record { limit = limit; keys = mode.keys; schema = s; table = table; params = params }) mode
+      None command db.trees) (slice_get s.tables at) out) has h)
 
   abbrev pub inserted : List Term → ℕ → Edit
-  inserted terms width = edit_of db.trees table [] Chosen 0 (value_rows (stamped table params) width (length terms / width) terms)
+  inserted terms width =
+      edit_of db.trees table [] Chosen 0 (value_rows (stamped table params) width (length terms / width) terms)
 
   -- an INSERT of VALUES applies its edit
-  pub inserts : slice_get schema.tables at ≡ Some table → (terms : List Term) (width : ℕ) (text : List ℕ) (tally : Tally) (after : Database)
+  pub inserts : slice_get schema.tables at ≡ Some table
+      → (terms : List Term) (width : ℕ) (text : List ℕ) (tally : Tally) (after : Database)
       → works schema mode.keys 0 table.tree [] (inserted terms width).news ≡ []
       → Does limit mode params db text None (Insert at (Values terms width)) (Ok (tally, after))
       → (after.schema ≡ schema) × Applies schema mode.keys db.trees (inserted terms width) after.trees
   inserts there terms width text tally after none h =
       let done = went (on_table (Insert at (Values terms width)) text (Ok (tally, after)) there h) in
-      let now : after ≡ record { schema = schema; trees = done.0.trees } = ap (λ (p : Tally × Database). p.1) (same_value (went (went done.2).2).2) in
+      let now : after
+      ≡ record { schema = schema; trees = done.0.trees } = ap (λ (p : Tally × Database). p.1)
+      (same_value (went (went done.2).2).2) in
       let given = went done.1 in
       let written = went (went given.2).2 in
       let counted = went written.2 in
-      let trees : done.0.trees ≡ written.0 = ap (λ (it : Written). it.trees) (same_value counted.2) ∙ same_value counted.1 in
+      let trees : done.0.trees ≡ written.0 = ap (λ (it : Written). it.trees) (same_value counted.2)
+      ∙ same_value counted.1 in
       let whole : after.trees ≡ written.0 = ap (λ (d : Database). d.trees) now ∙ trees in
-      let wrote = subst (λ rows. Writes schema mode.keys db.trees (edit_of db.trees table [] Chosen 0 rows) (Ok written.0)) given.1.1 written.1 in
-      (ap (λ (d : Database). d.schema) now, subst (Applies schema mode.keys db.trees (inserted terms width)) (sym whole) (one_step schema mode.keys db.trees written.0 (inserted terms width) none wrote))
+      let wrote = subst
+      (λ rows. Writes schema mode.keys db.trees (edit_of db.trees table [] Chosen 0 rows) (Ok written.0))
+      given.1.1 written.1 in (
+        ap (λ (d : Database). d.schema) now,
+        subst (Applies schema mode.keys db.trees (inserted terms width)) (sym whole)
+            (one_step schema mode.keys db.trees written.0 (inserted terms width) none wrote),
+      )
 
   -- what an UPDATE and a DELETE do: their query finds rows, and the edit of these is written
   abbrev Rewrites : Query → (List Row → Edit) → (List Row → List Row) → Part Written
   Rewrites q edit wrote =
-      Then (Queried limit (record { schema = schema; trees = db.trees }) (record { lets = []; body = q }) params) (λ rows.
-      Then (Edited schema mode.keys db.trees (edit rows)) (λ next. Gives (record { trees = next; rows = wrote rows; last = None })))
+      Then (Queried limit (record { schema = schema; trees = db.trees }) (record { lets = []; body = q }) params)
+      (λ rows.
+      Then (Edited schema mode.keys db.trees (edit rows))
+      (λ next. Gives (record { trees = next; rows = wrote rows; last = None })))
 
   abbrev pub Leaves : Query → (List Row → Edit) → Database → Type 0
-  Leaves q edit after = (after.schema ≡ schema) × (rows : List Row) × IsSureAnswer q (overlay db.trees []) params rows × Writes schema mode.keys db.trees (edit rows) (Ok after.trees)
+  Leaves q edit after =
+      (after.schema ≡ schema) × (rows : List Row) × IsSureAnswer q (overlay db.trees []) params rows
+      × Writes schema mode.keys db.trees (edit rows) (Ok after.trees)
 
   rewritten : (q : Query) (edit : List Row → Edit) (wrote : List Row → List Row) (tally : Tally) (after : Database)
       → Then (Rewrites q edit wrote) (Concludes task mode None) (Ok (tally, after)) → Leaves q edit after
   rewritten q edit wrote tally after h =
       let done = went h in
-      let now : after ≡ record { schema = schema; trees = done.0.trees } = ap (λ (p : Tally × Database). p.1) (same_value (went (went done.2).2).2) in
+      let now : after
+      ≡ record { schema = schema; trees = done.0.trees } = ap (λ (p : Tally × Database). p.1)
+      (same_value (went (went done.2).2).2) in
       let given = went done.1 in
       let written = went given.2 in
       let trees : done.0.trees ≡ written.0 = ap (λ (it : Written). it.trees) (same_value written.2) in
-      let whole : after.trees ≡ written.0 = ap (λ (d : Database). d.trees) now ∙ trees in
-      (ap (λ (d : Database). d.schema) now, given.0, given.1.answer, subst (λ t. Writes schema mode.keys db.trees (edit given.0) (Ok t)) (sym whole) written.1)
+      let whole : after.trees ≡ written.0 = ap (λ (d : Database). d.trees) now ∙ trees in (
+        ap (λ (d : Database). d.schema) now,
+        given.0,
+        given.1.answer,
+        subst (λ t. Writes schema mode.keys db.trees (edit given.0) (Ok t)) (sym whole) written.1,
+      )
 
   abbrev pub updated : List Row → Edit
   updated rows = edit_of db.trees table (ids_of rows) Given 1 rows
 
   -- an UPDATE writes the answer of its query over the rows that it names
   pub updates : slice_get schema.tables at ≡ Some table → (q : Query) (text : List ℕ) (tally : Tally) (after : Database)
-      → Does limit mode params db text None (Update at (record { lets = []; body = q })) (Ok (tally, after)) → Leaves q updated after
+      → Does limit mode params db text None (Update at (record { lets = []; body = q })) (Ok (tally, after))
+      → Leaves q updated after
   updates there q text tally after h =
-      rewritten q updated (λ rows. (updated rows).news) tally after (on_table (Update at (record { lets = []; body = q })) text (Ok (tally, after)) there h)
+      rewritten q updated (λ rows. (updated rows).news) tally after
+      (on_table (Update at (record { lets = []; body = q })) text (Ok (tally, after)) there h)
 
   abbrev pub deleted : List Row → Edit
   deleted rows = edit_of db.trees table (ids_of rows) Given 0 []
 
   pub deletes : slice_get schema.tables at ≡ Some table → (q : Query) (text : List ℕ) (tally : Tally) (after : Database)
-      → Does limit mode params db text None (Delete at (record { lets = []; body = q })) (Ok (tally, after)) → Leaves q deleted after
+      → Does limit mode params db text None (Delete at (record { lets = []; body = q })) (Ok (tally, after))
+      → Leaves q deleted after
   deletes there q text tally after h =
-      rewritten q deleted (λ rows. taken_by db.trees (deleted rows)) tally after (on_table (Delete at (record { lets = []; body = q })) text (Ok (tally, after)) there h)
+      rewritten q deleted (λ rows. taken_by db.trees (deleted rows)) tally after
+      (on_table (Delete at (record { lets = []; body = q })) text (Ok (tally, after)) there h)
 
 -- ---- the queries
 
@@ -154,17 +188,25 @@ module _ (params : Row) (t : ℕ) (passes shown : List Term) where
   one_or_none true r = refl
   one_or_none false r = refl
 
-  pub matched : (lost : Value) (db : Trees) → map env_of (filter is_picked (db t)) ≡ matches_as lost db passes (inner t end) (params ∷ [])
+  pub matched : (lost : Value) (db : Trees)
+      → map env_of (filter is_picked (db t)) ≡ matches_as lost db passes (inner t end) (params ∷ [])
   matched lost db =
-      ap (map env_of) (filter_as_flat_map is_picked (db t)) ∙ map-flat_map env_of (λ x. cond (is_picked x) (x ∷ []) []) (db t)
-      ∙ flat_map_same_on (λ x. map env_of (cond (is_picked x) (x ∷ []) [])) (λ r. cond (is_picked r) (env_of r ∷ []) []) (λ r. one_or_none (is_picked r) r) (db t)
+      ap (map env_of) (filter_as_flat_map is_picked (db t))
+      ∙ map-flat_map env_of (λ x. cond (is_picked x) (x ∷ []) []) (db t)
+      ∙ flat_map_same_on (λ x. map env_of (cond (is_picked x) (x ∷ []) []))
+      (λ r. cond (is_picked r) (env_of r ∷ []) []) (λ r. one_or_none (is_picked r) r) (db t)
 
-  pub answers : (db : Trees) (rows : List Row) → IsSureAnswer (plain_query t passes shown) db params rows → IsPermutation (picked (db t)) rows
+  pub answers : (db : Trees) (rows : List Row) → IsSureAnswer (plain_query t passes shown) db params rows
+      → IsPermutation (picked (db t)) rows
   answers db rows sure =
       let q = plain_query t passes shown in
       let a : IsAnswer q db params rows = sure Null in
       let found = filter is_picked (db t) in
-      let kept : a.kept ≡ map (output q) (map env_of found) = a.distinct ∙ ap (map (output q)) (a.grouped ∙ sym (matched Null db)) in
-      let shown : map (λ (o : Output). o.1) a.kept ≡ picked (db t) = ap (map (λ (o : Output). o.1)) kept ∙ map-map (λ (o : Output). o.1) (output q) (map env_of found) ∙ map-map (λ e. (output q e).1) env_of found in
-      let moved : IsPermutation (map (λ (o : Output). o.1) a.kept) (map (λ (o : Output). o.1) a.ordered) = IsPermutation-map (λ (o : Output). o.1) a.kept a.ordered a.same in
-      subst (λ xs. IsPermutation xs rows) shown (subst (IsPermutation (map (λ (o : Output). o.1) a.kept)) (sym a.shown) moved)
+      let kept : a.kept ≡ map (output q) (map env_of found) = a.distinct
+      ∙ ap (map (output q)) (a.grouped ∙ sym (matched Null db)) in
+      let shown : map (λ (o : Output). o.1) a.kept ≡ picked (db t) = ap (map (λ (o : Output). o.1)) kept
+      ∙ map-map (λ (o : Output). o.1) (output q) (map env_of found) ∙ map-map (λ e. (output q e).1) env_of found in
+      let moved : IsPermutation (map (λ (o : Output). o.1) a.kept)
+      (map (λ (o : Output). o.1) a.ordered) = IsPermutation-map (λ (o : Output). o.1) a.kept a.ordered a.same in
+      subst (λ xs. IsPermutation xs rows) shown
+      (subst (IsPermutation (map (λ (o : Output). o.1) a.kept)) (sym a.shown) moved)

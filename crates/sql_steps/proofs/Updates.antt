@@ -23,7 +23,8 @@ pub numbered_given : (news rows : List Row) → numbered Given rows news ≡ new
 numbered_given [] rows = refl
 numbered_given (n ∷ news) rows = ap (λ ns. n ∷ ns) (numbered_given news _)
 
-module _ {A : Type 0} (enc : A → Row) (number : A → ℤ) (rowid_is : (a : A) → rowid (enc a) ≡ Int (number a)) (table : Table) (params : Row) (passes more : List Term) (f : A → A) where
+module _ {A : Type 0} (enc : A → Row) (number : A → ℤ) (rowid_is : (a : A)
+    → rowid (enc a) ≡ Int (number a)) (table : Table) (params : Row) (passes more : List Term) (f : A → A) where
   abbrev pub shown : List Term
   shown = col 1 0 ∷ more
 
@@ -36,9 +37,12 @@ module _ {A : Type 0} (enc : A → Row) (number : A → ℤ) (rowid_is : (a : A)
   abbrev pub g : Row → Row
   g r = cast_row table (drop 1 (eval_all shown (env_of params table.tree passes shown r)))
 
-  module _ (image : (a : A) → g (enc a) ≡ enc (f a)) (same : (a : A) → number (f a) ≡ number a) (db : Trees) (items : List A) (rows_are : db table.tree ≡ map enc items) (ordered : IsTable (db table.tree))
+  module _ (image : (a : A) → g (enc a) ≡ enc (f a)) (same : (a : A)
+      → number (f a) ≡ number a) (db : Trees) (items : List A) (rows_are : db table.tree ≡ map enc items)
+      (ordered : IsTable (db table.tree))
       (answer : List Row) (answered : IsPermutation (picked params table.tree passes shown (db table.tree)) answer)
-      (fresh : are_fresh (left_by db (edit_of db table (ids_of answer) Given 1 answer)) (edit_of db table (ids_of answer) Given 1 answer).news ≡ true) where
+      (fresh : are_fresh (left_by db (edit_of db table (ids_of answer) Given 1 answer))
+      (edit_of db table (ids_of answer) Given 1 answer).news ≡ true) where
     abbrev rows : List Row
     rows = db table.tree
 
@@ -51,17 +55,25 @@ module _ {A : Type 0} (enc : A → Row) (number : A → ℤ) (rowid_is : (a : A)
     id_of : (x : Row) → Has rows x → rowid x ≡ Int (id_in (rowid x))
     id_of x h = let it = item_of x h in rw (it.1, rowid_is it.0)
 
-    from_answer : (s : Row) → Has answer s → (x : Row) × Has rows x × (p x ≡ true) × (s ≡ eval_all shown (env_of params table.tree passes shown x))
-    from_answer s h = from_picked (λ r. eval_all shown (env_of params table.tree passes shown r)) p rows s (has_permutation answer _ s (IsPermutation-sym _ _ answered) h)
+    from_answer : (s : Row) → Has answer s → (x : Row) × Has rows x × (p x ≡ true)
+        × (s ≡ eval_all shown (env_of params table.tree passes shown x))
+    from_answer s h =
+        from_picked (λ r. eval_all shown (env_of params table.tree passes shown r)) p rows s
+        (has_permutation answer _ s (IsPermutation-sym _ _ answered) h)
 
-    in_answer : (x : Row) → Has rows x → p x ≡ true → Has answer (eval_all shown (env_of params table.tree passes shown x))
-    in_answer x h is = has_permutation _ answer _ answered (to_picked (λ r. eval_all shown (env_of params table.tree passes shown r)) p rows x h is)
+    in_answer : (x : Row) → Has rows x → p x ≡ true
+        → Has answer (eval_all shown (env_of params table.tree passes shown x))
+    in_answer x h is =
+        has_permutation _ answer _ answered
+        (to_picked (λ r. eval_all shown (env_of params table.tree passes shown r)) p rows x h is)
 
     news_are : (edit_of db table (ids_of answer) Given 1 answer).news ≡ map (λ s. cast_row table (drop 1 s)) answer
     news_are = numbered_given _ _
 
     keeps : (r : Row) → Has rows r → rowid (g r) ≡ rowid r
-    keeps r h = let it = item_of r h in ap (λ x. rowid (g x)) it.1 ∙ ap rowid (image it.0) ∙ rowid_is (f it.0) ∙ ap Int (same it.0) ∙ sym (rowid_is it.0) ∙ ap rowid (sym it.1)
+    keeps r h =
+        let it = item_of r h in ap (λ x. rowid (g x)) it.1 ∙ ap rowid (image it.0) ∙ rowid_is (f it.0)
+        ∙ ap Int (same it.0) ∙ sym (rowid_is it.0) ∙ ap rowid (sym it.1)
 
     ids_from : (id : ℤ) → Has (ids_of answer) id → (x : Row) × Has rows x × (p x ≡ true) × (rowid x ≡ Int id)
     ids_from id h =
@@ -72,7 +84,8 @@ module _ {A : Type 0} (enc : A → Row) (number : A → ℤ) (rowid_is : (a : A)
     ids_all : (x : Row) → Has rows x → p x ≡ true → (id : ℤ) × Has (ids_of answer) id × (rowid x ≡ Int id)
     ids_all x h is = (id_in (rowid x), has_map (λ r. id_in (rowid r)) answer _ (in_answer x h is), id_of x h)
 
-    news_from : (y : Row) → Has (map (λ s. cast_row table (drop 1 s)) answer) y → (x : Row) × Has rows x × (p x ≡ true) × (y ≡ g x)
+    news_from : (y : Row) → Has (map (λ s. cast_row table (drop 1 s)) answer) y
+        → (x : Row) × Has rows x × (p x ≡ true) × (y ≡ g x)
     news_from y h =
         let s = map_has (λ s. cast_row table (drop 1 s)) answer y h in
         let x = from_answer s.0 s.1 in
@@ -87,7 +100,9 @@ module _ {A : Type 0} (enc : A → Row) (number : A → ℤ) (rowid_is : (a : A)
 
     all_each : (xs : List A) → map (changed_by p g) (map enc xs) ≡ map enc (map updated xs)
     all_each [] = refl
-    all_each (a ∷ xs) = ap (λ r. r ∷ map (changed_by p g) (map enc xs)) (each a (check a)) ∙ ap (λ rs. enc (updated a) ∷ rs) (all_each xs)
+    all_each (a ∷ xs) =
+        ap (λ r. r ∷ map (changed_by p g) (map enc xs)) (each a (check a))
+        ∙ ap (λ rs. enc (updated a) ∷ rs) (all_each xs)
 
     abbrev news : List Row
     news = map (λ s. cast_row table (drop 1 s)) answer
@@ -96,5 +111,6 @@ module _ {A : Type 0} (enc : A → Row) (number : A → ℤ) (rowid_is : (a : A)
     pub changes_each : edited db (edit_of db table (ids_of answer) Given 1 answer) ≡ map enc (map updated items)
     changes_each =
         ap (put_all (without_all rows (ids_of answer))) news_are
-        ∙ updates_each rows news (ids_of answer) p g ordered keeps ids_from ids_all news_from news_all (sym (ap (are_fresh (without_all rows (ids_of answer))) news_are) ∙ fresh)
+        ∙ updates_each rows news (ids_of answer) p g ordered keeps ids_from ids_all news_from news_all
+        (sym (ap (are_fresh (without_all rows (ids_of answer))) news_are) ∙ fresh)
         ∙ ap (map (changed_by p g)) rows_are ∙ all_each items

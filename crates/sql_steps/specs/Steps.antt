@@ -22,15 +22,18 @@ pub record GoesOn (old new : State) : Type 0 where
 -- What a call inside a transaction does: where it succeeds with a value, that value's change is made and the
 -- transaction goes on; where it fails, the last commit stands. A stop leaves nothing new.
 pub record StepsBy {T E : Type 0} (Changes : T → Change) (old new : State) (result : Result T E) : Type 0 where
-  pub changed : HasCleanDisk new → IsTrue old.in_transaction → IfOk result (λ value. Changes value old.now new.now × GoesOn old new)
+  pub changed : HasCleanDisk new → IsTrue old.in_transaction
+      → IfOk result (λ value. Changes value old.now new.now × GoesOn old new)
   pub kept : HasCleanDisk new → IsTrue old.in_transaction → KeepsCommit old new
   pub survives : Survives old new (λ _. ⊥)
 
 -- What a call that is one transaction does: where it succeeds, the change is made and committed; where it fails,
 -- what was committed stands. A stop leaves what stood before, or what the change makes of it.
 pub record TransactsBy {T E : Type 0} (Made : Change) (old new : State) (result : Result T E) : Type 0 where
-  pub accepted : HasCleanDisk new → OnOk result (Made old.now new.now × (new.committed ≡ new.now) × IsTrue old.is_open × IsTrue new.is_open)
-  pub failed : HasCleanDisk new → IsTrue new.is_open → OnErr result ((new.now ≡ old.committed) × (new.committed ≡ old.committed))
+  pub accepted : HasCleanDisk new
+      → OnOk result (Made old.now new.now × (new.committed ≡ new.now) × IsTrue old.is_open × IsTrue new.is_open)
+  pub failed : HasCleanDisk new → IsTrue new.is_open
+      → OnErr result ((new.now ≡ old.committed) × (new.committed ≡ old.committed))
   pub stop : Survives old new (λ trees. (db : Database) × Made old.now db × (trees ≡ db.trees))
 
 -- the same of what a connection shows before and after
@@ -42,4 +45,5 @@ Transacts g Made old new result = TransactsBy Made (state g old) (state g new) r
 
 -- what was committed stands, and nothing else
 abbrev pub KeepsCommitted : State → State → Type 0
-KeepsCommitted old new = HasCleanDisk new → IsTrue new.is_open → (new.now ≡ old.committed) × (new.committed ≡ old.committed)
+KeepsCommitted old new =
+    HasCleanDisk new → IsTrue new.is_open → (new.now ≡ old.committed) × (new.committed ≡ old.committed)

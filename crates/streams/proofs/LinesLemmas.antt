@@ -1,5 +1,8 @@
 -- Lemmas on the parts of a piece, on line feeds, and on the bytes that are to come.
-use Rattle.std.proofs.Common.{◌≡◌, ℕ, suc, ◌+◌, ◌-◌, ◌<◌, ◌≤◌, min, List, [], ◌∷◌, ◌++◌, Bool, length, take, drop, get_or, slice_range, None, Some, refl, sym, ap, subst, ◌∙◌, arith, append_assoc, take-append-drop, take-take, length-take, length-take-le, length-append, take_all, eqb-true, inl, inr, add-zero}
+use Rattle.std.proofs.Common.{◌≡◌, ℕ, suc, ◌+◌, ◌-◌, ◌<◌, ◌≤◌, min, List, [], ◌∷◌, ◌++◌, Bool, length, take, drop}
+use Rattle.std.proofs.Common.{get_or, slice_range, None, Some, refl, sym, ap, subst, ◌∙◌, arith, append_assoc}
+use Rattle.std.proofs.Common.{take-append-drop, take-take, length-take, length-take-le, length-append, take_all}
+use Rattle.std.proofs.Common.{eqb-true, inl, inr, add-zero}
 use Rattle.std.specs.Prelude.{◌==◌, position, Option}
 use Rattle.std.specs.List.{position_or_len}
 use Rattle.std.proofs.lemmas.Bool.{cases_lt, cond_below, cond_above}

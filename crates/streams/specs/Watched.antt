@@ -15,7 +15,8 @@ abbrev pub IsFaulted : Bool → ℕ → ℕ → Type 0
 IsFaulted failed max_turns turns = (failed ≡ true) ⊎ (max_turns ≤ turns)
 
 -- a writing gave up: these of the bytes were taken and no others, and a failure or too many interruptions are the cause
-pub record StopsWithin {W : Type 0} (contents : W → Option (List ℕ)) (old new : Watched W) (max_idle : ℕ) (bytes : List ℕ)
+pub record StopsWithin {W : Type 0} (contents : W
+    → Option (List ℕ)) (old new : Watched W) (max_idle : ℕ) (bytes : List ℕ)
     (fault : WriteFault) : Type 0 where
   pub bound : fault.written ≤ length bytes
   pub part : Appends (contents old.inner) (contents new.inner) (take fault.written bytes)

@@ -182,10 +182,10 @@ impl<R: Read> Watched<R> {
         ensures bound { OnDone result (λ n. n ≤ length piece.new) }
         ensures bytes { OnDone result (λ n.
             Consumes (R.remaining self.old.inner) (R.remaining self.new.inner) (take n piece.new)) }
-        ensures end { OnDone result (λ n.
-            n ≡ 0 → 0 < length piece.new → IsAtEnd (R.remaining self.new.inner)) }
         ensures kept { OnUndone result
             (Keeps (R.remaining self.old.inner) (R.remaining self.new.inner)) }
+        ensures end { OnDone result (λ n.
+            n ≡ 0 → 0 < length piece.new → IsAtEnd (R.remaining self.new.inner)) }
     {
         match self.inner.read(piece) {
             Ok(filled) => {

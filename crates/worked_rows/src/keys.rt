@@ -90,7 +90,8 @@ pub static STATES: [WorkedRow; 6] = [
     },
 ];
 
-// Lines that several rows begin with: a key, two custodians who both approve of its destruction, and its compromise.
+// Lines that several rows begin with: a key, two custodians who both approve of its destruction,
+// and its compromise.
 const REGISTERED: Exchange = (
     "100 ann 1 register master bob - - - spare",
     "ok 1 Pre-Active 100",

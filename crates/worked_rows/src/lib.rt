@@ -1,4 +1,5 @@
-//! The worked rows of docs/SPECIFICATION.md, as data: runs over an empty register, and HTTP exchanges.
+//! The worked rows of docs/WORKED.md, as data: runs over an empty register, and HTTP
+//! exchanges.
 //!
 //! They stand in tables of six, since each function that names a table writes it out.
 #![tactic(auto)]

@@ -100,8 +100,8 @@ fn heads_are_told_from_none(rt: HostRuntime) {
     assert!(rt; asked_of(rt.alloc(), b"".as_slice()).is_none());
 }
 
-/// Header lines of a POST of `{"kind":"advance"}`, of which one is missing or stands twice or the body is too long, and why it
-/// is rejected.
+/// Header lines of a POST of `{"kind":"advance"}`, of which one is missing or stands twice or the
+/// body is too long, and why it is rejected.
 #[rattlefmt::skip]
 const REJECTED_POSTS: [(&str, Rejection); 12] = [
     // The length, of which Transfer-Encoding leaves none; all before the sender.

@@ -1,4 +1,5 @@
-//! What the program does, and what is done to a register's file beside it. Nothing else here names files of the machine.
+//! What the program does, and what is done to a register's file beside it. Nothing else here names
+//! files of the machine.
 use disk_files::{DiskFiles, act_from};
 use register_desk::Watched;
 use register_files::Files;

@@ -135,7 +135,8 @@ static NO_COMMANDS: [(&[&str], &str); 12] = [
     ),
 ];
 
-/// Whether the words are told to be no command: with this first line, and with status 1 and no output.
+/// Whether the words are told to be no command: with this first line, and with status 1 and no
+/// output.
 fn is_no_command(rt: &HostRuntime, given: &[&str], first_line: &str) -> Result<bool, Fail> {
     let done = acted(rt, given, b"100 ann 1 advance\n")?;
     Ok(

@@ -91,7 +91,8 @@ fn is_left(rt: &HostRuntime, file: &str, faults: &str) -> Result<bool, Fail> {
     Ok(is_refused && fs::read(rt, file)?.as_slice() == before.as_slice())
 }
 
-/// Whether the register after this statement is refused with this name, and its file left byte for byte.
+/// Whether the register after this statement is refused with this name, and its file left byte for
+/// byte.
 fn is_left_behind(
     rt: &HostRuntime,
     file: &str,
@@ -103,7 +104,8 @@ fn is_left_behind(
     is_left(rt, file, faults)
 }
 
-/// A statement after which the register of *defaults* is not refused, or its file is changed, if there is one.
+/// A statement after which the register of *defaults* is not refused, or its file is changed, if
+/// there is one.
 fn edit_not_left(
     rt: &HostRuntime,
     file: &str,
@@ -181,7 +183,8 @@ fn is_refused(rt: &HostRuntime, command: &str, file: &str, faults: &str) -> Resu
     does(rt, &[command, "--file", file], b"", 2, b"", faults)
 }
 
-/// Whether a run is refused where there is no file, and makes none; and where there is an empty one.
+/// Whether a run is refused where there is no file, and makes none; and where there is an empty
+/// one.
 fn is_missing_told(rt: &HostRuntime, file: &str) -> Result<bool, Fail> {
     remove(rt, file)?;
     let is_told = is_refused(rt, "run", file, "keyreg: Store\n")? && fs::read(rt, file).is_err();

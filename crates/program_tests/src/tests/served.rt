@@ -39,7 +39,8 @@ fn send(rt: &HostRuntime, listener: &TcpListener, bytes: &[u8]) -> io::Result<Tc
     Ok(stream)
 }
 
-/// What comes of serving so many connections at this moment, in seconds, and of asking for the moment where there is none.
+/// What comes of serving so many connections at this moment, in seconds, and of asking for the
+/// moment where there is none.
 fn serve_one(
     rt: &HostRuntime,
     desk: &mut Desk<MemStore>,
@@ -53,7 +54,8 @@ fn serve_one(
 
 const AT_END: Finish = Finish::AtEnd { rest: 0 };
 
-/// What comes of one client that sends *advanced*: the end, its connection, and the register's latest moment.
+/// What comes of one client that sends *advanced*: the end, its connection, and the register's
+/// latest moment.
 fn advance(rt: &HostRuntime, seconds: Option<u64>) -> Result<(Finish, TcpStream, u64), Fail> {
     let mut desk = create_in_memory(rt.alloc())?;
     let listener = listen(rt, 0)?;
@@ -125,7 +127,8 @@ fn a_silent_client_is_left(rt: HostRuntime) -> Result<(), Fail> {
 const ADVANCE_AGAIN: &str =
     "POST /requests HTTP/1.1\r\nHost: localhost\r\nCaller: ann\r\nRequest-Number: 2\r\nContent-Length: 18\r\n\r\n{\"kind\":\"advance\"}";
 
-/// The register's latest moment after two connections, each served at the moment that is told once it is accepted.
+/// The register's latest moment after two connections, each served at the moment that is told once
+/// it is accepted.
 fn latest_after_two(rt: &HostRuntime) -> Result<u64, Fail> {
     let mut desk = create_in_memory(rt.alloc())?;
     let listener = listen(rt, 0)?;

@@ -29,14 +29,15 @@ impl<S: Alter> Desk<S> {
     ghost use Rattle.register_store.specs.Change.{made_count};
     ghost use Rattle.register_store.specs.AcceptedRequest.{CanTake, with_request};
 
-    /// Applies a request: it is accepted, and then acts and is kept, or refused, and then changes nothing. A request that
-    /// comes again, whatever its moment, repeats its first reply and changes nothing. A value that is no line's request,
-    /// as an occurrence with a reason that is no compromise, is [`Refusal::BadLine`].
+    /// Applies a request: it is accepted, and then acts and is kept, or refused, and then changes
+    /// nothing. A request that comes again, whatever its moment, repeats its first reply and
+    /// changes nothing. A value that is no line's request, as an occurrence with a reason that is
+    /// no compromise, is [`Refusal::BadLine`].
     ///
     /// # Errors
-    /// [`End::Store`] where the database refused, which breaks the desk: the register is as before or has the whole
-    /// request. [`End::Memory`] where memory gave out outside a transaction; nothing changed, and the desk goes on.
-    /// [`End::Broken`] on a broken desk; nothing changed.
+    /// [`End::Store`] where the database refused, which breaks the desk: the register is as before
+    /// or has the whole request. [`End::Memory`] where memory gave out outside a transaction;
+    /// nothing changed, and the desk goes on. [`End::Broken`] on a broken desk; nothing changed.
     pub fn apply(&mut self, request: &Request) -> Result<Answer, End>
         ensures ends { Ends self.old self.new result }
         ensures clean { IsClean S.Store self.new → IsClean S.Store self.old }
@@ -52,19 +53,23 @@ impl<S: Alter> Desk<S> {
         ensures err { (h : List Request) → StandsFor S.Store self.old h
             → OnErr result (StandsFor S.Store self.new h) }
         // The connection is open, so that what stands is seen in full.
-        ensures opened { has_text request.now.command ≡ true → OnOk result (IsOpen S.Store self.new) }
+        ensures opened { has_text request.now.command ≡ true
+            → OnOk result (IsOpen S.Store self.new) }
         // A reply that is given again is one of this register's, whatever the tables hold.
         ensures within { IfOk result (RepeatsWithin (latest_of self.old) (keys_of self.old)) }
-        // A repeat and a refusal change nothing, nor does an end other than 31, whatever the tables hold.
+        // A repeat and a refusal change nothing, nor does an end other than 31, whatever the tables
+        // hold.
         ensures nothing { IfOk result (λ given.
             UnlessAccepted given (ChangesNothing S.Store self.old self.new)) }
         ensures unchanged { IfErr result (λ end. end ≢ End.Store
             → ChangesNothing S.Store self.old self.new) }
-        // After the end 31 a stop leaves the register without the request, or with it where it is to be accepted.
+        // After the end 31 a stop leaves the register without the request, or with it where it is
+        // to be accepted.
         ensures store { (h : List Request) → StandsFor S.Store self.old h → IsRequest request.now
             → IsClean S.Store self.new → IfErr result (λ end. end ≡ End.Store
             → LeavesEither S.Store h (history h (Some request.now ∷ [])) self.new) }
-        // Over tables of no history too, an accepted request makes one change of them, and nothing else does.
+        // Over tables of no history too, an accepted request makes one change of them, and nothing
+        // else does.
         ensures over { (t : Tables) → IsOver S.Store self.old t → IsRequest request.now
             → IsClean S.Store self.new
             → IfOk result (λ given. IsOverAfter S.Store t request.now given self.new) }
@@ -109,7 +114,8 @@ impl<S: Alter> Desk<S> {
         ensures unchanged { IfErr result (λ end. end ≢ End.Store
             → ChangesNothing S.Store self.old self.new) }
         ensures store { (h : List Request) → StandsFor S.Store self.old h → IsNew h request.now
-            → IsRequest request.now → IsClean S.Store self.new → IfErr result (λ end. end ≡ End.Store
+            → IsRequest request.now → IsClean S.Store self.new
+            → IfErr result (λ end. end ≡ End.Store
             → LeavesEither S.Store h (history h (Some request.now ∷ [])) self.new) }
         ensures applies { AppliesOver S.Store request.now self.old self.new result }
         ensures steps { (h : List Request) → StandsFor S.Store self.old h

@@ -2,10 +2,10 @@
 
 use crate::desk::Desk;
 use crate::end::End;
-use crate::rows::{KeyRows, Progress, Walk, key_row};
+use crate::rows::{KeyRows, Progress, Scan, key_row};
 use key_rows::KeyRow;
 use moment_core::Moment;
-use register_store::{DuePlace, StoreError, Tie, each_due, each_key};
+use register_store::{DateRun, DueCursor, StoreError, each_due, each_key};
 use sqlite::Alter;
 
 impl<S: Alter> Desk<S> {
@@ -24,7 +24,8 @@ impl<S: Alter> Desk<S> {
     /// [`End::Broken`] on a broken desk; nothing changed.
     pub fn keys(&mut self) -> Result<KeyRows<'_, S>, End>
         ensures* lends { sem 𝓛 (LendsRows S.row S.Store self.entry result) }
-        ensures same_reference { IfOk result (λ rows. rows.desk.ghost_name ≡ self.entry.ghost_name) }
+        ensures same_reference { IfOk result (λ rows.
+            rows.desk.ghost_name ≡ self.entry.ghost_name) }
         ensures same { IfOk result (λ rows. rows.desk.now ≡ self.old) }
         ensures begins { IfOk result (λ rows. GoOn rows × (until_of rows ≡ None)
             × ((all : List KeyRow) → HaveGiven rows all [])) }
@@ -34,16 +35,18 @@ impl<S: Alter> Desk<S> {
         if self.is_broken {
             return Err(End::Broken);
         }
-        Ok(self.rows(Walk::ByNumber(0)))
+        Ok(self.rows(Scan::ByNumber(0)))
     }
 
-    /// The Active keys with a Protect Stop Date up to `until`, by that date and then by number, one row at a time.
+    /// The Active keys with a Protect Stop Date up to `until`, by that date and then by number, one
+    /// row at a time.
     ///
     /// # Errors
     /// [`End::Broken`] on a broken desk; nothing changed.
     pub fn due(&mut self, until: Moment) -> Result<KeyRows<'_, S>, End>
         ensures* lends { sem 𝓛 (LendsRows S.row S.Store self.entry result) }
-        ensures same_reference { IfOk result (λ rows. rows.desk.ghost_name ≡ self.entry.ghost_name) }
+        ensures same_reference { IfOk result (λ rows.
+            rows.desk.ghost_name ≡ self.entry.ghost_name) }
         ensures same { IfOk result (λ rows. rows.desk.now ≡ self.old) }
         ensures begins { IfOk result (λ rows. GoOn rows × (until_of rows ≡ Some until)
             × ((all : List KeyRow) → HaveGiven rows all [])) }
@@ -54,34 +57,34 @@ impl<S: Alter> Desk<S> {
             return Err(End::Broken);
         }
         let stop = Moment::new(0).unwrap();
-        let first = DuePlace { stop, number: 0 };
-        Ok(self.rows(Walk::ByStop(until, first, Tie::Alone)))
+        let first = DueCursor { stop, number: 0 };
+        Ok(self.rows(Scan::ByStop(until, first, DateRun::First)))
     }
 
     /// Lends the desk to rows.
-    fn rows(&mut self, walk: Walk) -> KeyRows<'_, S>
+    fn rows(&mut self, scan: Scan) -> KeyRows<'_, S>
         ensures same_reference { result.desk.ghost_name ≡ self.entry.ghost_name }
         ensures same { result.desk.now ≡ self.old }
-        ensures walk { result.walk ≡ walk }
+        ensures scan { result.scan ≡ scan }
         ensures goes_on { GoOn result }
     {
         KeyRows {
             desk: self,
-            walk,
+            scan,
             progress: Progress::Going,
         }
     }
 
-    /// The next row of a walk, or `None` after the last.
-    pub(crate) fn next_row(&mut self, walk: Walk) -> Result<Option<KeyRow>, StoreError>
+    /// The next row of a scan, or `None` after the last.
+    pub(crate) fn next_row(&mut self, scan: Scan) -> Result<Option<KeyRow>, StoreError>
         ensures reads { ChangesNothing S.Store self.old self.new }
         ensures mark { self.new.is_broken ≡ self.old.is_broken }
         ensures next { (h : List Request) → StandsFor S.Store self.old h → IsWhole self.old
-            → IsClean S.Store self.new → IfOk result (HasNextRow walk (tables h)) }
+            → IsClean S.Store self.new → IfOk result (HasNextRow scan (tables h)) }
     {
-        match walk {
-            Walk::ByNumber(last) => self.next_by_number(last),
-            Walk::ByStop(until, last, tie) => self.next_by_stop(until, last, tie),
+        match scan {
+            Scan::ByNumber(last) => self.next_by_number(last),
+            Scan::ByStop(until, last, run) => self.next_by_stop(until, last, run),
         }
     }
 
@@ -90,7 +93,7 @@ impl<S: Alter> Desk<S> {
         ensures reads { ChangesNothing S.Store self.old self.new }
         ensures mark { self.new.is_broken ≡ self.old.is_broken }
         ensures next { (h : List Request) → StandsFor S.Store self.old h → IsWhole self.old
-            → IsClean S.Store self.new → IfOk result (HasNextRow (Walk.ByNumber last) (tables h)) }
+            → IsClean S.Store self.new → IfOk result (HasNextRow (Scan.ByNumber last) (tables h)) }
     {
         if last >= self.keys {
             return Ok(None);
@@ -101,20 +104,20 @@ impl<S: Alter> Desk<S> {
         }
     }
 
-    /// The row of the first key that is due after this place, or `None` after the last.
+    /// The row of the first key that is due after this cursor, or `None` after the last.
     fn next_by_stop(
         &mut self,
         until: Moment,
-        last: DuePlace,
-        tie: Tie,
+        last: DueCursor,
+        run: DateRun,
     ) -> Result<Option<KeyRow>, StoreError>
         ensures reads { ChangesNothing S.Store self.old self.new }
         ensures mark { self.new.is_broken ≡ self.old.is_broken }
         ensures next { (h : List Request) → StandsFor S.Store self.old h → IsWhole self.old
             → IsClean S.Store self.new
-            → IfOk result (HasNextRow (Walk.ByStop until last tie) (tables h)) }
+            → IfOk result (HasNextRow (Scan.ByStop until last run) (tables h)) }
     {
-        match each_due(&mut self.connection, until, last, tie)? {
+        match each_due(&mut self.connection, until, last, run)? {
             Some((number, key)) => match u32::try_from(number) {
                 Ok(number) => Ok(Some(key_row(number, key))),
                 Err(_) => Err(StoreError::NoRegister),

@@ -49,7 +49,8 @@ impl<S: Alter> Desk<S> {
         })
     }
 
-    /// The usage period of the type that the dates are held to which the command gives; where it gives none, any.
+    /// The usage period of the type that the dates are held to which the command gives; where it
+    /// gives none, any.
     fn period_for(&mut self, key: &Option<Held>, command: &Command) -> Result<Period, End>
         requires whole { IsWhole self.old }
         requires opened { IsOpen S.Store self.old }
@@ -78,7 +79,8 @@ impl<S: Alter> Desk<S> {
         }
     }
 
-    /// What the decision on the request needs of the key that it names, as that stands at the latest moment.
+    /// What the decision on the request needs of the key that it names, as that stands at the
+    /// latest moment.
     fn needed_key(&mut self, request: &Request) -> Result<Option<Held>, End>
         requires whole { IsWhole self.old }
         requires opened { IsOpen S.Store self.old }
@@ -100,7 +102,8 @@ impl<S: Alter> Desk<S> {
         }
     }
 
-    /// The key with this number as it stands in the tables, with its custody where a decision on the command looks at it.
+    /// The key with this number as it stands in the tables, with its custody where a decision on
+    /// the command looks at it.
     fn load_for(&mut self, command: &Command, number: u32) -> Result<Option<Held>, End>
         requires whole { IsWhole self.old }
         requires opened { IsOpen S.Store self.old }
@@ -150,8 +153,8 @@ impl<S: Alter> Desk<S> {
 
     /// The same where a decision on the command looks at it, and else the least.
     fn need_for(&mut self, command: &Command, number: u32) -> Result<u8, End>
-        requires whole { IsWhole self.old }
         requires opened { IsOpen S.Store self.old }
+        requires whole { IsWhole self.old }
         ensures looks { LooksUp S.Store 2 self.old self.new result }
         ensures found { (t : Tables) → Sees S.Store t self.old → IsClean S.Store self.new
             → IfOk result (λ need. need ≡ need_for t command.now number) }
@@ -163,8 +166,8 @@ impl<S: Alter> Desk<S> {
         }
     }
 
-    /// The key with this number as it stands in the tables where its destruction needs so many approvals, with its
-    /// purpose.
+    /// The key with this number as it stands in the tables where its destruction needs so many
+    /// approvals, with its purpose.
     pub(super) fn load(&mut self, number: u32, need: u8) -> Result<Option<(Held, Purpose)>, End>
         ensures looks { LooksUp S.Store 36 self.old self.new result }
         ensures found { (t : Tables) → Sees S.Store t self.old → IsClean S.Store self.new

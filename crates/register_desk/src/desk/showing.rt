@@ -20,11 +20,13 @@ impl<S: Alter> Desk<S> {
     ghost use Rattle.period_core.specs.Office.{set_in};
     ghost use Rattle.register_core.specs.Settings.{period_at};
 
-    /// The key with this number as of the latest accepted moment, or `None` where there is none. It changes nothing.
+    /// The key with this number as of the latest accepted moment, or `None` where there is none. It
+    /// changes nothing.
     ///
     /// # Errors
-    /// [`End::Store`] where the database refused or the row is one that no register holds, which breaks the desk;
-    /// [`End::Memory`] where memory gave out, and the desk goes on; [`End::Broken`] on a broken desk.
+    /// [`End::Store`] where the database refused or the row is one that no register holds, which
+    /// breaks the desk; [`End::Memory`] where memory gave out, and the desk goes on;
+    /// [`End::Broken`] on a broken desk.
     pub fn show(&mut self, number: u32) -> Result<Option<Record>, End>
         ensures ends { Ends self.old self.new result }
         ensures reads { ChangesNothing S.Store self.old self.new }
@@ -41,15 +43,15 @@ impl<S: Alter> Desk<S> {
         }
     }
 
-    /// The usage period that keys of the type are held to from now on: the one that the office set last, or this
-    /// register's own. It changes nothing.
+    /// The usage period that keys of the type are held to from now on: the one that the office set
+    /// last, or this register's own. It changes nothing.
     ///
     /// # Errors
     /// As [`show`](Desk::show), but never [`End::Memory`].
     pub fn period(&mut self, kind: KeyType) -> Result<Period, End>
         ensures ends { Ends self.old self.new result }
-        ensures reads { ChangesNothing S.Store self.old self.new }
         ensures no_memory { result ≢ Err End.Memory }
+        ensures reads { ChangesNothing S.Store self.old self.new }
         ensures found { (h : List Request) → StandsFor S.Store self.old h → IsClean S.Store self.new
             → IfOk result (λ found. found ≡ period h kind) }
     {
@@ -59,7 +61,8 @@ impl<S: Alter> Desk<S> {
         self.look_up_period(kind)
     }
 
-    /// What the office set for each type. It changes nothing, and the desk goes on where the database refuses it.
+    /// What the office set for each type. It changes nothing, and the desk goes on where the
+    /// database refuses it.
     ///
     /// # Errors
     /// [`End::Store`] where the database refused; [`End::Broken`] on a broken desk.
@@ -84,7 +87,8 @@ impl<S: Alter> Desk<S> {
     fn find_sets(&mut self) -> Result<OfficePeriods, StoreError>
         ensures reads { ChangesNothing S.Store self.old self.new }
         ensures mark { self.new.is_broken ≡ self.old.is_broken }
-        ensures found { (t : Tables) → Sees S.Store t self.old → IsWhole self.old → IsClean S.Store self.new
+        ensures found { (t : Tables) → Sees S.Store t self.old → IsWhole self.old
+            → IsClean S.Store self.new
             → IfOk result (λ set. (kind : KeyType) → set_in set kind ≡ period_at kind t.periods) }
     {
         let mut periods = OfficePeriods::NONE;
@@ -98,14 +102,14 @@ impl<S: Alter> Desk<S> {
     fn find_set(&mut self, kind: KeyType) -> Result<Option<Period>, StoreError>
         ensures reads { ChangesNothing S.Store self.old self.new }
         ensures mark { self.new.is_broken ≡ self.old.is_broken }
-        ensures found { (t : Tables) → Sees S.Store t self.old → IsWhole self.old → IsClean S.Store self.new
-            → IfOk result (λ set. set ≡ period_at kind t.periods) }
+        ensures found { (t : Tables) → Sees S.Store t self.old → IsWhole self.old
+            → IsClean S.Store self.new → IfOk result (λ set. set ≡ period_at kind t.periods) }
     {
         find_period(&mut self.connection, kind)
     }
 
-    /// What the key with this number may be used for at the latest accepted moment, or `None` where there is no such
-    /// key. It changes nothing.
+    /// What the key with this number may be used for at the latest accepted moment, or `None` where
+    /// there is no such key. It changes nothing.
     ///
     /// # Errors
     /// As [`show`](Desk::show), but never [`End::Memory`].

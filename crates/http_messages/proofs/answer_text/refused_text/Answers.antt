@@ -6,5 +6,8 @@ use Rattle.http_messages.specs.HttpReply.{reply_bytes}
 use Rattle.http_messages.proofs.answer_text.refused_text.Goals as goal
 
 pub returns : goal.returns
-returns c = IfOk-weaker c.value_text.result _ _ (λ s written. written ∙ ap (λ v. reply_bytes (json_reply c.refusal_status.result v)) c.in_ok-value.ensures
-    ∙ ap (λ n. reply_bytes (json_reply n (refusal_data c.args.refusal.now))) c.refusal_status.ensures) c.value_text.ensures
+returns c =
+    IfOk-weaker c.value_text.result _ _
+    (λ s written. written ∙ ap (λ v. reply_bytes (json_reply c.refusal_status.result v)) c.in_ok-value.ensures
+    ∙ ap (λ n. reply_bytes (json_reply n (refusal_data c.args.refusal.now))) c.refusal_status.ensures)
+    c.value_text.ensures

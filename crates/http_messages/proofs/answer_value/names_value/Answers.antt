@@ -9,5 +9,6 @@ pub returns : goal.returns
 returns c =
     let names = c.args.names.now in
     let all : take c.loop-name.name-index names ≡ names = take_all _ _ c.loop-name-test.false in
-    let seen : view (Value.Array c.loop-name.values) ≡ array (items_of (map view c.loop-name.values.items)) = search (rules, the_lemmas) in
+    let seen : view (Value.Array c.loop-name.values)
+    ≡ array (items_of (map view c.loop-name.values.items)) = search (rules, the_lemmas) in
     seen ∙ ap (λ (ds : List Data). array (items_of ds)) (c.loop-name.invariant ∙ ap (map (λ name. string name)) all)

@@ -7,12 +7,14 @@ use Rattle.http_messages.proofs.asking.ask_after.Goals as goal
 pub returns-in-Ok-Bad-clause-asks : goal.returns-in-Ok-Bad-clause-asks
 returns-in-Ok-Bad-clause-asks g c = λ input known.
     let found = rw c.in-Ok-Bad.field-0-is at c.in-Ok-Bad.ensures.found in
-    unread_asks input _ c.rejected.result c.rejected.ensures (bad_head (bad_input _ _ input _ known c.find_head.ensures.bytes c.find_head.ensures.short found))
+    unread_asks input _ c.rejected.result c.rejected.ensures
+    (bad_head (bad_input _ _ input _ known c.find_head.ensures.bytes c.find_head.ensures.short found))
 
 pub returns-in-Ok-TooLarge-clause-asks : goal.returns-in-Ok-TooLarge-clause-asks
 returns-in-Ok-TooLarge-clause-asks g c = λ input known.
     let found = rw c.in-Ok-TooLarge.field-0-is at c.in-Ok-TooLarge.ensures.found in
-    unread_asks input _ c.rejected-in-Ok-TooLarge.result c.rejected-in-Ok-TooLarge.ensures (large_head (large_input _ _ input _ known c.find_head.ensures.bytes found))
+    unread_asks input _ c.rejected-in-Ok-TooLarge.result c.rejected-in-Ok-TooLarge.ensures
+    (large_head (large_input _ _ input _ known c.find_head.ensures.bytes found))
 
 pub returns-in-Ok-Whole-clause-asks : goal.returns-in-Ok-Whole-clause-asks
 returns-in-Ok-Whole-clause-asks g c = λ input known.

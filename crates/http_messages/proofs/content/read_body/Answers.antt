@@ -14,5 +14,8 @@ reads-init g c =
 pub returns-in-Err-kept-clause-read : goal.returns-in-Err-kept-clause-read
 returns-in-Err-kept-clause-read g c =
     let (before, took, is, counted) = c.reads.invariant.got in
-    let (more, long, took_more, kept) = c.read_more-piece.ensures.bytes in
-    (before ++ more, Consumes-trans _ _ _ _ _ took took_more, omega (arith, length-append before more, counted, long, ap (λ (r : BodyRead). r.read) c.ended-in-Err-kept.ensures))
+    let (more, long, took_more, kept) = c.read_more-piece.ensures.bytes in (
+      before ++ more,
+      Consumes-trans _ _ _ _ _ took took_more,
+      omega (arith, length-append before more, counted, long, ap (λ (r : BodyRead). r.read) c.ended-in-Err-kept.ensures),
+    )

@@ -1,4 +1,5 @@
-use Rattle.std.proofs.Common.{◌≡◌, ℕ, zero, suc, ◌+◌, ◌-◌, ◌*◌, min, [], ◌∷◌, ◌++◌, take, get_or, arith, sym, ap, subst, ◌∙◌, true}
+use Rattle.std.proofs.Common.{◌≡◌, ℕ, zero, suc, ◌+◌, ◌-◌, ◌*◌, min, [], ◌∷◌, ◌++◌, take, get_or, arith, sym, ap}
+use Rattle.std.proofs.Common.{subst, ◌∙◌, true}
 use Rattle.std.specs.Prelude.{IsTrue}
 use Rattle.std.specs.Char.{is_ascii_digit, digit_value}
 use Rattle.std.specs.Str.Parse.{digits_value}
@@ -10,7 +11,8 @@ use Rattle.http_messages.specs.Asked.{max_body_length}
 use Rattle.http_messages.proofs.post.length_of.Goals as goal
 
 -- a digit more, under the limit
-capped : (old all number d : ℕ) → number ≡ min old (max_body_length + 1) → all ≡ old * 10 + d → min (number * 10 + d) (max_body_length + 1) ≡ min all (max_body_length + 1)
+capped : (old all number d : ℕ) → number ≡ min old (max_body_length + 1) → all ≡ old * 10 + d
+    → min (number * 10 + d) (max_body_length + 1) ≡ min all (max_body_length + 1)
 capped old all number d e f = omega arith
 
 digit_is : (b : ℕ) → is_ascii_digit b ≡ true → digit_value b ≡ b - 48
@@ -28,8 +30,13 @@ loop-byte-preserved c =
     let more : take (i + 1) text ≡ take i text ++ b ∷ [] = take_more text i 0 c.loop-byte-test.true in
     let digit : is_ascii_digit b ≡ true = sym c.is_ascii_digit.ensures.value ∙ c.if-not-is_ascii_digit.false in
     let value : digits_value 10 (take (i + 1) text) ≡ digits_value 10 (take i text) * 10 + c.from.result =
-    ap (digits_value 10) more ∙ digits_value_after_push 10 0 (take i text) b ∙ ap (λ d. digits_value 10 (take i text) * 10 + d) (digit_is b digit ∙ sym c.from.ensures) in
+    ap (digits_value 10) more ∙ digits_value_after_push 10 0 (take i text) b
+    ∙ ap (λ d. digits_value 10 (take i text) * 10 + d) (digit_is b digit ∙ sym c.from.ensures) in
     record {
-      digits = subst (AllPass is_ascii_digit) (sym more) (All-append (λ x. IsTrue (is_ascii_digit x)) (take i text) (b ∷ []) c.loop-byte.invariant.digits (one_passes b digit));
-      number = c.min-number.ensures ∙ capped (digits_value 10 (take i text)) (digits_value 10 (take (i + 1) text)) c.loop-byte.number c.from.result c.loop-byte.invariant.number value;
+      digits = subst (AllPass is_ascii_digit) (sym more)
+          (All-append (λ x. IsTrue (is_ascii_digit x)) (take i text) (b ∷ []) c.loop-byte.invariant.digits
+          (one_passes b digit));
+      number = c.min-number.ensures
+          ∙ capped (digits_value 10 (take i text)) (digits_value 10 (take (i + 1) text)) c.loop-byte.number
+          c.from.result c.loop-byte.invariant.number value;
     }

@@ -25,10 +25,12 @@ pub returns-in-One-clause-err : goal.returns-in-One-clause-err
 returns-in-One-clause-err c = λ lines all rest. encoded (one_not_none _ _ (rw c.in-One.is at all.transfer_encoding))
 
 pub returns-in-Several-clause-err : goal.returns-in-Several-clause-err
-returns-in-Several-clause-err c = λ lines all rest. encoded (several_not_none _ (rw c.in-Several.is at all.transfer_encoding))
+returns-in-Several-clause-err c =
+    λ lines all rest. encoded (several_not_none _ (rw c.in-Several.is at all.transfer_encoding))
 
 pub returns-in-None-content_length-clause-err : goal.returns-in-None-content_length-clause-err
-returns-in-None-content_length-clause-err c = λ lines all rest. no_length (rw c.in-None-content_length.is at all.content_length)
+returns-in-None-content_length-clause-err c =
+    λ lines all rest. no_length (rw c.in-None-content_length.is at all.content_length)
 
 pub returns-in-Several-content_length-clause-err : goal.returns-in-Several-content_length-clause-err
 returns-in-Several-content_length-clause-err c = λ lines all rest.

@@ -14,11 +14,14 @@ loop-at-preserved c =
     let pushed : c.match-approval_of.names.items ≡ c.loop-at.names.items ++ listed c.approval_of.result =
     elim c.match-approval_of.branch [
       | in-Some+in_ok-push w ↦
-          ap (λ (v : Vec Name Global). v.items) w.names-is ∙ w.in_ok-push.ensures.items ∙ ap (λ (one : Option (List ℕ)). c.loop-at.names.items ++ listed one) (sym w.in-Some.is)
+          ap (λ (v : Vec Name Global). v.items) w.names-is ∙ w.in_ok-push.ensures.items
+          ∙ ap (λ (one : Option (List ℕ)). c.loop-at.names.items ++ listed one) (sym w.in-Some.is)
       | in_default w ↦
-          ap (λ (v : Vec Name Global). v.items) w.names-is ∙ sym (append-nil c.loop-at.names.items) ∙ ap (λ (one : Option (List ℕ)). c.loop-at.names.items ++ listed one) (sym w.in_default.is)
+          ap (λ (v : Vec Name Global). v.items) w.names-is ∙ sym (append-nil c.loop-at.names.items)
+          ∙ ap (λ (one : Option (List ℕ)). c.loop-at.names.items ++ listed one) (sym w.in_default.is)
     ] in
     record {
-      found = approvals_step c.args.key h at q.0 c.loop-at.names.items c.match-approval_of.names.items c.approval_of.result c.loop-at-test.true q.1 (c.approval_of.ensures q.0 q.1) pushed c.loop-at.invariant.found;
+      found = approvals_step c.args.key h at q.0 c.loop-at.names.items c.match-approval_of.names.items
+          c.approval_of.result c.loop-at-test.true q.1 (c.approval_of.ensures q.0 q.1) pushed c.loop-at.invariant.found;
       within = omega (arith, c.loop-at-test.true);
     }

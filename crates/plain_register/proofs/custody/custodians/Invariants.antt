@@ -5,6 +5,7 @@ use Rattle.plain_register.proofs.custody.custodians.Given as goal
 
 abbrev pub invariant-loop-at : goal.invariant-loop-at
 invariant-loop-at l = record {
-  found : l.names.items ++ names_at l.key (all_custodians (drop l.at l.history)) ≡ names_at l.key (all_custodians l.history);
+  found : l.names.items ++ names_at l.key (all_custodians (drop l.at l.history))
+      ≡ names_at l.key (all_custodians l.history);
   within : l.at ≤ length l.history;
 }

@@ -5,6 +5,7 @@ use Rattle.plain_register.proofs.custody.is_ended.Given as goal
 
 abbrev pub invariant-loop-at : goal.invariant-loop-at
 invariant-loop-at l = record {
-  same : is_ended (take l.at l.history) (key_name l.key l.name) (drop l.at l.history) ≡ is_ended (take l.from l.history) (key_name l.key l.name) (drop l.from l.history);
+  same : is_ended (take l.at l.history) (key_name l.key l.name) (drop l.at l.history)
+      ≡ is_ended (take l.from l.history) (key_name l.key l.name) (drop l.from l.history);
   within : l.at ≤ length l.history;
 }

@@ -5,4 +5,5 @@ use Rattle.register_core.specs.Custody.{is_about}
 use Rattle.plain_register.proofs.custody.stays_custodian.Given as goal
 
 abbrev pub invariant-loop-request : goal.invariant-loop-request
-invariant-loop-request l = list_any (λ q. is_about (key_name l.key l.name) q.command) (take l.request-index l.later) ≡ false
+invariant-loop-request l =
+    list_any (λ q. is_about (key_name l.key l.name) q.command) (take l.request-index l.later) ≡ false

@@ -12,10 +12,12 @@ loop-item-preserved c =
     let before = c.loop-item.invariant.history in
     let kept = c.loop-item.history.items in
     record {
-      history = c.in_ok-answer_to.ensures.after ∙ ap (λ h. history_after h item) before ∙ sym (history_next [] items i item c.loop-item-test.true c.item-item.is);
+      history = c.in_ok-answer_to.ensures.after ∙ ap (λ h. history_after h item) before
+          ∙ sym (history_next [] items i item c.loop-item-test.true c.item-item.is);
       given = c.in_ok-push.ensures.items
           ∙ ap (λ g. g ++ c.in_ok-answer_to.field-0 ∷ []) c.loop-item.invariant.given
-          ∙ ap (λ a. answers [] (take i items) ++ a ∷ []) (c.in_ok-answer_to.ensures.answer ∙ ap (λ h. answer_to h item) before)
+          ∙ ap (λ a. answers [] (take i items) ++ a ∷ []) (c.in_ok-answer_to.ensures.answer
+          ∙ ap (λ h. answer_to h item) before)
           ∙ sym (answers_next [] items i item c.loop-item-test.true c.item-item.is);
       within =
           let same = ap length c.in_ok-answer_to.ensures.after in

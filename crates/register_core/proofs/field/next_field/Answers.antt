@@ -1,5 +1,4 @@
-use Rattle.std.proofs.Common.{rules}
 use Rattle.register_core.proofs.field.next_field.Goals as goal
 
 pub returns : goal.returns
-returns c = search rules
+returns c = c.in_ok-field.ensures

@@ -3,8 +3,11 @@ use Rattle.register_core.proofs.Readers.{recipient_reader, months_small, made_of
 use Rattle.register_core.proofs.field.recipient_of.Goals as goal
 
 pub returns-in_err-read_decimal : goal.returns-in_err-read_decimal
-returns-in_err-read_decimal c = c.from_residual.ensures ∙ no_number recipient_reader (months_small 0) c.args.field.now c.in_err-read_decimal.ensures.none
+returns-in_err-read_decimal c =
+    c.from_residual.ensures
+    ∙ no_number recipient_reader (months_small 0) c.args.field.now c.in_err-read_decimal.ensures.none
 
 pub returns : goal.returns
 returns c =
-    made_of_number recipient_reader (months_small 0) c.args.field.now c.months.result c.in_ok-read_decimal.field-0 (omega arith) c.in_ok-read_decimal.ensures.found c.months.ensures.in_range c.months.ensures.value
+    made_of_number recipient_reader (months_small 0) c.args.field.now c.months.result c.in_ok-read_decimal.field-0
+    (omega arith) c.in_ok-read_decimal.ensures.found c.months.ensures.in_range c.months.ensures.value

@@ -7,13 +7,22 @@ use Rattle.register_http.proofs.exchanging.exchange.Goals as goal
 pub returns-clause-exchanges : goal.returns-clause-exchanges
 returns-clause-exchanges g c = record {
   asked = c.ask-asking.result.asked;
-  asks = λ bytes known. c.ask-asking.ensures.asks bytes (ap (λ (r : Watched g.row.R.Denot). g.R.Read.remaining r.inner) c.begin.ensures ∙ known);
-  serves = served_after g.S.Store c.args.moment c.args.desk.now c.send_reply-served.new.desk c.ask-asking.result.asked _ (g.W.Write.contents c.args.writer.now.inner) (g.W.Write.contents c.send_reply-served.new.writer.inner)
-      c.send_reply-served.result c.ask-asking.result.read (ap (λ (w : Watched g.row.W.Denot). g.W.Write.contents w.inner) c.begin-2.ensures) c.send_reply-served.ensures.serves;
+  asks = λ bytes known. c.ask-asking.ensures.asks bytes
+      (ap (λ (r : Watched g.row.R.Denot). g.R.Read.remaining r.inner) c.begin.ensures ∙ known);
+  serves =
+      served_after g.S.Store c.args.moment c.args.desk.now c.send_reply-served.new.desk c.ask-asking.result.asked _
+      (g.W.Write.contents c.args.writer.now.inner) (g.W.Write.contents c.send_reply-served.new.writer.inner)
+      c.send_reply-served.result c.ask-asking.result.read
+      (ap (λ (w : Watched g.row.W.Denot). g.W.Write.contents w.inner) c.begin-2.ensures)
+      c.send_reply-served.ensures.serves;
 }
 
 pub returns-clause-leaves : goal.returns-clause-leaves
-returns-clause-leaves g c = leaves_one g.S.Store c.args.moment c.args.desk.now c.send_reply-served.new.desk c.ask-asking.result.asked c.send_reply-served.result _ _ c.send_reply-served.ensures.serves
+returns-clause-leaves g c =
+    leaves_one g.S.Store c.args.moment c.args.desk.now c.send_reply-served.new.desk c.ask-asking.result.asked
+    c.send_reply-served.result _ _ c.send_reply-served.ensures.serves
 
 pub returns-clause-clean : goal.returns-clause-clean
-returns-clause-clean g c = was_clean g.S.Store c.args.moment c.args.desk.now c.send_reply-served.new.desk c.ask-asking.result.asked c.send_reply-served.result _ _ c.send_reply-served.ensures.serves
+returns-clause-clean g c =
+    was_clean g.S.Store c.args.moment c.args.desk.now c.send_reply-served.new.desk c.ask-asking.result.asked
+    c.send_reply-served.result _ _ c.send_reply-served.ensures.serves

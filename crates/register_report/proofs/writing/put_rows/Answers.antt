@@ -2,7 +2,8 @@ use Rattle.std.proofs.Common.{◌≡◌, ◌+◌, true, false, refl, ap, subst, 
 use Rattle.std.specs.Prelude.{OnSome}
 use Rattle.register_desk.specs.KeyRows.{GoOn}
 use Rattle.register_report.specs.Table.{lists}
-use Rattle.register_report.proofs.RowsWritten.{Next, at_most_one, none_so_far, one_if, one_more, part_of_line, rows_passed_on}
+use Rattle.register_report.proofs.RowsWritten.{Next, at_most_one, none_so_far, one_if, one_more, part_of_line}
+use Rattle.register_report.proofs.RowsWritten.{rows_passed_on}
 use Rattle.register_report.proofs.writing.put_rows.Goals.{then-branch, else-branch}
 use Rattle.register_report.proofs.writing.put_rows.Goals as goal
 

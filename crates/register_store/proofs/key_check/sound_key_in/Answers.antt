@@ -3,7 +3,8 @@ use Rattle.sqlite.specs.Order.{column}
 use Rattle.register_store.specs.OpeningChecks.{IsSoundAt}
 use Rattle.register_store.proofs.Decoding.{one_key, same_number}
 use Rattle.register_store.proofs.key_check.sound_key_in.Goals as goal
-use Rattle.register_store.proofs.key_check.sound_key_in.Goals.{else-shown-from-via-then-shown-from+else-is_sound, else-shown-from-via-else-shown-from}
+use Rattle.register_store.proofs.key_check.sound_key_in.Goals.{else-shown-from-via-then-shown-from+else-is_sound}
+use Rattle.register_store.proofs.key_check.sound_key_in.Goals.{else-shown-from-via-else-shown-from}
 
 pub returns-else-shown-from : goal.returns-else-shown-from
 returns-else-shown-from c k shows sound =
@@ -15,6 +16,8 @@ returns-else-shown-from c k shows sound =
           let off = w.if-is_sound.false in
           absurd (cc)
       | else-shown-from-via-else-shown-from w ↦
-          let same : c.in_ok-shown.shown ≡ c.args.number = same_number (column row 11) c.in_ok-shown.shown c.args.number c.in_ok-shown.ensures shows.number in
+          let same : c.in_ok-shown.shown
+          ≡ c.args.number = same_number (column row 11) c.in_ok-shown.shown c.args.number c.in_ok-shown.ensures
+          shows.number in
           w.if-shown-from.false (same ∙ sym c.from.ensures)
     ]

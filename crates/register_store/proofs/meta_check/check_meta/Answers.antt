@@ -25,7 +25,8 @@ returns-in_err-check_rows-clause-checks g c t =
     let old = state g.S.Store c.args.connection.now in
     let new = state g.S.Store c.check_rows.new.connection in
     let stopped = c.in_err-check_rows in
-    meta_fails t old new c.check_rows.ensures.survives stopped.field-0.0 c.from_residual.result c.from_residual.ensures.1
+    meta_fails t old new c.check_rows.ensures.survives stopped.field-0.0 c.from_residual.result
+    c.from_residual.ensures.1
     (λ clean is. stopped.ensures.meaning clean (ap Err is))
     (λ clean is. stopped.ensures.refused clean refl (ap Err is))
     (λ clean is. stopped.ensures.memory clean (ap Err is))

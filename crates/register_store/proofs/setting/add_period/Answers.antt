@@ -10,6 +10,17 @@ use Rattle.register_store.proofs.setting.add_period.Goals as goal
 pub returns : goal.returns
 returns g c =
     let set : TypePeriod = record { kind = c.args.kind; period = c.args.period } in
-    wrote (search rules) (search rules) (runs (Makes (HasNoPeriod set.kind) (more_period set.kind set.period)) period_text (period_params set) _ _
+    wrote (search rules) (search rules)
+    (runs (Makes (HasNoPeriod set.kind) (more_period set.kind set.period)) period_text (period_params set) _ _
     c.in_ok-execute.field-0 (puts_in periods_table set (search rules) _ _)
-    (λ clean inside. rw (c.params-to_sql.ensures, c.from.ensures, c.code.ensures, c.params-to_sql-2.ensures, c.from-2.ensures, c.params-to_sql-3.ensures, c.from-3.ensures, c.originator.ensures, c.recipient.ensures) at (c.in_ok-execute.ensures.runs clean inside)) c.in_ok-execute.ensures.survives)
+    (λ clean inside. rw (
+      c.params-to_sql.ensures,
+      c.from.ensures,
+      c.code.ensures,
+      c.params-to_sql-2.ensures,
+      c.from-2.ensures,
+      c.params-to_sql-3.ensures,
+      c.from-3.ensures,
+      c.originator.ensures,
+      c.recipient.ensures,
+    ) at (c.in_ok-execute.ensures.runs clean inside)) c.in_ok-execute.ensures.survives)

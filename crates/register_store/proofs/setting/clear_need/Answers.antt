@@ -13,4 +13,5 @@ returns g c =
     runs (Makes Always (without_need c.args.key)) clear_need_text (number_params c.args.key)
     (g.T.Inside.sees c.args.tx.now) (g.T.Inside.sees c.execute.new.self) c.in_ok-execute.field-0
     (takes_out needs_table c.args.key _ _)
-    (λ clean inside. rw c.params-to_sql.ensures at (c.in_ok-execute.ensures.runs clean inside)) c.in_ok-execute.ensures.survives)
+    (λ clean inside. rw c.params-to_sql.ensures at (c.in_ok-execute.ensures.runs clean inside))
+    c.in_ok-execute.ensures.survives)

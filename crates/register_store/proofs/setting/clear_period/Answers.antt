@@ -15,4 +15,8 @@ returns g c =
     runs (Makes Always (without_period c.args.kind)) clear_period_text (number_params number)
     (g.T.Inside.sees c.args.tx.now) (g.T.Inside.sees c.execute.new.self) c.in_ok-execute.field-0
     (takes_out periods_table number _ _)
-    (λ clean inside. rw (c.params-to_sql.ensures, c.from.ensures, c.code.ensures) at (c.in_ok-execute.ensures.runs clean inside)) c.in_ok-execute.ensures.survives)
+    (λ clean inside. rw (
+      c.params-to_sql.ensures,
+      c.from.ensures,
+      c.code.ensures,
+    ) at (c.in_ok-execute.ensures.runs clean inside)) c.in_ok-execute.ensures.survives)

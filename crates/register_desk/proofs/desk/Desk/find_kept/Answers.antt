@@ -16,10 +16,13 @@ returns-in-Ok-clause-kept g c h stands clean =
     c.in-Ok.ensures.reads (tables h) stands.sees clean in
     let kept : IsKeptUnder h c.args.caller.now c.args.number c.in-Ok.found =
     kept_is h stands.lawful c.args.caller.now c.args.number c.in-Ok.found found in
-    search rules
+    search rules fits 100
 
 pub returns-in-Err-clause-looks : goal.returns-in-Err-clause-looks
 returns-in-Err-clause-looks g c =
     looks_failed g.S.Store _ 2 _ _ _ _ _ _ c.requires c.in-Err.ensures.reads
     (λ h stands clean. c.find_request.ensures.counted)
     c.end_by-in-Err.ensures.same c.end_by-in-Err.ensures.memory c.end_by-in-Err.ensures.store
+
+pub returns-in-Ok-clause-within : goal.returns-in-Ok-clause-within
+returns-in-Ok-clause-within g c = search rules fits 100

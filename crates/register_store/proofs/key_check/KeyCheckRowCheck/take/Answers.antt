@@ -10,13 +10,15 @@ pub returns-then-self-clause-refused : goal.returns-then-self-clause-refused
 returns-then-self-clause-refused c result first rows taken =
     let self = c.args.self.now in
     let same = ap (λ (f : Found). f.keys) taken.0 in
-    keys_full first.found self.count self.owners.items rows c.args.row.now taken.1 (let full = c.if-self.true in omega (arith, full, same))
+    keys_full first.found self.count self.owners.items rows c.args.row.now taken.1
+    (let full = c.if-self.true in omega (arith, full, same))
 
 pub returns-in_default-clause-refused : goal.returns-in_default-clause-refused
 returns-in_default-clause-refused c result first rows taken =
     let self = c.args.self.now in
     keys_odd first.found self.count self.owners.items rows c.args.row.now taken.1
-    (subst (λ (f : Found). (k : Key) → ShowsNumbered c.args.row.now (self.count + 1, k) → ¬ IsSoundAt f.version f.latest k) taken.0 c.in_default.ensures)
+    (subst (λ (f : Found). (k : Key) → ShowsNumbered c.args.row.now (self.count + 1, k)
+    → ¬ IsSoundAt f.version f.latest k) taken.0 c.in_default.ensures)
 
 pub returns-clause-taken : goal.returns-clause-taken
 returns-clause-taken c result first rows taken =
@@ -24,6 +26,8 @@ returns-clause-taken c result first rows taken =
     let k = c.in-Some.key in
     let same = ap (λ (f : Found). f.keys) taken.0 in (
       taken.0,
-      keys_more first.found self.count self.owners.items rows c.args.row.now taken.1 (let room = c.if-self.false in omega (arith, room, same)) k c.in-Some.ensures.0
-          (subst (λ (f : Found). IsSoundAt f.version f.latest k) taken.0 c.in-Some.ensures.1) c.push.new.self.items c.in_ok-push.ensures.items,
+      keys_more first.found self.count self.owners.items rows c.args.row.now taken.1
+          (let room = c.if-self.false in omega (arith, room, same)) k c.in-Some.ensures.0
+          (subst (λ (f : Found). IsSoundAt f.version f.latest k) taken.0 c.in-Some.ensures.1) c.push.new.self.items
+          c.in_ok-push.ensures.items,
     )

@@ -13,7 +13,10 @@ returns-clause-made g c =
     let b = state g.S.Store c.make_next.new.tx.conn.now in
     let d = state g.S.Store c.make_next-2.new.tx.conn.now in
     let e = state g.S.Store c.set_version.new.tx.conn.now in
-    let two = steps_then (λ _. MakesNext Period) (λ _. MakesNext Quorum) a b d c.in_ok-make_next.field-0 (Ok c.in_ok-make_next-2.field-0) c.in_ok-make_next.ensures.made c.in_ok-make_next-2.ensures.made in
-    let three = steps_then (λ _. Then (MakesNext Period) (MakesNext Quorum)) (λ _. SetsVersion) a d e c.in_ok-make_next-2.field-0 (Ok c.in_ok-set_version.field-0) two c.in_ok-set_version.ensures.set in
-    steps_as (λ _. Then (Then (MakesNext Period) (MakesNext Quorum)) SetsVersion) (λ _. Migrates) a e c.in_ok-set_version.field-0 (tt {0})
+    let two = steps_then (λ _. MakesNext Period) (λ _. MakesNext Quorum) a b d c.in_ok-make_next.field-0
+    (Ok c.in_ok-make_next-2.field-0) c.in_ok-make_next.ensures.made c.in_ok-make_next-2.ensures.made in
+    let three = steps_then (λ _. Then (MakesNext Period) (MakesNext Quorum)) (λ _. SetsVersion) a d e
+    c.in_ok-make_next-2.field-0 (Ok c.in_ok-set_version.field-0) two c.in_ok-set_version.ensures.set in
+    steps_as (λ _. Then (Then (MakesNext Period) (MakesNext Quorum)) SetsVersion) (λ _. Migrates) a e
+    c.in_ok-set_version.field-0 (tt {0})
     (λ old new done t holds. done.2 t (done.1.2 t (done.1.1 t (begins t old holds)))) three

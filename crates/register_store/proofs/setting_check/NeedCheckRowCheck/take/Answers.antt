@@ -12,6 +12,9 @@ returns-in_default-clause-refused c result first rows taken =
     one_odd ShowsKeyNeed (IsNeedOf (counts_of first.found)) rows c.args.row.now
     (λ set shows is. c.in_default.ensures set shows)
 
+pub returns-in_default-clause-taken : goal.returns-in_default-clause-taken
+returns-in_default-clause-taken c result first rows taken = absurd (cc)
+
 pub returns-clause-taken : goal.returns-clause-taken
 returns-clause-taken c result first rows taken =
     let set = key_need c.in-Some.shown.key c.in-Some.shown.need in

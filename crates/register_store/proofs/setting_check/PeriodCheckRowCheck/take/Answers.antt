@@ -10,3 +10,6 @@ returns-in-Some-clause-taken c result first rows taken =
 pub returns-in-None-clause-refused : goal.returns-in-None-clause-refused
 returns-in-None-clause-refused c result first rows taken =
     one_odd ShowsTypePeriod IsAnyPeriod rows c.args.row.now (λ set shows any. c.in-None.ensures set shows)
+
+pub returns-in-None-clause-taken : goal.returns-in-None-clause-taken
+returns-in-None-clause-taken c result first rows taken = absurd (cc)

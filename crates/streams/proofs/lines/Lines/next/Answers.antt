@@ -1,5 +1,6 @@
 use Rattle.std.proofs.Common.{◌≡◌, ◌++◌, length, rules, arith}
-use Rattle.streams.proofs.LinesLemmas.{CutsLine-at_line_feed, CutsRest-at_end, Begun-refilled, Takes-more, work_left-after_turn}
+use Rattle.streams.proofs.LinesLemmas.{CutsLine-at_line_feed, CutsRest-at_end, Begun-refilled, Takes-more}
+use Rattle.streams.proofs.LinesLemmas.{work_left-after_turn}
 use Rattle.streams.proofs.lines.Lines.next.Goals as goal
 
 pub returns-then-take_to_line_feed-clause-line : goal.returns-then-take_to_line_feed-clause-line

@@ -14,6 +14,7 @@ returns-in-Some-clause-found g c =
 
 pub returns-in-None-clause-none : goal.returns-in-None-clause-none
 returns-in-None-clause-none g c =
-    cut_nowhere c.args.self.now c.take_part-in-None.new.self c.unread_bytes.result.now _ c.in-None.ensures c.unread_bytes.ensures
+    cut_nowhere c.args.self.now c.take_part-in-None.new.self c.unread_bytes.result.now _ c.in-None.ensures
+    c.unread_bytes.ensures
     (ap length c.unread_bytes-all.ensures)
     c.take_part-in-None.ensures.unread c.take_part-in-None.ensures.line

@@ -1,0 +1,54 @@
+use Rattle.std.proofs.Common.{◌≡◌, ◌≤◌, ℕ, Result, Ok, refl, sym, subst, arith}
+use Rattle.sqlite.specs.State.{State}
+use Rattle.sql_steps.specs.Steps.{StepsBy}
+use Rattle.register_core.specs.declared.change.CustodyChange.{CustodyChange}
+use Rattle.sql_steps.proofs.Stepping.{stays}
+use Rattle.register_core.specs.declared.change.CustodyChange.TheVariants.{Kept}
+use Rattle.register_store.specs.Change.{with_custody}
+use Rattle.register_store.specs.declared.counted.StepCount.{StepCount}
+use Rattle.register_store.specs.StepCount.{Writes}
+use Rattle.register_store.specs.TableChanges.{Makes, Always}
+use Rattle.register_store.proofs.Readings.{survives_none}
+use Rattle.register_store.proofs.accepted_request.write_custody.Goals as goal
+
+-- what is written is what was asked for
+written : {A E : Type 0} (sees : A → State) (name : A → ℕ) (most number : ℕ) (asked made : CustodyChange) (old new : A) (before after : StepCount)
+    (r : Result (Unit {0}) E) → asked ≡ made → most ≤ 2
+    → Writes sees name most (Makes Always (with_custody number made)) old new before after r
+    → Writes sees name 2 (Makes Always (with_custody number asked)) old new before after r
+written sees name most number asked made old new before after r is few did = record {
+  same_reference = did.same_reference;
+  counted = record { risen = did.counted.risen; within = omega (arith, did.counted.within, few) };
+  made = subst (λ (custody : CustodyChange). StepsBy (λ _. Makes Always (with_custody number custody)) (sees old) (sees new) r) (sym is) did.made;
+}
+
+pub returns-in-CustodianAdded : goal.returns-in-CustodianAdded
+returns-in-CustodianAdded g c =
+    written g.T.Inside.sees g.T.Inside.name _ c.args.number _ _ _ _ _ _ _ c.in-CustodianAdded.is (omega arith) c.change_role.ensures
+
+pub returns-in-CustodianRemoved : goal.returns-in-CustodianRemoved
+returns-in-CustodianRemoved g c =
+    written g.T.Inside.sees g.T.Inside.name _ c.args.number _ _ _ _ _ _ _ c.in-CustodianRemoved.is (omega arith) c.change_role-in-CustodianRemoved.ensures
+
+pub returns-in-Approved : goal.returns-in-Approved
+returns-in-Approved g c =
+    written g.T.Inside.sees g.T.Inside.name _ c.args.number _ _ _ _ _ _ _ c.in-Approved.is (omega arith) c.change_role-in-Approved.ensures
+
+pub returns-in-Withdrawn : goal.returns-in-Withdrawn
+returns-in-Withdrawn g c =
+    written g.T.Inside.sees g.T.Inside.name _ c.args.number _ _ _ _ _ _ _ c.in-Withdrawn.is (omega arith) c.change_role-in-Withdrawn.ensures
+
+pub returns-in-ApprovalsEnded : goal.returns-in-ApprovalsEnded
+returns-in-ApprovalsEnded g c =
+    written g.T.Inside.sees g.T.Inside.name _ c.args.number _ _ _ _ _ _ _ c.in-ApprovalsEnded.is (omega arith) c.end_approvals.ensures
+
+pub returns-in-NeedSet : goal.returns-in-NeedSet
+returns-in-NeedSet g c =
+    written g.T.Inside.sees g.T.Inside.name _ c.args.number _ _ _ _ _ _ _ c.in-NeedSet.is (omega arith) c.set_need.ensures
+
+pub returns-in-Kept : goal.returns-in-Kept
+returns-in-Kept g c =
+    let a = g.T.Inside.sees c.args.tx.now in
+    let stood = stays (λ (_ : Unit {0}). Makes Always (with_custody c.args.number Kept)) a (tt {0}) (λ t holds always. holds) (survives_none a) in
+    written g.T.Inside.sees g.T.Inside.name 0 c.args.number _ Kept _ _ _ _ (Ok (tt {0})) c.in-Kept.is (omega arith)
+    (record { same_reference = refl; counted = record { risen = omega arith; within = omega arith }; made = stood })
