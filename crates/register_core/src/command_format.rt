@@ -12,9 +12,9 @@ ghost use Rattle.register_core.specs.RequestLine.{command_at, type_and_period_at
 
 use crate::command_kind::MAX_WORD_LENGTH;
 use crate::field::{
-    command_kind_of, date_of, edit_of, key_number_of, key_type_of, name_of, next_field,
-    occurrence_of, originator_of, purpose_of, quorum_of, reason_of, recipient_of, split_field,
-    split_key_number,
+    command_kind_of, edit_of, key_number_of, name_of, next_date, next_edit, next_key_number,
+    next_key_type, next_name, next_originator, next_reason, occurrence_of, purpose_of, quorum_of,
+    recipient_of, split_field,
 };
 use crate::fields::{Fields, Shape};
 use crate::name::Name;
@@ -38,11 +38,11 @@ fn register_of(bytes: &[u8]) -> Option<Fields>
 {
     let mut rest = bytes;
     Some(Fields::Registration {
-        kind: key_type_of(next_field(&mut rest)?)?,
-        owner: name_of(next_field(&mut rest)?)?,
-        activation: date_of(next_field(&mut rest)?)?,
-        protect_stop: date_of(next_field(&mut rest)?)?,
-        deactivation: date_of(next_field(&mut rest)?)?,
+        kind: next_key_type(&mut rest)?,
+        owner: next_name(&mut rest)?,
+        activation: next_date(&mut rest)?,
+        protect_stop: next_date(&mut rest)?,
+        deactivation: next_date(&mut rest)?,
         purpose: purpose_of(rest)?,
     })
 }
@@ -52,7 +52,8 @@ fn register_of(bytes: &[u8]) -> Option<Fields>
 fn key_and_name_of(bytes: &[u8]) -> Option<(u32, Name)>
     ensures { result ≡ key_and_name_at bytes.now }
 {
-    let (key, rest) = split_key_number(bytes)?;
+    let mut rest = bytes;
+    let key = next_key_number(&mut rest)?;
     let name = name_of(rest)?;
     Some((key, name))
 }
@@ -62,7 +63,8 @@ fn key_and_name_of(bytes: &[u8]) -> Option<(u32, Name)>
 fn key_and_need_of(bytes: &[u8]) -> Option<Fields>
     ensures { result ≡ key_and_need_at bytes.now }
 {
-    let (key, rest) = split_key_number(bytes)?;
+    let mut rest = bytes;
+    let key = next_key_number(&mut rest)?;
     let need = quorum_of(rest)?;
     Some(Fields::KeyAndNeed { key, need })
 }
@@ -73,8 +75,8 @@ fn type_and_period_of(bytes: &[u8]) -> Option<Fields>
     ensures { result ≡ type_and_period_at bytes.now }
 {
     let mut rest = bytes;
-    let kind = key_type_of(next_field(&mut rest)?)?;
-    let originator = originator_of(next_field(&mut rest)?)?;
+    let kind = next_key_type(&mut rest)?;
+    let originator = next_originator(&mut rest)?;
     let recipient = recipient_of(rest)?;
     let period = Period::new(originator, recipient)?;
     Some(Fields::TypeAndPeriod { kind, period })
@@ -85,11 +87,11 @@ fn type_and_period_of(bytes: &[u8]) -> Option<Fields>
 fn edits_of(bytes: &[u8]) -> Option<Fields>
     ensures { result ≡ edits_at bytes.now }
 {
-    let (key, mut rest) = split_key_number(bytes)?;
+    let mut rest = bytes;
     Some(Fields::DateEdits {
-        key,
-        activation: edit_of(next_field(&mut rest)?)?,
-        protect_stop: edit_of(next_field(&mut rest)?)?,
+        key: next_key_number(&mut rest)?,
+        activation: next_edit(&mut rest)?,
+        protect_stop: next_edit(&mut rest)?,
         deactivation: edit_of(rest)?,
     })
 }
@@ -99,9 +101,9 @@ fn edits_of(bytes: &[u8]) -> Option<Fields>
 fn revoke_of(bytes: &[u8]) -> Option<Fields>
     ensures { result ≡ revoke_at bytes.now }
 {
-    let (key, rest) = split_key_number(bytes)?;
-    let (field, rest) = split_field(rest)?;
-    let reason = reason_of(field)?;
+    let mut rest = bytes;
+    let key = next_key_number(&mut rest)?;
+    let reason = next_reason(&mut rest)?;
     let occurrence = occurrence_of(reason, rest)?;
     Some(Fields::Revocation {
         key,

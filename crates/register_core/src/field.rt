@@ -41,7 +41,7 @@ pub(crate) fn split_field(bytes: &[u8]) -> Option<(&[u8], &[u8])>
 }
 
 /// Takes the field before the first space, and leaves what stands after that space.
-pub(crate) fn next_field<'a>(rest: &mut &'a [u8]) -> Option<&'a [u8]>
+fn next_field<'a>(rest: &mut &'a [u8]) -> Option<&'a [u8]>
     ensures { Gives (λ field. (field.now, rest.new.now)) result (field_at rest.old.now) }
 {
     let (field, after) = split_field(rest)?;
@@ -71,10 +71,17 @@ pub fn read_decimal(field: &[u8]) -> Option<u64>
 }
 
 /// The moment that the field writes.
-pub(crate) fn moment_of(field: &[u8]) -> Option<Moment>
+fn moment_of(field: &[u8]) -> Option<Moment>
     ensures { result ≡ moment_at field.now }
 {
     Moment::new(read_decimal(field)?)
+}
+
+/// Takes the moment before the first space, and leaves what stands after that space.
+pub(crate) fn next_moment(rest: &mut &[u8]) -> Option<Moment>
+    ensures { Gives (λ moment. (moment, rest.new.now)) result (field_as moment_at rest.old.now) }
+{
+    moment_of(next_field(rest)?)
 }
 
 /// The date that the field writes, `-` for none.
@@ -87,6 +94,13 @@ pub(crate) fn date_of(field: &[u8]) -> Option<Option<Moment>>
     }
     let moment = moment_of(field)?;
     Some(Some(moment))
+}
+
+/// Takes the date before the first space, and leaves what stands after that space.
+pub(crate) fn next_date(rest: &mut &[u8]) -> Option<Option<Moment>>
+    ensures { Gives (λ date. (date, rest.new.now)) result (field_as date_at rest.old.now) }
+{
+    date_of(next_field(rest)?)
 }
 
 /// What the field says of a date: `=` that it stays, `-` that it is unset, or the moment to set it
@@ -103,6 +117,13 @@ pub(crate) fn edit_of(field: &[u8]) -> Option<Edit>
     }
     let moment = moment_of(field)?;
     Some(Edit::Set(moment))
+}
+
+/// Takes what is said of a date before the first space, and leaves what stands after that space.
+pub(crate) fn next_edit(rest: &mut &[u8]) -> Option<Edit>
+    ensures { Gives (λ edit. (edit, rest.new.now)) result (field_as edit_at rest.old.now) }
+{
+    edit_of(next_field(rest)?)
 }
 
 /// The number as that of a key, or `None` out of the range.
@@ -123,12 +144,11 @@ pub(crate) fn key_number_of(field: &[u8]) -> Option<u32>
     key_number(read_decimal(field)?)
 }
 
-/// The key's number before the first space, and what stands after that space.
-pub(crate) fn split_key_number(bytes: &[u8]) -> Option<(u32, &[u8])>
-    ensures { Gives (λ x. (x.0, x.1.now)) result (field_as key_number_at bytes.now) }
+/// Takes the key's number before the first space, and leaves what stands after that space.
+pub(crate) fn next_key_number(rest: &mut &[u8]) -> Option<u32>
+    ensures { Gives (λ key. (key, rest.new.now)) result (field_as key_number_at rest.old.now) }
 {
-    let (field, rest) = split_field(bytes)?;
-    Some((key_number_of(field)?, rest))
+    key_number_of(next_field(rest)?)
 }
 
 /// The reason with this code, or `None` where no reason has it.
@@ -141,10 +161,17 @@ fn reason_with(number: u64) -> Option<Reason>
 }
 
 /// The reason whose code the field writes.
-pub(crate) fn reason_of(field: &[u8]) -> Option<Reason>
+fn reason_of(field: &[u8]) -> Option<Reason>
     ensures { result ≡ reason_at field.now }
 {
     reason_with(read_decimal(field)?)
+}
+
+/// Takes the code of a reason before the first space, and leaves what stands after that space.
+pub(crate) fn next_reason(rest: &mut &[u8]) -> Option<Reason>
+    ensures { Gives (λ reason. (reason, rest.new.now)) result (field_as reason_at rest.old.now) }
+{
+    reason_of(next_field(rest)?)
 }
 
 /// The occurrence that the field writes: a date with a compromise, else `-` alone.
@@ -163,10 +190,17 @@ pub(crate) fn occurrence_of(reason: Reason, field: &[u8]) -> Option<Option<Momen
 }
 
 /// The request's number that the field writes.
-pub(crate) fn request_number_of(field: &[u8]) -> Option<RequestNumber>
+fn request_number_of(field: &[u8]) -> Option<RequestNumber>
     ensures { result ≡ request_number_at field.now }
 {
     RequestNumber::new(read_decimal(field)?)
+}
+
+/// Takes the request's number before the first space, and leaves what stands after that space.
+pub(crate) fn next_request_number(rest: &mut &[u8]) -> Option<RequestNumber>
+    ensures { Gives (λ number. (number, rest.new.now)) result (field_as request_number_at rest.old.now) }
+{
+    request_number_of(next_field(rest)?)
 }
 
 /// So many approvals, or `None` out of the range.
@@ -198,10 +232,17 @@ fn months(least: u16, number: u64) -> Option<u16>
 }
 
 /// How many months of originator use the field writes.
-pub(crate) fn originator_of(field: &[u8]) -> Option<u16>
+fn originator_of(field: &[u8]) -> Option<u16>
     ensures { result ≡ originator_at field.now }
 {
     months(1, read_decimal(field)?)
+}
+
+/// Takes the months of originator use before the first space, and leaves what stands after that space.
+pub(crate) fn next_originator(rest: &mut &[u8]) -> Option<u16>
+    ensures { Gives (λ months. (months, rest.new.now)) result (field_as originator_at rest.old.now) }
+{
+    originator_of(next_field(rest)?)
 }
 
 /// How many months of recipient use the field writes.
@@ -218,11 +259,25 @@ pub(crate) fn name_of(field: &[u8]) -> Option<Name>
     Name::new(field)
 }
 
+/// Takes the name before the first space, and leaves what stands after that space.
+pub(crate) fn next_name(rest: &mut &[u8]) -> Option<Name>
+    ensures { Gives (λ name. (name, rest.new.now)) result (field_as name_at rest.old.now) }
+{
+    name_of(next_field(rest)?)
+}
+
 /// The type whose text the field is.
-pub(crate) fn key_type_of(field: &[u8]) -> Option<KeyType>
+fn key_type_of(field: &[u8]) -> Option<KeyType>
     ensures { result ≡ key_type_at field.now }
 {
     KeyType::from_text(field)
+}
+
+/// Takes the type before the first space, and leaves what stands after that space.
+pub(crate) fn next_key_type(rest: &mut &[u8]) -> Option<KeyType>
+    ensures { Gives (λ kind. (kind, rest.new.now)) result (field_as key_type_at rest.old.now) }
+{
+    key_type_of(next_field(rest)?)
 }
 
 /// The kind of command whose word the field is.
