@@ -6,10 +6,11 @@ ghost use Rattle.register_core.specs.History.{latest, count, period, type, owner
 ghost use Rattle.register_core.specs.Subject.{key_of, made_by, is_key};
 ghost use Rattle.register_core.specs.Effect.{kind_after, owner_after, dates_after, period_after, no_dates};
 
+use crate::effect::dates_after;
 use lifecycle_core::Dates;
 use moment_core::Moment;
 use period_core::{KeyType, Period, period_of};
-use register_core::{Command, Name, Request, dates_after, given_dates};
+use register_core::{Command, Name, Request, given_dates};
 
 /// The latest moment of a history.
 pub fn latest(history: &[Request]) -> Moment

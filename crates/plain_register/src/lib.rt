@@ -8,6 +8,7 @@
 #![tactic(auto)]
 
 mod custody;
+mod effect;
 mod fold;
 mod history;
 mod kept;

@@ -1,5 +1,5 @@
 -- What a command does to a key: to its type, its owner, its dates and its custody.
-use Rattle.std.specs.Prelude.{ℕ, min, ◌==◌, Bool, true, false, unwrap_or, ◌&&◌, List, Option, None, Some, is_none, if◌then◌else◌}
+use Rattle.std.specs.Prelude.{ℕ, min, ◌==◌, Bool, true, false, unwrap_or, ◌&&◌, List, Option, None, Some, is_none, Result, Ok, if◌then◌else◌}
 use Rattle.lifecycle_core.specs.declared.dates.Dates.{Dates}
 use Rattle.lifecycle_core.specs.declared.row.Row.{Row}
 use Rattle.lifecycle_core.specs.State.{state_at}
@@ -7,7 +7,8 @@ use Rattle.lifecycle_core.specs.Reason.{is_compromise}
 use Rattle.period_core.specs.declared.key_type.KeyType.{KeyType}
 use Rattle.period_core.specs.KeyType.{key_type_code}
 use Rattle.period_core.specs.Period.{Period}
-use Rattle.period_core.specs.Fitting.{with_defaults, within_limits}
+use Rattle.period_core.specs.declared.fitting.DateRefusal.{DateRefusal}
+use Rattle.period_core.specs.Fitting.{with_defaults, within_limits, fill_of, trim_of}
 use Rattle.register_core.specs.declared.request.Command.{Command}
 use Rattle.register_core.specs.declared.request.Command.TheVariants.{Register, Activate, SetDates, Revoke, Assign, AddCustodian, RemoveCustodian, Approve, Withdraw, Destroy, SetQuorum, SetPeriod}
 use Rattle.register_core.specs.declared.request.Edit.{Edit}
@@ -76,6 +77,15 @@ dates_after p d t (Revoke key reason occurrence) =
     if is_compromise reason then compromised t occurrence d else deactivated t d
 dates_after p d t (Destroy key) = record d { destroy = Some t }
 dates_after p d t _ = d
+
+-- the same, unless Fill, or at an activation Trim, refuses the dates that the command gives
+abbrev pub dates_or_refusal : Period → Dates → ℕ → Command → Result Dates DateRefusal
+dates_or_refusal p d t (Register kind owner activation protect_stop deactivation purpose) =
+    fill_of p (given_dates t activation protect_stop deactivation)
+dates_or_refusal p d t (Activate key) = trim_of p (record d { activation = Some t })
+dates_or_refusal p d t (SetDates key activation protect_stop deactivation) =
+    fill_of p (edited_dates activation protect_stop deactivation d)
+dates_or_refusal p d t c = Ok (dates_after p d t c)
 
 -- dates, with the state that they give at t
 abbrev pub row_at : Dates → ℕ → Row

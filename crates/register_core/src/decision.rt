@@ -10,7 +10,7 @@ use crate::change::{Accept, Change};
 use crate::effect::change_by;
 use crate::reply::{Refusal, Reply};
 use crate::request::Request;
-use crate::verdict::judge;
+use crate::verdict::accepted_dates;
 use crate::view::View;
 use moment_core::Moment;
 
@@ -60,10 +60,10 @@ pub fn decide(view: &View, request: &Request) -> Result<Accept, Refusal>
         × IfOk result (λ accept. (judgement h request.now ≡ None)
         × (accept.reply ≡ reply h request.now) × LeadsTo h request.now accept.change) }
 {
-    match judge(view, request) {
-        Some(refusal) => Err(refusal),
-        None => {
-            let change = change_by(view.period, &view.key, request);
+    match accepted_dates(view, request) {
+        Err(refusal) => Err(refusal),
+        Ok(dates) => {
+            let change = change_by(dates, &view.key, request);
             let reply = reply_to(view.keys, request.moment, &change);
             Ok(Accept { change, reply })
         }

@@ -1,10 +1,13 @@
 //! What a command does to a key, to its dates, its owner and its custody, and what it changes
 //! besides.
-ghost use Rattle.std.specs.Prelude.{◌≡◌};
+ghost use Rattle.std.specs.Prelude.{◌≡◌, Some, IsSome};
+ghost use Rattle.period_core.specs.Fitting.{fill_of, trim_of};
+ghost use Rattle.period_core.specs.Period.{Period as UsagePeriod};
 ghost use Rattle.register_core.specs.Effect.{owner_after, no_dates, given_dates, apply_edit};
-ghost use Rattle.register_core.specs.Effect.{edited_dates, cut_at, dates_after, row_at};
+ghost use Rattle.register_core.specs.Effect.{edited_dates, cut_at, dates_or_refusal, row_at};
 ghost use Rattle.register_core.specs.Effect.{custody_change};
 ghost use Rattle.register_core.specs.Decision.{change_by, change_without_key, held_change};
+ghost use Rattle.register_core.specs.Decision.{AreDatesAfter, dates_before};
 ghost use Rattle.register_core.specs.Verdict.{always};
 
 use crate::change::{Change, CustodyChange};
@@ -14,7 +17,7 @@ use crate::request::{Command, Edit, Request};
 use crate::view::Held;
 use lifecycle_core::{Dates, Row, state_of};
 use moment_core::Moment;
-use period_core::{Period, with_defaults, within_limits};
+use period_core::{DateRefusal, Period, fill, trim};
 
 /// The dates of a key before it is registered: none is set.
 fn no_dates() -> Dates
@@ -61,7 +64,7 @@ fn apply_edit(edit: Edit, before: Option<Moment>) -> Option<Moment>
 }
 
 /// The dates after these edits, before Fill.
-pub(crate) fn edited_dates(
+fn edited_dates(
     activation: Edit,
     protect_stop: Edit,
     deactivation: Edit,
@@ -97,9 +100,44 @@ fn cut_at(at: Moment, date: Option<Moment>) -> Option<Moment>
     }
 }
 
+/// The dates of the key as it stands; where there is none, no date is set.
+pub(crate) fn dates_before(key: &Option<Held>) -> Dates
+    ensures { result ≡ dates_before key.now }
+{
+    match key {
+        Some(held) => held.row.dates,
+        None => no_dates(),
+    }
+}
+
+/// What Fill makes of the dates, by this period.
+fn filled(period: Period, mut dates: Dates) -> Result<Dates, DateRefusal>
+    ensures { result ≡ fill_of period dates }
+{
+    fill(period, &mut dates)?;
+    Ok(dates)
+}
+
+/// What Trim makes of the dates, by this period.
+fn trimmed(period: Period, mut dates: Dates) -> Result<Dates, DateRefusal>
+    requires { IsSome dates.activation }
+    ensures { result ≡ trim_of period dates }
+{
+    trim(period, &mut dates)?;
+    Ok(dates)
+}
+
 /// The dates of a key after the command at the moment, where this is the period of its type.
-pub fn dates_after(period: Period, dates: &Dates, at: Moment, command: &Command) -> Dates
-    ensures { result ≡ dates_after period dates.now at command.now }
+///
+/// # Errors
+/// Why the dates that the command gives do not fit the period.
+pub(crate) fn dates_after(
+    period: Period,
+    dates: &Dates,
+    at: Moment,
+    command: &Command,
+) -> Result<Dates, DateRefusal>
+    ensures { result ≡ dates_or_refusal period dates.now at command.now }
 {
     match *command {
         Command::Register {
@@ -107,11 +145,11 @@ pub fn dates_after(period: Period, dates: &Dates, at: Moment, command: &Command)
             protect_stop,
             deactivation,
             ..
-        } => with_defaults(
+        } => filled(
             period,
             given_dates(at, activation, protect_stop, deactivation),
         ),
-        Command::Activate { .. } => within_limits(
+        Command::Activate { .. } => trimmed(
             period,
             Dates {
                 activation: Some(at),
@@ -123,7 +161,7 @@ pub fn dates_after(period: Period, dates: &Dates, at: Moment, command: &Command)
             protect_stop,
             deactivation,
             ..
-        } => with_defaults(
+        } => filled(
             period,
             edited_dates(activation, protect_stop, deactivation, dates),
         ),
@@ -131,21 +169,21 @@ pub fn dates_after(period: Period, dates: &Dates, at: Moment, command: &Command)
             reason,
             occurrence,
             ..
-        } if reason.is_compromise() => Dates {
+        } if reason.is_compromise() => Ok(Dates {
             compromise: Some(at),
             compromise_occurrence: Some(occurrence.unwrap_or(dates.initial)),
             ..*dates
-        },
-        Command::Revoke { .. } => Dates {
+        }),
+        Command::Revoke { .. } => Ok(Dates {
             deactivation: Some(at),
             protect_stop: cut_at(at, dates.protect_stop),
             ..*dates
-        },
-        Command::Destroy { .. } => Dates {
+        }),
+        Command::Destroy { .. } => Ok(Dates {
             destroy: Some(at),
             ..*dates
-        },
-        _ => *dates,
+        }),
+        _ => Ok(*dates),
     }
 }
 
@@ -176,18 +214,18 @@ fn owner_after(before: Name, command: &Command) -> Name
     }
 }
 
-/// What the accepted request makes of the key that it names by this number, by this period.
-fn held_change(period: Period, key: u32, held: &Held, request: &Request) -> Change
-    ensures { result ≡ held_change (always period) key held.now request.now }
+/// What the accepted request makes of the key that it names by this number, where these are the
+/// key's dates after it.
+fn held_change(dates: Dates, key: u32, held: &Held, request: &Request) -> Change
+    ensures { (period : UsagePeriod) → AreDatesAfter period (Some held.now) request.now dates
+        → result ≡ held_change (always period) key held.now request.now }
 {
-    let at = request.moment;
     let command = &request.command;
-    let dates = &held.row.dates;
     Change::Held {
         key,
         owner: owner_after(held.owner, command),
-        row: row_at(dates_after(period, dates, at, command), at),
-        custody: custody_change(dates, request.caller, command),
+        row: row_at(dates, request.moment),
+        custody: custody_change(&held.row.dates, request.caller, command),
     }
 }
 
@@ -201,11 +239,11 @@ fn change_without_key(command: &Command) -> Change
     }
 }
 
-/// What the accepted request changes, where it names this key, by this period.
-pub(crate) fn change_by(period: Period, named: &Option<Held>, request: &Request) -> Change
-    ensures { result ≡ change_by (always period) named.now request.now }
+/// What the accepted request changes, where it names this key, and these are the dates after it.
+pub(crate) fn change_by(dates: Dates, named: &Option<Held>, request: &Request) -> Change
+    ensures { (period : UsagePeriod) → AreDatesAfter period named.now request.now dates
+        → result ≡ change_by (always period) named.now request.now }
 {
-    let at = request.moment;
     let command = &request.command;
     if let Command::Register {
         kind,
@@ -214,16 +252,15 @@ pub(crate) fn change_by(period: Period, named: &Option<Held>, request: &Request)
         ..
     } = *command
     {
-        let row = row_at(dates_after(period, &no_dates(), at, command), at);
         return Change::Made(Key {
             kind,
             owner,
             purpose,
-            row,
+            row: row_at(dates, request.moment),
         });
     }
     match (command.key(), named) {
-        (Some(key), Some(held)) => held_change(period, key, held, request),
+        (Some(key), Some(held)) => held_change(dates, key, held, request),
         (Some(_), None) => Change::Nothing,
         (None, _) => change_without_key(command),
     }

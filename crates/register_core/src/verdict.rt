@@ -1,14 +1,15 @@
 //! The verdict on a request, where the key that it names is known.
-ghost use Rattle.std.specs.Prelude.{◌≡◌, IsSome};
-ghost use Rattle.register_core.specs.Verdict.{refused_dates, moment_refusal, key_refusal, owner_refusal};
+ghost use Rattle.std.specs.Prelude.{◌≡◌, None, Some, IfOk, IfErr, OnOk};
+ghost use Rattle.register_core.specs.Verdict.{moment_refusal, key_refusal, owner_refusal};
 ghost use Rattle.register_core.specs.Verdict.{custodian_refusal, office_refusal, state_refusal};
 ghost use Rattle.register_core.specs.Verdict.{keeps_date, freeze_refusal, dates_refusal};
 ghost use Rattle.register_core.specs.Verdict.{entry_refusal, occurrence_refusal, limit_refusal};
 ghost use Rattle.register_core.specs.Verdict.{always, judge_view};
-ghost use Rattle.period_core.specs.Fitting.{fill_of, trim_of};
+ghost use Rattle.register_core.specs.Effect.{dates_after};
+ghost use Rattle.register_core.specs.Decision.{AreDatesAfter, dates_before};
 
 use crate::custody_refusal::custody_refusal;
-use crate::effect::{edited_dates, given_dates};
+use crate::effect::{dates_after, dates_before};
 use crate::limits::{MAX_KEYS, OFFICE};
 use crate::name::Name;
 use crate::reply::Refusal;
@@ -16,7 +17,7 @@ use crate::request::{Command, Edit, Request};
 use crate::view::{Held, View};
 use lifecycle_core::{Dates, State, state_of};
 use moment_core::Moment;
-use period_core::{Period, fill, trim};
+use period_core::Period;
 
 /// The moment is below the latest.
 fn moment_refusal(latest: Moment, at: Moment) -> Option<Refusal>
@@ -131,69 +132,24 @@ fn freeze_refusal(key: &Option<Held>, at: Moment, command: &Command) -> Option<R
     }
 }
 
-/// The refusal of dates that do not fit the period with their defaults, if they have one.
-fn fill_refusal(period: Period, mut dates: Dates) -> Option<Refusal>
-    ensures { result ≡ refused_dates (fill_of period dates) }
-{
-    match fill(period, &mut dates) {
-        Ok(()) => None,
-        Err(refusal) => Some(Refusal::from(refusal)),
-    }
-}
-
-/// The refusal of dates that do not fit the period once they are trimmed to it, if they have one.
-fn trim_refusal(period: Period, mut dates: Dates) -> Option<Refusal>
-    requires { IsSome dates.activation }
-    ensures { result ≡ refused_dates (trim_of period dates) }
-{
-    match trim(period, &mut dates) {
-        Ok(()) => None,
-        Err(refusal) => Some(Refusal::from(refusal)),
-    }
-}
-
-/// The refusal of the dates that the command gives at the moment, if they have one by this period.
-fn dates_refusal(
+/// The dates after the command at the moment of the key that it makes or names, by this period, or
+/// their refusal.
+fn dates_by(
     period: Period,
     key: &Option<Held>,
     at: Moment,
     command: &Command,
-) -> Option<Refusal>
-    ensures { result ≡ dates_refusal (always period) key.now at command.now }
+) -> Result<Dates, Refusal>
+    ensures dates { IfOk result (λ dates.
+        dates ≡ dates_after period (dates_before key.now) at command.now) }
+    ensures ok { key_refusal key.now command.now ≡ None
+        → OnOk result (dates_refusal (always period) key.now at command.now ≡ None) }
+    ensures err { key_refusal key.now command.now ≡ None → IfErr result (λ refusal.
+        dates_refusal (always period) key.now at command.now ≡ Some refusal) }
 {
-    match (key, *command) {
-        (
-            _,
-            Command::Register {
-                activation,
-                protect_stop,
-                deactivation,
-                ..
-            },
-        ) => fill_refusal(
-            period,
-            given_dates(at, activation, protect_stop, deactivation),
-        ),
-        (Some(held), Command::Activate { .. }) => trim_refusal(
-            period,
-            Dates {
-                activation: Some(at),
-                ..held.row.dates
-            },
-        ),
-        (
-            Some(held),
-            Command::SetDates {
-                activation,
-                protect_stop,
-                deactivation,
-                ..
-            },
-        ) => fill_refusal(
-            period,
-            edited_dates(activation, protect_stop, deactivation, &held.row.dates),
-        ),
-        _ => None,
+    match dates_after(period, &dates_before(key), at, command) {
+        Ok(dates) => Ok(dates),
+        Err(refusal) => Err(Refusal::from(refusal)),
     }
 }
 
@@ -244,26 +200,42 @@ fn entry_refusal(view: &View, request: &Request) -> Option<Refusal>
     state_refusal(&view.key, at, command)
 }
 
-/// The first refusal of the request that holds, or `None`: it is accepted.
-pub fn judge(view: &View, request: &Request) -> Option<Refusal>
-    ensures { result ≡ judge_view view.now request.now }
+/// The dates of the key that the request makes or names, as they are after it where it is accepted.
+///
+/// # Errors
+/// The first refusal of the request that holds.
+pub(crate) fn accepted_dates(view: &View, request: &Request) -> Result<Dates, Refusal>
+    ensures accepted { OnOk result (judge_view view.now request.now ≡ None) }
+    ensures dates { IfOk result (AreDatesAfter view.now.period view.now.key request.now) }
+    ensures refused { IfErr result (λ refusal. judge_view view.now request.now ≡ Some refusal) }
 {
     let at = request.moment;
     let command = &request.command;
     if let Some(refusal) = entry_refusal(view, request) {
-        return Some(refusal);
+        return Err(refusal);
     }
     if let Some(refusal) = freeze_refusal(&view.key, at, command) {
-        return Some(refusal);
+        return Err(refusal);
     }
-    if let Some(refusal) = dates_refusal(view.period, &view.key, at, command) {
-        return Some(refusal);
-    }
+    let dates = dates_by(view.period, &view.key, at, command)?;
     if let Some(refusal) = custody_refusal(&view.key, &request.caller, command) {
-        return Some(refusal);
+        return Err(refusal);
     }
     if let Some(refusal) = occurrence_refusal(at, command) {
-        return Some(refusal);
+        return Err(refusal);
     }
-    limit_refusal(view.keys, command)
+    match limit_refusal(view.keys, command) {
+        Some(refusal) => Err(refusal),
+        None => Ok(dates),
+    }
+}
+
+/// The first refusal of the request that holds, or `None`: it is accepted.
+pub fn judge(view: &View, request: &Request) -> Option<Refusal>
+    ensures { result ≡ judge_view view.now request.now }
+{
+    match accepted_dates(view, request) {
+        Ok(_) => None,
+        Err(refusal) => Some(refusal),
+    }
 }
