@@ -13,6 +13,7 @@ pub mod Commands
 pub mod Readers
 pub mod Lines
 pub mod Refusals
+pub mod Entry
 pub mod Decisions
 pub mod Needed
 pub mod Verdicts

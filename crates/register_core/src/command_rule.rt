@@ -56,9 +56,8 @@ static ACTIVE: [State; 1] = [State::Active];
 static DATED_BY_HAND: [State; 2] = [State::PreActive, State::Active];
 
 impl Command {
-    ghost use Rattle.register_core.specs.CommandRule.{rule, kind_of, is_owners, is_custodians};
-    ghost use Rattle.register_core.specs.CommandRule.{is_offices};
-    ghost use Rattle.register_core.specs.CommandRule.{is_for, looks_at_custody, needs_approvals};
+    ghost use Rattle.register_core.specs.CommandRule.{rule, kind_of, looks_at_custody};
+    ghost use Rattle.register_core.specs.CommandRule.{needs_approvals};
 
     /// The command's rule.
     #[rattlefmt::skip]
@@ -121,34 +120,6 @@ impl Command {
         ensures { result ≡ kind_of self.now }
     {
         self.rule().kind
-    }
-
-    /// Whether the command is one for the key's owner alone.
-    pub(crate) fn is_owners(&self) -> bool
-        ensures { result ≡ is_owners self.now }
-    {
-        matches!(self.rule().giver, Giver::Owner)
-    }
-
-    /// Whether the command is one for a custodian of the key alone.
-    pub(crate) fn is_custodians(&self) -> bool
-        ensures { result ≡ is_custodians self.now }
-    {
-        matches!(self.rule().giver, Giver::Custodian)
-    }
-
-    /// Whether the command is one for the office alone.
-    pub(crate) fn is_offices(&self) -> bool
-        ensures { result ≡ is_offices self.now }
-    {
-        matches!(self.rule().giver, Giver::Office)
-    }
-
-    /// Whether the command is for a key in this state.
-    pub(crate) fn is_for(&self, state: State) -> bool
-        ensures { result ≡ is_for self.now state }
-    {
-        self.rule().states.contains(&state)
     }
 
     /// Whether the command is one that the approvals of custodians are needed for. A decision on

@@ -64,12 +64,7 @@ fn apply_edit(edit: Edit, before: Option<Moment>) -> Option<Moment>
 }
 
 /// The dates after these edits, before Fill.
-fn edited_dates(
-    activation: Edit,
-    protect_stop: Edit,
-    deactivation: Edit,
-    dates: &Dates,
-) -> Dates
+fn edited_dates(activation: Edit, protect_stop: Edit, deactivation: Edit, dates: &Dates) -> Dates
     ensures { result ≡ edited_dates activation protect_stop deactivation dates.now }
 {
     Dates {

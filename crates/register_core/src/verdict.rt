@@ -1,13 +1,16 @@
 //! The verdict on a request, where the key that it names is known.
 ghost use Rattle.std.specs.Prelude.{◌≡◌, None, Some, IfOk, IfErr, OnOk};
-ghost use Rattle.register_core.specs.Verdict.{moment_refusal, key_refusal, owner_refusal};
-ghost use Rattle.register_core.specs.Verdict.{custodian_refusal, office_refusal, state_refusal};
+ghost use Rattle.register_core.specs.CommandRule.{rule};
+ghost use Rattle.register_core.specs.declared.request.Command.{Command};
+ghost use Rattle.register_core.specs.Verdict.{moment_refusal, key_refusal, giver_refusal};
+ghost use Rattle.register_core.specs.Verdict.{state_refusal};
 ghost use Rattle.register_core.specs.Verdict.{keeps_date, freeze_refusal, dates_refusal};
 ghost use Rattle.register_core.specs.Verdict.{entry_refusal, occurrence_refusal, limit_refusal};
 ghost use Rattle.register_core.specs.Verdict.{always, judge_view};
 ghost use Rattle.register_core.specs.Effect.{dates_after};
 ghost use Rattle.register_core.specs.Decision.{AreDatesAfter, dates_before};
 
+use crate::command_rule::Giver;
 use crate::custody_refusal::custody_refusal;
 use crate::effect::{dates_after, dates_before};
 use crate::limits::{MAX_KEYS, OFFICE};
@@ -40,50 +43,32 @@ fn key_refusal(key: &Option<Held>, command: &Command) -> Option<Refusal>
     }
 }
 
-/// The command is the owner's, and the caller is another.
-fn owner_refusal(key: &Option<Held>, caller: &Name, command: &Command) -> Option<Refusal>
-    ensures { result ≡ owner_refusal key.now caller.now command.now }
+/// The caller is another than the command's rule has as its giver.
+fn giver_refusal(giver: Giver, key: &Option<Held>, caller: &Name) -> Option<Refusal>
+    ensures { (command : Command) → giver ≡ (rule command).giver
+        → result ≡ giver_refusal key.now caller.now command }
 {
-    match key {
-        Some(held)
-            if command.is_owners() && caller.text().as_bytes() != held.owner.text().as_bytes() => {
+    match (giver, key) {
+        (Giver::Owner, Some(held)) if caller.text().as_bytes() != held.owner.text().as_bytes() => {
             Some(Refusal::NotOwner)
         }
-        _ => None,
-    }
-}
-
-/// The command is a custodian's, and the caller is no custodian of the key.
-fn custodian_refusal(key: &Option<Held>, caller: &Name, command: &Command) -> Option<Refusal>
-    ensures { result ≡ custodian_refusal key.now caller.now command.now }
-{
-    match key {
-        Some(held) if command.is_custodians() && !held.custodians.contains(caller) => {
+        (Giver::Custodian, Some(held)) if !held.custodians.contains(caller) => {
             Some(Refusal::NotCustodian)
         }
+        (Giver::Office, _) if caller.text() != OFFICE => Some(Refusal::NotOffice),
         _ => None,
     }
 }
 
-/// The command is the office's, and the caller is another.
-fn office_refusal(caller: &Name, command: &Command) -> Option<Refusal>
-    ensures { result ≡ office_refusal caller.now command.now }
-{
-    if command.is_offices() && caller.text() != OFFICE {
-        Some(Refusal::NotOffice)
-    } else {
-        None
-    }
-}
-
-/// The command is not for the state that the key has at the moment.
-fn state_refusal(key: &Option<Held>, at: Moment, command: &Command) -> Option<Refusal>
-    ensures { result ≡ state_refusal key.now at command.now }
+/// The key has at the moment none of these states.
+fn state_refusal(states: &[State], key: &Option<Held>, at: Moment) -> Option<Refusal>
+    ensures { (command : Command) → states.now ≡ (rule command).states
+        → result ≡ state_refusal key.now at command }
 {
     match key {
         Some(held) => {
             let state = state_of(&held.row.dates, at);
-            if command.is_for(state) {
+            if states.contains(&state) {
                 None
             } else {
                 Some(Refusal::WrongState { state })
@@ -188,16 +173,11 @@ fn entry_refusal(view: &View, request: &Request) -> Option<Refusal>
     if let Some(refusal) = key_refusal(&view.key, command) {
         return Some(refusal);
     }
-    if let Some(refusal) = owner_refusal(&view.key, &request.caller, command) {
+    let rule = command.rule();
+    if let Some(refusal) = giver_refusal(rule.giver, &view.key, &request.caller) {
         return Some(refusal);
     }
-    if let Some(refusal) = custodian_refusal(&view.key, &request.caller, command) {
-        return Some(refusal);
-    }
-    if let Some(refusal) = office_refusal(&request.caller, command) {
-        return Some(refusal);
-    }
-    state_refusal(&view.key, at, command)
+    state_refusal(rule.states, &view.key, at)
 }
 
 /// The dates of the key that the request makes or names, as they are after it where it is accepted.
