@@ -1,5 +1,5 @@
 -- Every date of a key is a moment.
-use Rattle.std.proofs.Common.{◌≡◌, ℕ, nat_le, Bool, true, false, not, ◌&&◌, cond, List, [], ◌∷◌, ◌++◌, Option, None}
+use Rattle.std.proofs.Common.{◌≡◌, ℕ, nat_le, Bool, true, false, ◌&&◌, cond, List, [], ◌∷◌, ◌++◌, Option, None}
 use Rattle.std.proofs.Common.{Some, refl, sym, subst, arith}
 use Rattle.std.specs.Prelude.{fold, is_some, is_none}
 use Rattle.std.specs.List.{AllByRecursion}

@@ -1,5 +1,5 @@
 -- The lists of what was set say what the history says of each type and of each key.
-use Rattle.std.proofs.Common.{◌≡◌, ◌==◌, inl, inr, ℕ, ◌≤◌, not, Bool, true, false, cond, List, [], ◌∷◌, ◌++◌, Option}
+use Rattle.std.proofs.Common.{◌≡◌, ◌==◌, inl, inr, ℕ, not, Bool, true, false, cond, List, [], ◌∷◌, ◌++◌, Option}
 use Rattle.std.proofs.Common.{None, Some, IfSome, refl, sym, ap, subst, ◌∙◌, arith}
 use Rattle.std.specs.Prelude.{filter, find, fold, unwrap_or}
 use Rattle.std.specs.List.{AllByRecursion}
@@ -17,7 +17,7 @@ use Rattle.register_core.specs.History.{Placed, count, own_from, set_period}
 use Rattle.register_core.specs.Custody.{set_need, need}
 use Rattle.register_core.specs.Quorum.{min_approvals, IsQuorum}
 use Rattle.register_core.specs.Request.{IsRequest, IsCommand}
-use Rattle.register_core.specs.Settings.{KeyNeed, TypePeriod, with_need, needs_after, all_needs, need_at}
+use Rattle.register_core.specs.Settings.{KeyNeed, TypePeriod, needs_after, all_needs, need_at}
 use Rattle.register_core.specs.Settings.{periods_after, all_periods, period_at}
 use Rattle.register_core.specs.Subject.{is_key, key_of}
 use Rattle.register_core.proofs.Histories.{concerning, placed}

@@ -13,7 +13,7 @@ use Rattle.register_core.specs.declared.request.Command.{Command}
 use Rattle.register_core.specs.declared.request.Command.TheVariants.{SetPeriod}
 use Rattle.register_core.specs.Effect.{period_after, sets_dates}
 use Rattle.register_core.specs.Fold.{IsLawful}
-use Rattle.register_core.specs.History.{Placed, count, dated_by, dates, own_from, period, set_period, type}
+use Rattle.register_core.specs.History.{Placed, count, dates, own_from, period, set_period, type}
 use Rattle.register_core.specs.Laws.{HasKey}
 use Rattle.register_core.specs.Subject.{is_key, key_of}
 use Rattle.register_core.proofs.Histories.{concerning, placed}

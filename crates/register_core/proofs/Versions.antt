@@ -1,6 +1,6 @@
 -- What is lawful in a version is lawful in this program's, and answered alike; and what the first version sets.
-use Rattle.std.proofs.Common.{◌≡◌, ℕ, Bool, true, false, cond, List, [], ◌∷◌, ◌++◌, length, fold, Option, None, Some}
-use Rattle.std.proofs.Common.{Result, refl, sym, ap, subst, ◌∙◌, arith}
+use Rattle.std.proofs.Common.{◌≡◌, ℕ, Bool, true, cond, List, [], ◌∷◌, ◌++◌, length, fold, Option, None, Some}
+use Rattle.std.proofs.Common.{Result, refl, sym, ap, ◌∙◌, arith}
 use Rattle.std.specs.Prelude.{nat_le, IfSome}
 use Rattle.std.specs.List.{AllByRecursion}
 use Rattle.std.proofs.lemmas.Bool.{leb-false, lt-leb}
@@ -25,11 +25,11 @@ use Rattle.register_core.specs.Effect.{period_after}
 use Rattle.register_core.specs.Fold.{answer_to_in, answers_in, history_after_in, history_in}
 use Rattle.register_core.specs.Fold.{items, IsLawful, IsLawfulIn}
 use Rattle.register_core.specs.History.{latest, count, period, set_period}
-use Rattle.register_core.specs.KeptReply.{kept, kept_under, reply}
+use Rattle.register_core.specs.KeptReply.{reply}
 use Rattle.register_core.specs.Request.{IsRequest}
 use Rattle.register_core.specs.Settings.{KeyNeed, TypePeriod, all_needs, all_periods, needs_after, periods_after}
 use Rattle.register_core.specs.Verdict.{Verdict, Accepts, answer_by, freeze_refusal, judge_in, judgement}
-use Rattle.register_core.specs.Verdict.{judgement_in, named_key, occurrence_refusal, entry_refusal, limit_refusal}
+use Rattle.register_core.specs.Verdict.{named_key, occurrence_refusal, entry_refusal, limit_refusal}
 use Rattle.register_core.specs.Verdict.{dates_refusal, unless_kept, verdict, verdict_by, verdict_in}
 use Rattle.register_core.specs.Version.{current, custodians_of, is_of_first, knows}
 use Rattle.register_core.proofs.CustodyLeads.{not_refused}
