@@ -1,14 +1,17 @@
--- What is read of an answer by a reader that tells what a row shows.
+-- What a search for one row finds by a reader that tells what a row shows.
 use Rattle.std.proofs.Common.{◌≡◌, ◌≢◌, Option, None, Some, Result, Ok, Err, IfOk, IfErr, MatchOption, refl, sym}
 use Rattle.std.proofs.Common.{subst, List, ℕ}
 use Rattle.sqlite.specs.Order.{Row}
 use Rattle.sqlite.specs.State.{State, HasCleanDisk, QueriesRow, Survives, CommitsShowing}
 use Rattle.sqlite.specs.declared.error.Error.{Error}
 use Rattle.sqlite.specs.declared.error.Error.TheVariants.{QueryReturnedNoRows}
+use Rattle.sqlite_trees.specs.declared.store.Store.{Ghosts}
+use Rattle.register_store.specs.declared.counted.Counted.{Counted}
 use Rattle.register_store.specs.declared.error.StoreError.{StoreError}
 use Rattle.register_store.specs.declared.error.StoreError.TheVariants.{Memory, NoRegister}
 use Rattle.register_store.specs.Tables.{Tables}
-use Rattle.register_store.specs.TableReads.{AnswersBy, IsRowOf, ReadsBy, ShowsNone, given_of, given_without}
+use Rattle.register_store.specs.TableReads.{AnswersBy, FindsOne, IsRowOf, ReadsBy, ShowsNone, given_of}
+use Rattle.register_store.specs.TableReads.{given_without, seen}
 
 -- the result is what the answer's row shows; it is no want of memory, and no register's row is refused
 pub record Tells {A : Type 0} (IsOne : A → Type 0) (ShowsOne : Row → A → Type 0) (answer : Result Row Error)
@@ -27,7 +30,7 @@ ReadsRow {A} IsOne ShowsOne sql params Found =
     → ReadsBy Found old new result
 
 -- a reader that gives what a row shows, and of a row that shows none gives nothing
-pub tells : {A : Type 0} {Gives : Row → Option A → Type 0} {IsOne : A → Type 0} {ShowsOne : Row → A → Type 0}
+tells : {A : Type 0} {Gives : Row → Option A → Type 0} {IsOne : A → Type 0} {ShowsOne : Row → A → Type 0}
     → ((row : Row) (given : Option A) → Gives row given
     → MatchOption given ((x : A) → IsOne x → ¬ ShowsOne row x) (ShowsOne row))
     → (answer : Result Row Error) (result : Result (Option A) StoreError) → AnswersBy Gives answer result
@@ -45,3 +48,14 @@ tells {A} {Gives} {IsOne} {ShowsOne} reads (Err error) result gives =
     without : (error : Error) → Tells IsOne ShowsOne (Err error) (given_without error)
     without QueryReturnedNoRows = record { row = (refl, refl); failed = tt; registered = tt }
     without error = record { row = tt; failed = λ is. absurd cc; registered = λ is. absurd cc }
+
+-- what such a reader gives of the first row of the answer is found so
+pub reads_one : {S A : Type 0} (g : Ghosts S) {Gives : Row → Option A → Type 0} {IsOne : A → Type 0}
+    {ShowsOne : Row → A → Type 0} {sql : List ℕ} {params : Row} {Found : Tables → Option A → Type 0}
+    → ReadsRow IsOne ShowsOne sql params Found
+    → ((row : Row) (given : Option A) → Gives row given
+    → MatchOption given ((x : A) → IsOne x → ¬ ShowsOne row x) (ShowsOne row))
+    → (old new : Counted S g) (result : Result (Option A) StoreError)
+    → FindsOne g sql params Gives old new result → ReadsBy Found (seen g old) (seen g new) result
+reads_one g read reads old new result one =
+    read (seen g old) (seen g new) one.answer result (tells reads one.answer result one.given) one.row one.survives

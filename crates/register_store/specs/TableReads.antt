@@ -7,7 +7,7 @@ use Rattle.sqlite.specs.Order.{Row, column}
 use Rattle.sqlite.specs.declared.error.Error.{Error}
 use Rattle.sqlite.specs.declared.error.Error.TheVariants.{QueryReturnedNoRows}
 use Rattle.sqlite.specs.Held.{state}
-use Rattle.sqlite.specs.State.{State, HasCleanDisk, IsUnchanged, Survives}
+use Rattle.sqlite.specs.State.{State, HasCleanDisk, IsUnchanged, Survives, CommitsShowing, QueriesRow}
 use Rattle.sqlite_rules.specs.Lists.{Has}
 use Rattle.sqlite_trees.specs.declared.store.Store.{Ghosts}
 use Rattle.lifecycle_core.specs.declared.dates.Dates.{Dates}
@@ -32,7 +32,7 @@ use Rattle.register_store.specs.declared.error.StoreError.TheVariants.{Database,
 use Rattle.register_store.specs.Roles.{names_of}
 use Rattle.register_store.specs.Tables.{Tables, date_cell, state_cell}
 use Rattle.register_store.specs.Schema.{Holds}
-use Rattle.register_store.specs.StepCount.{Rises}
+use Rattle.register_store.specs.StepCount.{Rises, counted, row_steps}
 use Rattle.register_store.specs.TableChanges.{key_at}
 
 -- ---- what is found in tables
@@ -207,6 +207,15 @@ abbrev pub AnswersBy : {A : Type 0} → (Row → Option A → Type 0) → Result
     → Type 0
 AnswersBy {A} Gives (Ok row) result = (given : Option A) × Gives row given × (result ≡ given_of given)
 AnswersBy Gives (Err error) result = result ≡ given_without error
+
+-- A search for one row: what came of the query, and the result is what the reader gives of that.
+pub record FindsOne {S T : Type 0} (g : Ghosts S) (sql : List ℕ) (params : Row) (Gives : Row → Option T → Type 0)
+    (old new : Counted S g) (result : Result (Option T) StoreError) : Type 0 where
+  pub answer : Result Row Error
+  pub row : HasCleanDisk (seen g new) → QueriesRow sql params (seen g old) (seen g new) answer
+  pub survives : Survives (seen g old) (seen g new) (CommitsShowing sql params (seen g old))
+  pub steps : new.steps ≡ counted (row_steps answer) old.steps
+  pub given : AnswersBy Gives answer result
 
 -- what the row shows, or none where there is no row
 abbrev pub IsRowOf : {A : Type 0} → (Row → A → Type 0) → Result Row Error → Option A → Type 0

@@ -1,5 +1,5 @@
 //! What an accepted request writes, as one transaction.
-ghost use Rattle.std.specs.Prelude.{◌≡◌, ◌≤◌, ◌+◌};
+ghost use Rattle.std.specs.Prelude.{◌≡◌, ◌≤◌, ◌+◌, IfOk};
 ghost use Rattle.register_core.specs.Verdict.{max_keys};
 ghost use Rattle.sql_steps.specs.Steps.{TransactsBy};
 ghost use Rattle.register_store.specs.AcceptedRequest.{CanTake, with_request};
@@ -137,7 +137,7 @@ fn write_change<T: Inside>(
 }
 
 /// How many keys there are after the change.
-pub fn keys_after(keys: u32, change: &Change) -> u32
+fn keys_after(keys: u32, change: &Change) -> u32
     requires { keys ≤ max_keys }
     ensures { result ≡ keys + made_count change.now }
 {
@@ -180,7 +180,8 @@ impl Work for AcceptedRequest<'_> {
 }
 
 /// Makes the change of an accepted request in one transaction, so that a stop leaves all of it or
-/// nothing; there were so many keys before it, and this was the latest moment.
+/// nothing; there were so many keys before it, and this was the latest moment. It gives how many
+/// keys there are after it.
 ///
 /// # Errors
 /// [`StoreError::Database`] where the database refused. It then holds what it held, or what the
@@ -191,13 +192,14 @@ pub fn commit_request<S: Alter>(
     latest: Moment,
     change: &Change,
     kept: &KeptReply,
-) -> Result<(), StoreError>
+) -> Result<u32, StoreError>
     requires within { keys ≤ max_keys }
     requires later { latest ≤ kept.now.reply.moment }
     ensures steps { Calls 9 connection.old connection.new }
     ensures written { TransactsBy
         (Makes (CanTake keys latest kept.now) (with_request keys change.now kept.now))
         (seen S.Store connection.old) (seen S.Store connection.new) result }
+    ensures keys { IfOk result (λ after. after ≡ keys + made_count change.now) }
 {
     let request = AcceptedRequest {
         keys,
@@ -205,5 +207,6 @@ pub fn commit_request<S: Alter>(
         change,
         kept,
     };
-    connection.transact(&request)
+    connection.transact(&request)?;
+    Ok(keys_after(keys, change))
 }

@@ -9,7 +9,6 @@ ghost use Rattle.register_store.specs.DueSearch.{HasFirst, IsNumbered, is_found,
 ghost use Rattle.register_store.specs.DueSearch.{search_text};
 ghost use Rattle.register_store.specs.declared.key_scan.DateRun.{DateRun};
 
-use crate::answer::read_answer;
 use crate::cell::{MomentCell, number_in};
 use crate::counted::Counted;
 use crate::error::StoreError;
@@ -107,11 +106,11 @@ fn find_first_due<S: Alter>(
         connection.old connection.new result }
     ensures moment { IsMoment until }
 {
-    let answer = connection.query_row(
+    connection.find_one(
         by.sql(),
         params![MomentCell(last.stop), MomentCell(until), last.number],
-    );
-    read_answer(answer, numbered_in)
+        numbered_in,
+    )
 }
 
 /// The first of the keys that are due with a later Protect Stop Date than this.
@@ -126,11 +125,11 @@ fn find_later_stop<S: Alter>(
         connection.old connection.new result }
     ensures moment { IsMoment until }
 {
-    let answer = connection.query_row(
+    connection.find_one(
         FIND_LATER_STOP,
         params![MomentCell(stop), MomentCell(until)],
-    );
-    read_answer(answer, numbered_in)
+        numbered_in,
+    )
 }
 
 /// The first of the keys that are due after this cursor, by the two searches that go past no key:

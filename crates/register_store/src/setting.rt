@@ -10,7 +10,6 @@ ghost use Rattle.register_store.specs.TableChanges.{without_period};
 ghost use Rattle.register_store.specs.TableReads.{Calls, HasNeed, HasPeriod, KeepsSight, Reads};
 ghost use Rattle.register_store.specs.TableReads.{ShowsPeriod, seen};
 
-use crate::answer::read_answer;
 use crate::cell::{months_in, need_in};
 use crate::counted::{Counted, Inside, StepCount};
 use crate::error::StoreError;
@@ -127,8 +126,11 @@ pub fn find_need<S: Alter>(
     ensures counted { Calls 2 connection.old connection.new }
     ensures reads { Reads S.Store (HasNeed key) connection.old connection.new result }
 {
-    let answer = connection.query_row("SELECT need FROM quorum WHERE key_no = ?1", params![key]);
-    read_answer(answer, |row| need_in(row, 0))
+    connection.find_one(
+        "SELECT need FROM quorum WHERE key_no = ?1",
+        params![key],
+        |row| need_in(row, 0),
+    )
 }
 
 /// The period in the first two cells.
@@ -151,9 +153,9 @@ pub fn find_period<S: Alter>(
     ensures sight { KeepsSight (seen S.Store connection.old) (seen S.Store connection.new) }
     ensures reads { Reads S.Store (HasPeriod kind) connection.old connection.new result }
 {
-    let answer = connection.query_row(
+    connection.find_one(
         "SELECT originator, recipient FROM period WHERE kind = ?1",
         params![u32::from(kind.code())],
-    );
-    read_answer(answer, period_in)
+        period_in,
+    )
 }

@@ -3,7 +3,7 @@
 use crate::desk::Desk;
 use crate::end::End;
 use register_core::{Accept, Answer, KeptReply, Name, Refusal, Request, RequestNumber, decide};
-use register_store::{StoreError, commit_request, find_request, keys_after};
+use register_store::{StoreError, commit_request, find_request};
 use sqlite::Alter;
 
 impl<S: Alter> Desk<S> {
@@ -151,8 +151,8 @@ impl<S: Alter> Desk<S> {
         let change = &accept.change;
         let kept = KeptReply::new(request, accept.reply);
         match commit_request(&mut self.connection, self.keys, self.latest, change, &kept) {
-            Ok(()) => {
-                self.keys = keys_after(self.keys, change);
+            Ok(keys) => {
+                self.keys = keys;
                 self.latest = kept.reply.moment;
                 Ok(())
             }

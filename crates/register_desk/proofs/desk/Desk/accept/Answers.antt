@@ -6,7 +6,7 @@ use Rattle.register_store.specs.AcceptedRequest.{CanTake, with_request}
 use Rattle.register_desk.proofs.desk.Desk.accept.Goals as goal
 
 pub returns-in-Ok-clause-keys : goal.returns-in-Ok-clause-keys
-returns-in-Ok-clause-keys g c = cc
+returns-in-Ok-clause-keys g c = c.in-Ok.ensures.keys
 
 pub returns-in-Ok-clause-written : goal.returns-in-Ok-clause-written
 returns-in-Ok-clause-written g c =
@@ -14,4 +14,4 @@ returns-in-Ok-clause-written g c =
     let Made = Makes (CanTake c.args.self.now.keys c.args.self.now.latest kept)
     (with_request c.args.self.now.keys c.args.accept.now.change kept) in
     transacts_as Made (seen g.S.Store c.args.self.now.connection) (seen g.S.Store c.commit_request.new.connection)
-    c.in-Ok.field-0 (tt {0}) (rw c.new-kept.ensures at c.in-Ok.ensures.written)
+    c.in-Ok.keys (tt {0}) (rw c.new-kept.ensures at c.in-Ok.ensures.written)
