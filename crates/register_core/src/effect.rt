@@ -1,18 +1,19 @@
 //! What a command does to a key, to its dates, its owner and its custody, and what it changes
 //! besides.
-ghost use Rattle.std.specs.Prelude.{◌≡◌, Some, IsSome};
+ghost use Rattle.std.specs.Prelude.{◌≡◌, None, Some, IsSome, IfOk, IfErr, OnOk};
 ghost use Rattle.period_core.specs.Fitting.{fill_of, trim_of};
 ghost use Rattle.period_core.specs.Period.{Period as UsagePeriod};
 ghost use Rattle.register_core.specs.Effect.{owner_after, no_dates, given_dates, apply_edit};
-ghost use Rattle.register_core.specs.Effect.{edited_dates, cut_at, dates_or_refusal, row_at};
-ghost use Rattle.register_core.specs.Effect.{custody_change};
+ghost use Rattle.register_core.specs.Effect.{edited_dates, cut_at, dates_after, dates_or_refusal};
+ghost use Rattle.register_core.specs.Effect.{row_at, custody_change};
 ghost use Rattle.register_core.specs.Decision.{change_by, change_without_key, held_change};
 ghost use Rattle.register_core.specs.Decision.{AreDatesAfter, dates_before};
-ghost use Rattle.register_core.specs.Verdict.{always};
+ghost use Rattle.register_core.specs.Verdict.{always, dates_refusal, key_refusal};
 
 use crate::change::{Change, CustodyChange};
 use crate::key::Key;
 use crate::name::Name;
+use crate::reply::Refusal;
 use crate::request::{Command, Edit, Request};
 use crate::view::Held;
 use lifecycle_core::{Dates, Row, state_of};
@@ -96,7 +97,7 @@ fn cut_at(at: Moment, date: Option<Moment>) -> Option<Moment>
 }
 
 /// The dates of the key as it stands; where there is none, no date is set.
-pub(crate) fn dates_before(key: &Option<Held>) -> Dates
+fn dates_before(key: &Option<Held>) -> Dates
     ensures { result ≡ dates_before key.now }
 {
     match key {
@@ -126,7 +127,7 @@ fn trimmed(period: Period, mut dates: Dates) -> Result<Dates, DateRefusal>
 ///
 /// # Errors
 /// Why the dates that the command gives do not fit the period.
-pub(crate) fn dates_after(
+fn dates_after(
     period: Period,
     dates: &Dates,
     at: Moment,
@@ -179,6 +180,27 @@ pub(crate) fn dates_after(
             ..*dates
         }),
         _ => Ok(*dates),
+    }
+}
+
+/// The dates after the command at the moment of the key that it makes or names, by this period, or
+/// their refusal.
+pub(crate) fn dates_by(
+    period: Period,
+    key: &Option<Held>,
+    at: Moment,
+    command: &Command,
+) -> Result<Dates, Refusal>
+    ensures dates { IfOk result (λ dates.
+        dates ≡ dates_after period (dates_before key.now) at command.now) }
+    ensures ok { key_refusal key.now command.now ≡ None
+        → OnOk result (dates_refusal (always period) key.now at command.now ≡ None) }
+    ensures err { key_refusal key.now command.now ≡ None → IfErr result (λ refusal.
+        dates_refusal (always period) key.now at command.now ≡ Some refusal) }
+{
+    match dates_after(period, &dates_before(key), at, command) {
+        Ok(dates) => Ok(dates),
+        Err(refusal) => Err(Refusal::from(refusal)),
     }
 }
 

@@ -78,7 +78,7 @@ impl Fields {
     ghost use Rattle.register_core.specs.Request.{is_dated};
 
     /// The number of the key that they name, if they name one.
-    pub(crate) fn key(&self) -> Option<u32>
+    fn key(&self) -> Option<u32>
         ensures { result ≡ named_by (subject_by self.now) }
     {
         match *self {
@@ -93,7 +93,7 @@ impl Fields {
     }
 
     /// An occurrence is given only with a reason that is a compromise.
-    pub(crate) fn is_dated(&self) -> bool
+    fn is_dated(&self) -> bool
         ensures { result ≡ is_dated self.now }
     {
         match *self {
@@ -142,6 +142,30 @@ fn named_command(kind: CommandKind, key: u32, name: Name) -> Option<Command>
 }
 
 impl Command {
+    ghost use Rattle.register_core.specs.Request.{has_text};
+    ghost use Rattle.register_core.specs.Subject.{named};
+
+    /// The number of the key that the command names, if it names one.
+    pub fn key(&self) -> Option<u32>
+        ensures { result ≡ named self.now }
+    {
+        self.fields().key()
+    }
+
+    /// Whether the command has a text, as that of each line has: a key that it names has a number
+    /// from 1 on, and an occurrence is given only with a reason that is a compromise (this
+    /// register's own). The rest is in its ranges by its types.
+    pub fn has_text(&self) -> bool
+        ensures { result ≡ has_text self.now }
+    {
+        let fields = self.fields();
+        let is_numbered = match fields.key() {
+            Some(key) => key > 0,
+            None => true,
+        };
+        is_numbered && fields.is_dated()
+    }
+
     /// What stands after the command's word.
     #[rattlefmt::skip]
     pub fn fields(&self) -> Fields

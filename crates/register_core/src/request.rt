@@ -89,33 +89,6 @@ pub enum Command {
     },
 }
 
-impl Command {
-    ghost use Rattle.std.specs.Prelude.{◌≡◌};
-    ghost use Rattle.register_core.specs.Request.{has_text};
-    ghost use Rattle.register_core.specs.Subject.{named};
-
-    /// The number of the key that the command names, if it names one.
-    pub fn key(&self) -> Option<u32>
-        ensures { result ≡ named self.now }
-    {
-        self.fields().key()
-    }
-
-    /// Whether the command has a text, as that of each line has: a key that it names has a number
-    /// from 1 on, and an occurrence is given only with a reason that is a compromise (this
-    /// register's own). The rest is in its ranges by its types.
-    pub fn has_text(&self) -> bool
-        ensures { result ≡ has_text self.now }
-    {
-        let fields = self.fields();
-        let is_numbered = match fields.key() {
-            Some(key) => key > 0,
-            None => true,
-        };
-        is_numbered && fields.is_dated()
-    }
-}
-
 /// One request: its moment, who makes it, the caller's own number for it, and what it asks for.
 #[derive(Clone, Copy, Debug, PartialEq, Eq)]
 pub struct Request {

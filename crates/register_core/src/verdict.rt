@@ -3,16 +3,14 @@ ghost use Rattle.std.specs.Prelude.{◌≡◌, None, Some, IfOk, IfErr, OnOk};
 ghost use Rattle.register_core.specs.CommandRule.{rule};
 ghost use Rattle.register_core.specs.declared.request.Command.{Command};
 ghost use Rattle.register_core.specs.Verdict.{moment_refusal, key_refusal, giver_refusal};
-ghost use Rattle.register_core.specs.Verdict.{state_refusal};
-ghost use Rattle.register_core.specs.Verdict.{keeps_date, freeze_refusal, dates_refusal};
+ghost use Rattle.register_core.specs.Verdict.{state_refusal, keeps_date, freeze_refusal};
 ghost use Rattle.register_core.specs.Verdict.{entry_refusal, occurrence_refusal, limit_refusal};
-ghost use Rattle.register_core.specs.Verdict.{always, judge_view};
-ghost use Rattle.register_core.specs.Effect.{dates_after};
-ghost use Rattle.register_core.specs.Decision.{AreDatesAfter, dates_before};
+ghost use Rattle.register_core.specs.Verdict.{judge_view};
+ghost use Rattle.register_core.specs.Decision.{AreDatesAfter};
 
 use crate::command_rule::Giver;
 use crate::custody_refusal::custody_refusal;
-use crate::effect::{dates_after, dates_before};
+use crate::effect::dates_by;
 use crate::limits::{MAX_KEYS, OFFICE};
 use crate::name::Name;
 use crate::reply::Refusal;
@@ -20,7 +18,6 @@ use crate::request::{Command, Edit, Request};
 use crate::view::{Held, View};
 use lifecycle_core::{Dates, State, state_of};
 use moment_core::Moment;
-use period_core::Period;
 
 /// The moment is below the latest.
 fn moment_refusal(latest: Moment, at: Moment) -> Option<Refusal>
@@ -114,27 +111,6 @@ fn freeze_refusal(key: &Option<Held>, at: Moment, command: &Command) -> Option<R
             }
         }
         _ => None,
-    }
-}
-
-/// The dates after the command at the moment of the key that it makes or names, by this period, or
-/// their refusal.
-fn dates_by(
-    period: Period,
-    key: &Option<Held>,
-    at: Moment,
-    command: &Command,
-) -> Result<Dates, Refusal>
-    ensures dates { IfOk result (λ dates.
-        dates ≡ dates_after period (dates_before key.now) at command.now) }
-    ensures ok { key_refusal key.now command.now ≡ None
-        → OnOk result (dates_refusal (always period) key.now at command.now ≡ None) }
-    ensures err { key_refusal key.now command.now ≡ None → IfErr result (λ refusal.
-        dates_refusal (always period) key.now at command.now ≡ Some refusal) }
-{
-    match dates_after(period, &dates_before(key), at, command) {
-        Ok(dates) => Ok(dates),
-        Err(refusal) => Err(Refusal::from(refusal)),
     }
 }
 

@@ -2,7 +2,7 @@ use Rattle.std.proofs.Common.{Some, sym, ap, ◌∙◌}
 use Rattle.register_core.specs.declared.reply.Refusal.{Refusal}
 use Rattle.register_core.specs.Verdict.{refused_dates}
 use Rattle.register_core.proofs.Filling.{is_given}
-use Rattle.register_core.proofs.verdict.dates_by.Goals as goal
+use Rattle.register_core.proofs.effect.dates_by.Goals as goal
 
 pub returns-in-Ok-clause-dates : goal.returns-in-Ok-clause-dates
 returns-in-Ok-clause-dates c =
