@@ -1,22 +1,13 @@
-//! The text of a command, which is the end of a request's line: the word of its kind, and after it
-//! the kind's fields.
-ghost use Rattle.std.specs.Prelude.{◌≡◌, ◌+◌, ◌≤◌, ◌++◌, codes, decimal, length, option_map};
+//! Writes the text of a command, which is the end of a request's line: the word of its kind, and
+//! after it the kind's fields.
+ghost use Rattle.std.specs.Prelude.{◌≡◌, ◌+◌, ◌≤◌, ◌++◌, codes, decimal, length};
 ghost use Rattle.arrayvec.specs.ArrayString.{array_string_len};
 ghost use Rattle.register_core.specs.declared.fields.Fields.TheVariants.{Registration, DateEdits, TypeAndPeriod};
 ghost use Rattle.register_core.specs.declared.fields.Fields.TheVariants.{Revocation};
 ghost use Rattle.register_core.specs.Request.{fields_text, command_text, date_text, edit_text};
-ghost use Rattle.register_core.specs.CommandText.{IsCommandItem};
-ghost use Rattle.register_core.specs.RequestLine.{register_at, edits_at, revoke_at, key_and_name_at};
-ghost use Rattle.register_core.specs.RequestLine.{key_and_need_at, shaped_at, after_at, word_at};
-ghost use Rattle.register_core.specs.RequestLine.{command_at, type_and_period_at};
 
 use crate::command_kind::MAX_WORD_LENGTH;
-use crate::field::{
-    command_kind_of, edit_of, key_number_of, name_of, next_date, next_edit, next_key_number,
-    next_key_type, next_name, next_originator, next_reason, occurrence_of, purpose_of, quorum_of,
-    recipient_of, split_field,
-};
-use crate::fields::{Fields, Shape};
+use crate::fields::Fields;
 use crate::name::Name;
 use crate::purpose::Purpose;
 use crate::quorum::Quorum;
@@ -30,155 +21,6 @@ use period_core::{KeyType, Period};
 
 /// How many bytes the text of a command has at most.
 pub const MAX_COMMAND_LENGTH: usize = 400;
-
-/// The fields of a registration.
-#[tactic(auto, unfolding(crate::specs::RequestLine::register_at))]
-fn register_of(bytes: &[u8]) -> Option<Fields>
-    ensures { result ≡ register_at bytes.now }
-{
-    let mut rest = bytes;
-    Some(Fields::Registration {
-        kind: next_key_type(&mut rest)?,
-        owner: next_name(&mut rest)?,
-        activation: next_date(&mut rest)?,
-        protect_stop: next_date(&mut rest)?,
-        deactivation: next_date(&mut rest)?,
-        purpose: purpose_of(rest)?,
-    })
-}
-
-/// The number of a key, and the name after it.
-#[tactic(auto, unfolding(crate::specs::RequestLine::key_and_name_at))]
-fn key_and_name_of(bytes: &[u8]) -> Option<(u32, Name)>
-    ensures { result ≡ key_and_name_at bytes.now }
-{
-    let mut rest = bytes;
-    let key = next_key_number(&mut rest)?;
-    let name = name_of(rest)?;
-    Some((key, name))
-}
-
-/// The number of a key, and after it how many approvals its destruction needs.
-#[tactic(auto, unfolding(crate::specs::RequestLine::key_and_need_at))]
-fn key_and_need_of(bytes: &[u8]) -> Option<Fields>
-    ensures { result ≡ key_and_need_at bytes.now }
-{
-    let mut rest = bytes;
-    let key = next_key_number(&mut rest)?;
-    let need = quorum_of(rest)?;
-    Some(Fields::KeyAndNeed { key, need })
-}
-
-/// A type, and after it the months of its period.
-#[tactic(auto, unfolding(crate::specs::RequestLine::type_and_period_at))]
-fn type_and_period_of(bytes: &[u8]) -> Option<Fields>
-    ensures { result ≡ type_and_period_at bytes.now }
-{
-    let mut rest = bytes;
-    let kind = next_key_type(&mut rest)?;
-    let originator = next_originator(&mut rest)?;
-    let recipient = recipient_of(rest)?;
-    let period = Period::new(originator, recipient)?;
-    Some(Fields::TypeAndPeriod { kind, period })
-}
-
-/// The fields of a change of dates.
-#[tactic(auto, unfolding(crate::specs::RequestLine::edits_at))]
-fn edits_of(bytes: &[u8]) -> Option<Fields>
-    ensures { result ≡ edits_at bytes.now }
-{
-    let mut rest = bytes;
-    Some(Fields::DateEdits {
-        key: next_key_number(&mut rest)?,
-        activation: next_edit(&mut rest)?,
-        protect_stop: next_edit(&mut rest)?,
-        deactivation: edit_of(rest)?,
-    })
-}
-
-/// The fields of a revocation.
-#[tactic(auto, unfolding(crate::specs::RequestLine::revoke_at))]
-fn revoke_of(bytes: &[u8]) -> Option<Fields>
-    ensures { result ≡ revoke_at bytes.now }
-{
-    let mut rest = bytes;
-    let key = next_key_number(&mut rest)?;
-    let reason = next_reason(&mut rest)?;
-    let occurrence = occurrence_of(reason, rest)?;
-    Some(Fields::Revocation {
-        key,
-        reason,
-        occurrence,
-    })
-}
-
-/// The fields of this shape, which stand after the space after a word.
-#[tactic(auto, unfolding(crate::specs::RequestLine::keyed_at, crate::specs::RequestLine::named_at))]
-fn shaped_fields(shape: Shape, bytes: &[u8]) -> Option<Fields>
-    ensures { result ≡ shaped_at shape bytes.now }
-{
-    match shape {
-        Shape::Nothing => None,
-        Shape::Key => key_number_of(bytes).map(|key| Fields::Key { key }),
-        Shape::KeyAndName => {
-            let (key, name) = key_and_name_of(bytes)?;
-            Some(Fields::KeyAndName { key, name })
-        }
-        Shape::KeyAndOwner => {
-            let (key, owner) = key_and_name_of(bytes)?;
-            Some(Fields::KeyAndOwner { key, owner })
-        }
-        Shape::KeyAndNeed => key_and_need_of(bytes),
-        Shape::TypeAndPeriod => type_and_period_of(bytes),
-        Shape::Registration => register_of(bytes),
-        Shape::DateEdits => edits_of(bytes),
-        Shape::Revocation => revoke_of(bytes),
-    }
-}
-
-/// The fields of this shape after a word, which has a space after it or stands alone.
-fn fields_after(shape: Shape, after: Option<&[u8]>) -> Option<Fields>
-    ensures { result ≡ after_at shape (option_map (λ bytes. bytes.now) after.entry) }
-{
-    match (after, shape) {
-        (Some(bytes), _) => shaped_fields(shape, bytes),
-        (None, Shape::Nothing) => Some(Fields::Nothing),
-        (None, _) => None,
-    }
-}
-
-/// The word at the start, and what stands after its space where it has one.
-#[tactic(auto, unfolding(crate::specs::RequestLine::word_at))]
-fn split_word(bytes: &[u8]) -> (&[u8], Option<&[u8]>)
-    ensures word { result.0.now ≡ (word_at bytes.now).0 }
-    ensures after { option_map (λ fields. fields.now) result.1 ≡ (word_at bytes.now).1 }
-{
-    match split_field(bytes) {
-        Some((word, fields)) => (word, Some(fields)),
-        None => (bytes, None),
-    }
-}
-
-/// The command, all of the bytes.
-#[tactic(auto, unfolding(crate::specs::RequestLine::command_at))]
-pub(crate) fn command_of(bytes: &[u8]) -> Option<Command>
-    ensures { result ≡ command_at bytes.now }
-{
-    let (word, after) = split_word(bytes);
-    let kind = command_kind_of(word)?;
-    // By reference: the checker makes no proof of a `?` on fields that are held by value.
-    match &fields_after(kind.shape(), after) {
-        Some(fields) => Command::with_fields(kind, fields),
-        None => None,
-    }
-}
-
-/// The command whose text the bytes are, or `None` where they are the text of no command.
-pub fn read_command(bytes: &[u8]) -> Option<Command>
-    ensures { IsCommandItem bytes.now result }
-{
-    command_of(bytes)
-}
 
 /// The text of a command.
 pub type CommandText = ShortText<MAX_COMMAND_LENGTH>;
