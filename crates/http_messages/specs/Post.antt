@@ -5,7 +5,7 @@ use Rattle.http_messages.specs.HeaderFields.{Lines}
 use Rattle.http_messages.specs.Route.{IsRouteOf, method_of}
 use Rattle.http_messages.specs.Asked.{lines_of, HasHost, IsPlain, Announces, IsFrom, max_body_length}
 use Rattle.http_messages.specs.declared.route.Route.{Route}
-use Rattle.http_messages.specs.declared.post.Post.{Post}
+use Rattle.http_messages.specs.declared.asking.Post.{Post}
 
 -- the head has the Host that it must have, and the target and the method of this route
 pub record IsFor (h : RequestHead) (r : Route) : Type 0 where

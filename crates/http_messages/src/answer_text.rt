@@ -1,20 +1,207 @@
-//! The texts of the replies with which the register answers.
-ghost use Rattle.std.specs.Prelude.{◌≡◌, false, Ok, Err, IfOk, string_bytes};
+//! The texts of the replies with which the register answers, and the JSON values in them.
+ghost use Rattle.std.specs.Prelude.{◌≡◌, false, Ok, Err, IfOk, OnOk, codes, string_bytes};
 ghost use Rattle.http.specs.StatusCode.{IsStatusCode};
-ghost use Rattle.serde_json.specs.View.{view};
+ghost use Rattle.serde_json.specs.Data.{string, object, member, no_members};
+ghost use Rattle.serde_json.specs.Data.{put as with_member};
+ghost use Rattle.serde_json.specs.View.{view, members_view};
 ghost use Rattle.serde_json.specs.Written.{has_float};
 ghost use Rattle.http_messages.specs.AnswerText.{json_reply, key_reply, outcome_reply};
 ghost use Rattle.http_messages.specs.AnswerText.{refusal_status, usage_reply};
+ghost use Rattle.http_messages.specs.AnswerValue.{state_data, reply_data, refusal_data};
+ghost use Rattle.http_messages.specs.AnswerValue.{usage_data, names_data, date_members};
+ghost use Rattle.http_messages.specs.AnswerValue.{key_data, name_data, refused_members};
+ghost use Rattle.http_messages.specs.CommandValue.{date_data};
 ghost use Rattle.http_messages.specs.HttpReply.{reply_bytes};
 
-use crate::answer_value::{key_value, refusal_value, reply_value, usage_value};
 use crate::reply::reply_text;
 use http::StatusCode;
 use key_rows::Record;
-use lifecycle_core::Usage;
-use register_core::{Refusal, Reply};
-use serde_json::Value;
+use lifecycle_core::{Dates, State, Usage};
+use moment_core::Moment;
+use register_core::{Name, Refusal, Reply};
+use serde_json::{Map, Value, json, put};
 use std::alloc::{AllocError, Global};
+
+/// A date, or null where there is none.
+fn date_value(date: Option<Moment>) -> Value
+    ensures { view result ≡ date_data date }
+{
+    match date {
+        Some(date) => Value::from(date.seconds()),
+        None => Value::Null,
+    }
+}
+
+/// A state, or null where there is none.
+fn state_value(alloc: Global, state: Option<State>) -> Result<Value, AllocError>
+    ensures { IfOk result (λ v. view v ≡ state_data state) }
+{
+    match state {
+        Some(state) => Value::try_from_str(alloc, state.text()),
+        None => Ok(Value::Null),
+    }
+}
+
+/// Puts a text among members.
+fn put_text(
+    members: &mut Map<String, Value>,
+    alloc: Global,
+    name: &str,
+    text: &str,
+) -> Result<(), AllocError>
+    ensures { OnOk result (members_view members.new.entries
+        ≡ with_member name.now (string text.now) (members_view members.old.entries)) }
+{
+    let text = Value::try_from_str(alloc, text)?;
+    put(members, alloc, name, text)
+}
+
+/// Puts a date among members, or null where there is none.
+fn put_date(
+    members: &mut Map<String, Value>,
+    alloc: Global,
+    name: &str,
+    date: Option<Moment>,
+) -> Result<(), AllocError>
+    ensures { OnOk result (members_view members.new.entries
+        ≡ with_member name.now (date_data date) (members_view members.old.entries)) }
+{
+    put(members, alloc, name, date_value(date))
+}
+
+/// What an accepted request is answered.
+fn reply_value(alloc: Global, reply: &Reply) -> Result<Value, AllocError>
+    ensures { IfOk result (λ v. view v ≡ reply_data reply.now) }
+{
+    let mut members = Map::new(alloc);
+    put(&mut members, alloc, "key", Value::from(reply.key))?;
+    put_date(&mut members, alloc, "moment", Some(reply.moment))?;
+    put(
+        &mut members,
+        alloc,
+        "state",
+        state_value(alloc, reply.state)?,
+    )?;
+    Ok(Value::Object(members))
+}
+
+/// Puts what a refusal tells beside its name and its number among these.
+fn put_details(
+    members: &mut Map<String, Value>,
+    alloc: Global,
+    refusal: &Refusal,
+) -> Result<(), AllocError>
+    requires { members_view members.old.entries ≡ member (codes "name") (name_data refusal.now)
+        (refused_members refusal.now no_members) }
+    ensures { OnOk result (object (members_view members.new.entries) ≡ refusal_data refusal.now) }
+{
+    match *refusal {
+        Refusal::MomentBehind { latest } => {
+            put(members, alloc, "latest", Value::from(latest.seconds()))
+        }
+        Refusal::WrongState { state } => put_text(members, alloc, "state", state.text()),
+        Refusal::PeriodTooLong { limit } => {
+            put(members, alloc, "limit", Value::from(limit.seconds()))
+        }
+        Refusal::ApprovalsMissing { have, need } => {
+            put(members, alloc, "have", Value::from(have))?;
+            put(members, alloc, "need", Value::from(need))
+        }
+        _ => Ok(()),
+    }
+}
+
+/// Why a request is refused.
+fn refusal_value(alloc: Global, refusal: &Refusal) -> Result<Value, AllocError>
+    ensures { IfOk result (λ v. view v ≡ refusal_data refusal.now) }
+{
+    let mut members = Map::new(alloc);
+    put_text(&mut members, alloc, "name", refusal.name())?;
+    put(
+        &mut members,
+        alloc,
+        "refused",
+        Value::from(refusal.number()),
+    )?;
+    put_details(&mut members, alloc, refusal)?;
+    Ok(Value::Object(members))
+}
+
+/// What a key may be used for.
+fn usage_value(alloc: Global, usage: &Usage) -> Result<Value, AllocError>
+    ensures { IfOk result (λ v. view v ≡ usage_data usage.now) }
+{
+    let process = usage.process.text();
+    json!(in alloc; {"process": process, "protect": usage.protect})
+}
+
+/// A list of names.
+fn names_value(alloc: Global, names: &[Name]) -> Result<Value, AllocError>
+    ensures { IfOk result (λ v. view v ≡ names_data names.now) }
+{
+    let mut values = Vec::new(alloc);
+    for name in names {
+        values.push(Value::try_from_str(alloc, name.text())?)?;
+    }
+    Ok(Value::Array(values))
+}
+
+/// Puts a list of names among members.
+fn put_names(
+    members: &mut Map<String, Value>,
+    alloc: Global,
+    name: &str,
+    names: &[Name],
+) -> Result<(), AllocError>
+    ensures { OnOk result (members_view members.new.entries
+        ≡ with_member name.now (names_data names.now) (members_view members.old.entries)) }
+{
+    let names = names_value(alloc, names)?;
+    put(members, alloc, name, names)
+}
+
+/// The dates of a key.
+fn date_members(alloc: Global, dates: &Dates) -> Result<Map<String, Value>, AllocError>
+    ensures { IfOk result (λ m. members_view m.entries ≡ date_members dates.now) }
+{
+    let mut members = Map::new(alloc);
+    put_date(&mut members, alloc, "activation", dates.activation)?;
+    put_date(&mut members, alloc, "compromised", dates.compromise)?;
+    put_date(&mut members, alloc, "deactivation", dates.deactivation)?;
+    put_date(&mut members, alloc, "destroyed", dates.destroy)?;
+    put_date(&mut members, alloc, "initial", Some(dates.initial))?;
+    put_date(
+        &mut members,
+        alloc,
+        "occurrence",
+        dates.compromise_occurrence,
+    )?;
+    put_date(&mut members, alloc, "protect_stop", dates.protect_stop)?;
+    Ok(members)
+}
+
+/// A key, how many approvals its destruction needs, its custodians, and the names whose approvals
+/// stand.
+fn key_value(alloc: Global, shown: &Record) -> Result<Value, AllocError>
+    ensures { IfOk result (λ v. view v ≡ key_data shown.now) }
+{
+    let key = &shown.key;
+    let mut members = date_members(alloc, &key.row.dates)?;
+    put_names(&mut members, alloc, "approvals", shown.approvals.as_slice())?;
+    put_names(
+        &mut members,
+        alloc,
+        "custodians",
+        shown.custodians.as_slice(),
+    )?;
+    put(&mut members, alloc, "need", Value::from(shown.need))?;
+    put(&mut members, alloc, "number", Value::from(key.number))?;
+    put_text(&mut members, alloc, "owner", key.owner.text())?;
+    put_text(&mut members, alloc, "purpose", key.purpose.text())?;
+    put_text(&mut members, alloc, "state", key.row.state.text())?;
+    put_text(&mut members, alloc, "type", key.kind.text())?;
+    Ok(Value::Object(members))
+}
 
 /// The text of a reply with this status and JSON value.
 fn value_text(alloc: Global, status: StatusCode, value: &Value) -> Result<String, AllocError>

@@ -1,14 +1,16 @@
 //! Reads what an input asks for. The register is not asked here.
-ghost use Rattle.std.specs.Prelude.{◌≡◌, ◌↔◌, ◌+◌, ◌≤◌, ◌++◌, ℕ, List, [], length, map};
-ghost use Rattle.std.specs.Prelude.{take, drop, Some, Ok, Err, IfOk, IfErr, IfSome, IsSomeAnd, IsTrue};
+ghost use Rattle.std.specs.Prelude.{◌≡◌, ◌↔◌, ◌+◌, ◌≤◌, ◌++◌, ℕ, List, [], length, map, min, take};
+ghost use Rattle.std.specs.Prelude.{drop, Some, Ok, Err, IfOk, IfErr, IfSome, IfNone, IsSomeAnd, IsTrue};
 ghost use Rattle.httparse.specs.Grammar.{RequestHead};
 ghost use Rattle.httparse.specs.Spans.{IsRequestAt, IsRequestWithin, header_bytes};
 ghost use Rattle.streams.specs.Watched.{IsFaulted};
 ghost use Rattle.http_messages.specs.CommandBody.{IsInRange};
 ghost use Rattle.http_messages.specs.Content.{HasRead, ReadsInput};
-ghost use Rattle.http_messages.specs.Asked.{AsksFor, AsksBody, AsksAfter, HasHost};
-ghost use Rattle.http_messages.specs.HeaderFields.{AreGathered, Lines};
-ghost use Rattle.http_messages.specs.Post.{IsFor};
+ghost use Rattle.http_messages.specs.Asked.{AsksFor, AsksBody, AsksAfter, AsksPost, HasHost};
+ghost use Rattle.http_messages.specs.Asked.{IsFrom, max_body_length};
+ghost use Rattle.http_messages.specs.HeaderFields.{AreGathered, IsLength, Lines};
+ghost use Rattle.http_messages.specs.Post.{IsFor, Says};
+ghost use Rattle.http_messages.specs.declared.asked.Asked.TheVariants.{Reject};
 ghost use Rattle.http_messages.specs.Route.{routes};
 
 use crate::asked::{AskFault, Asked, Rejection, Sent};
@@ -16,10 +18,10 @@ use crate::command_value::command_of;
 use crate::content::{BodyRead, read_body, value_of};
 use crate::fields::{HeaderFields, Values};
 use crate::head::{HeadSearch, MAX_EXCHANGE_READS, MAX_HEADERS, Prefix};
-use crate::post::{Post, post_of};
-use crate::route::{Route, RoutePattern, Routes, method_text, route_of};
+use crate::route::{Route, RoutePattern, Routes, route_of};
 use httparse::spans::{EMPTY_HEADER_SPAN, HeaderSpan, RequestSpans};
 use matchit::Router;
+use register_core::{Name, RequestNumber, read_decimal};
 use std::alloc::Global;
 use std::io::Read;
 use streams::{ReadFault, Watched};
@@ -47,6 +49,96 @@ impl Asking {
     {
         Asking::unread(Ok(Some(Asked::Reject(rejection))))
     }
+}
+
+/// The most bytes of a body.
+pub const MAX_BODY_LENGTH: u32 = 65_536;
+
+/// Whose request it is, and the caller's own number for it.
+#[derive(Clone, Copy)]
+struct Sender {
+    pub caller: Name,
+    pub number: RequestNumber,
+}
+
+/// What the header lines of a POST say.
+#[derive(Clone, Copy)]
+struct Post {
+    /// How many bytes the body has.
+    pub length: u32,
+    pub sender: Sender,
+}
+
+/// The number that the digits write, or one past the limit where it is greater.
+fn length_of(text: &[u8]) -> Option<u32>
+    ensures found { IfSome result (λ n. (m : ℕ) × IsLength text.now m
+        × (n ≡ min m (max_body_length + 1))) }
+    ensures none { IfNone result ((m : ℕ) → IsLength text.now m → ⊥) }
+{
+    if text.is_empty() {
+        return None;
+    }
+    let mut number: u32 = 0;
+    for byte in text {
+        if !byte.is_ascii_digit() {
+            return None;
+        }
+        number = (number * 10 + u32::from(*byte - b'0')).min(MAX_BODY_LENGTH + 1);
+    }
+    Some(number)
+}
+
+/// Whose request it is, and its number.
+fn sender_of(fields: &HeaderFields<'_>) -> Option<Sender>
+    ensures found { (lines : Lines) → AreGathered lines fields.now
+        → IfSome result (λ sender. IsFrom lines sender.caller sender.number) }
+    ensures none { (lines : Lines) → AreGathered lines fields.now → IfNone result
+        ((caller : List ℕ) (number : ℕ) → IsFrom lines caller number → ⊥) }
+{
+    let Values::One(caller) = fields.caller else {
+        return None;
+    };
+    let Values::One(field) = fields.request_number else {
+        return None;
+    };
+    let Some(caller) = Name::new(caller) else {
+        return None;
+    };
+    let Some(number) = read_decimal(field) else {
+        return None;
+    };
+    match RequestNumber::new(number) {
+        Some(number) => Some(Sender { caller, number }),
+        None => None,
+    }
+}
+
+/// What the header lines say of the body, or why the request is refused.
+fn post_of(fields: &HeaderFields<'_>) -> Result<Post, Rejection>
+    ensures ok { (lines : Lines) → AreGathered lines fields.now → IfOk result (Says lines) }
+    ensures err { (lines : Lines) → AreGathered lines fields.now
+        → IfErr result (λ r. (rest : List ℕ) → AsksPost lines rest (Reject r)) }
+{
+    match fields.transfer_encoding {
+        Values::None => {}
+        Values::One(_) => return Err(Rejection::LengthRequired),
+        Values::Several => return Err(Rejection::LengthRequired),
+    }
+    let text = match fields.content_length {
+        Values::None => return Err(Rejection::LengthRequired),
+        Values::One(text) => text,
+        Values::Several => return Err(Rejection::BadRequest),
+    };
+    let Some(length) = length_of(text) else {
+        return Err(Rejection::BadRequest);
+    };
+    if length > MAX_BODY_LENGTH {
+        return Err(Rejection::TooLarge);
+    }
+    let Some(sender) = sender_of(fields) else {
+        return Err(Rejection::BadRequest);
+    };
+    Ok(Post { length, sender })
 }
 
 /// What a body asks for whose head said this.
@@ -124,7 +216,7 @@ fn check_head(
     let Some(route) = route_of(router, spans.path.of(prefix)) else {
         return Err(Rejection::NoRoute);
     };
-    if spans.method.of(prefix) != method_text(route).as_bytes() {
+    if spans.method.of(prefix) != route.method().as_bytes() {
         return Err(Rejection::MethodNotAllowed(route));
     }
     Ok(route)

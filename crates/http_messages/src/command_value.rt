@@ -1,7 +1,7 @@
 //! The command that a JSON value is: first its kind, and then the members of the fields of that
 //! kind's shape.
 ghost use Rattle.std.specs.Prelude.{◌≡◌, ◌≢◌, ℕ, List, codes, Option, IfSome, IfNone};
-ghost use Rattle.serde_json.specs.Data.{Data, string};
+ghost use Rattle.serde_json.specs.Data.{Data, Members, string, member, no_members};
 ghost use Rattle.serde_json.specs.View.{view, members_view};
 ghost use Rattle.period_core.specs.declared.key_type.KeyType.{KeyType};
 ghost use Rattle.period_core.specs.Period.{Period};
@@ -23,11 +23,46 @@ ghost use Rattle.http_messages.specs.CommandValue.{keyed_members, named_members,
 ghost use Rattle.http_messages.specs.CommandValue.{set_members, register_members};
 
 use crate::members::{
-    command_kind_of, date_of, edit_of, key_of, key_type_of, last_named, name_of, next_named,
-    period_of, purpose_of, quorum_of, reason_of,
+    command_kind_of, date_of, edit_of, key_of, key_type_of, name_of, period_of, purpose_of,
+    quorum_of, reason_of,
 };
 use register_core::{Command, CommandKind, Fields, Name, Quorum, Shape};
 use serde_json::{Map, Value};
+use std::collections::btree_map::Iter;
+
+/// The value of the next member, if it has this name.
+fn next_named<'v>(members: &mut Iter<'v, String, Value>, name: &str) -> Option<&'v Value>
+    ensures found { IfSome result (λ value.
+        members_view members.old ≡ member name.now (view value.now) (members_view members.new)) }
+    ensures none { IfNone result ((d : Data) (rest : Members) →
+        members_view members.old ≢ member name.now d rest) }
+{
+    match members.next() {
+        Some((key, value)) => {
+            if key.as_str() == name {
+                Some(value)
+            } else {
+                None
+            }
+        }
+        None => None,
+    }
+}
+
+/// The value of the last member, if there is one member left and it has this name.
+fn last_named<'v>(members: &mut Iter<'v, String, Value>, name: &str) -> Option<&'v Value>
+    ensures found { IfSome result (λ value.
+        members_view members.old ≡ member name.now (view value.now) no_members) }
+    ensures none { IfNone result ((d : Data) →
+        members_view members.old ≢ member name.now d no_members) }
+{
+    let value = next_named(members, name)?;
+    if members.next().is_none() {
+        Some(value)
+    } else {
+        None
+    }
+}
 
 /// The value of the key among members that name a key alone.
 fn keyed_value_of(members: &Map<String, Value>) -> Option<&Value>

@@ -9,7 +9,6 @@
 #![tactic(auto)]
 
 mod answer_text;
-mod answer_value;
 mod asked;
 mod asking;
 mod command_value;
@@ -18,14 +17,12 @@ mod fields;
 mod head;
 pub mod laws;
 mod members;
-mod post;
 mod reply;
 mod route;
 
 pub use answer_text::{key_text, outcome_text, usage_text};
 pub use asked::{AskFault, Asked, Rejection, Sent};
-pub use asking::{Asking, ask};
+pub use asking::{Asking, MAX_BODY_LENGTH, ask};
 pub use head::{MAX_EXCHANGE_READS, MAX_HEAD_LENGTH, MAX_HEADERS};
-pub use post::MAX_BODY_LENGTH;
 pub use reply::rejection_text;
 pub use route::{Route, Routes};

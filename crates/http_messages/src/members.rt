@@ -1,8 +1,8 @@
-//! The members of a JSON object, read in their order, and what the value of each stands for.
+//! What the value of a member of a JSON object stands for.
 ghost use Rattle.std.specs.Prelude.{◌≡◌, ◌≢◌, ◌↔◌, ◌<◌, ◌^◌, ℕ, List};
 ghost use Rattle.std.specs.Prelude.{Option, IsTrue, IfSome, IfNone};
-ghost use Rattle.serde_json.specs.Data.{Data, Members, string, member, no_members};
-ghost use Rattle.serde_json.specs.View.{view, members_view};
+ghost use Rattle.serde_json.specs.Data.{string};
+ghost use Rattle.serde_json.specs.View.{view};
 ghost use Rattle.moment_core.specs.Moment.{IsMoment};
 ghost use Rattle.lifecycle_core.specs.declared.reason.Reason.{Reason};
 ghost use Rattle.lifecycle_core.specs.Reason.{reason_code};
@@ -22,41 +22,6 @@ use moment_core::Moment;
 use period_core::{KeyType, Period};
 use register_core::{CommandKind, Edit, Name, Purpose, Quorum};
 use serde_json::Value;
-use std::collections::btree_map::Iter;
-
-/// The value of the next member, if it has this name.
-pub(crate) fn next_named<'v>(members: &mut Iter<'v, String, Value>, name: &str) -> Option<&'v Value>
-    ensures found { IfSome result (λ value.
-        members_view members.old ≡ member name.now (view value.now) (members_view members.new)) }
-    ensures none { IfNone result ((d : Data) (rest : Members) →
-        members_view members.old ≢ member name.now d rest) }
-{
-    match members.next() {
-        Some((key, value)) => {
-            if key.as_str() == name {
-                Some(value)
-            } else {
-                None
-            }
-        }
-        None => None,
-    }
-}
-
-/// The value of the last member, if there is one member left and it has this name.
-pub(crate) fn last_named<'v>(members: &mut Iter<'v, String, Value>, name: &str) -> Option<&'v Value>
-    ensures found { IfSome result (λ value.
-        members_view members.old ≡ member name.now (view value.now) no_members) }
-    ensures none { IfNone result ((d : Data) →
-        members_view members.old ≢ member name.now d no_members) }
-{
-    let value = next_named(members, name)?;
-    if members.next().is_none() {
-        Some(value)
-    } else {
-        None
-    }
-}
 
 /// The number of a key that the value is.
 pub(crate) fn key_of(value: &Value) -> Option<u32>

@@ -5,7 +5,6 @@ ghost use Rattle.http_messages.specs.HttpReply.{reply_bytes};
 ghost use Rattle.http_messages.specs.Rejection.{reply_of};
 
 use crate::asked::Rejection;
-use crate::route::method_text;
 use http::StatusCode;
 use std::alloc::{AllocError, Global};
 
@@ -54,7 +53,7 @@ pub fn rejection_text(alloc: Global, rejection: Rejection) -> Result<String, All
         Rejection::MethodNotAllowed(route) => allow_text(
             alloc,
             StatusCode::METHOD_NOT_ALLOWED,
-            method_text(route),
+            route.method(),
             "{\"name\":\"MethodNotAllowed\"}",
         ),
         Rejection::LengthRequired => reply_text(

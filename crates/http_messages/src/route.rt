@@ -1,7 +1,7 @@
 //! What is asked for, by the target of a request.
 ghost use Rattle.std.specs.Prelude.{◌≡◌, ◌≢◌, ◌<◌, ◌^◌, ◌++◌, ℕ, List, decimal, IfOk, IfErr, IfSome, IfNone};
 ghost use Rattle.std.specs.Option.{ForSome};
-ghost use Rattle.http_messages.specs.Route.{routes, route_text, method_of, pattern_of, IsRoute, IsRouteOf};
+ghost use Rattle.http_messages.specs.Route.{routes, route_text, pattern_of, IsRoute, IsRouteOf};
 ghost use Rattle.register_core.specs.Request.{IsKeyNumber};
 
 use crate::asked::AskFault;
@@ -16,6 +16,21 @@ pub enum Route {
     Requests,
     Show(u32),
     Usage(u32),
+}
+
+impl Route {
+    ghost use Rattle.std.specs.Prelude.{◌≡◌};
+    ghost use Rattle.http_messages.specs.Route.{method_of};
+
+    /// The method that the route takes.
+    pub(crate) fn method(self) -> &'static str
+        ensures { result.now ≡ method_of self }
+    {
+        match self {
+            Route::Requests => "POST",
+            Route::Show(_) | Route::Usage(_) => "GET",
+        }
+    }
 }
 
 /// A route without the number of its key: what the router keeps for each pattern.
@@ -161,16 +176,5 @@ pub(crate) fn route_of(router: &Router<RoutePattern>, target: &[u8]) -> Option<R
     match pattern_at(router, target) {
         Some(pattern) => route_at(pattern, target),
         None => None,
-    }
-}
-
-/// The method that the route takes.
-pub(crate) fn method_text(route: Route) -> &'static str
-    ensures { result.now ≡ method_of route }
-{
-    match route {
-        Route::Requests => "POST",
-        Route::Show(_) => "GET",
-        Route::Usage(_) => "GET",
     }
 }

@@ -7,7 +7,6 @@
 //! ```
 #![tactic(auto)]
 
-mod acting;
 mod exchanging;
 
 pub use exchanging::exchange;

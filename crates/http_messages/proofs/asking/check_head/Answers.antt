@@ -15,9 +15,9 @@ pub returns-then-ne-clause-err : goal.returns-then-ne-clause-err
 returns-then-ne-clause-err c = λ h at rest.
     asks_no_method _ _ _ h at _ _ _ _ ((c.if-not-has_host.ensures _ c.requires.gathered).0 refl) c.of.ensures
     c.in-Some.ensures
-    c.of-2.ensures (c.as_bytes.ensures.value ∙ c.method_text.ensures) rest c.if-ne.ensures
+    c.of-2.ensures (c.as_bytes.ensures.value ∙ c.method.ensures) rest c.if-ne.ensures
 
 pub returns-clause-ok : goal.returns-clause-ok
 returns-clause-ok c = λ h at.
     is_for _ _ _ h at _ _ _ _ ((c.if-not-has_host.ensures _ c.requires.gathered).0 refl) c.of.ensures c.in-Some.ensures
-    c.of-2.ensures (c.as_bytes.ensures.value ∙ c.method_text.ensures) c.if-ne.ensures
+    c.of-2.ensures (c.as_bytes.ensures.value ∙ c.method.ensures) c.if-ne.ensures

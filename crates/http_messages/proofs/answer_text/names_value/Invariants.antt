@@ -1,7 +1,7 @@
 use Rattle.std.proofs.Common.{◌≡◌, map, take}
 use Rattle.serde_json.specs.Data.{string}
 use Rattle.serde_json.specs.View.{view}
-use Rattle.http_messages.proofs.answer_value.names_value.Given as goal
+use Rattle.http_messages.proofs.answer_text.names_value.Given as goal
 
 -- the values so far are the names so far
 abbrev pub invariant-loop-name : goal.invariant-loop-name

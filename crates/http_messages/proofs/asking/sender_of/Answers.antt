@@ -3,7 +3,7 @@ use Rattle.std.proofs.Common.{◌≡◌, ℕ, ◌<◌, ◌^◌, List, ◌∷◌,
 use Rattle.std.specs.Prelude.{decimal}
 use Rattle.std.proofs.lemmas.Fmt.{decimal_injective}
 use Rattle.register_core.specs.Number.{IsNumber}
-use Rattle.http_messages.proofs.post.sender_of.Goals as goal
+use Rattle.http_messages.proofs.asking.sender_of.Goals as goal
 
 one_is : (a b : List ℕ) → a ∷ [] ≡ b ∷ [] → a ≡ b
 one_is a b e = cc

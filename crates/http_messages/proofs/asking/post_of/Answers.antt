@@ -1,7 +1,7 @@
 use Rattle.std.proofs.Common.{◌≡◌, ◌≢◌, ℕ, ◌+◌, ◌<◌, ◌≤◌, min, List, [], ◌∷◌, length, arith, sym, ap, subst, ◌∙◌}
 use Rattle.http_messages.specs.HeaderFields.{IsLength}
 use Rattle.http_messages.specs.Asked.{max_body_length, encoded, no_length, bad_length, large_body, no_sender}
-use Rattle.http_messages.proofs.post.post_of.Goals as goal
+use Rattle.http_messages.proofs.asking.post_of.Goals as goal
 
 one_not_none : (vs : List (List ℕ)) (v : List ℕ) → vs ≡ v ∷ [] → vs ≢ []
 one_not_none vs v e f = let both = sym e ∙ f in absurd (cc)

@@ -8,7 +8,7 @@ use Rattle.std.proofs.lemmas.List.Elements.{All-append}
 use Rattle.httparse.proofs.ChunkLemmas.{digits_value_after_push}
 use Rattle.httparse.specs.Grammar.{AllPass}
 use Rattle.http_messages.specs.Asked.{max_body_length}
-use Rattle.http_messages.proofs.post.length_of.Goals as goal
+use Rattle.http_messages.proofs.asking.length_of.Goals as goal
 
 -- a digit more, under the limit
 capped : (old all number d : ℕ) → number ≡ min old (max_body_length + 1) → all ≡ old * 10 + d

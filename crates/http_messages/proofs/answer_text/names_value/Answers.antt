@@ -3,7 +3,7 @@ use Rattle.serde_json.specs.Data.{Data, array, string}
 use Rattle.serde_json.specs.declared.value.Value.{the_lemmas}
 use Rattle.serde_json.specs.declared.value.Value.TheVariants as Value
 use Rattle.serde_json.specs.View.{view, items_of}
-use Rattle.http_messages.proofs.answer_value.names_value.Goals as goal
+use Rattle.http_messages.proofs.answer_text.names_value.Goals as goal
 
 pub returns : goal.returns
 returns c =

@@ -4,7 +4,7 @@ use Rattle.register_core.specs.Fold.{history}
 use Rattle.register_core.specs.Request.{IsRequest}
 use Rattle.register_core.specs.Verdict.{answer}
 use Rattle.register_http.proofs.ActingLemmas.{changes_answered, went_applied, acts_text, applied_ends, outcome_told}
-use Rattle.register_http.proofs.acting.apply_reply.Goals as goal
+use Rattle.register_http.proofs.exchanging.apply_reply.Goals as goal
 
 pub returns-in-Ok : goal.returns-in-Ok
 returns-in-Ok g c =

@@ -4,7 +4,7 @@ use Rattle.std.specs.Char.{is_ascii_digit}
 use Rattle.std.specs.Str.Parse.{digits_value}
 use Rattle.httparse.specs.Grammar.{AllPass}
 use Rattle.http_messages.specs.Asked.{max_body_length}
-use Rattle.http_messages.proofs.post.length_of.Given as goal
+use Rattle.http_messages.proofs.asking.length_of.Given as goal
 
 abbrev pub invariant-loop-byte : goal.invariant-loop-byte
 invariant-loop-byte l = record {

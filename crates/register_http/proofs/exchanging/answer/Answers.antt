@@ -1,7 +1,7 @@
 use Rattle.std.proofs.Common.{inl, refl, sym}
 use Rattle.http_messages.specs.declared.asked.Asked.TheVariants.{Reject, ShowKey, ShowUsage}
 use Rattle.register_http.proofs.ActingLemmas.{asked_same, changes_none, went_unasked, acts_text, rejected_text}
-use Rattle.register_http.proofs.acting.answer.Goals as goal
+use Rattle.register_http.proofs.exchanging.answer.Goals as goal
 
 pub returns-in-Reject : goal.returns-in-Reject
 returns-in-Reject g c =
