@@ -1,4 +1,4 @@
-use Rattle.std.proofs.Common.{ap, ◌∙◌}
+use Rattle.std.proofs.Common.{rules, sym, ap, ◌∙◌}
 use Rattle.streams.specs.declared.watched.Watched.{Watched}
 use Rattle.register_http.proofs.ItemLemmas.{leaves_one, was_clean}
 use Rattle.register_http.proofs.ServingLemmas.{served_after}
@@ -26,3 +26,16 @@ pub returns-clause-clean : goal.returns-clause-clean
 returns-clause-clean g c =
     was_clean g.S.Store c.args.moment c.args.desk.now c.send_reply-served.new.desk c.ask-asking.result.asked
     c.send_reply-served.result _ _ c.send_reply-served.ensures.serves
+
+pub returns-clause-reader : goal.returns-clause-reader
+returns-clause-reader g c =
+    let read = c.ask-asking.ensures.read in
+    record {
+      took = (
+        read.0,
+        rw (sym (ap (λ (r : Watched g.row.R.Denot). g.R.Read.remaining r.inner) c.begin.ensures)) read.1,
+        sym read.2,
+      );
+      fault = search rules;
+      bounded = search rules;
+    }

@@ -1,4 +1,4 @@
-use Rattle.std.proofs.Common.{rules}
+use Rattle.std.proofs.Common.{rules, refl}
 use Rattle.register_report.proofs.row.registration.Goals as goal
 
 pub returns : goal.returns
@@ -11,7 +11,7 @@ returns c = record {
     deactivation = c.in_ok-deactivation.deactivation;
     purpose = c.in_ok-purpose.purpose;
   };
-  is = search rules;
+  is = rw c.in_ok-number.ensures.value refl;
   in_range = search rules;
   fields_are = search rules;
 }

@@ -1,0 +1,5 @@
+use Rattle.std.proofs.Common.{refl}
+use Rattle.register_files.proofs.register_file.RefusedFromUnopened.from.Goals as goal
+
+pub returns : goal.returns
+returns g c = record { same = refl; store = c.close.result; back = refl; closes = c.close.ensures }
