@@ -7,6 +7,7 @@ ghost use Rattle.period_core.specs.declared.key_type.KeyType.{KeyType};
 ghost use Rattle.period_core.specs.Period.{Period};
 ghost use Rattle.lifecycle_core.specs.declared.reason.Reason.{Reason};
 ghost use Rattle.register_core.specs.declared.request.Edit.{Edit};
+ghost use Rattle.register_core.specs.declared.command_kind.CommandKind.{CommandKind};
 ghost use Rattle.register_core.specs.declared.request.Command.{Command};
 ghost use Rattle.register_core.specs.declared.fields.Fields.{Fields};
 ghost use Rattle.register_core.specs.declared.fields.Fields.TheVariants.{Nothing, Registration};
@@ -17,14 +18,13 @@ ghost use Rattle.register_core.specs.Name.{IsName};
 ghost use Rattle.register_core.specs.Quorum.{IsQuorum};
 ghost use Rattle.register_core.specs.Request.{AreFields, IsCommand, IsKeyNumber};
 ghost use Rattle.register_core.specs.CommandRule.{kind_of};
-ghost use Rattle.http_messages.specs.CommandValue.{number_data, command_data, HasMembers};
+ghost use Rattle.http_messages.specs.CommandValue.{number_data, kind_data, command_data, HasMembers};
 ghost use Rattle.http_messages.specs.CommandValue.{IsShaped};
 ghost use Rattle.http_messages.specs.CommandValue.{keyed_members, named_members, four_members};
 ghost use Rattle.http_messages.specs.CommandValue.{set_members, register_members};
 
 use crate::members::{
-    command_kind_of, date_of, edit_of, key_of, key_type_of, name_of, period_of, purpose_of,
-    quorum_of, reason_of,
+    date_of, edit_of, key_of, key_type_of, name_of, period_of, purpose_of, quorum_of, reason_of,
 };
 use register_core::{Command, CommandKind, Fields, Name, Quorum, Shape};
 use serde_json::{Map, Value};
@@ -349,6 +349,14 @@ fn fields_with(shape: Shape, members: &Map<String, Value>) -> Option<Fields>
         Shape::DateEdits => edits_of(members),
         Shape::Revocation => revoke_of(members),
     }
+}
+
+/// The kind of command whose word the value is.
+fn command_kind_of(value: &Value) -> Option<CommandKind>
+    ensures found { IfSome result (λ kind. view value.now ≡ kind_data kind) }
+    ensures none { IfNone result ((kind : CommandKind) → view value.now ≢ kind_data kind) }
+{
+    CommandKind::from_text(value.as_str()?.as_bytes())
 }
 
 /// The command of this kind with these members, whatever the value of `kind` among them.

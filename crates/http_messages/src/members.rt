@@ -14,13 +14,12 @@ ghost use Rattle.register_core.specs.Purpose.{IsPurpose};
 ghost use Rattle.register_core.specs.Quorum.{IsQuorum};
 ghost use Rattle.register_core.specs.Request.{IsDate, IsEdit, IsKeyNumber};
 ghost use Rattle.register_core.specs.declared.request.Edit.{Edit};
-ghost use Rattle.register_core.specs.declared.command_kind.CommandKind.{CommandKind};
-ghost use Rattle.http_messages.specs.CommandValue.{number_data, date_data, edit_data, kind_data};
+ghost use Rattle.http_messages.specs.CommandValue.{number_data, date_data, edit_data};
 
 use lifecycle_core::Reason;
 use moment_core::Moment;
 use period_core::{KeyType, Period};
-use register_core::{CommandKind, Edit, Name, Purpose, Quorum};
+use register_core::{Edit, Name, Purpose, Quorum};
 use serde_json::Value;
 
 /// The number of a key that the value is.
@@ -133,14 +132,6 @@ pub(crate) fn purpose_of(value: &Value) -> Option<Purpose>
         view value.now ≢ string purpose) }
 {
     Purpose::new(text_of(value)?.as_bytes())
-}
-
-/// The kind of command whose word the value is.
-pub(crate) fn command_kind_of(value: &Value) -> Option<CommandKind>
-    ensures found { IfSome result (λ kind. view value.now ≡ kind_data kind) }
-    ensures none { IfNone result ((kind : CommandKind) → view value.now ≢ kind_data kind) }
-{
-    CommandKind::from_text(text_of(value)?.as_bytes())
 }
 
 /// The type of key whose text the value is.
