@@ -1,6 +1,7 @@
 //! Reads what an input asks for. The register is not asked here.
 ghost use Rattle.std.specs.Prelude.{◌≡◌, ◌↔◌, ◌+◌, ◌≤◌, ◌++◌, ℕ, List, [], length, map, min, take};
-ghost use Rattle.std.specs.Prelude.{drop, Some, Ok, Err, IfOk, IfErr, IfSome, IfNone, IsSomeAnd, IsTrue};
+ghost use Rattle.std.specs.Prelude.{drop, Some, Ok, Err, IfOk, IfErr, IfSome, IfNone, IsSomeAnd};
+ghost use Rattle.std.specs.Prelude.{IsTrue};
 ghost use Rattle.httparse.specs.Grammar.{RequestHead};
 ghost use Rattle.httparse.specs.Spans.{IsRequestAt, IsRequestWithin, header_bytes};
 ghost use Rattle.streams.specs.Watched.{IsFaulted};

@@ -18,8 +18,8 @@ ghost use Rattle.register_core.specs.Name.{IsName};
 ghost use Rattle.register_core.specs.Quorum.{IsQuorum};
 ghost use Rattle.register_core.specs.Request.{AreFields, IsCommand, IsKeyNumber};
 ghost use Rattle.register_core.specs.CommandRule.{kind_of};
-ghost use Rattle.http_messages.specs.CommandValue.{number_data, kind_data, command_data, HasMembers};
-ghost use Rattle.http_messages.specs.CommandValue.{IsShaped};
+ghost use Rattle.http_messages.specs.CommandValue.{number_data, kind_data, command_data};
+ghost use Rattle.http_messages.specs.CommandValue.{HasMembers, IsShaped};
 ghost use Rattle.http_messages.specs.CommandValue.{keyed_members, named_members, four_members};
 ghost use Rattle.http_messages.specs.CommandValue.{set_members, register_members};
 

@@ -1,5 +1,6 @@
 -- What a command does to a key: to its type, its owner, its dates and its custody.
-use Rattle.std.specs.Prelude.{ℕ, min, ◌==◌, Bool, true, false, unwrap_or, ◌&&◌, List, Option, None, Some, is_none, Result, Ok, if◌then◌else◌}
+use Rattle.std.specs.Prelude.{ℕ, min, ◌==◌, Bool, true, false, unwrap_or, ◌&&◌, List, Option, None, Some, is_none}
+use Rattle.std.specs.Prelude.{Result, Ok, if◌then◌else◌}
 use Rattle.lifecycle_core.specs.declared.dates.Dates.{Dates}
 use Rattle.lifecycle_core.specs.declared.row.Row.{Row}
 use Rattle.lifecycle_core.specs.State.{state_at}

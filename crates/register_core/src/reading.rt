@@ -204,7 +204,8 @@ fn request_number_of(field: &[u8]) -> Option<RequestNumber>
 
 /// Takes the request's number before the first space, and leaves what stands after that space.
 pub(crate) fn next_request_number(rest: &mut &[u8]) -> Option<RequestNumber>
-    ensures { Gives (λ number. (number, rest.new.now)) result (field_as request_number_at rest.old.now) }
+    ensures { Gives (λ number. (number, rest.new.now)) result
+        (field_as request_number_at rest.old.now) }
 {
     request_number_of(next_field(rest)?)
 }
@@ -244,9 +245,11 @@ fn originator_of(field: &[u8]) -> Option<u16>
     months(1, read_decimal(field)?)
 }
 
-/// Takes the months of originator use before the first space, and leaves what stands after that space.
+/// Takes the months of originator use before the first space, and leaves what stands after that
+/// space.
 fn next_originator(rest: &mut &[u8]) -> Option<u16>
-    ensures { Gives (λ months. (months, rest.new.now)) result (field_as originator_at rest.old.now) }
+    ensures { Gives (λ months. (months, rest.new.now)) result
+        (field_as originator_at rest.old.now) }
 {
     originator_of(next_field(rest)?)
 }

@@ -1,17 +1,17 @@
 //! The verdict on a request, where the key that it names is known.
 ghost use Rattle.std.specs.Prelude.{◌≡◌, None, Some, IfOk, IfErr, OnOk};
-ghost use Rattle.register_core.specs.CommandRule.{rule};
 ghost use Rattle.register_core.specs.declared.request.Command.{Command};
-ghost use Rattle.register_core.specs.Verdict.{moment_refusal, key_refusal, giver_refusal};
-ghost use Rattle.register_core.specs.Verdict.{state_refusal, keeps_date, freeze_refusal};
-ghost use Rattle.register_core.specs.Verdict.{entry_refusal, occurrence_refusal, limit_refusal};
-ghost use Rattle.register_core.specs.Verdict.{judge_view};
-ghost use Rattle.register_core.specs.Decision.{AreDatesAfter};
-ghost use Rattle.register_core.specs.Version.{current};
+ghost use Rattle.register_core.specs.CommandRule.{rule};
 ghost use Rattle.register_core.specs.CustodyRefusal.{already_custodian, no_such_custodian};
 ghost use Rattle.register_core.specs.CustodyRefusal.{too_many_custodians, owner_custodian};
 ghost use Rattle.register_core.specs.CustodyRefusal.{already_approved, no_approval};
 ghost use Rattle.register_core.specs.CustodyRefusal.{approvals_missing, custody_refusal};
+ghost use Rattle.register_core.specs.Decision.{AreDatesAfter};
+ghost use Rattle.register_core.specs.Verdict.{moment_refusal, key_refusal, giver_refusal};
+ghost use Rattle.register_core.specs.Verdict.{state_refusal, keeps_date, freeze_refusal};
+ghost use Rattle.register_core.specs.Verdict.{entry_refusal, occurrence_refusal, limit_refusal};
+ghost use Rattle.register_core.specs.Verdict.{judge_view};
+ghost use Rattle.register_core.specs.Version.{current};
 
 use crate::command_rule::Giver;
 use crate::effect::dates_by;
