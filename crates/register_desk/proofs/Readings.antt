@@ -1,8 +1,9 @@
 -- Calls of a desk that only read, and calls that do nothing.
 use Rattle.std.proofs.Common.{◌≡◌, ℕ, ◌≢◌, ◌≤◌, false, cond, List, [], ◌∷◌, ◌++◌, Some, Result, Ok, Err}
-use Rattle.std.proofs.Common.{inl, inr, refl, sym, ap, subst, ◌∙◌}
+use Rattle.std.proofs.Common.{inl, inr, refl, sym, ap, subst, ◌∙◌, arith}
 use Rattle.sqlite_trees.specs.declared.store.Store as store
 use Rattle.sqlite.specs.State.{State, HasCleanDisk, IsUnchanged, Survives}
+use Rattle.sqlite.proofs.StateLemmas.{survives_then}
 use Rattle.register_store.specs.declared.counted.Counted.{Counted}
 use Rattle.register_core.specs.declared.request.Request.{Request}
 use Rattle.register_core.specs.Fold.{history_after}
@@ -19,6 +20,21 @@ use Rattle.register_desk.specs.Desk.{IsWhole, IsBroken, IsClean, EndsBy, Changes
 use Rattle.register_desk.specs.DeskCalls.{KeepsAll, LooksUp}
 use Rattle.register_store.specs.TableChanges.{AreRightAt}
 use Rattle.register_desk.specs.Register.{tables, IsOver, StandsFor, Sees, Keeps, Leaves}
+
+-- where no call was made a stop leaves what it left
+survives_same : (s : State) → Survives s s (λ _. ⊥)
+survives_same s = record {
+  clean = omega arith;
+  shield = λ shielded. shielded;
+  counts = omega arith;
+  limit = refl;
+  closes = λ clean open_then. inl open_then;
+  crash = λ clean trees may. inl may;
+}
+
+-- and so it does after two calls that each leave that alone
+survives_both : (a b c : State) → Survives a b (λ _. ⊥) → Survives b c (λ _. ⊥) → Survives a c (λ _. ⊥)
+survives_both a b c = survives_then a b c (λ _. ⊥) (λ _. ⊥) (λ _. ⊥) (λ _ _ none. none) (λ _ _ none. none)
 
 -- a stop leaves what it left before
 still_leaves : (t : Tables) (before after : State) → Leaves t before → Survives before after (λ _. ⊥)
@@ -83,20 +99,27 @@ module _ {S : Type 0} (g : store.Ghosts S) where
   nothing_done desk = record {
     clean = λ clean. clean;
     counts = record { latest = refl; keys = refl };
-    rows =
-        λ t sees. sees;
-    stop = λ t sees whole clean. (sees whole clean).leaves;
+    rows = λ t sees. sees;
+    survives = survives_same (seen g desk.connection);
   }
 
   -- one after another
-  pub nothing_then : (old mid new : Desk S g) → ChangesNothing g old mid → (IsWhole old → IsWhole mid)
-      → ChangesNothing g mid new → ChangesNothing g old new
-  nothing_then old mid new one whole two = record {
+  pub nothing_then : (old mid new : Desk S g) → ChangesNothing g old mid → ChangesNothing g mid new
+      → ChangesNothing g old new
+  nothing_then old mid new one two = record {
     clean = λ clean. one.clean (two.clean clean);
     counts = record { latest = two.counts.latest ∙ one.counts.latest; keys = two.counts.keys ∙ one.counts.keys };
     rows = λ t sees. two.rows t (one.rows t sees);
-    stop = λ t sees was_whole clean. two.stop t (one.rows t sees) (whole was_whole) clean;
+    survives = survives_both (seen g old.connection) (seen g mid.connection) (seen g new.connection) one.survives
+        two.survives;
   }
+
+  -- a stop leaves the tables that it left before
+  pub leaves_nothing_else : (old new : Desk S g) → ChangesNothing g old new → (t : Tables) → Sees g t old
+      → IsWhole old → IsClean g new → Leaves t (seen g new.connection)
+  leaves_nothing_else old new nothing t sees whole clean =
+      still_leaves t (seen g old.connection) (seen g new.connection) (sees whole (nothing.clean clean)).leaves
+      nothing.survives clean
 
   -- ---- a reading of the store
 
@@ -108,13 +131,6 @@ module _ {S : Type 0} (g : store.Ghosts S) where
 
     kept_before : (t : Tables) → Sees g t old → IsClean g new → Keeps t (seen g old.connection)
     kept_before t sees clean = sees whole (reads.clean (early clean))
-
-    -- a stop leaves what it left before
-    leaves_still : (t : Tables) → Sees g t old → IsClean g new → Leaves t (seen g new.connection)
-    leaves_still t sees clean =
-        let left = still_leaves t (seen g old.connection) (seen g after) (kept_before t sees clean).leaves
-        reads.survives (early clean) in
-        subst (λ c. Leaves t (seen g c)) (sym same) left
 
     -- where nothing was changed, the connection keeps what it kept
     keeps_still : (t : Tables) → Sees g t old → IsClean g new → IsUnchanged (seen g old.connection) (seen g after)
@@ -130,7 +146,7 @@ module _ {S : Type 0} (g : store.Ghosts S) where
       clean = λ clean. reads.clean (early clean);
       counts = counts;
       rows = λ t sees still clean. keeps_still t sees clean (unchanged still t sees clean);
-      stop = λ t sees whole clean. leaves_still t sees clean;
+      survives = subst (λ c. Survives (seen g old.connection) (seen g c) (λ _. ⊥)) (sym same) reads.survives;
     }
 
   -- where an open connection sees what it saw, whatever came of the call, nothing is changed
@@ -154,8 +170,7 @@ module _ {S : Type 0} (g : store.Ghosts S) where
               };
           leaves = still_leaves t (seen g old.connection) (seen g after) kept.leaves reads.survives clean;
         };
-    stop = λ t sees whole clean. still_leaves t (seen g old.connection) (seen g after)
-        (sees whole (reads.clean clean)).leaves reads.survives clean;
+    survives = reads.survives;
   }
 
   -- what was found is of the tables that the desk saw

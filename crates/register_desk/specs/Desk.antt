@@ -2,7 +2,7 @@
 use Rattle.std.specs.Prelude.{◌≡◌, ◌⊎◌, ◌≤◌, ℕ, true, false, List, length, None, Result, MatchResult}
 use Rattle.std.specs.Prelude.{IsTrue}
 use Rattle.sqlite_trees.specs.declared.store.Store.{Ghosts}
-use Rattle.sqlite.specs.State.{HasCleanDisk}
+use Rattle.sqlite.specs.State.{HasCleanDisk, Survives}
 use Rattle.sqlite.specs.Held.{Held as Connection}
 use Rattle.register_core.specs.declared.answer.Answer.{Answer}
 use Rattle.register_core.specs.declared.answer.Answer.TheVariants.{Accepted, Repeated, Refused}
@@ -124,9 +124,10 @@ pub record KeepsCounts {S : Type 0} {g : Ghosts S} (old new : Desk S g) : Type 0
   pub latest : new.latest ≡ old.latest
   pub keys : new.keys ≡ old.keys
 
--- the call changed nothing: whatever tables the desk saw it sees, and a stop leaves them as before
+-- the call changed nothing: whatever tables the desk saw it sees, and a stop leaves what it left before, whatever the
+-- database holds
 pub record ChangesNothing {S : Type 0} (g : Ghosts S) (old new : Desk S g) : Type 0 where
   pub clean : IsClean g new → IsClean g old
   pub counts : KeepsCounts old new
   pub rows : (t : Tables) → Sees g t old → Sees g t new
-  pub stop : (t : Tables) → Sees g t old → IsWhole old → IsClean g new → Leaves t (seen g new.connection)
+  pub survives : Survives (seen g old.connection) (seen g new.connection) (λ _. ⊥)

@@ -189,15 +189,6 @@ module _ {S : Type 0} (g : Ghosts S) where
         (leaves_applied end h (h' h) ends s whole was_clean (store h s was_clean) same))
         (changes_applied end ends same may) is
 
-  -- the desk is as it was
-  pub changes_none : (desk : Desk S g) → ChangesNothing g desk desk
-  changes_none desk = record {
-    clean = λ clean. clean;
-    counts = record { latest = refl; keys = refl };
-    rows = λ t sees. sees;
-    stop = λ t sees whole clean. (sees whole clean).leaves;
-  }
-
   -- an answer that is no acceptance changed nothing, and what an acceptance is told is its reply
   pub changes_answered : (old new : Desk S g) (answer : Answer) (made : Result (String Global) AllocError)
       (result : Result (String Global) End) → UnlessAccepted answer (ChangesNothing g old new)

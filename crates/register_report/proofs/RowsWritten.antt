@@ -94,7 +94,7 @@ module _ {W S : Type 0} {contents : W → Option (List ℕ)} {g : Ghosts S} {tab
   pub still : {desk : Desk S g} → ChangesNothing g rows.desk.now desk
       → ChangesNothing g start.desk.now desk
   still {desk} reads =
-      nothing_then g start.desk.now rows.desk.now desk so.reads (λ whole. so.mark ∙ whole) reads
+      nothing_then g start.desk.now rows.desk.now desk so.reads reads
 
   given_next : {next : KeyRows S g} {found : Option KeyRow} → Next rows next found
       → (h : List Request) → StandsFor g start.desk.now h → IsWhole start.desk.now

@@ -105,31 +105,30 @@ module _ {W S : Type 0} {contents : W → Option (List ℕ)} {g : Ghosts S} {old
       → PutsTable contents g old new before after start next table r
       → ChangesNothing g desk_old start.desk.now → start.desk.now.is_broken ≡ desk_old.is_broken
       → ChangesNothing g start.desk.now next.desk.now → next.desk.now ≡ desk_new
-      → ((all : List KeyRow) → HaveGiven start all [])
-      → ((h : List Request) (text : List ℕ) → StandsFor g desk_old h → IsWhole desk_old → IsClean g start.desk.now
-      → Text h text → (rows : List KeyRow) × AreAll (until_of start) (all_rows h) rows × (table_text table rows ≡ text))
+      → ((all : List KeyRow) → HaveGiven start all []) → IsWhole desk_old
+      → ((h : List Request) (text : List ℕ) → StandsFor g desk_old h → IsClean g start.desk.now → Text h text
+      → (rows : List KeyRow) × AreAll (until_of start) (all_rows h) rows × (table_text table rows ≡ text))
       → PutsAll contents g old new before after desk_old desk_new Text r
-  puts_all desk_old desk_new {start} {next} {r} it nothing mark reads back none full = record {
+  puts_all desk_old desk_new {start} {next} {r} it nothing mark reads back none lent_whole full = record {
     bytes = it.text.bytes;
     puts = it.text.puts;
-    prefix = λ h text stands whole clean is.
-        let all = so h text stands whole clean is in
+    prefix = λ h text stands clean is.
+        let all = so h text stands clean is in
         subst (IsPrefixOf it.text.bytes) all.2
         (prefix_so it.is_all table it.given all.0 it.text.bytes all.1 it.text.prefix);
-    whole = λ h text stands whole clean is.
-        let all = so h text stands whole clean is in
+    whole = λ h text stands clean is.
+        let all = so h text stands clean is in
         subst (λ t. OnOk r (it.text.bytes ≡ t)) all.2
         (whole_so it.is_all table it.given all.0 it.text.bytes r all.1 it.whole it.text.whole);
   }
     where
-      so : (h : List Request) (text : List ℕ) → StandsFor g desk_old h → IsWhole desk_old
-          → IsClean g desk_new → Text h text
+      so : (h : List Request) (text : List ℕ) → StandsFor g desk_old h → IsClean g desk_new → Text h text
           → (rows : List KeyRow) × Begins it.is_all it.given rows × (table_text table rows ≡ text)
-      so h text stands whole clean is =
+      so h text stands clean is =
           let clean_next = subst (λ (d : Desk S g). IsClean g d) (sym back) clean in
           let stands_lent = stands_still g desk_old start.desk.now nothing h stands in
-          let first = it.are h stands_lent (mark ∙ whole) clean_next none in
-          let all = full h text stands whole (reads.clean clean_next) is in
+          let first = it.are h stands_lent (mark ∙ lent_whole) clean_next none in
+          let all = full h text stands (reads.clean clean_next) is in
           (all.0, begins it.is_all (until_of start) (all_rows h) it.given all.0 first all.1, all.2)
 
 -- no rows were lent
@@ -141,8 +140,8 @@ puts_none (Ok x) other failed = absurd failed
 puts_none {contents = contents} {writer = writer} {count = count} (Err e) {e = f} other is = record {
   bytes = [];
   puts = puts_nothing contents writer count (Err e) no_fault_of;
-  prefix = λ h text stands whole clean text_is. (text, refl);
-  whole = λ h text stands whole clean text_is. tt;
+  prefix = λ h text stands clean text_is. (text, refl);
+  whole = λ h text stands clean text_is. tt;
 }
   where
     no_fault_of : ◌≢◌ {A = Result (Unit {0}) End} (Err e) (Err WriteFault)
@@ -164,12 +163,12 @@ module _ {W S : Type 0} {contents : W → Option (List ℕ)} {g : Ghosts S} {beg
   -- what a call agrees with, whose writer began anew
   pub agrees : {old : W} {end : Finish}
       → PutsAll contents g begun new 0 after desk_old desk_new Text r → begun.inner ≡ old
-      → end ≡ finish_of r → {h : List Request} (text : List ℕ) → StandsFor g desk_old h → IsWhole desk_old
-      → IsClean g desk_new → Text h text
+      → end ≡ finish_of r → {h : List Request} (text : List ℕ) → StandsFor g desk_old h → IsClean g desk_new
+      → Text h text
       → WritesText text end (contents old) (contents new.inner)
-  agrees {old} {end} it inner finish {h} text stands whole clean is =
-      let told = writes_text r it.puts (it.prefix h text stands whole clean is)
-      (it.whole h text stands whole clean is) in
+  agrees {old} {end} it inner finish {h} text stands clean is =
+      let told = writes_text r it.puts (it.prefix h text stands clean is)
+      (it.whole h text stands clean is) in
       let ended = subst (λ f. WritesText text f (contents begun.inner) (contents new.inner))
       (sym finish) told in
       subst (λ w. WritesText text end (contents w) (contents new.inner)) inner ended

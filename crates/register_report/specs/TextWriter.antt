@@ -110,10 +110,10 @@ pub record PutsAll {W S : Type 0} (contents : W → Option (List ℕ)) (g : Ghos
     (result : Result (Unit {0}) End) : Type 0 where
   pub bytes : List ℕ
   pub puts : Puts contents old new before after bytes result
-  pub prefix : (h : List Request) (text : List ℕ) → StandsFor g desk_old h → IsWhole desk_old
-      → IsClean g desk_new → Text h text → IsPrefixOf bytes text
-  pub whole : (h : List Request) (text : List ℕ) → StandsFor g desk_old h → IsWhole desk_old
-      → IsClean g desk_new → Text h text → OnOk result (bytes ≡ text)
+  pub prefix : (h : List Request) (text : List ℕ) → StandsFor g desk_old h → IsClean g desk_new → Text h text
+      → IsPrefixOf bytes text
+  pub whole : (h : List Request) (text : List ℕ) → StandsFor g desk_old h → IsClean g desk_new → Text h text
+      → OnOk result (bytes ≡ text)
 
 -- the text was written, or a prefix of it where the call ended before
 abbrev pub WritesText : List ℕ → Finish → Option (List ℕ) → Option (List ℕ) → Type 0

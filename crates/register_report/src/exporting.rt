@@ -6,7 +6,7 @@ ghost use Rattle.key_rows.specs.DueRows.{AreListed};
 ghost use Rattle.key_rows.specs.Export.{export_text};
 ghost use Rattle.key_rows.specs.Report.{horizon, report_text};
 ghost use Rattle.key_rows.specs.declared.key_row.KeyRow.{KeyRow};
-ghost use Rattle.register_desk.specs.Desk.{IsClean, IsWhole};
+ghost use Rattle.register_desk.specs.Desk.{IsClean};
 ghost use Rattle.register_desk.specs.Register.{StandsFor};
 ghost use Rattle.register_desk.specs.KeyRows.{all_rows};
 ghost use Rattle.register_desk.specs.Run.{LeavesWriter};
@@ -98,7 +98,7 @@ pub fn export<W: Write, S: Alter>(
     writer: &mut Watched<W>,
 ) -> Outcome
     requires { writer.old.failed ≡ false }
-    ensures agrees { (h : List Request) → StandsFor S.Store desk.old h → IsWhole desk.old →
+    ensures agrees { (h : List Request) → StandsFor S.Store desk.old h →
         IsClean S.Store desk.new → WritesText (export_text (all_rows h)) result.end
         (W.contents writer.old.inner) (W.contents writer.new.inner) }
     ensures alone { LeavesAlone S.Store desk.old desk.new result.end }
@@ -128,7 +128,7 @@ pub fn rotation<W: Write, S: Alter>(
 ) -> Outcome
     requires { writer.old.failed ≡ false }
     ensures agrees { (h : List Request) (rows : List KeyRow) → StandsFor S.Store desk.old h →
-        IsWhole desk.old → IsClean S.Store desk.new →
+        IsClean S.Store desk.new →
         AreListed (all_rows h) (horizon (latest h) days) (period h) rows →
         WritesText (report_text (latest h) (horizon (latest h) days) rows) result.end
         (W.contents writer.old.inner) (W.contents writer.new.inner) }

@@ -1,13 +1,14 @@
 use Rattle.std.proofs.Common.{inl, refl, sym}
+use Rattle.register_desk.proofs.Readings.{nothing_done}
 use Rattle.http_messages.specs.declared.asked.Asked.TheVariants.{Reject, ShowKey, ShowUsage}
-use Rattle.register_http.proofs.ActingLemmas.{asked_same, changes_none, went_unasked, acts_text, rejected_text}
+use Rattle.register_http.proofs.ActingLemmas.{asked_same, went_unasked, acts_text, rejected_text}
 use Rattle.register_http.proofs.exchanging.answer.Goals as goal
 
 pub returns-in-Reject : goal.returns-in-Reject
 returns-in-Reject g c =
     asked_same _ c.args.moment (Reject c.in-Reject.rejection) c.args.asked.now _ _ _ (sym c.in-Reject.is)
     (acts_text _ c.args.moment (Reject c.in-Reject.rejection) _ _ c.rejection_text.result c.text_or_end.result
-    (went_unasked _ c.args.moment c.in-Reject.rejection _) (inl (changes_none _ _))
+    (went_unasked _ c.args.moment c.in-Reject.rejection _) (inl (nothing_done _ _))
     (λ rejection is. (
       refl,
       rejected_text c.in-Reject.rejection rejection c.rejection_text.result

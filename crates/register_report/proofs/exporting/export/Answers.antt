@@ -7,7 +7,7 @@ use Rattle.register_report.proofs.WholeTable.{agrees}
 use Rattle.register_report.proofs.exporting.export.Goals as goal
 
 pub returns-clause-agrees : goal.returns-clause-agrees
-returns-clause-agrees g c h stands whole clean =
+returns-clause-agrees g c h stands clean =
     let inner = ap (λ (w : Watched _). w.inner) c.begin.ensures in
     let end = ap (λ (o : Outcome). o.end) c.outcome.ensures in
-    agrees c.put_all_keys-done.ensures.puts inner end (export_text (all_rows h)) stands whole clean refl
+    agrees c.put_all_keys-done.ensures.puts inner end (export_text (all_rows h)) stands clean refl

@@ -16,5 +16,5 @@ returns-clause-puts g c =
     let nothing = subst (λ (d : Desk _ _). ChangesNothing g.S.Store c.args.desk.now d) (sym lent.same)
     (nothing_done g.S.Store c.args.desk.now) in
     puts_all c.args.desk.now _ c.put_table.ensures.table nothing (ap (λ (d : Desk _ _). d.is_broken) lent.same)
-    c.put_table.ensures.passes.reads (search rules) lent.begins.2
-    (λ h text stands whole clean is. export_rows c.in_ok-rows.rows lent.begins.1 h text is)
+    c.put_table.ensures.passes.reads (search rules) lent.begins.2 lent.whole
+    (λ h text stands clean is. export_rows c.in_ok-rows.rows lent.begins.1 h text is)

@@ -27,8 +27,8 @@ returns-clause-puts g c =
     let nothing = subst (λ (d : Desk _ _). ChangesNothing g.S.Store c.args.desk.now d) (sym lent.same) periods.reads in
     puts_all c.args.desk.now _ c.put_table.ensures.table nothing
     (ap (λ (d : Desk _ _). d.is_broken) lent.same ∙ periods.mark) c.put_table.ensures.passes.reads (search rules)
-    lent.begins.2
-    (λ h text stands whole clean is.
+    lent.begins.2 (sym periods.mark ∙ lent.whole)
+    (λ h text stands clean is.
     let found = periods.found h stands (subst (λ (d : Desk _ _). IsClean g.S.Store d) lent.same clean) in
     let at = c.latest-latest.ensures.latest h stands in
     let until = c.horizon-until.ensures ∙ ap (λ t. horizon t c.args.days) at in

@@ -8,7 +8,7 @@ kinds-preserved g c =
     let before = c.kinds.invariant in
     record {
       mark = c.in_ok-find_set.ensures.mark ∙ before.mark;
-      reads = nothing_then g.S.Store _ _ _ before.reads (λ whole. before.mark ∙ whole) c.in_ok-find_set.ensures.reads;
+      reads = nothing_then g.S.Store _ _ _ before.reads c.in_ok-find_set.ensures.reads;
       found = λ t sees whole clean.
           subst (AreSet t (c.kinds.kind-index + 1)) (sym c.set.ensures)
           (one_more_set t c.kinds.kind-index c.kinds.periods _ _ (search rules)
