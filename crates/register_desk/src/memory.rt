@@ -1,6 +1,7 @@
 //! A register in memory.
 ghost use Rattle.std.specs.Prelude.{◌≡◌, ◌⊎◌, List, [], IfOk, IfErr};
 ghost use Rattle.sqlite.specs.Steps.{over_memory};
+ghost use Rattle.register_desk.specs.Desk.{IsWhole};
 ghost use Rattle.register_desk.specs.Register.{StandsFor};
 
 use crate::desk::Desk;
@@ -15,6 +16,7 @@ use std::alloc::Global;
 /// [`OpenRefusal::Store`] after it.
 pub fn create_in_memory(alloc: Global) -> Result<Desk<MemStore>, OpenRefusal>
     ensures stands { IfOk result (λ desk. StandsFor over_memory desk []) }
+    ensures whole { IfOk result IsWhole }
     ensures refused { IfErr result (λ refusal.
         (refusal ≡ OpenRefusal.Memory) ⊎ (refusal ≡ OpenRefusal.Store)) }
 {

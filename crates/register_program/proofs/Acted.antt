@@ -1,5 +1,6 @@
 -- What was done without words.
-use Rattle.std.proofs.Common.{◌≡◌, ℕ, List, Option, Some, Result, Ok, Err, inl, inr, ap, subst, sym, ◌∙◌}
+use Rattle.std.proofs.Common.{◌≡◌, ℕ, List, Option, Some, Result, Ok, Err, IfErr, OnErr, inl, inr, ap, subst, sym}
+use Rattle.std.proofs.Common.{◌∙◌}
 use Rattle.sqlite_trees.specs.declared.store.Store.{Ghosts}
 use Rattle.sqlite.specs.Recovery.{Image}
 use Rattle.register_core.specs.declared.request.Request.{Request}
@@ -28,6 +29,12 @@ module _ {S : Type 0} (g : Ghosts S) (may_leave : S → Image → Type 0) (found
   acts_alone task same performs =
       let run = subst (λ (t : Task). Performs g may_leave found t input old new done) same performs in
       acts_came run.0 run.1 run.2
+
+-- a writer that is as it was has got nothing
+pub untouched : {W A E : Type 0} (contents : W → Option (List ℕ)) (r : Result A E) (old new : W)
+    → IfErr r (λ _. new ≡ old) → OnErr r (contents new ≡ contents old)
+untouched contents (Ok x) old new same = tt
+untouched contents (Err e) old new same = ap contents same
 
 -- a task that was told apart
 pub performs_as : {S : Type 0} (g : Ghosts S) (may_leave : S → Image → Type 0) (found : Image)

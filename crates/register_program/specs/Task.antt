@@ -1,5 +1,5 @@
 -- What comes of what the words ask for.
-use Rattle.std.specs.Prelude.{◌≡◌, ◌⊎◌, ℕ, List, Option, None, Some, Result, Ok, Err}
+use Rattle.std.specs.Prelude.{◌≡◌, ◌⊎◌, ℕ, List, Option, None, Some, Result, Ok, Err, OnErr}
 use Rattle.sqlite_trees.specs.declared.store.Store.{Ghosts}
 use Rattle.sqlite.specs.Recovery.{Image}
 use Rattle.register_core.specs.declared.request.Request.{Request}
@@ -50,20 +50,25 @@ abbrev pub IsWordsStatus : ℕ → Type 0
 IsWordsStatus status = (status ≡ usage_status) ⊎ (status ≡ exit_status Memory)
 
 module _ {S : Type 0} (g : Ghosts S) (may_leave : S → Image → Type 0) (found : Image) where
-  -- A task comes to what the call that it names comes to.
+  -- A task comes to what the call that it names comes to. Nothing is written where the register is not opened, nor by a
+  -- task that serves connections.
   abbrev pub Performs : Task → Option (List ℕ) → Option (List ℕ) → Option (List ℕ) → Done S → Type 0
   Performs RunInMemory input old new done = (came : _) × (done ≡ RanInMemory came) × RunsInMemory input old new came
   Performs (Init file) input old new done =
       (came : _) × (done ≡ Made came) × MakesRegister g may_leave found came × (new ≡ old)
   Performs (Run file) input old new done =
-      (came : _) × (done ≡ Lived came) × RunsLines g may_leave found input old new came
+      (came : _) × (done ≡ Lived came) × RunsLines g may_leave found input old new came × OnErr came (new ≡ old)
   Performs (Import file terms) input old new done =
-      WithValue AreTerms terms (λ value came. ImportsRows g may_leave found value input old new came) old new done
-  Performs (Export file) input old new done = (came : _) × (done ≡ Lived came) × Exports g may_leave found old new came
+      WithValue AreTerms terms (λ value came. ImportsRows g may_leave found value input old new came
+      × OnErr came (new ≡ old)) old new done
+  Performs (Export file) input old new done =
+      (came : _) × (done ≡ Lived came) × Exports g may_leave found old new came × OnErr came (new ≡ old)
   Performs (Report file days) input old new done =
-      WithValue IsDays days.now (λ value came. Reports g may_leave found value old new came) old new done
+      WithValue IsDays days.now (λ value came. Reports g may_leave found value old new came
+      × OnErr came (new ≡ old)) old new done
   Performs (Serve file bounds) input old new done =
-      WithValue AreBounds bounds (λ value came. ServesExchanges g may_leave found value.exchanges came) old new done
+      WithValue AreBounds bounds (λ value came. ServesExchanges g may_leave found value.exchanges came
+      × (new ≡ old)) old new done
 
   -- a task was done, and the status is that of what it came to
   pub record ActsOn (input old new : Option (List ℕ)) (status : ℕ) : Type 0 where

@@ -124,19 +124,31 @@ fn serve_command<'a>(alloc: Global) -> Result<Command<'a>, AllocError> {
         .arg(required_option(alloc, "exchanges", "NUMBER", EXCHANGES))
 }
 
+fn run_command<'a>(alloc: Global) -> Result<Command<'a>, AllocError> {
+    Ok(file_command(alloc, "run", RUN)?.after_help(LINE))
+}
+
+/// The command with this one below it, if there was memory for that.
+fn with_subcommand<'a>(
+    command: Command<'a>,
+    below: Result<Command<'a>, AllocError>,
+) -> Result<Command<'a>, AllocError> {
+    command.subcommand(below?)
+}
+
 fn command<'a>(alloc: Global) -> Result<Command<'a>, AllocError> {
-    Command::new(alloc, "keyreg")
+    let command = Command::new(alloc, "keyreg")
         .about(ABOUT)
         .after_help(NO_COMMAND)
         .override_usage("keyreg [COMMAND]")
         .subcommand_required(true)
-        .disable_help_subcommand(true)
-        .subcommand(file_command(alloc, "init", INIT)?)?
-        .subcommand(file_command(alloc, "run", RUN)?.after_help(LINE))?
-        .subcommand(import_command(alloc)?)?
-        .subcommand(file_command(alloc, "export", EXPORT)?)?
-        .subcommand(report_command(alloc)?)?
-        .subcommand(serve_command(alloc)?)
+        .disable_help_subcommand(true);
+    let command = with_subcommand(command, file_command(alloc, "init", INIT))?;
+    let command = with_subcommand(command, run_command(alloc))?;
+    let command = with_subcommand(command, import_command(alloc))?;
+    let command = with_subcommand(command, file_command(alloc, "export", EXPORT))?;
+    let command = with_subcommand(command, report_command(alloc))?;
+    with_subcommand(command, serve_command(alloc))
 }
 
 /// What a command asks for, with the values of its options.

@@ -1,7 +1,7 @@
 use Rattle.std.proofs.Common.{refl, inl, inr}
 use Rattle.register_program.specs.declared.words.Task.TheVariants.{RunInMemory, Init, Run, Import, Export, Report}
 use Rattle.register_program.specs.declared.words.Task.TheVariants.{Serve}
-use Rattle.register_program.proofs.Acted.{performs_as}
+use Rattle.register_program.proofs.Acted.{performs_as, untouched}
 use Rattle.register_program.proofs.acting.perform.Goals as goal
 
 pub returns-in-RunInMemory : goal.returns-in-RunInMemory
@@ -19,14 +19,27 @@ returns-in-Init g c =
 pub returns-in-Run : goal.returns-in-Run
 returns-in-Run g c =
     performs_as g.F.Opened.Store g.F.Files.may_leave g.F.Files.start _ _ _ _ c.args.task.now (Run c.in-Run.file)
-    c.in-Run.is
-    (c.run_file.result, refl, (rw (c.new-reader.ensures) at c.run_file.ensures.runs))
+    c.in-Run.is (
+      c.run_file.result,
+      refl,
+      (rw (c.new-reader.ensures) at c.run_file.ensures.runs),
+      untouched (λ w. g.W.Write.contents w.inner) _ _ _ c.run_file.ensures.untouched,
+    )
 
 pub returns-in-Some : goal.returns-in-Some
 returns-in-Some g c =
     performs_as g.F.Opened.Store g.F.Files.may_leave g.F.Files.start _ _ _ _ c.args.task.now
     (Import c.in-Import.file c.in-Import.terms) c.in-Import.is
-    (inl (c.in-Some.terms, c.in-Some.ensures, c.import_file.result, refl, c.import_file.ensures.imports))
+    (inl (
+      c.in-Some.terms,
+      c.in-Some.ensures,
+      c.import_file.result,
+      refl,
+      (
+        c.import_file.ensures.imports,
+        untouched (λ w. g.W.Write.contents w.inner) _ _ _ c.import_file.ensures.untouched,
+      ),
+    ))
 
 pub returns-in-None : goal.returns-in-None
 returns-in-None g c =
@@ -37,8 +50,12 @@ returns-in-None g c =
 pub returns-in-Export : goal.returns-in-Export
 returns-in-Export g c =
     performs_as g.F.Opened.Store g.F.Files.may_leave g.F.Files.start _ _ _ _ c.args.task.now (Export c.in-Export.file)
-    c.in-Export.is
-    (c.export_file.result, refl, c.export_file.ensures.exports)
+    c.in-Export.is (
+      c.export_file.result,
+      refl,
+      c.export_file.ensures.exports,
+      untouched (λ w. g.W.Write.contents w.inner) _ _ _ c.export_file.ensures.untouched,
+    )
 
 pub returns-in-Some-read_days : goal.returns-in-Some-read_days
 returns-in-Some-read_days g c =
@@ -49,7 +66,7 @@ returns-in-Some-read_days g c =
       c.in-Some-read_days.ensures,
       c.report_file.result,
       refl,
-      c.report_file.ensures.reports,
+      (c.report_file.ensures.reports, untouched (λ w. g.W.Write.contents w.inner) _ _ _ c.report_file.ensures.untouched),
     ))
 
 pub returns-in-None-read_days : goal.returns-in-None-read_days
@@ -62,7 +79,7 @@ pub returns-in-Some-read : goal.returns-in-Some-read
 returns-in-Some-read g c =
     performs_as g.F.Opened.Store g.F.Files.may_leave g.F.Files.start _ _ _ _ c.args.task.now
     (Serve c.in-Serve.file c.in-Serve.bounds) c.in-Serve.is
-    (inl (c.in-Some-read.bounds, c.in-Some-read.ensures, c.serve_file.result, refl, c.serve_file.ensures))
+    (inl (c.in-Some-read.bounds, c.in-Some-read.ensures, c.serve_file.result, refl, (c.serve_file.ensures, refl)))
 
 pub returns-in-None-read : goal.returns-in-None-read
 returns-in-None-read g c =

@@ -9,4 +9,8 @@ returns g c bytes items rest known cut = record {
   replies = c.run.result.replies;
   over = c.run.ensures.agrees [] bytes items rest c.in_ok-desk.ensures.stands
       (memory_is_clean (connection_of c.run.new.desk)) (rw c.new-reader.ensures known) cut;
+  sound = λ is.
+      let broken = c.run.ensures.desk.was_broken is in
+      let whole = c.in_ok-desk.ensures.whole in
+      absurd (cc);
 }
