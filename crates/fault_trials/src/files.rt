@@ -1,7 +1,7 @@
 //! Registers in files in memory, of which calls fail.
 //!
 //! A function that names the type of the store costs about a minute in a proof, and any other a few
-//! seconds. So it stands in [`Lab::tried`] alone, which is handed what to do as a [`Task`].
+//! seconds. So it stands in [`Lab::try_out`] alone, which is handed what to do as a [`Task`].
 ghost use Rattle.std.specs.Prelude.{◌≡◌, false, IfOk, IsTrue};
 ghost use Rattle.sqlite_disk.specs.Memory.{memory_is_usable};
 

@@ -27,7 +27,7 @@ pub struct View {
     pub latest: Moment,
     /// How many keys were made.
     pub keys: u32,
-    /// The usage period of the type that [`type_needed`](crate::type_needed) gives; any where that
+    /// The usage period of the type that [`needed_type`](crate::needed_type) gives; any where that
     /// is none.
     pub period: Period,
     /// The key that the request names, as it stands at the latest moment; `None` where it names

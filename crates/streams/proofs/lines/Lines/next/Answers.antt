@@ -24,6 +24,14 @@ returns-in_err-refill-clause-taken g c =
           before c.if-take_to_line_feed.ensures.none.2.taken c.refill.ensures.taken,
     )
 
+-- at the end of the input no line is cut off
+
+pub returns-then-branch-eq0-clause-line : goal.returns-then-branch-eq0-clause-line
+returns-then-branch-eq0-clause-line g c = λ is. absurd (cc)
+
+pub returns-then-branch-eq0-clause-less : goal.returns-then-branch-eq0-clause-less
+returns-then-branch-eq0-clause-less g c = λ is. absurd (cc)
+
 pub returns-then-branch-eq0-clause-end : goal.returns-then-branch-eq0-clause-end
 returns-then-branch-eq0-clause-end g c =
     λ _.
