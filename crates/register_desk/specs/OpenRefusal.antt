@@ -1,5 +1,5 @@
 -- Why a database is not taken as a register, with the name of each cause. They are this register's own.
-use Rattle.std.specs.Prelude.{◌≡◌, ◌⊎◌, ℕ, List, codes, IsTrue}
+use Rattle.std.specs.Prelude.{◌≡◌, ◌⊎◌, ℕ, List, codes, Result, IfOk, IfErr, IsTrue}
 use Rattle.sqlite_trees.specs.declared.store.Store.{Ghosts}
 use Rattle.sqlite.specs.Effect.{Database}
 use Rattle.sqlite.specs.Held.{Held as Connection, state}
@@ -11,6 +11,7 @@ use Rattle.register_core.specs.declared.version.Version.TheVariants.{First}
 use Rattle.register_core.specs.Version.{current}
 use Rattle.register_store.specs.Schema.{Holds}
 use Rattle.register_store.specs.CheckedTables.{FailsOne, HasNewer, Passes}
+use Rattle.register_store.specs.Migration.{HasNewTable}
 use Rattle.register_store.specs.OpenedTables.{HasBoth, MigratesTo}
 use Rattle.register_store.specs.Stored.{Stored}
 use Rattle.register_store.specs.declared.error.CheckError.{CheckError}
@@ -21,6 +22,7 @@ use Rattle.register_store.specs.TableReads.{seen}
 use Rattle.register_desk.specs.declared.desk.Desk.{Desk}
 use Rattle.register_desk.specs.declared.end.End.TheVariants as end
 use Rattle.register_desk.specs.declared.opening.OpenRefusal.{OpenRefusal}
+use Rattle.register_desk.specs.declared.opening.Unopened.{Unopened}
 use Rattle.register_desk.specs.declared.opening.OpenRefusal.TheVariants.{Memory, Store, NotARegister, NewerVersion}
 use Rattle.register_desk.specs.End.{end_name}
 
@@ -45,13 +47,14 @@ check_refusal (checks.Database error) = Store
 
 -- ---- what an opening finds
 
--- the tables that were shown pass the checks of their version, and the desk has their counts; those of this program's
--- version stay as they are
+-- the tables that were shown pass the checks of their version, and the desk has their counts; beside those of the first
+-- version stood none that the second adds, and those of this program's version stay as they are
 pub record OpensOver {S : Type 0} (g : Ghosts S) (before : State) (desk : Desk S g) : Type 0 where
   pub stored : Stored
   pub passes : Passes stored before before
   pub latest_is : desk.latest ≡ stored.tables.counts.latest
   pub keys_are : desk.keys ≡ stored.tables.counts.key_count
+  pub none_new : stored.version ≡ First → HasNewTable before.now.schema → ⊥
   pub unchanged : stored.version ≡ current → IsUnchanged before (seen g desk.connection)
 
 -- why a database was refused; nothing is said of one that refused a call
@@ -102,7 +105,13 @@ LeavesStored t old new = IsTrue old.is_open → HasCleanDisk new → (trees : Tr
 abbrev pub ShowsTable : State → Type 0
 ShowsTable s = HasTable s.now.schema
 
--- these trees are those of the database with an empty register made in it
+-- The database is not taken for an empty one, and a stop leaves what was committed in it.
+pub record SparesTables {S : Type 0} (g : Ghosts S) (old : Connection S)
+    (result : Result (Desk S g) (Unopened S)) : Type 0 where
+  pub refused : IfOk result (λ desk. HasCleanDisk (seen g desk.connection) → ⊥)
+  pub leaves : IfErr result (λ unopened. LeavesCommitted (state g old) (state g unopened.connection))
+
+-- these trees are those of the database with an empty register made in it, where none of its tables was there
 abbrev pub IsMadeIn : State → Trees → Type 0
 IsMadeIn s trees = (db : Database) × MakesRegister s.now db × (trees ≡ db.trees)
 
@@ -112,7 +121,7 @@ LeavesMade old new = IsTrue old.is_open → HasCleanDisk new → (trees : Trees)
     → (trees ≡ old.committed.trees) ⊎ IsMadeIn old trees
 
 -- What a creation that was refused leaves: what was committed stands, and a stop leaves what it left before, or an
--- empty register.
+-- empty register where none of its tables was there.
 pub record CreatesNothingIn (old new : State) : Type 0 where
   pub kept : KeepsCommitted old new
   pub stop : Survives old new (λ trees. (db : Database) × MakesRegister old.now db × (trees ≡ db.trees))

@@ -38,7 +38,12 @@ module _ {S : Type 0} (g : Ghosts S) (may_leave : S → Image → Type 0) (found
   pub made_none : (P : Refused S → Type 0) (result : Result S (Refused S)) → IsErrAnd result P
       → IfErr result (RefusesMaking g may_leave found) → MakesRegister g may_leave found result
   made_none P (Ok store) is refuses = absurd is
-  made_none P (Err refused) is refuses = record { leaves = λ none. tt; refuses = refuses }
+  made_none P (Err refused) is refuses = record {
+    leaves = λ none. tt;
+    made = tt;
+    spares = λ h holds. tt;
+    refuses = refuses;
+  }
 
   -- files that were not opened at all
   pub refuses_closed : (refusal : OpenRefusal) (refused : Refused S)
@@ -58,7 +63,7 @@ module _ {S : Type 0} (g : Ghosts S) (may_leave : S → Image → Type 0) (found
       → IfErr result (RefusesMaking g may_leave found)
   refuses_unmade refusal (Ok x) is none = absurd is
   refuses_unmade refusal (Err refused) is none = subst (RefusesMaking g may_leave found) (sym is)
-      (record { cause = tt; unopened = λ same. none })
+      (record { cause = tt; spares = λ h holds. tt; unopened = λ same. none })
 
   module _ (opens_again : (it : S) → IsTrue (g.view it).is_numbered → AreDatabases (g.recovers it) → (left : Image)
       → may_leave it left → ∥ ((db : Trees) × (g.recovers it db) × HoldsDatabase left db) ∥₁)
@@ -162,7 +167,23 @@ module _ {S : Type 0} (g : Ghosts S) (may_leave : S → Image → Type 0) (found
     module _ (refusal : OpenRefusal) (no_version : (refusal ≡ Store) ⊎ (refusal ≡ NotARegister))
         (there : refusal ≡ NotARegister → HasCleanDisk (state g new) → ShowsTable (state g old))
         (committed : refusal ≡ NotARegister → LeavesCommitted (state g old) (state g new))
-        (made : LeavesMade (state g old) (state g new)) where
+        (made : LeavesMade (state g old) (state g new))
+        (shown_there : ShowsTable (state g old) → LeavesCommitted (state g old) (state g new))
+        (registered : (version : Version) (h : List Request) → HasHistoryIn version h (state g old)
+        → LeavesCommitted (state g old) (state g new)) where
+      -- the register that the files hold is left
+      left_as_held : (it : S) → ClosesAs g new it → (h : List Request) → HoldsRegister h found
+          → IsCleanStore (g.view it) → LeavesInFiles h h (may_leave it)
+      left_as_held it closes h holds clean left may =
+          let had = finds_register h found (state g old) holds (shown it closes clean) in
+          ∥∥₁_map (left_as_found it closes clean (registered holds.version h had) left may) (λ one. inl (record {
+            version = holds.version;
+            lawful = holds.lawful;
+            db = holds.db;
+            tables_are = holds.tables_are;
+            found = subst (HoldsDatabase left) (one.1.holds holds.db.trees holds.found) one.2;
+          }))
+
       refuses_to_make : (it : S) → ClosesAs g new it → (given : OpenRefusal) → given ≡ refusal
           → IsCleanStore (g.view it) → RefusesToMake g found given (may_leave it)
       refuses_to_make it closes given same clean = record {
@@ -171,6 +192,7 @@ module _ {S : Type 0} (g : Ghosts S) (may_leave : S → Image → Type 0) (found
         no_version = subst (λ (r : OpenRefusal). (r ≡ Store) ⊎ (r ≡ NotARegister)) (sym same) no_version;
         there = λ is. let blamed = sym same ∙ is in
             (there blamed (closes.clean clean), left_as_found it closes clean (committed blamed));
+        spares = λ there. left_as_found it closes clean (shown_there there);
         leaves = left_as_made it closes clean made;
       }
 
@@ -184,5 +206,7 @@ module _ {S : Type 0} (g : Ghosts S) (may_leave : S → Image → Type 0) (found
             cause = of_some (λ it. IsCleanStore (g.view it) → RefusesToMake g found refused.refusal (may_leave it))
                 refused.store gives.store gives.back
                 (refuses_to_make gives.store closes refused.refusal (gives.same ∙ was));
+            spares = λ h holds. of_some (λ it. IsCleanStore (g.view it) → LeavesInFiles h h (may_leave it))
+                refused.store gives.store gives.back (left_as_held gives.store closes h holds);
             unopened = λ none. not_none refused.store gives.store gives.back none;
           }

@@ -17,7 +17,7 @@ use Rattle.register_desk.specs.KeyRows.{all_rows}
 use Rattle.register_files.specs.declared.register_file.Life.{Life}
 use Rattle.register_files.specs.declared.register_file.Refused.{Refused}
 use Rattle.register_files.specs.declared.values.Terms.{Terms}
-use Rattle.register_files.specs.Life.{EndsUnbegun, LeadsOnTo, LeavesInFiles, LivesOver, LivesSome}
+use Rattle.register_files.specs.Life.{EndsUnbegun, FindsNoTable, LeadsOnTo, LeavesInFiles, LivesOver, LivesSome}
 use Rattle.register_files.specs.Life.{Refuses, RefusesMaking, ServesInFiles, WritesOut}
 use Rattle.register_report.specs.ImportRows.{BeginsWithHeader, HasRowItems}
 
@@ -34,7 +34,12 @@ module _ {S : Type 0} (g : Ghosts S) (may_leave : S → Image → Type 0) (found
     -- Where the file was empty, whatever a stop leaves in the files holds the register of no request.
     pub leaves : found.db ≡ [] → IfOk result (λ store. IsCleanStore (g.view store)
         → LeavesInFiles [] [] (may_leave store))
-    -- A table of a register that is there is the one reason to refuse a database, and is as it was.
+    -- Where it is made, none of a register's tables was there.
+    pub made : IfOk result (λ store. IsCleanStore (g.view store) → FindsNoTable g found)
+    -- In files that hold a register none is made.
+    pub spares : (h : List Request) → HoldsRegister h found → IfOk result (λ store. IsCleanStore (g.view store) → ⊥)
+    -- A table of a register that is there is the one reason to refuse a database, and is as it was; and so is the
+    -- register that the files hold.
     pub refuses : IfErr result (RefusesMaking g may_leave found)
 
   -- whatever the reader tells of its bytes, and standard input tells none

@@ -87,7 +87,13 @@ pub second_opens : (a b : State) (found : Found) → found.version ≡ Second �
 second_opens a b found second checks = record {
   passed = λ clean.
       let it = checks.passed clean in
-      record { t = it.0; passes = passes_before it.0 a b it.1; mark_is = it.2; unchanged = λ _. it.1.same };
+      record {
+        t = it.0;
+        passes = passes_before it.0 a b it.1;
+        mark_is = it.2;
+        none_new = λ one. absurd (let e : Second ≡ First = sym second ∙ version_of found it.0 it.2 ∙ one in cc);
+        unchanged = λ _. it.1.same;
+      };
   refused = λ clean. tt;
   opened = λ clean t had meets.
       let told = checks.counted clean t had.holds meets in
@@ -158,6 +164,8 @@ first_opens a b d found first checks x did = record {
         t = it.0;
         passes = passes_before it.0 a b it.1;
         mark_is = it.2;
+        none_new = λ one there. (did.accepted clean).0.0
+            (subst (λ (db : Db). HasNewTable db.schema) (sym it.1.same.0.now_is) there);
         unchanged = λ second. absurd (let e : First ≡ Second = sym first ∙ version_of found it.0 it.2 ∙ second in cc);
       };
   refused = λ clean. tt;
@@ -170,7 +178,7 @@ first_opens a b d found first checks x did = record {
       record {
         has = record {
           is_open = it.3;
-          holds = it.0 t.tables (subst (λ v. HoldsIn v t.tables b.now) own here.holds);
+          holds = it.0.1 t.tables (subst (λ v. HoldsIn v t.tables b.now) own here.holds);
           committed = it.1;
         };
         mark_is = told;

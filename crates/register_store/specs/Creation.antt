@@ -8,11 +8,32 @@ use Rattle.sqlite.specs.State.{State, HasCleanDisk, Survives}
 use Rattle.sqlite_trees.specs.declared.store.Store.{Ghosts}
 use Rattle.sqlite_resolve.specs.declared.compiled.Compiled.{Compiled}
 use Rattle.sql_steps.specs.CreatedTables.{Creates, Indexes}
+use Rattle.sql_steps.specs.Steps.{Change}
 use Rattle.register_store.specs.declared.key_index.KeyIndex.{KeyIndex}
 use Rattle.register_store.specs.declared.table.TableName.{TableName}
 use Rattle.register_store.specs.Tables.{fresh, all_tables, keys, table_of, place_of, count_text, no_rows}
 use Rattle.register_store.specs.Schema.{no_schema, schema_after, schema_with, made_indexes, index_of, index_place}
 use Rattle.register_store.specs.Schema.{Holds, rows_of}
+
+-- ---- whether tables are there
+
+-- the text has a meaning under the schema
+abbrev pub HasMeaning : Schema → List ℕ → Type 0
+HasMeaning schema sql = (statement : Compiled) × (understood schema sql ≡ Ok statement)
+
+-- the table is there: the count of its rows has a meaning
+abbrev pub IsThere : TableName → Schema → Type 0
+IsThere name schema = HasMeaning schema (count_text name)
+
+-- one of the register's tables is there
+abbrev pub HasTable : Schema → Type 0
+HasTable schema = (name : TableName) × IsThere name schema
+
+-- none of those that were looked for was there, and the change is made
+abbrev pub WhereNone : (Schema → Type 0) → Change → Change
+WhereNone Has Makes old new = (Has old.schema → ⊥) × Makes old new
+
+-- ---- the whole
 
 -- an empty register, whose indexes beside those of the primary keys are those that a new one has
 pub record IsNewRegister (db : Database) : Type 0 where
@@ -20,8 +41,12 @@ pub record IsNewRegister (db : Database) : Type 0 where
   pub indexed : db.schema ≡ schema_with (fresh made_indexes)
 
 -- an empty database comes to hold one
-abbrev pub MakesRegister : Database → Database → Type 0
-MakesRegister old new = old.schema ≡ no_schema → IsNewRegister new
+abbrev pub MakesAll : Change
+MakesAll old new = old.schema ≡ no_schema → IsNewRegister new
+
+-- none of the register's tables was there, and that
+abbrev pub MakesRegister : Change
+MakesRegister = WhereNone HasTable MakesAll
 
 -- ---- the steps
 
@@ -54,27 +79,17 @@ MakesIndexes n old new = HasFirst (length all_tables) old → HasIndexes n new
 abbrev pub AddsMeta : Database → Database → Type 0
 AddsMeta old new = HasIndexes (length made_indexes) old → IsNewRegister new
 
--- ---- whether tables are there
-
--- the text has a meaning under the schema
-abbrev pub HasMeaning : Schema → List ℕ → Type 0
-HasMeaning schema sql = (statement : Compiled) × (understood schema sql ≡ Ok statement)
-
--- one of the register's tables is there: the count of its rows has a meaning
-abbrev pub HasTable : Schema → Type 0
-HasTable schema = (name : TableName) × HasMeaning schema (count_text name)
+-- ---- what a look for tables tells
 
 -- an answer to whether the schema has something; after a "no" the database is the same
-abbrev pub Answers : (Schema → Type 0) → Bool → Database → Database → Type 0
+abbrev pub Answers : (Schema → Type 0) → Bool → Change
 Answers Has true old new = Has old.schema
-Answers Has false old new = new ≡ old
+Answers Has false old new = (Has old.schema → ⊥) × (new ≡ old)
 
-abbrev pub AnswersMeaning : List ℕ → Bool → Database → Database → Type 0
-AnswersMeaning sql = Answers (λ schema. HasMeaning schema sql)
-
--- nothing is changed
-abbrev pub IsSame : Database → Database → Type 0
-IsSame old new = new ≡ old
+-- none of the first n tables is there, and the database is the same
+pub record LacksFirst (n : ℕ) (old new : Database) : Type 0 where
+  pub none : (name : TableName) → place_of name < n → IsThere name old.schema → ⊥
+  pub same : new ≡ old
 
 -- inside a transaction: the schema has what was looked for
 abbrev pub FindsInside : (Schema → Type 0) → State → State → Type 0

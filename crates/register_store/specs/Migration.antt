@@ -4,18 +4,29 @@ use Rattle.sqlite.specs.Effect.{Database, IsDatabase}
 use Rattle.sqlite.specs.Held.{Held as Connection}
 use Rattle.sqlite.specs.Schema.{Schema}
 use Rattle.sqlite_trees.specs.declared.store.Store.{Ghosts}
+use Rattle.sql_steps.specs.Steps.{Change}
 use Rattle.register_core.specs.declared.version.Version.TheVariants.{First, Second}
 use Rattle.register_store.specs.declared.table.TableName.{TableName}
 use Rattle.register_store.specs.declared.table.TableName.TheVariants.{Period, Quorum}
-use Rattle.register_store.specs.Creation.{FindsIn, HasMeaning}
+use Rattle.register_store.specs.Creation.{FindsIn, IsThere, WhereNone}
 use Rattle.register_store.specs.Schema.{Holds, HoldsIn, rows_of, schema_below}
-use Rattle.register_store.specs.Tables.{AreApartBelow, IsInRange, Layout, ShowsIn, Tables, content, count_text}
+use Rattle.register_store.specs.Tables.{AreApartBelow, IsInRange, Layout, ShowsIn, Tables, content}
 use Rattle.register_store.specs.Tables.{place_of, table_count}
+
+-- ---- the whole
+
+-- one of the tables that the second version has beside those of the first is there
+abbrev pub HasNewTable : Schema → Type 0
+HasNewTable schema = IsThere Period schema ⊎ IsThere Quorum schema
 
 -- a database that holds tables in the first version, whatever history they are of if any, comes to hold the same tables
 -- in the second
-abbrev pub Migrates : Database → Database → Type 0
-Migrates old new = (t : Tables) → HoldsIn First t old → Holds t new
+abbrev pub TakesToSecond : Change
+TakesToSecond old new = (t : Tables) → HoldsIn First t old → Holds t new
+
+-- none of the tables that the second version adds was there, and that
+abbrev pub Migrates : Change
+Migrates = WhereNone HasNewTable TakesToSecond
 
 -- ---- the steps
 
@@ -39,11 +50,7 @@ MakesNext name old new = (t : Tables) → HasTablesBelow (place_of name) t old �
 abbrev pub SetsVersion : Database → Database → Type 0
 SetsVersion old new = (t : Tables) → HasTablesBelow (table_count Second) t old → Holds t new
 
--- ---- whether they are there
-
--- one of the tables that the second version has beside those of the first is there: the count of its rows has a meaning
-abbrev pub HasNewTable : Schema → Type 0
-HasNewTable schema = HasMeaning schema (count_text Period) ⊎ HasMeaning schema (count_text Quorum)
+-- ---- what a look for them tells
 
 abbrev pub FindsNew : {S : Type 0} → (g : Ghosts S) → Connection S → Connection S → Type 0
 FindsNew g = FindsIn g HasNewTable

@@ -61,12 +61,13 @@ IsRefusal old new (Stopped error) = Unit {0}
 
 -- ---- what an opening does
 
--- what passed the checks, in the state before, since they change nothing; tables of this program's version stay as
--- they are
+-- what passed the checks, in the state before, since they change nothing; beside tables of the first version none
+-- stands that the second adds, and tables of this program's version stay as they are
 pub record Opens (old new : State) (found : Version × Counts) : Type 0 where
   pub t : Stored
   pub passes : Passes t old old
   pub mark_is : found ≡ mark t
+  pub none_new : t.version ≡ First → HasNewTable old.now.schema → ⊥
   pub unchanged : t.version ≡ current → IsUnchanged old new
 
 -- the tables stand in this program's version, committed

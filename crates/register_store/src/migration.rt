@@ -6,7 +6,7 @@ ghost use Rattle.register_store.specs.Tables.{place_of, table_count};
 ghost use Rattle.register_store.specs.Migration.{FindsNew};
 ghost use Rattle.register_store.specs.Migration.{MakesNext, Migrates, SetsVersion};
 
-use crate::creation::has_meaning;
+use crate::creation::is_there;
 use crate::error::CreateError;
 use crate::schema_change::{SchemaChange, change_schema};
 use crate::table::TableName;
@@ -38,18 +38,18 @@ fn set_version<S: Alter>(tx: &mut Transaction<'_, S>) -> Result<usize, Error>
 struct Migration;
 
 impl SchemaChange for Migration {
-    ghost use Rattle.register_store.specs.Migration.{HasNewTable, Migrates};
+    ghost use Rattle.register_store.specs.Migration.{HasNewTable, TakesToSecond};
 
     ghost has_one = { HasNewTable };
 
-    ghost makes = { Migrates };
+    ghost makes = { TakesToSecond };
 
-    /// Whether the count of a new table's rows has a meaning.
+    /// Whether one of the new tables is there.
     fn finds_one<S: Alter>(&self, tx: &mut Transaction<'_, S>) -> Result<bool, Error> {
-        if has_meaning(tx, TableName::Period.count_sql())? {
+        if is_there(tx, TableName::Period)? {
             return Ok(true);
         }
-        has_meaning(tx, TableName::Quorum.count_sql())
+        is_there(tx, TableName::Quorum)
     }
 
     fn make<S: Alter>(&self, tx: &mut Transaction<'_, S>) -> Result<(), Error> {

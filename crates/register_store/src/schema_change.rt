@@ -2,7 +2,7 @@
 ghost use Rattle.std.specs.Prelude.{◌≡◌, false, Err};
 ghost use Rattle.sqlite.specs.Held.{state};
 ghost use Rattle.sql_steps.specs.Steps.{Steps, Transacts};
-ghost use Rattle.register_store.specs.Creation.{FindsIn, FindsInside};
+ghost use Rattle.register_store.specs.Creation.{FindsIn, FindsInside, WhereNone};
 
 use crate::error::CreateError;
 use sqlite::{Alter, Connection, Error, Transaction};
@@ -44,7 +44,8 @@ fn make_where_none<S: Alter, C: SchemaChange>(
     change: &C,
 ) -> Result<(), CreateError>
     ensures same_reference { tx.new.conn.ghost_name ≡ tx.old.conn.ghost_name }
-    ensures made { Steps S.Store (λ _. C.SchemaChange.makes)
+    ensures made { Steps S.Store
+        (λ _. WhereNone C.SchemaChange.has_one C.SchemaChange.makes)
         tx.old.conn.now tx.new.conn.now result }
     ensures there { result ≡ Err CreateError.HasTables → FindsInside C.SchemaChange.has_one
         (state S.Store tx.old.conn.now) (state S.Store tx.new.conn.now) }
@@ -67,7 +68,8 @@ pub(crate) fn change_schema<S: Alter, C: SchemaChange>(
 ) -> Result<(), CreateError>
     requires { connection.old.in_transaction ≡ false }
     ensures idle { connection.new.in_transaction ≡ false }
-    ensures made { Transacts S.Store C.SchemaChange.makes connection.old connection.new result }
+    ensures made { Transacts S.Store (WhereNone C.SchemaChange.has_one C.SchemaChange.makes)
+        connection.old connection.new result }
     ensures there { result ≡ Err CreateError.HasTables
         → FindsIn S.Store C.SchemaChange.has_one connection.old connection.new }
 {

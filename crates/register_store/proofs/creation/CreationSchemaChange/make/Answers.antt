@@ -4,7 +4,7 @@ use Rattle.sql_steps.specs.Steps.{Then}
 use Rattle.sql_steps.proofs.Stepping.{steps_as, steps_then}
 use Rattle.register_store.specs.Tables.{all_tables}
 use Rattle.register_store.specs.Schema.{made_indexes}
-use Rattle.register_store.specs.Creation.{MakesRegister, MakesFirst, MakesIndexes, AddsMeta}
+use Rattle.register_store.specs.Creation.{MakesAll, MakesFirst, MakesIndexes, AddsMeta}
 use Rattle.register_store.proofs.creation.CreationSchemaChange.make.Goals as goal
 
 pub returns-clause-made : goal.returns-clause-made
@@ -19,5 +19,5 @@ returns-clause-made g c =
     (Ok c.in_ok-make_indexes.field-0) c.in_ok-make_tables.ensures.made c.in_ok-make_indexes.ensures.made in
     let three = steps_then (λ _. Then Tables Indexes) (λ _. AddsMeta) a d e c.in_ok-make_indexes.field-0
     (Ok c.in_ok-insert_meta.field-0) two c.in_ok-insert_meta.ensures.added in
-    steps_as (λ _. Then (Then Tables Indexes) AddsMeta) (λ _. MakesRegister) a e c.in_ok-insert_meta.field-0 (tt {0})
+    steps_as (λ _. Then (Then Tables Indexes) AddsMeta) (λ _. MakesAll) a e c.in_ok-insert_meta.field-0 (tt {0})
     (λ old new done first. done.2 (done.1.2 (done.1.1 first))) three

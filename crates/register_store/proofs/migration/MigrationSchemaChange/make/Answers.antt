@@ -3,7 +3,7 @@ use Rattle.sqlite.specs.Held.{state}
 use Rattle.sql_steps.specs.Steps.{Then}
 use Rattle.sql_steps.proofs.Stepping.{steps_as, steps_then}
 use Rattle.register_store.specs.declared.table.TableName.TheVariants.{Period, Quorum}
-use Rattle.register_store.specs.Migration.{MakesNext, Migrates, SetsVersion}
+use Rattle.register_store.specs.Migration.{MakesNext, SetsVersion, TakesToSecond}
 use Rattle.register_store.proofs.VersionSet.{begins}
 use Rattle.register_store.proofs.migration.MigrationSchemaChange.make.Goals as goal
 
@@ -17,6 +17,6 @@ returns-clause-made g c =
     (Ok c.in_ok-make_next-2.field-0) c.in_ok-make_next.ensures.made c.in_ok-make_next-2.ensures.made in
     let three = steps_then (λ _. Then (MakesNext Period) (MakesNext Quorum)) (λ _. SetsVersion) a d e
     c.in_ok-make_next-2.field-0 (Ok c.in_ok-set_version.field-0) two c.in_ok-set_version.ensures.set in
-    steps_as (λ _. Then (Then (MakesNext Period) (MakesNext Quorum)) SetsVersion) (λ _. Migrates) a e
+    steps_as (λ _. Then (Then (MakesNext Period) (MakesNext Quorum)) SetsVersion) (λ _. TakesToSecond) a e
     c.in_ok-set_version.field-0 (tt {0})
     (λ old new done t holds. done.2 t (done.1.2 t (done.1.1 t (begins t old holds)))) three
