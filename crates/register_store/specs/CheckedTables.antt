@@ -1,5 +1,5 @@
 -- Putting the tables of a file to the checks of opening, whatever the file's schema is.
-use Rattle.std.specs.Prelude.{◌≡◌, ◌⊎◌, ◌<◌, ℕ, pos, List, [], ◌∷◌, ◌++◌, codes, Result, IfOk, IfErr}
+use Rattle.std.specs.Prelude.{◌≡◌, ◌≤◌, ◌⊎◌, ◌<◌, ℕ, pos, List, [], ◌∷◌, ◌++◌, codes, Result, IfOk, IfErr}
 use Rattle.sqlite.specs.declared.types.Value.TheVariants.{Int, Text as Words}
 use Rattle.sqlite.specs.Order.{Row, column}
 use Rattle.sqlite.specs.Held.{Held as Connection, state}
@@ -18,6 +18,7 @@ use Rattle.register_core.specs.KeyName.{KeyName}
 use Rattle.register_core.specs.Name.{IsName}
 use Rattle.register_core.specs.Settings.{KeyNeed, TypePeriod}
 use Rattle.register_core.specs.declared.version.Version.{Version}
+use Rattle.register_core.specs.Verdict.{max_keys}
 use Rattle.register_core.specs.Version.{version_number}
 use Rattle.register_store.specs.declared.found.Found.{Found}
 use Rattle.register_store.specs.declared.error.CheckError.{CheckError}
@@ -241,7 +242,8 @@ pub record ChecksTable {T : Type 0} (name : TableName) (t : Stored) (Says : Part
 pub record TellsVersionBy (old new : State) (result : Result ℕ CheckError) : Type 0 where
   pub told : HasCleanDisk new
       → IfOk result (λ found. ((told : Version × Counts) × (found ≡ version_number told.0)
-      × ShowsAll (check_text Meta) (λ rows. ShowsRows Meta rows told) old new) ⊎ HasNewer found old new)
+      × (told.1.key_count ≤ max_keys) × ShowsAll (check_text Meta) (λ rows. ShowsRows Meta rows told) old new)
+      ⊎ HasNewer found old new)
   pub refused : HasCleanDisk new → (t : Stored) → IfErr result (IsReasonAt Meta t old new)
   pub own : HasCleanDisk new → (t : Stored) → HoldsStored t old.now → MeetsChecks t
       → IfOk result (λ found. found ≡ version_number t.version)
