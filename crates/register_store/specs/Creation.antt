@@ -29,7 +29,7 @@ IsThere name schema = HasMeaning schema (count_text name)
 abbrev pub HasTable : Schema → Type 0
 HasTable schema = (name : TableName) × IsThere name schema
 
--- none of those that were looked for was there, and the change is made
+-- nothing of what was looked for was there, and the change is made
 abbrev pub WhereNone : (Schema → Type 0) → Change → Change
 WhereNone Has Makes old new = (Has old.schema → ⊥) × Makes old new
 
@@ -81,7 +81,7 @@ AddsMeta old new = HasIndexes (length made_indexes) old → IsNewRegister new
 
 -- ---- what a look for tables tells
 
--- an answer to whether the schema has something; after a "no" the database is the same
+-- an answer to whether the schema has something; after a "no" it has not, and the database is the same
 abbrev pub Answers : (Schema → Type 0) → Bool → Change
 Answers Has true old new = Has old.schema
 Answers Has false old new = (Has old.schema → ⊥) × (new ≡ old)
