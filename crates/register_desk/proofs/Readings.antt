@@ -1,6 +1,6 @@
 -- Calls of a desk that only read, and calls that do nothing.
 use Rattle.std.proofs.Common.{◌≡◌, ℕ, ◌≢◌, ◌≤◌, false, cond, List, [], ◌∷◌, ◌++◌, Some, Result, Ok, Err}
-use Rattle.std.proofs.Common.{inl, inr, refl, sym, ap, subst, ◌∙◌, arith}
+use Rattle.std.proofs.Common.{inl, inr, refl, sym, ap, subst, ◌∙◌}
 use Rattle.sqlite_trees.specs.declared.store.Store as store
 use Rattle.sqlite.specs.State.{State, HasCleanDisk, IsUnchanged, Survives}
 use Rattle.sqlite.proofs.StateLemmas.{survives_then}
@@ -11,6 +11,7 @@ use Rattle.register_core.specs.Verdict.{is_accepted, max_keys, verdict}
 use Rattle.register_store.specs.declared.error.StoreError.{StoreError}
 use Rattle.register_store.specs.declared.error.StoreError.TheVariants.{Database, Memory, NoRegister}
 use Rattle.register_store.specs.TableReads.{seen, Calls, HoldsWhereOpen, KeepsSight, ReadsBy}
+use Rattle.register_store.proofs.Readings.{survives_none}
 use Rattle.register_store.specs.Tables.{Tables}
 use Rattle.register_store.specs.Schema.{Holds}
 use Rattle.register_desk.specs.declared.desk.Desk.{Desk}
@@ -21,18 +22,7 @@ use Rattle.register_desk.specs.DeskCalls.{KeepsAll, LooksUp}
 use Rattle.register_store.specs.TableChanges.{AreRightAt}
 use Rattle.register_desk.specs.Register.{tables, IsOver, StandsFor, Sees, Keeps, Leaves}
 
--- where no call was made a stop leaves what it left
-survives_same : (s : State) → Survives s s (λ _. ⊥)
-survives_same s = record {
-  clean = omega arith;
-  shield = λ shielded. shielded;
-  counts = omega arith;
-  limit = refl;
-  closes = λ clean open_then. inl open_then;
-  crash = λ clean trees may. inl may;
-}
-
--- and so it does after two calls that each leave that alone
+-- after two calls of which neither leaves anything new, a stop leaves what it left
 survives_both : (a b c : State) → Survives a b (λ _. ⊥) → Survives b c (λ _. ⊥) → Survives a c (λ _. ⊥)
 survives_both a b c = survives_then a b c (λ _. ⊥) (λ _. ⊥) (λ _. ⊥) (λ _ _ none. none) (λ _ _ none. none)
 
@@ -100,7 +90,7 @@ module _ {S : Type 0} (g : store.Ghosts S) where
     clean = λ clean. clean;
     counts = record { latest = refl; keys = refl };
     rows = λ t sees. sees;
-    survives = survives_same (seen g desk.connection);
+    survives = survives_none (seen g desk.connection);
   }
 
   -- one after another
