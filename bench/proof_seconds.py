@@ -18,7 +18,8 @@ import sys
 
 TOP = os.path.dirname(os.path.dirname(os.path.abspath(__file__)))
 PARTS = ("Lts", "Proof", "Answers", "Tie")
-OF_FUNCTION = {*PARTS, "Code", "Given", "Goals", "Invariants", "Kinds", "Met", "Mir", "Reads", "Statement"}
+OF_FUNCTION = {*PARTS, "Code", "Given", "Goals", "Instances", "Invariants", "Kinds", "Layout", "Met", "Mir", "Reads",
+               "Statement", "TheLink"}
 
 
 def modules(folder):
@@ -36,7 +37,8 @@ def owner_of(module, crate):
     """The function or the file that a module is of, and its part in it."""
     path = re.sub(rf"^Rattle-{crate}(-proofs|-specs)?\.?", lambda it: "" if it[1] == "-proofs" else it[0], module)
     names = path.split(".")
-    while len(names) > 1 and names[-1] in OF_FUNCTION:
+    # What a function keeps has modules of its own, as Kinds-6-0-0-2.
+    while len(names) > 1 and names[-1].split("-")[0] in OF_FUNCTION:
         if names[-1] in PARTS:
             return ".".join(names[:-1]), names[-1]
         names.pop()
@@ -63,7 +65,8 @@ def main():
     total = collections.Counter()
     for parts in seconds.values():
         total.update(parts)
-    print(f"{total.total():7.1f}  " + "".join(f"{total[part]:9.1f}" for part in PARTS) + f"  together, {len(checked)} modules")
+    cells = "".join(f"{total[part]:9.1f}" for part in PARTS)
+    print(f"{total.total():7.1f}  {cells}  together, {len(checked)} modules")
     return 0
 
 
