@@ -8,6 +8,7 @@ pub mod Walks
 pub mod Folds
 pub mod NameTexts
 pub mod NameOrder
+pub mod TextLengths
 pub mod FieldReading
 pub mod Commands
 pub mod Readers

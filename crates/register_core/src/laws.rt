@@ -1,7 +1,10 @@
 //! Laws about this crate's definitions. Each function does nothing: its contract is the law.
 ghost use Rattle.std.specs.Prelude.{◌≡◌, ◌<◌, ◌≤◌, ◌++◌, ℕ, List, [], ◌∷◌, length, true, false};
 ghost use Rattle.std.specs.Prelude.{Option, None, Some, is_some, IsSome, IsTrue, IfSome};
+ghost use Rattle.std.specs.Prelude.{IsPermutation, IsSorted};
+ghost use Rattle.std.specs.Cmp.Lexicographic.{slice_cmp};
 ghost use Rattle.std.specs.List.{AllByRecursion};
+ghost use Rattle.std.specs.Ordering.{nat_cmp};
 ghost use Rattle.lifecycle_core.specs.State.{state_at};
 ghost use Rattle.lifecycle_core.specs.Transition.{Leads};
 ghost use Rattle.period_core.specs.Fitting.{Fits, is_long, is_not_after};
@@ -17,14 +20,15 @@ ghost use Rattle.register_core.specs.KeptReply.{kept, reply};
 ghost use Rattle.register_core.specs.Laws.{IsKeptIn, sent_under, state_of_key};
 ghost use Rattle.register_core.specs.Name.{is_among};
 ghost use Rattle.register_core.specs.Custody.{custodians, approvals};
-ghost use Rattle.register_core.specs.Request.{IsDate, IsLineOf, IsRequest};
+ghost use Rattle.register_core.specs.Names.{sorted_names};
+ghost use Rattle.register_core.specs.Request.{IsCommand, IsDate, IsLineOf, IsRequest, command_text};
 ghost use Rattle.register_core.specs.Verdict.{max_keys, verdict, Repeats, Refuses};
 ghost use Rattle.register_core.specs.Verdict.{is_same_command};
 ghost use Rattle.register_core.specs.declared.version.Version.{Version};
 ghost use Rattle.register_core.specs.declared.version.Version.TheVariants.{First};
 ghost use Rattle.register_core.specs.Settings.{all_needs, all_periods};
 ghost use Rattle.register_core.specs.Version.{custodians_of, knows};
-ghost use Rattle.register_core.specs.CommandText.{IsCommandText};
+ghost use Rattle.register_core.specs.CommandText.{IsCommandText, max_command_length};
 
 /// No bytes are the line of two requests.
 pub fn one_request()
@@ -35,6 +39,17 @@ pub fn one_request()
 pub fn one_command()
     ensures { (bytes : List ℕ) (c d : Command) →
         IsCommandText bytes c → IsCommandText bytes d → c ≡ d }
+{}
+
+/// The text of a command in its range has at most 336 bytes.
+pub fn command_texts_are_short()
+    ensures { (c : Command) → IsCommand c → length (command_text c) ≤ max_command_length }
+{}
+
+/// Names in order are those that were given, each as often as it was, in order of their bytes.
+pub fn sorted_names_are_the_same()
+    ensures same { (names : List (List ℕ)) → IsPermutation names (sorted_names names) }
+    ensures order { (names : List (List ℕ)) → IsSorted (slice_cmp nat_cmp) (sorted_names names) }
 {}
 
 /// Of a lawful history's requests, no two have the same caller and number.

@@ -1,8 +1,8 @@
 -- What a turn at a reader or a writer leaves of its counts.
 use Rattle.std.specs.Prelude.{◌≡◌, ◌⊎◌, ℕ, ◌+◌, ◌-◌, ◌≤◌, ◌^◌, max, min, Bool, true, List, length, take, Option, ⊤}
 use Rattle.std.specs.Io.KnownBytes.{Appends}
-use Rattle.streams.specs.declared.watched.Turn.{Turn}
-use Rattle.streams.specs.declared.watched.Turn.TheVariants.{Done, Interrupted, Failed}
+use Rattle.streams.specs.declared.watched.turns.Turn.{Turn}
+use Rattle.streams.specs.declared.watched.turns.Turn.TheVariants.{Done, Interrupted, Failed}
 use Rattle.streams.specs.declared.watched.Watched.{Watched}
 use Rattle.streams.specs.declared.watched.WriteFault.{WriteFault}
 

@@ -1,13 +1,14 @@
 //! Readers and writers whose turns are counted and whose failure is kept.
-ghost use Rattle.std.specs.Prelude.{◌≡◌, ◌<◌, ◌≤◌, ◌↔◌, length, take, true, false, IfOk, OnOk};
+ghost use Rattle.std.specs.Prelude.{◌≡◌, ◌<◌, ◌≤◌, length, take, true, false, IfOk, OnOk};
 ghost use Rattle.std.specs.Prelude.{IfErr, OnErr};
 ghost use Rattle.std.specs.Bool.{OnFalse, OnTrue};
-ghost use Rattle.std.specs.IoError.{error_kind};
 ghost use Rattle.std.specs.Io.KnownBytes.{Appends, Consumes, IsAtEnd, Keeps};
-ghost use Rattle.streams.specs.Watched.{one_more, OnDone, OnUndone, IsFaulted, idle_after};
-ghost use Rattle.streams.specs.Watched.{StopsWithin, failed_after};
+ghost use Rattle.streams.specs.Watched.{one_more, IsFaulted, StopsWithin};
 
-use std::io::{Error, ErrorKind, Read, Write};
+mod turns;
+
+use std::io::{Read, Write};
+use turns::Turn;
 
 /// The most turns of a reader in one call.
 pub const MAX_READS: u64 = 2_000_000_000;
@@ -37,13 +38,6 @@ pub struct ReadFault;
 pub struct WriteFault {
     /// How many of the bytes it took.
     pub written: usize,
-}
-
-// What came of one turn: it was done, or an interruption kept it from doing anything, or it failed.
-enum Turn<V> {
-    Done(V),
-    Interrupted,
-    Failed,
 }
 
 impl<T> Watched<T> {
@@ -103,43 +97,6 @@ impl<T> Watched<T> {
         self.turns = 0;
         self.idle = 0;
     }
-
-    // Counts a turn that was done.
-    fn count_done(&mut self)
-        ensures { self.new ≡ record self.old { turns = one_more self.old.turns; idle = 0 } }
-    {
-        self.turns = self.turns.saturating_add(1);
-        self.idle = 0;
-    }
-
-    // Counts a turn that failed.
-    fn count_failed(&mut self)
-        ensures { self.new ≡
-            record self.old { failed = true; turns = one_more self.old.turns; idle = 0 } }
-    {
-        self.count_done();
-        self.failed = true;
-    }
-
-    // Counts a turn that ended in this error, which is an interruption or a failure.
-    fn count_error<V>(&mut self, error: &Error) -> Turn<V>
-        ensures inner { self.new.inner ≡ self.old.inner }
-        ensures turns { self.new.turns ≡ one_more self.old.turns }
-        ensures idle { self.new.idle ≡ idle_after result self.old.idle }
-        ensures failed { self.new.failed ≡ failed_after result self.old.failed }
-        ensures undone { OnDone result (λ _. ⊥) }
-        ensures kind { (result ≡ Turn.Interrupted)
-            ↔ (error_kind error.now ≡ ErrorKind.Interrupted) }
-    {
-        if error.kind() == ErrorKind::Interrupted {
-            self.turns = self.turns.saturating_add(1);
-            self.idle = self.idle.saturating_add(1);
-            Turn::Interrupted
-        } else {
-            self.count_failed();
-            Turn::Failed
-        }
-    }
 }
 
 impl<R: Read> Watched<R> {
@@ -173,27 +130,6 @@ impl<R: Read> Watched<R> {
             }
         }
         Err(ReadFault)
-    }
-
-    fn read_turn(&mut self, piece: &mut [u8]) -> Turn<usize>
-        ensures turns { self.new.turns ≡ one_more self.old.turns }
-        ensures idle { self.new.idle ≡ idle_after result self.old.idle }
-        ensures failed { self.new.failed ≡ failed_after result self.old.failed }
-        ensures bound { OnDone result (λ n. n ≤ length piece.new) }
-        ensures bytes { OnDone result (λ n.
-            Consumes (R.remaining self.old.inner) (R.remaining self.new.inner) (take n piece.new)) }
-        ensures kept { OnUndone result
-            (Keeps (R.remaining self.old.inner) (R.remaining self.new.inner)) }
-        ensures end { OnDone result (λ n.
-            n ≡ 0 → 0 < length piece.new → IsAtEnd (R.remaining self.new.inner)) }
-    {
-        match self.inner.read(piece) {
-            Ok(filled) => {
-                self.count_done();
-                Turn::Done(filled)
-            }
-            Err(error) => self.count_error(&error),
-        }
     }
 }
 
@@ -278,49 +214,5 @@ impl<W: Write> Watched<W> {
             }
         }
         false
-    }
-
-    // A write that takes nothing has failed: the writer takes no more.
-    fn write_turn(&mut self, bytes: &[u8]) -> Turn<usize>
-        requires { 0 < length bytes.now }
-        ensures turns { self.new.turns ≡ one_more self.old.turns }
-        ensures idle { self.new.idle ≡ idle_after result self.old.idle }
-        ensures failed { self.new.failed ≡ failed_after result self.old.failed }
-        ensures bound { OnDone result (λ n. (0 < n) × (n ≤ length bytes.now)) }
-        ensures bytes { OnDone result (λ n.
-            Appends (W.contents self.old.inner) (W.contents self.new.inner) (take n bytes.now)) }
-        ensures kept { OnUndone result
-            (Keeps (W.contents self.old.inner) (W.contents self.new.inner)) }
-        ensures unflushed { OnDone result (λ _. self.new.unflushed ≡ true) }
-    {
-        match self.inner.write(bytes) {
-            Ok(0) => {
-                self.count_failed();
-                Turn::Failed
-            }
-            Ok(taken) => {
-                self.count_done();
-                self.unflushed = true;
-                Turn::Done(taken)
-            }
-            Err(error) => self.count_error(&error),
-        }
-    }
-
-    fn flush_turn(&mut self) -> Turn<()>
-        ensures turns { self.new.turns ≡ one_more self.old.turns }
-        ensures idle { self.new.idle ≡ idle_after result self.old.idle }
-        ensures failed { self.new.failed ≡ failed_after result self.old.failed }
-        ensures bytes { Keeps (W.contents self.old.inner) (W.contents self.new.inner) }
-        ensures flushed { OnDone result (λ _. self.new.unflushed ≡ false) }
-    {
-        match self.inner.flush() {
-            Ok(()) => {
-                self.count_done();
-                self.unflushed = false;
-                Turn::Done(())
-            }
-            Err(error) => self.count_error(&error),
-        }
     }
 }
