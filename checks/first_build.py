@@ -56,7 +56,10 @@ def tell(told, *words):
 
 
 def rt():
-    """Is `rt lib --jobs 1`, or `rt run --jobs 1`, in the folder of a crate."""
+    """Is `rt version`, or `rt lib --jobs N` and `rt run --jobs N` in the folder of a crate."""
+    if sys.argv[1:] == ["version"]:
+        print(f"another-kit logic {os.environ['LOGIC']}")
+        return
     crate, told = os.path.basename(os.getcwd()), pathlib.Path(os.environ["TOLD"])
     if crate == "keyreg":
         write_program(HALF)
@@ -89,8 +92,14 @@ def crates_below():
 
 CRATES = crates_below()
 TOTAL = len(CRATES)
-# Those that are begun at first, side by side; moment_core and sql_steps are two of them.
-FIRST = [name for name, below in CRATES.items() if not below]
+# The program logic that is told to the script, and that the copy has.
+LOGIC = re.search(r"logic ([0-9a-f]{16})", (TOP / "README.md").read_text(encoding="utf-8"))[1]
+CORES = len(os.sched_getaffinity(0))
+
+
+def needs(crate):
+    """Each crate of ours that one stands on, by way of others too."""
+    return {name for below in CRATES[crate] for name in {below} | needs(below)}
 
 
 def until(holds, seconds=30):
@@ -124,18 +133,21 @@ class Copy:
             shutil.copytree(TOP / name, self.top / name, ignore=leaving)
         self.words = [self.top / "keyreg", *WORDS]
         path = f"{folder / 'bin'}:{os.environ['PATH']}"
-        self.environ = {**os.environ, "PATH": path, "TOLD": self.told, "TMPDIR": self.rest}
+        more = {"PATH": path, "TOLD": self.told, "TMPDIR": self.rest, "LOGIC": LOGIC}
+        self.environ = {**os.environ, **more}
 
     def start(self, *words):
         """A call without a terminal, at the head of a group of processes."""
         ends = {"stdin": subprocess.PIPE, "stdout": subprocess.PIPE, "stderr": subprocess.PIPE}
-        words = [self.words[0], *words] if words else self.words
+        words = [self.top / "keyreg", *words] if words else self.words
         return subprocess.Popen(
             words, env=self.environ, text=True, start_new_session=True, **ends)
 
-    def call(self):
+    def call(self, *before):
         """The status of such a call, what it wrote, and what it said."""
+        words, self.words = self.words, [*before, *self.words]
         begun = self.start()
+        self.words = words
         wrote, said = begun.communicate(GIVEN, timeout=120)
         return begun.returncode, wrote, said
 
@@ -176,6 +188,13 @@ class Copy:
             name, _, text = part.partition("=")
             (self.told / name).write_text(text, encoding="utf-8")
 
+    def events(self):
+        """What the calls of `rt` told, in order: the kind, the crate and the rest."""
+        with contextlib.suppress(FileNotFoundError):
+            lines = (self.told / "journal").read_text(encoding="utf-8").splitlines()
+            return [(line.split()[0], line.split()[1], line.split()[2:]) for line in lines]
+        return []
+
     def begin(self, crate):
         """Whether the crate is in hand."""
         return any(words[0] == crate for words in self.journal("begun"))
@@ -198,6 +217,53 @@ class Copy:
         return [words[0] for words in self.journal("begun") if lives(words[1])]
 
 
+def in_order(copy, cores):
+    """Faults of what was begun when, and with how many jobs, on so many cores."""
+    proved, jobs = set(), {}
+    for kind, crate, rest in copy.events():
+        if kind == "ended":
+            proved.add(crate)
+            jobs.pop(crate, None)
+            continue
+        verb, flag, number = rest[1:]
+        jobs[crate] = int(number)
+        if not needs(crate) <= proved:
+            yield f"{crate} is begun before {needs(crate) - proved}"
+        if (verb, flag) != ("run" if crate == "keyreg" else "lib", "--jobs") or not 1 <= jobs[crate] <= 4:
+            yield f"{crate}: rt {rest[1:]}"
+        if sum(jobs.values()) > cores:
+            yield f"{jobs} jobs on {cores} cores"
+
+
+def one_core(copy):
+    """On one core one crate is in hand, with one job."""
+    copy.tells()
+    copy.renew()
+    called = copy.call("taskset", "-c", str(min(os.sched_getaffinity(0))))
+    yield from copy.built(called, "on one core")
+    yield from in_order(copy, 1)
+
+
+def without_the_kit(copy):
+    """Where `rt` is not there, or has another program logic, one line says so, and nothing is begun."""
+    environ, folder = copy.environ, copy.told.parent / "no-rt"
+    folder.mkdir()
+    for name in ("bash", "awk", "sed", "dirname", "readlink", "find", "head", "cut", "flock", "touch", "mkdir", "cat"):
+        (folder / name).symlink_to(shutil.which(name))
+    cases = {"there is no rt": {"PATH": str(folder)}, f"another program logic than {LOGIC}": {"LOGIC": "0" * 16}}
+    for said, changed in cases.items():
+        copy.tells()
+        copy.renew()
+        copy.environ = {**environ, **changed}
+        called = copy.call()
+        copy.environ = environ
+        is_one = called[2].count("\n") == 1 and said in called[2] and "README.md" in called[2]
+        if called[:2] != (69, "") or not is_one or copy.journal("begun"):
+            yield f"{said}: {called}"
+    copy.tells()
+    yield from copy.built(copy.call(), "with the kit again")
+
+
 def silent(copy):
     """Without a terminal: a line for each crate as it ends, after the announcement."""
     copy.tells("wait-moment_core=1.5")
@@ -207,14 +273,10 @@ def silent(copy):
     if [row[1:] for row in ended] != [(str(at + 1), str(TOTAL)) for at in range(TOTAL)]:
         yield f"without a terminal: {ended}"
     names = [row[0] for row in ended]
-    for at, name in enumerate(names):
-        if not set(CRATES[name]) <= set(names[:at]):
-            yield f"{name} is proved before what it stands on"
-    if set(names) != set(CRATES) or names.index("moment_core") != len(FIRST) - 1:
+    slow = names.index("moment_core") if set(names) == set(CRATES) else 0
+    if [name for name in names[:slow] if "moment_core" in needs(name)] or "streams" not in names[:slow]:
         yield f"without a terminal: no line for each crate as it ends: {names}"
-    for crate, _, *words in copy.journal("begun"):
-        if words != ["run" if crate == "keyreg" else "lib", "--jobs", "1"]:
-            yield f"{crate}: rt {words}"
+    yield from in_order(copy, CORES)
     first = called[2].split("is proved")[0]
     script = copy.words[0].read_text(encoding="utf-8")
     for cores in ("four", "two"):
@@ -227,7 +289,7 @@ def silent(copy):
 
 def terminal(copy):
     """On a terminal: one line that is written over, with what is in hand, functions and a clock."""
-    copy.tells("wait-sql_steps=2.5")
+    copy.tells("wait-sql_steps=4")
     copy.renew()
     called = copy.on_terminal(80)
     yield from copy.built(called, "on a terminal")
@@ -384,7 +446,7 @@ def main():
     found = []
     with tempfile.TemporaryDirectory() as folder:
         copy = Copy(pathlib.Path(folder))
-        tests = (silent, terminal, used_at_once, built_again, failed, interrupted, together)
+        tests = (silent, one_core, without_the_kit, terminal, used_at_once, built_again, failed, interrupted, together)
         for test in tests:
             try:
                 found += test(copy)
