@@ -9,7 +9,8 @@ parts, all where none is named:
     words      each definition of a crate's specs/ that a clause of a public function cites stands
                in docs/MODEL.md, in a row that names its file
     promises   each name in docs/PROMISES.md is one of the code; each function that it or a table of
-               README.md names with clauses has these; no cell there has more than 25 words
+               README.md names with clauses has these; each law stands there with each of its
+               clauses; no cell there has more than 25 words
     paths      each path and link of a document leads to a file, and an anchor to a heading
     calls      each call in the example of a crate's src/lib.rt is that of a function of ours with
                as many arguments
@@ -184,8 +185,24 @@ def unknown_names(line):
     return [text for text in texts if not is_known(text)]
 
 
+def law_faults():
+    """The laws that PROMISES does not name, with each of their clauses."""
+    rows = [cells(line)[-1] for _, line in numbered("docs/PROMISES.md") if cells(line)]
+    faults = []
+    for law in sources_functions():
+        if not law.path.endswith("/laws.rt") or not law.is_public:
+            continue
+        told = [set(QUOTED.findall(row)) for row in rows
+                if re.search(rf"`(?:\w+::)*{law.name}`", row)]
+        if not told:
+            faults.append(f"docs/PROMISES.md: no law `{law.name}` ({law.crate})")
+        faults += [f"docs/PROMISES.md: `{law.name}` without its clause `{clause}`"
+                   for clause in sorted(law.clauses) if told and not any(clause in row for row in told)]
+    return faults
+
+
 def promise_faults():
-    faults, lists = [], 0
+    faults, lists = law_faults(), 0
     for document in ("README.md", "docs/PROMISES.md"):
         for number, line in numbered(document):
             cell = cells(line)[-1] if cells(line) else ""

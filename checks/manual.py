@@ -20,10 +20,11 @@ from registers import PROGRAM
 TOP = pathlib.Path(__file__).resolve().parent.parent
 PAGE = TOP / "docs" / "keyreg.1"
 SERVICE = TOP / "examples" / "keyreg.service"
-HELP = ("h, -help", None)
+# The options that clap itself answers, by their short names.
+OWN = {"h": ("h, -help", None), "V": ("V, -version", None)}
 OPTION = re.compile(r"^\s+(?:-(\w), )?--([\w-]+)(?: <(\w+)>)?", re.M)
 COMMAND = re.compile(r"^  (\w+)  ", re.M)
-FLAG = re.compile(r"Fl (h [|,] -help|-[\w-]+)(?: Ar (\w+))?")
+FLAG = re.compile(r"Fl ([hV] [|,] -\w+|-[\w-]+)(?: Ar (\w+))?")
 # The lines that the page quotes, and the names that the specification has for them.
 QUOTED = re.compile(r'^\.It Li "keyreg: (\w+)"', re.M)
 NAMED = re.compile(r"^\| 3\d \| `(\w+)` \||`keyreg: (\w+)`", re.M)
@@ -41,13 +42,12 @@ def helped(*words):
 def options_of(text):
     """The options that a help shows, each with the name of its value."""
     found = OPTION.findall(text)
-    return [HELP if short else (f"-{name}", value or None) for short, name, value in found]
+    return [OWN[short] if short else (f"-{name}", value or None) for short, name, value in found]
 
 
 def flags_of(text):
     """The options that a part of the page shows, likewise."""
-    found = [(name, value or None) for name, value in FLAG.findall(text)]
-    return [HELP if name.startswith("h") else (name, value) for name, value in found]
+    return [OWN.get(name[0], (name, value or None)) for name, value in FLAG.findall(text)]
 
 
 def synopsis_of(page):
@@ -83,9 +83,9 @@ def linted():
 def differences(page):
     """What the page has otherwise than the program's help and the specification."""
     commands = COMMAND.findall(helped().split("Commands:\n")[1].split("\n\n")[0])
-    wanted = {"": [HELP]}
+    wanted = {"": options_of(helped())}
     for word in commands:
-        wanted[word] = [option for option in options_of(helped(word)) if option != HELP]
+        wanted[word] = [option for option in options_of(helped(word)) if option != OWN["h"]]
     for name, found in (("synopsis", synopsis_of(page)), ("sections", sections_of(page))):
         for word in {**wanted, **found}:
             if found.get(word) != wanted.get(word):

@@ -16,11 +16,12 @@ ADDED = ("period", "quorum")
 FIRST_ROWS = {name: rows for name, rows in APPROVED_ANEW_ROWS.items() if name not in ADDED}
 FIRST_ROWS["meta"] = [(1, 1, 109, 1)]
 # What an office may have beside the register's own tables, and what is in the way of it or makes it no register.
-OWN = """
-CREATE INDEX by_moment ON request (moment);
+BESIDE = """
 CREATE TABLE notes (key_no INTEGER, note TEXT);
-INSERT INTO notes VALUES (1, 'x');
+CREATE INDEX by_note ON notes (note);
+INSERT INTO notes VALUES (1, 'x'), (2, 'y');
 """
+OWN = "CREATE INDEX by_moment ON request (moment);" + BESIDE
 IN_THE_WAY = "CREATE INDEX quorum ON keys (owner);"
 REFUSED = {
     "CREATE TABLE period (kind INTEGER PRIMARY KEY) STRICT;": "NotARegister",
@@ -41,6 +42,14 @@ def schema_of(connection):
     """All but what version 2 added."""
     named = "SELECT name, sql FROM sqlite_schema WHERE tbl_name NOT IN (?, ?) ORDER BY name"
     return connection.execute(named, ADDED).fetchall()
+
+
+def others_of(connection):
+    """The rows of each table that is none of the register's, the schema and the rows of its indexes with them."""
+    named = "SELECT name, type, tbl_name, sql FROM sqlite_schema ORDER BY name"
+    own = {name for name, kind, _, _ in connection.execute(named) if kind == "table"} - {*FIRST_ROWS, *ADDED}
+    schema = [row for row in connection.execute(named) if row[2] in own]
+    return schema, {name: connection.execute(f"SELECT rowid, * FROM {name} ORDER BY 1").fetchall() for name in sorted(own)}
 
 
 def write(file, more=""):
@@ -70,7 +79,7 @@ def look(file):
     if version == VERSION:
         for name in ADDED:
             expect(connection.execute(f"SELECT count(*) FROM {name}").fetchone() == (0,), f"{file}: rows of {name}")
-    found = first_rows(connection), schema_of(connection)
+    found = first_rows(connection), schema_of(connection), others_of(connection)
     connection.close()
     return version, found
 
@@ -112,15 +121,30 @@ def is_refused(file, name):
     with open(file, "rb") as source:
         before = source.read()
     connection = sqlite3.connect(file)
-    rows = first_rows(connection), schema_of(connection)
+    rows = first_rows(connection), schema_of(connection), others_of(connection)
     connection.close()
     done = subprocess.run([PROGRAM, "run", "--file", file], input=b"200 ann 9 advance\n", capture_output=True, check=False)
     expect((done.returncode, done.stdout, done.stderr) == (2, b"", f"keyreg: {name}\n".encode()), f"{name}: {done}")
     with open(file, "rb") as source:
         expect(name == "Store" or source.read() == before, f"{name}: the file has changed")
     connection = sqlite3.connect(file)
-    expect((first_rows(connection), schema_of(connection)) == rows, f"{name}: the rows have changed")
+    expect((first_rows(connection), schema_of(connection), others_of(connection)) == rows, f"{name}: the rows have changed")
     expect(connection.execute("SELECT version FROM meta").fetchone() != (VERSION,), f"{name}: it was taken to version 2")
+    connection.close()
+
+
+def is_made_beside(file):
+    """A register is made beside an office's own table, which stays as it was, and goes on there."""
+    connection = sqlite3.connect(file)
+    connection.executescript(BESIDE)
+    others = others_of(connection)
+    connection.close()
+    keyreg(["init", "--file", file])
+    replies = keyreg(["run", "--file", file], ["100 ann 1 register data-encryption bob 0 - - payroll disks"])
+    expect(replies == ["ok 1 Active 100"], f"beside an office's own table: {replies}")
+    connection = sqlite3.connect(file)
+    expect(others_of(connection) == others, "the office's own table after a creation")
+    expect(connection.execute("SELECT count(*) FROM keys").fetchone() == (1,), "a register beside an office's own table")
     connection.close()
 
 
@@ -136,12 +160,13 @@ def main():
         write_dump(dump)
         is_taken(dump)
         expect(keyreg(["run", "--file", dump], ["4000 zed 100 advance"]) == ["ok 0 - 4000"], "the older program's file goes on")
+        is_made_beside(os.path.join(folder, "beside.keyreg"))
         for place, (more, name) in enumerate(REFUSED.items()):
             file = os.path.join(folder, f"refused_{place}.keyreg")
             write(file, more)
             is_refused(file, name)
     print(f"{len(taken)} files of version 1 that SQLite {sqlite3.sqlite_version} wrote and one of an older program were taken to version 2 and go "
-          f"on; {len(REFUSED)} were refused and left as they were")
+          f"on; {len(REFUSED)} were refused and left as they were; an office's own table stays as it was, in each and beside a register that is made")
 
 
 if __name__ == "__main__":

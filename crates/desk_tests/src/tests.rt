@@ -57,6 +57,12 @@ fn one_table_is_enough_to_refuse(rt: HostRuntime) -> Result<(), Fail> {
 }
 
 #[test]
+fn edited_rows_are_told(rt: HostRuntime) -> Result<(), Fail> {
+    assert_eq!(rt; desk_trials::edited_row_not_told(rt.alloc())?, None);
+    Ok(())
+}
+
+#[test]
 fn wrong_edits_are_refused(rt: HostRuntime) -> Result<(), Fail> {
     assert_eq!(rt; desk_trials::edit_not_refused(rt.alloc())?, None);
     Ok(())
@@ -239,5 +245,11 @@ fn a_prefix_of_a_request_applies_nothing(rt: HostRuntime) -> Result<(), Fail> {
 fn a_troubled_writer_ends_the_exchange(rt: HostRuntime) -> Result<(), Fail> {
     assert_eq!(rt; desk_trials::failed_reply_passed_over(rt.alloc())?, None);
     assert!(rt; desk_trials::is_stuck_writer_left(rt.alloc())?);
+    Ok(())
+}
+
+#[test]
+fn a_long_run_is_answered(rt: HostRuntime) -> Result<(), Fail> {
+    assert!(rt; desk_trials::is_long_run_answered(rt.alloc())?);
     Ok(())
 }

@@ -5,6 +5,7 @@
 mod cases;
 mod creations;
 mod desks;
+mod edited_rows;
 mod exchanges;
 mod exports;
 mod faults;
@@ -13,6 +14,7 @@ mod imports;
 mod largest;
 mod layouts;
 mod long_lines;
+mod long_runs;
 mod migrations;
 mod openings;
 mod repeats;
@@ -22,6 +24,7 @@ mod steps;
 pub use cases::first_wrong;
 pub use creations::{is_made_once, table_not_enough_to_refuse};
 pub use desks::{are_keys_shown, are_values_of_no_line_refused, is_key_shown_whole};
+pub use edited_rows::edited_row_not_told;
 pub use exchanges::{
     failed_reply_passed_over, is_stuck_writer_left, prefix_that_acts, worked_exchange_at_fault,
 };
@@ -35,6 +38,7 @@ pub use imports::{
 pub use largest::is_largest_key_held;
 pub use layouts::goes_on_with_indexes_between;
 pub use long_lines::{is_long_rest_counted, long_line_not_refused};
+pub use long_runs::is_long_run_answered;
 pub use migrations::{
     first_version, first_version_not_refused, first_version_not_taken_on, is_index_in_the_way_told,
     wrong_of_first_version,

@@ -1,10 +1,14 @@
 //! The files of a register on the machine's disk.
 ghost use Rattle.sqlite.specs.WalFiles.{image_at};
+ghost use Rattle.sqlite.specs.Files.{over_files};
 ghost use Rattle.sqlite_store.specs.FileStore as files;
+ghost use Rattle.register_files.specs.Closing.{ClosesFiles};
 
 use register_desk::OpenRefusal;
-use register_files::Files;
+use register_files::{Closed, Files, LogCopy};
 use sqlite::{Connection, Error, ErrorCode, FileFrom, FileStore, Start};
+use sqlite_disk::Disk;
+use sqlite_trees::store::Store;
 use std::fs;
 
 /// The register's files as the kit opens them. `S` says what they hold at first, and what a torn
@@ -18,6 +22,35 @@ impl<S: Start> DiskFiles<S> {
     /// The files that begin so.
     pub fn new(start: S) -> Self {
         DiskFiles { start }
+    }
+}
+
+/// Copies the log into the database file, if that can be done.
+fn close_store<D: Disk + Drop>(mut store: FileStore<D>) -> Closed<FileStore<D>>
+    ensures { ClosesFiles over_files (λ left. (files.state left).may_leave) store result }
+{
+    if store.is_broken() {
+        return Closed {
+            store,
+            log: LogCopy::Kept,
+        };
+    }
+    // Nothing is open, but only this store's rollback says of its log that it has no more than
+    // what was committed.
+    store.rollback();
+    match store.checkpoint() {
+        Ok(()) => Closed {
+            store,
+            log: LogCopy::Copied,
+        },
+        Err(_) if store.is_broken() => Closed {
+            store,
+            log: LogCopy::Broken,
+        },
+        Err(_) => Closed {
+            store,
+            log: LogCopy::Kept,
+        },
     }
 }
 
@@ -48,7 +81,7 @@ impl<S: Start> Files for DiskFiles<S> {
         }
     }
 
-    fn checkpoint(mut left: FileStore<FileFrom<S>>) {
-        let _ = left.checkpoint();
+    fn close(store: FileStore<FileFrom<S>>) -> Closed<FileStore<FileFrom<S>>> {
+        close_store(store)
     }
 }

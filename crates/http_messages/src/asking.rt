@@ -6,7 +6,7 @@ ghost use Rattle.httparse.specs.Grammar.{RequestHead};
 ghost use Rattle.httparse.specs.Spans.{IsRequestAt, IsRequestWithin, header_bytes};
 ghost use Rattle.streams.specs.Watched.{IsFaulted};
 ghost use Rattle.http_messages.specs.CommandBody.{IsInRange};
-ghost use Rattle.http_messages.specs.Content.{HasRead, ReadsInput};
+ghost use Rattle.http_messages.specs.Content.{HasRead, ReadsInput, TellsFault};
 ghost use Rattle.http_messages.specs.Asked.{AsksFor, AsksBody, AsksAfter, AsksPost, HasHost};
 ghost use Rattle.http_messages.specs.Asked.{IsFrom, max_body_length};
 ghost use Rattle.http_messages.specs.HeaderFields.{AreGathered, IsLength, Lines};
@@ -293,6 +293,7 @@ pub fn ask<R: Read>(alloc: Global, routes: &mut Routes, reader: &mut Watched<R>)
     ensures in_range { IfOk result.asked (λ asked. IfSome asked IsInRange) }
     ensures fault { IfErr result.asked (λ fault. fault ≡ AskFault.ReadFault
         → IsFaulted reader.new.failed MAX_EXCHANGE_READS reader.new.turns) }
+    ensures tells { TellsFault reader.old.failed reader.new.failed result.asked }
     ensures bounded { reader.old.turns ≤ MAX_EXCHANGE_READS
         → reader.new.turns ≤ MAX_EXCHANGE_READS }
 {

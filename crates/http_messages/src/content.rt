@@ -6,7 +6,7 @@ ghost use Rattle.serde_json.specs.Data.{Data};
 ghost use Rattle.serde_json.specs.Read.{read};
 ghost use Rattle.serde_json.specs.View.{view};
 ghost use Rattle.streams.specs.Watched.{IsFaulted};
-ghost use Rattle.http_messages.specs.Content.{GetsBody, HasRead};
+ghost use Rattle.http_messages.specs.Content.{GetsBody, HasRead, TellsFault};
 ghost use Rattle.http_messages.specs.declared.head.TheConstants.{MAX_EXCHANGE_READS};
 
 use crate::asked::AskFault;
@@ -35,6 +35,8 @@ fn read_more<R: Read>(most: usize, body: &mut Vec<u8>, reader: &mut Watched<R>) 
         × OnOk result.kept (body.new.items ≡ body.old.items ++ more) }
     ensures few { result.count ≤ most }
     ensures end { OnOk result.kept (result.count ≡ 0 → IsAtEnd (R.remaining reader.new.inner)) }
+    ensures sound { OnOk result.kept (reader.new.failed ≡ reader.old.failed) }
+    ensures tells { TellsFault reader.old.failed reader.new.failed result.kept }
     ensures fault { IfErr result.kept (λ fault. fault ≡ AskFault.ReadFault
         → IsFaulted reader.new.failed MAX_EXCHANGE_READS reader.new.turns) }
     ensures bounded { reader.old.turns ≤ MAX_EXCHANGE_READS
@@ -90,6 +92,7 @@ pub(crate) fn read_body<R: Read>(
     ensures read { HasRead (R.remaining reader.old.inner) (R.remaining reader.new.inner)
         result.read }
     ensures few { result.read ≤ length }
+    ensures tells { TellsFault reader.old.failed reader.new.failed result.body }
     ensures fault { IfErr result.body (λ fault. fault ≡ AskFault.ReadFault
         → IsFaulted reader.new.failed MAX_EXCHANGE_READS reader.new.turns) }
     ensures bounded { reader.old.turns ≤ MAX_EXCHANGE_READS

@@ -3,5 +3,6 @@
 mod acting;
 mod acts;
 mod files;
+mod serve_words;
 mod served;
 mod tables_in_files;

@@ -248,3 +248,19 @@ module _ {S T R : Type 0} (g : store.Ghosts S) (Found : Tables → T → Type 0)
         (calls h stands (subst (λ k. HasCleanDisk (seen g k)) same.connection clean));
     opened = tt;
   }
+
+  -- what the store gives is none that a register holds, and breaks the desk
+  pub looks_refused : (value : T) (new : Desk S g) (end : End) → IsWhole old
+      → ReadsBy Found (seen g old.connection) (seen g after) (Ok value)
+      → ((h : List Request) → StandsFor g old h → HasCleanDisk (seen g after) → Calls most old.connection after)
+      → KeepsAll (called old after within) new → (end ≡ ends.Store) × IsBroken new
+      → LooksUp {T = R} g most old new (Err end)
+  looks_refused value new end whole reads calls same is = record {
+    ends = subst (EndsBy old new) (sym is.0) (whole, is.1);
+    reads = only_read g Found old new after (Ok value) whole reads same.connection
+        (record { latest = same.counts.latest; keys = same.counts.keys })
+        (λ still t sees clean. absurd (let both = sym still ∙ is.1 in cc));
+    steps = λ h stands clean. subst (λ k. Calls most old.connection k) (sym same.connection)
+        (calls h stands (subst (λ k. HasCleanDisk (seen g k)) same.connection clean));
+    opened = tt;
+  }

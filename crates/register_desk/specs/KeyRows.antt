@@ -1,6 +1,6 @@
 -- Keys that are given one at a time: all of them by number, or those that are due for rotation.
 use Rattle.std.specs.Option.{option_map}
-use Rattle.std.specs.Prelude.{◌≡◌, ℕ, ◌+◌, List, [], ◌∷◌, ◌++◌, length, map, take, Option, None, Some}
+use Rattle.std.specs.Prelude.{◌≡◌, ℕ, ◌+◌, ◌≤◌, List, [], ◌∷◌, ◌++◌, length, map, take, Option, None, Some}
 use Rattle.sqlite_trees.specs.declared.store.Store.{Ghosts}
 use Rattle.key_rows.specs.declared.key_row.KeyRow.{KeyRow}
 use Rattle.key_rows.specs.DueRows.{AreDue, AreFirstDue, stop_of}
@@ -63,6 +63,18 @@ abbrev pub IsAfterRows : Scan → List KeyRow → Type 0
 IsAfterRows (ByNumber last) given = last ≡ length given
 IsAfterRows (ByStop until last run) given = last ≡ last_cursor first_cursor given
 
+-- the number of the key that the scan is after
+abbrev pub last_number : Scan → ℕ
+last_number (ByNumber last) = last
+last_number (ByStop until last run) = last.number
+
+-- The next row of a scan of all keys, whatever the tables hold: it has the next number, and none comes only after as
+-- many as are counted.
+abbrev pub CountsOn : ℕ → Scan → Option KeyRow → Type 0
+CountsOn keys (ByNumber last) None = keys ≤ last
+CountsOn keys (ByNumber last) (Some row) = row.number ≡ last + 1
+CountsOn keys (ByStop until last run) found = Unit {0}
+
 abbrev pub after_row : Scan → KeyRow → Scan
 after_row (ByNumber last) r = ByNumber r.number
 after_row (ByStop until last run) r = ByStop until (cursor_of_row r) (next_run last (stop_of r))
@@ -87,6 +99,10 @@ module _ {S : Type 0} {g : Ghosts S} where
   -- None for all rows, or the moment up to which rows are due
   abbrev pub until_of : KeyRows S g → Option ℕ
   until_of rows = due_until rows.scan
+
+  -- the number of the last key that was given
+  abbrev pub last_of : KeyRows S g → ℕ
+  last_of rows = last_number rows.scan
 
   -- of all these rows, these were given so far; where the end is reached, they are all that are to be given
   pub record HaveGiven (rows : KeyRows S g) (all given : List KeyRow) : Type 0 where

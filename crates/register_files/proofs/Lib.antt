@@ -1,4 +1,5 @@
 pub mod Decimals
+mod OfBoth
 mod Living
 mod Refusing
 mod Served

@@ -13,6 +13,9 @@ use Rattle.register_desk.specs.DatabaseFiles.{HoldsRegister}
 use Rattle.register_desk.specs.Desk.{IsClean, IsWhole}
 use Rattle.register_desk.specs.Register.{StandsFor}
 use Rattle.register_desk.specs.Lives.{LeavesLife, LivesSome as RunsSome, life_of}
+use Rattle.register_files.specs.declared.files.Closed.{Closed}
+use Rattle.register_files.specs.Closing.{ClosesDesk, LeavesAsDesk}
+use Rattle.register_files.proofs.OfBoth.{of_both}
 use Rattle.register_files.specs.FileCalls.{LivesAnyway}
 use Rattle.register_files.specs.Life.{LeadsOnTo, LeavesLifeInFiles, LivesSome}
 
@@ -38,22 +41,21 @@ module _ {S : Type 0} (g : Ghosts S) (may_leave : Image → Type 0) (outcome : O
 
 -- a call that opened a desk, and was a run over some items of whatever history that stood for
 pub lives_anyway : {S : Type 0} (g : Ghosts S) (may_leave : S → Image → Type 0) (found : Image) (outcome : Outcome)
-    (store : S) (old new : Option (List ℕ)) (kept now : Desk S g) → IsWhole kept
-    → ((h : List Request) (items : List (Option Request)) (end : Finish) (replies : ℕ)
-    → LeavesLife g h items end replies now → IsCleanStore (g.view store)
-    → LeavesLifeInFiles h items end replies (may_leave store))
-    → (IsCleanStore (g.view store) → IsClean g now) → (IsClean g now → IsClean g kept)
+    (files : Closed S) (old new : Option (List ℕ)) (kept now : Desk S g) → IsWhole kept
+    → (IsCleanStore (g.view files.store) → ClosesDesk g may_leave now files)
+    → (IsCleanStore (g.view files.store) → IsClean g now) → (IsClean g now → IsClean g kept)
     → ((h : List Request) → IsLawful h → HoldsRegister h found → IsClean g kept → StandsFor g kept h)
     → ((h : List Request) → StandsFor g kept h → IsClean g now
     → RunsSome g h outcome.end outcome.replies old new kept now)
-    → LivesAnyway g may_leave found old new (Ok (record { outcome = outcome; store = store }))
-lives_anyway g may_leave found outcome store old new kept now whole into closes goes_on stands runs =
-    let some = λ (clean : IsCleanStore (g.view store)) (h : List Request) (lawful : IsLawful h)
-    (holds : HoldsRegister h found).
-    lives_some g (may_leave store) outcome old new kept now (λ h items end replies life. into h items end replies life clean)
+    → LivesAnyway g may_leave found old new (Ok (record { outcome = outcome; files = files }))
+lives_anyway g may_leave found outcome files old new kept now whole into closes goes_on stands runs =
+    let some = λ (clean : IsCleanStore (g.view files.store)) (may : Image → Type 0) (leaves : LeavesAsDesk g now may)
+    (h : List Request) (lawful : IsLawful h) (holds : HoldsRegister h found).
+    lives_some g may outcome old new kept now leaves.lives
     h (runs h (stands h lawful holds (goes_on (closes clean))) (closes clean)) whole in
     record {
-      some = λ h lawful holds clean. some clean h lawful holds;
-      leads = λ clean. leads_on g (may_leave store) outcome old new kept now found (some clean);
+      some = λ h lawful holds clean. of_both (into clean) (λ may leaves. some clean may leaves h lawful holds);
+      leads = λ clean. of_both (into clean)
+          (λ may leaves. leads_on g may outcome old new kept now found (some clean may leaves));
       refuses = tt;
     }

@@ -21,6 +21,7 @@ use Rattle.register_desk.specs.OpenRefusal.{LeavesStored, RefusesNoTable, ShowsT
 use Rattle.register_desk.specs.Register.{HasHistoryIn}
 use Rattle.register_desk.proofs.Found.{finds_register, lawful_there, registered_left}
 use Rattle.register_desk.proofs.Opened.{stored_in}
+use Rattle.register_files.specs.declared.files.Closed.{Closed}
 use Rattle.register_files.specs.declared.register_file.Refused.{Refused}
 use Rattle.register_files.specs.FileCalls.{MakesRegister}
 use Rattle.register_files.specs.Life.{ClosesAs, GivesBack, IsFoundIn, LeavesBehindIn, LeavesFound, LeavesInFiles}
@@ -35,9 +36,9 @@ not_none o x is none = let both = sym is ∙ none in absurd (cc)
 
 module _ {S : Type 0} (g : Ghosts S) (may_leave : S → Image → Type 0) (found : Image) where
   -- no register was made
-  pub made_none : (P : Refused S → Type 0) (result : Result S (Refused S)) → IsErrAnd result P
+  pub made_none : (P : Refused S → Type 0) (result : Result (Closed S) (Refused S)) → IsErrAnd result P
       → IfErr result (RefusesMaking g may_leave found) → MakesRegister g may_leave found result
-  made_none P (Ok store) is refuses = absurd is
+  made_none P (Ok files) is refuses = absurd is
   made_none P (Err refused) is refuses = record {
     leaves = λ none. tt;
     made = tt;

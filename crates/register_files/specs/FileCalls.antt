@@ -14,30 +14,34 @@ use Rattle.register_core.specs.History.{latest, period}
 use Rattle.register_desk.specs.DatabaseFiles.{HoldsRegister}
 use Rattle.register_desk.specs.Input.{HasItems}
 use Rattle.register_desk.specs.KeyRows.{all_rows}
+use Rattle.register_files.specs.declared.files.Closed.{Closed}
 use Rattle.register_files.specs.declared.register_file.Life.{Life}
 use Rattle.register_files.specs.declared.register_file.Refused.{Refused}
 use Rattle.register_files.specs.declared.values.Terms.{Terms}
-use Rattle.register_files.specs.Life.{EndsUnbegun, FindsNoTable, LeadsOnTo, LeavesInFiles, LivesOver, LivesSome}
-use Rattle.register_files.specs.Life.{Refuses, RefusesMaking, ServesInFiles, WritesOut}
+use Rattle.register_files.specs.Closing.{OfClosed}
+use Rattle.register_files.specs.Life.{EndsUnbegun, FindsNoTable, LeadsOnServed, LeadsOnTo, LeavesInFiles, LivesOver}
+use Rattle.register_files.specs.Life.{LivesSome, Refuses, RefusesMaking, ServesInFiles, WritesOut}
+use Rattle.register_files.specs.ServedExchanges.{EndsServing}
 use Rattle.register_report.specs.ImportRows.{BeginsWithHeader, HasRowItems}
 
 module _ {S : Type 0} (g : Ghosts S) (may_leave : S → Image → Type 0) (found : Image) where
-  -- the call came to a life, of which this is said
-  abbrev pub OnLife : Result (Life S) (Refused S) → (Life S → Type 0) → Type 0
-  OnLife result said = IfOk result (λ life. IsCleanStore (g.view life.store) → said life)
+  -- the call came to a life, of which this is said, and of what may be left in its files
+  abbrev pub OnLife : Result (Life S) (Refused S) → (Life S → (Image → Type 0) → Type 0) → Type 0
+  OnLife result said =
+      IfOk result (λ life. IsCleanStore (g.view life.files.store) → OfClosed g may_leave life.files (said life))
 
   -- A refusal has its cause in what the files hold, and a stop leaves what they held.
   abbrev pub OnRefusal : Result (Life S) (Refused S) → Type 0
   OnRefusal result = IfErr result (Refuses g may_leave found)
 
-  pub record MakesRegister (result : Result S (Refused S)) : Type 0 where
+  pub record MakesRegister (result : Result (Closed S) (Refused S)) : Type 0 where
     -- Where the file was empty, whatever a stop leaves in the files holds the register of no request.
-    pub leaves : found.db ≡ [] → IfOk result (λ store. IsCleanStore (g.view store)
-        → LeavesInFiles [] [] (may_leave store))
+    pub leaves : found.db ≡ [] → IfOk result (λ files. IsCleanStore (g.view files.store)
+        → OfClosed g may_leave files (LeavesInFiles [] []))
     -- Where it is made, none of a register's tables was there.
-    pub made : IfOk result (λ store. IsCleanStore (g.view store) → FindsNoTable g found)
+    pub made : IfOk result (λ files. IsCleanStore (g.view files.store) → FindsNoTable g found)
     -- In files that hold a register none is made.
-    pub spares : (h : List Request) → HoldsRegister h found → IfOk result (λ store. IsCleanStore (g.view store) → ⊥)
+    pub spares : (h : List Request) → HoldsRegister h found → IfOk result (λ files. IsCleanStore (g.view files.store) → ⊥)
     -- A table of a register that is there is the one reason to refuse a database, and is as it was; and so is the
     -- register that the files hold.
     pub refuses : IfErr result (RefusesMaking g may_leave found)
@@ -46,10 +50,10 @@ module _ {S : Type 0} (g : Ghosts S) (may_leave : S → Image → Type 0) (found
   pub record LivesAnyway (old new : Option (List ℕ)) (result : Result (Life S) (Refused S)) : Type 0 where
     -- There are items that it was a run over.
     pub some : (h : List Request) → IsLawful h → HoldsRegister h found
-        → OnLife result (λ life. LivesSome g h life.outcome old new (may_leave life.store))
+        → OnLife result (λ life. LivesSome g h life.outcome old new)
     -- Whatever a stop leaves in the files holds the register after a life of as many items as were answered, or one
     -- more.
-    pub leads : OnLife result (λ life. LeadsOnTo found life.outcome (may_leave life.store))
+    pub leads : OnLife result (λ life. LeadsOnTo found life.outcome)
     pub refuses : OnRefusal result
 
   -- of request lines
@@ -59,7 +63,7 @@ module _ {S : Type 0} (g : Ghosts S) (may_leave : S → Image → Type 0) (found
     -- leaves in the files holds the register of the items that were answered, or of one more.
     pub lives : (h : List Request) (bytes : List ℕ) (items : List (Option Request)) (rest : List ℕ)
         → IsLawful h → HoldsRegister h found → input ≡ Some bytes → HasItems bytes items rest
-        → OnLife result (λ life. LivesOver g h items rest life.outcome old new (may_leave life.store))
+        → OnLife result (λ life. LivesOver g h items rest life.outcome old new)
     pub anyway : LivesAnyway old new result
 
   -- of the rows of a table, on these terms
@@ -69,17 +73,17 @@ module _ {S : Type 0} (g : Ghosts S) (may_leave : S → Image → Type 0) (found
     pub lives : (h : List Request) (bytes : List ℕ) (items : List (Option Request))
         → IsLawful h → HoldsRegister h found → input ≡ Some bytes
         → HasRowItems terms.moment terms.caller terms.first bytes items
-        → OnLife result (λ life. LivesOver g h items [] life.outcome old new (may_leave life.store))
+        → OnLife result (λ life. LivesOver g h items [] life.outcome old new)
     -- Without the header row nothing is registered.
     pub without : (h : List Request) (bytes : List ℕ)
         → IsLawful h → HoldsRegister h found → input ≡ Some bytes → (BeginsWithHeader bytes → ⊥)
-        → OnLife result (λ life. EndsUnbegun h life.outcome old new (may_leave life.store))
+        → OnLife result (λ life. EndsUnbegun h life.outcome old new)
     pub anyway : LivesAnyway old new result
 
   pub record Exports (old new : Option (List ℕ)) (result : Result (Life S) (Refused S)) : Type 0 where
     -- Where the files held the register of a history, its export is written, and they hold it still.
     pub lives : (h : List Request) → IsLawful h → HoldsRegister h found
-        → OnLife result (λ life. WritesOut h (export_text (all_rows h)) life.outcome old new (may_leave life.store))
+        → OnLife result (λ life. WritesOut h (export_text (all_rows h)) life.outcome old new)
     pub refuses : OnRefusal result
 
   -- for this number of days
@@ -88,7 +92,7 @@ module _ {S : Type 0} (g : Ghosts S) (may_leave : S → Image → Type 0) (found
     pub lives : (h : List Request) (rows : List KeyRow)
         → IsLawful h → HoldsRegister h found → AreListed (all_rows h) (horizon (latest h) days) (period h) rows
         → OnLife result (λ life.
-        WritesOut h (report_text (latest h) (horizon (latest h) days) rows) life.outcome old new (may_leave life.store))
+        WritesOut h (report_text (latest h) (horizon (latest h) days) rows) life.outcome old new)
     pub refuses : OnRefusal result
 
   -- of so many exchanges at most
@@ -96,5 +100,9 @@ module _ {S : Type 0} (g : Ghosts S) (may_leave : S → Image → Type 0) (found
     -- Where the files held the register of a history, whatever a stop leaves in them holds that of at most one item
     -- more for each exchange.
     pub lives : (h : List Request) → IsLawful h → HoldsRegister h found
-        → OnLife result (λ life. ServesInFiles h most (may_leave life.store))
+        → OnLife result (λ life. ServesInFiles h most)
+    -- and after a life of as many items as were applied
+    pub leads : OnLife result (λ life. LeadsOnServed found life.outcome)
+    -- how it ended
+    pub ends : IfOk result (λ life. EndsServing life.outcome.end)
     pub refuses : OnRefusal result

@@ -8,6 +8,7 @@ use Rattle.register_desk.specs.declared.end.End.TheVariants.{Memory, Store, Brok
 use Rattle.register_desk.specs.declared.runs.Finish.{Finish}
 use Rattle.register_desk.specs.declared.runs.Finish.TheVariants.{AtEnd, Ended}
 use Rattle.register_desk.specs.Desk.{IsWhole, LeavesEither}
+use Rattle.register_desk.specs.Lives.{AreInRange}
 use Rattle.register_desk.specs.Register.{StandsFor}
 
 -- a next exchange may follow one that ended so: the register may be asked again
@@ -35,6 +36,7 @@ EndsServing (Ended BadHeader) = ⊥
 pub record StandsForSome {S : Type 0} (g : Ghosts S) (h : List Request) (most : ℕ) (desk : Desk S g) : Type 0 where
   pub items : List (Option Request)
   pub few : length items ≤ most
+  pub in_range : AreInRange items
   pub stands : StandsFor g desk (history h items)
   pub whole : IsWhole desk
 
@@ -45,4 +47,5 @@ pub record LeavesSome {S : Type 0} (g : Ghosts S) (h : List Request) (most : ℕ
   pub next : List (Option Request)
   pub one : length next ≤ 1
   pub few : length (items ++ next) ≤ most
+  pub in_range : AreInRange (items ++ next)
   pub leaves : LeavesEither g (history h items) (history h (items ++ next)) desk

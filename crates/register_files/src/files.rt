@@ -7,11 +7,31 @@ ghost use Rattle.sqlite.specs.State.{HasCleanDisk};
 ghost use Rattle.sqlite.specs.Tree.{Trees};
 ghost use Rattle.register_desk.specs.DatabaseFiles.{ShowsFiles};
 ghost use Rattle.register_desk.specs.OpenRefusal.{RefusesNoTable};
+ghost use Rattle.register_files.specs.Closing.{ClosesFiles};
 
 use register_desk::OpenRefusal;
 use sqlite::{Alter, Connection};
 
-/// How the files of a register are opened: the database file, and its log beside it.
+/// What became of the log as the files were closed.
+#[derive(Clone, Copy, Debug, PartialEq, Eq, Drop)]
+pub enum LogCopy {
+    /// It was copied into the database file.
+    Copied,
+    /// It was not. The files show what they showed.
+    Kept,
+    /// A fault shut the store while the log was copied.
+    Broken,
+}
+
+/// The files that a call left.
+#[derive(Drop)]
+pub struct Closed<S> {
+    /// The store that they were opened as, which nobody uses any more.
+    pub store: S,
+    pub log: LogCopy,
+}
+
+/// How the files of a register are opened and closed: the database file, and its log beside it.
 pub trait Files {
     /// The store that they are opened as.
     type Opened: Alter + Drop;
@@ -39,7 +59,8 @@ pub trait Files {
 
     /// Copies the log into the database file. What cannot be copied stays in the log, where the
     /// next opening finds it.
-    fn checkpoint(left: Self::Opened);
+    fn close(store: Self::Opened) -> Closed<Self::Opened>
+        ensures { ClosesFiles Self.Opened.Store may_leave store result };
 
     /// An opening of what a stop leaves finds a database that the store may come back as.
     ghost opens_again: { (it : Self.Opened) → IsTrue (Self.Opened.Store.view it).is_numbered

@@ -3,11 +3,12 @@
 #![tactic(auto)]
 
 mod files;
+pub mod laws;
 mod register_file;
 mod serving;
 mod values;
 
-pub use files::Files;
+pub use files::{Closed, Files, LogCopy};
 pub use register_file::{
     Life, Refused, export_file, import_file, init_file, open_file, report_file, run_file,
     serve_file,

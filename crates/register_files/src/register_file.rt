@@ -1,18 +1,17 @@
 //! The register in a file: the database file, and its log beside it.
-ghost use Rattle.std.specs.Prelude.{◌≡◌, ℕ, List, Option, None, false, IfOk, IfErr};
+ghost use Rattle.std.specs.Prelude.{◌≡◌, List, None, false, IfOk, IfErr};
 ghost use Rattle.sqlite_trees.specs.View.{IsClean as IsCleanStore};
 ghost use Rattle.register_core.specs.declared.request.Request.{Request};
 ghost use Rattle.register_core.specs.Fold.{IsLawful};
-ghost use Rattle.register_desk.specs.declared.runs.Finish.{Finish};
 ghost use Rattle.register_desk.specs.DatabaseFiles.{HoldsRegister};
-ghost use Rattle.register_desk.specs.Desk.{IsClean, IsWhole, LeavesEither};
-ghost use Rattle.register_desk.specs.Lives.{LeavesLife};
+ghost use Rattle.register_desk.specs.Desk.{IsClean, IsWhole};
 ghost use Rattle.register_desk.specs.Register.{StandsFor};
+ghost use Rattle.register_files.specs.Closing.{ClosesDesk};
 ghost use Rattle.register_files.specs.FileCalls.{Exports, ImportsRows, MakesRegister, Reports};
 ghost use Rattle.register_files.specs.FileCalls.{RunsLines, ServesExchanges};
-ghost use Rattle.register_files.specs.Life.{ClosesAs, LeavesInFiles, LeavesLifeInFiles, Refuses};
+ghost use Rattle.register_files.specs.Life.{ClosesAs, Refuses};
 
-use crate::files::Files;
+use crate::files::{Closed, Files};
 use crate::serving::serve_at;
 use crate::values::{Bounds, Terms};
 use register_desk::{Desk, OpenRefusal, Outcome, Unopened, Watched, run};
@@ -21,11 +20,12 @@ use sqlite::{Alter, Connection};
 use std::io::{Read, Write};
 
 /// What one life of a register in a file came to.
-pub struct Life<L> {
+#[derive(Drop)]
+pub struct Life<S> {
     /// What was done.
     pub outcome: Outcome,
     /// The files as it left them.
-    pub store: L,
+    pub files: Closed<S>,
 }
 
 /// Why a register was not made or opened.
@@ -73,19 +73,16 @@ fn close<S: Alter + Drop>(connection: Connection<S>) -> S
     connection.into_store()
 }
 
-/// The files of a register that nobody uses any more.
-fn into_files<F: Files>(desk: Desk<F::Opened>) -> F::Opened
-    ensures clean { IsCleanStore (F.Opened.Store.view result) → IsClean F.Opened.Store desk }
-    // What a stop leaves of the register is what it leaves in the files.
-    ensures leaves { (h : List Request) (other : List Request) →
-        LeavesEither F.Opened.Store h other desk → IsCleanStore (F.Opened.Store.view result) →
-        LeavesInFiles h other (F.may_leave result) }
-    ensures lives { (h : List Request) (items : List (Option Request)) (end : Finish)
-        (replies : ℕ) → LeavesLife F.Opened.Store h items end replies desk →
-        IsCleanStore (F.Opened.Store.view result) →
-        LeavesLifeInFiles h items end replies (F.may_leave result) }
+/// The files of a register that nobody uses any more, with the log copied into the database file.
+fn into_files<F: Files>(desk: Desk<F::Opened>) -> Closed<F::Opened>
+    ensures clean { IsCleanStore (F.Opened.Store.view result.store)
+        → IsClean F.Opened.Store desk }
+    // What a stop leaves of the register is what is found in the files, up to their closing and from
+    // then on.
+    ensures closes { IsCleanStore (F.Opened.Store.view result.store)
+        → ClosesDesk F.Opened.Store F.may_leave desk result }
 {
-    close(desk.into_connection())
+    F::close(close(desk.into_connection()))
 }
 
 /// Makes an empty register in the file, which is made where there is none. Gives the files as it
@@ -99,7 +96,7 @@ pub fn init_file<F: Files>(
     rt: &HostRuntime,
     file: &str,
     files: F,
-) -> Result<F::Opened, Refused<F::Opened>>
+) -> Result<Closed<F::Opened>, Refused<F::Opened>>
     ensures { MakesRegister F.Opened.Store F.may_leave F.start result }
 {
     let connection = files.connect(rt, file)?;
@@ -153,7 +150,7 @@ pub fn run_file<F: Files + Drop, R: Read, W: Write>(
     let outcome = run(reader, writer, &mut desk);
     Ok(Life {
         outcome,
-        store: into_files::<F>(desk),
+        files: into_files::<F>(desk),
     })
 }
 
@@ -187,7 +184,7 @@ pub fn import_file<F: Files + Drop, R: Read + Drop, W: Write>(
     );
     Ok(Life {
         outcome,
-        store: into_files::<F>(desk),
+        files: into_files::<F>(desk),
     })
 }
 
@@ -210,7 +207,7 @@ pub fn export_file<F: Files + Drop, W: Write>(
     let outcome = export(rt.alloc(), &mut desk, writer);
     Ok(Life {
         outcome,
-        store: into_files::<F>(desk),
+        files: into_files::<F>(desk),
     })
 }
 
@@ -235,7 +232,7 @@ pub fn report_file<F: Files + Drop, W: Write>(
     let outcome = rotation(rt.alloc(), &mut desk, days, writer);
     Ok(Life {
         outcome,
-        store: into_files::<F>(desk),
+        files: into_files::<F>(desk),
     })
 }
 
@@ -260,6 +257,6 @@ pub fn serve_file<F: Files + Drop>(
             replies: 0,
             end,
         },
-        store: into_files::<F>(desk),
+        files: into_files::<F>(desk),
     })
 }

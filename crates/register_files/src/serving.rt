@@ -197,11 +197,13 @@ pub fn listen(rt: &HostRuntime, port: u16) -> io::Result<TcpListener> {
     TcpListener::bind(rt, (Ipv4Addr::LOCALHOST, port))
 }
 
-/// Serves so many connections that come to [`listen`], as [`serve_on`], by the machine's clock.
+/// Serves so many connections that come to [`listen`], as [`serve_on`], by the machine's clock. It
+/// ends by [`End::ReadFault`], too, where the port cannot be listened at.
 pub fn serve_at<S: Alter>(rt: &HostRuntime, desk: &mut Desk<S>, port: u16, exchanges: u32) -> Finish
     ensures leaves { (h : List Request) → StandsFor S.Store desk.old h → IsWhole desk.old
         → IsClean S.Store desk.new → LeavesSome S.Store h exchanges desk.new }
     ensures clean { IsClean S.Store desk.new → IsClean S.Store desk.old }
+    ensures ends { EndsServing result }
 {
     let Ok(listener) = listen(rt, port) else {
         return Finish::Ended(End::ReadFault);

@@ -2,6 +2,8 @@
 use Rattle.std.proofs.Common.{◌≡◌, ℕ, List, Option, Some, None, Result, Ok, Err, subst}
 use Rattle.sqlite_trees.specs.declared.store.Store.{Ghosts}
 use Rattle.register_desk.specs.declared.desk.Desk.{Desk}
+use Rattle.register_desk.specs.declared.end.End.TheVariants.{ReadFault}
+use Rattle.register_desk.specs.declared.runs.Finish.TheVariants.{Ended}
 use Rattle.register_desk.specs.declared.runs.Outcome.{Outcome}
 use Rattle.http_messages.specs.declared.asked.AskFault.{AskFault}
 use Rattle.http_messages.specs.declared.asked.AskFault.TheVariants as fault
@@ -29,3 +31,9 @@ module _ {S : Type 0} (g : Ghosts S) (moment : ℕ) (kept now : Desk S g) where
       → ServesAsked g moment asked kept now old new (record o { read = n })
   served_after asked begun old new o n e s =
       subst (λ w. ServesAsked g moment asked kept now w new (record o { read = n })) e (reads_too asked begun new o n s)
+
+  -- where the reader failed, that is the end
+  pub read_fault : (asked : Result (Option Asked) AskFault) (old new : Option (List ℕ)) (o : Outcome)
+      → asked ≡ Err fault.ReadFault → ServesAsked g moment asked kept now old new o → o.end ≡ Ended ReadFault
+  read_fault asked old new o is s =
+      (subst (λ (a : Result (Option Asked) AskFault). ServesAsked g moment a kept now old new o) is s).0.ends

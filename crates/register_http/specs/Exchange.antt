@@ -1,5 +1,5 @@
 -- What one exchange over a whole input reads, writes and leaves.
-use Rattle.std.specs.Prelude.{◌≡◌, ◌⊎◌, ℕ, ◌≤◌, false, List, [], Option, None, Some, String, Result, Ok, Err, IfOk}
+use Rattle.std.specs.Prelude.{◌≡◌, ◌⊎◌, ℕ, ◌≤◌, true, false, List, [], Option, None, Some, String, Result, Ok, Err, IfOk}
 use Rattle.std.specs.declared.alloc.Global.{Global}
 use Rattle.sqlite_trees.specs.declared.store.Store.{Ghosts}
 use Rattle.streams.specs.declared.watched.Watched.{Watched}
@@ -64,11 +64,12 @@ module _ {S : Type 0} (g : Ghosts S) where
     pub asks : (bytes : List ℕ) → input ≡ Some bytes → IfOk asked (AsksFor bytes)
     pub serves : ServesAsked moment asked kept now old new outcome
 
--- What it leaves of its reader: each byte that was read is counted, a fault is the reader's own or the bound on reads,
+-- What it leaves of its reader: each byte that was read is counted, a read that failed is told, a fault is the reader's own or the bound on reads,
 -- and that is never passed. The turns are those of this exchange alone.
 pub record LeavesReader {R : Type 0} (remaining : R → Option (List ℕ)) (old new : Watched R)
     (outcome : Outcome) : Type 0 where
   pub took : TookBytes (remaining old.inner) (remaining new.inner) outcome.read
+  pub told : new.failed ≡ true → outcome.end ≡ Ended ReadFault
   pub fault : outcome.end ≡ Ended ReadFault → IsFaulted new.failed max_exchange_reads new.turns
   pub bounded : new.turns ≤ max_exchange_reads
 

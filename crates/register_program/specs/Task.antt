@@ -1,5 +1,5 @@
 -- What comes of what the words ask for.
-use Rattle.std.specs.Prelude.{◌≡◌, ◌⊎◌, ℕ, List, Option, None, Some, Result, Ok, Err, OnErr}
+use Rattle.std.specs.Prelude.{◌≡◌, ◌⊎◌, ℕ, List, Option, Some, Result, Ok, Err, OnErr}
 use Rattle.sqlite_trees.specs.declared.store.Store.{Ghosts}
 use Rattle.sqlite.specs.Recovery.{Image}
 use Rattle.register_core.specs.declared.request.Request.{Request}
@@ -10,8 +10,6 @@ use Rattle.register_desk.specs.End.{exit_status}
 use Rattle.register_desk.specs.Input.{HasItems}
 use Rattle.register_files.specs.declared.register_file.Life.{Life}
 use Rattle.register_files.specs.declared.register_file.Refused.{Refused}
-use Rattle.register_files.specs.declared.values.Bounds.{Bounds}
-use Rattle.register_files.specs.declared.values.Terms.{Terms}
 use Rattle.register_files.specs.FileCalls.{Exports, ImportsRows, MakesRegister, Reports, RunsLines, ServesExchanges}
 use Rattle.register_files.specs.Values.{AreBounds, AreTerms, IsDays}
 use Rattle.register_program.specs.declared.acting.Done.{Done}

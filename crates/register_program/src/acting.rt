@@ -10,8 +10,8 @@ use crate::words::{Task, read_words};
 use clap::error::ErrorKind;
 use register_desk::{End, Finish, OpenRefusal, Watched, create_in_memory, run};
 use register_files::{
-    Files, Life, Refused, export_file, import_file, init_file, read_days, report_file, run_file,
-    serve_file,
+    Closed, Files, Life, Refused, export_file, import_file, init_file, read_days, report_file,
+    run_file, serve_file,
 };
 use std::alloc::Global;
 use std::io::{Read, Write};
@@ -70,13 +70,13 @@ pub fn report_refusal(refusal: OpenRefusal, faults: &mut impl Write) -> u8
 }
 
 /// What a task came to.
-pub enum Done<L> {
+pub enum Done<S> {
     /// Request lines over a register in memory, which ended so, or which could not be made.
     RanInMemory(Result<Finish, OpenRefusal>),
     /// A register was to be made in a file.
-    Made(Result<L, Refused<L>>),
+    Made(Result<Closed<S>, Refused<S>>),
     /// The register in a file was to be opened for what was done.
-    Lived(Result<Life<L>, Refused<L>>),
+    Lived(Result<Life<S>, Refused<S>>),
     /// A value among the words is none. Nothing was done.
     BadValue,
 }
@@ -131,23 +131,16 @@ pub fn perform<F: Files + Drop, R: Read + Drop, W: Write>(
     }
 }
 
-/// Copies the log of the files that are left into the database file, names on `faults` what kept
-/// the task from its end, and gives the exit status.
-fn conclude<F: Files>(done: Done<F::Opened>, faults: &mut impl Write) -> u8
+/// Names on `faults` what kept the task from its end, and gives the exit status.
+fn conclude<S: Drop>(done: Done<S>, faults: &mut impl Write) -> u8
     ensures { result ≡ status_after done }
 {
     match done {
         Done::RanInMemory(Ok(finish)) => report_finish(finish, faults),
         Done::RanInMemory(Err(refusal)) => report_refusal(refusal, faults),
-        Done::Made(Ok(left)) => {
-            F::checkpoint(left);
-            0
-        }
+        Done::Made(Ok(_)) => 0,
         Done::Made(Err(refused)) => report_refusal(refused.refusal, faults),
-        Done::Lived(Ok(Life { outcome, store })) => {
-            F::checkpoint(store);
-            report_finish(outcome.end, faults)
-        }
+        Done::Lived(Ok(life)) => report_finish(life.outcome.end, faults),
         Done::Lived(Err(refused)) => report_refusal(refused.refusal, faults),
         Done::BadValue => report_bad_value(faults),
     }
@@ -181,7 +174,7 @@ pub fn act<F: Files + Drop, R: Read + Drop, W: Write>(
         Acts items rest result (W.contents writer.old.inner) (W.contents writer.new.inner) }
 {
     match read_words(rt.alloc(), words) {
-        Ok(task) => conclude::<F>(perform(rt, files, &task, reader, writer), faults),
+        Ok(task) => conclude(perform(rt, files, &task, reader, writer), faults),
         Err(error) => report_words(&error, faults),
     }
 }

@@ -40,16 +40,22 @@ pub enum Task<'a> {
     },
 }
 
+/// The program's version (CHANGES.md), that of the tables that it writes, and the program logic
+/// that it is proved with.
+const VERSION: &str = "1.0.0 (tables of version 2, program logic dac8208d650f15bf)";
+
 const ABOUT: &str = "The register of cryptographic keys: owners, purposes and lifecycles";
 
 const NO_COMMAND: &str =
     "With no command, request lines are applied to a new register in memory.\n\n\
-    Exit status:\n  \
+    Exit status, with the name on standard error:\n  \
     0  all went well; requests that are refused are well too\n  \
-    1  the words are no command, ask for help, or have a bad value\n  \
-    2  the register could not be made or opened\n  \
-    3  the database or memory ended the command\n  \
-    4  its input or its output did";
+    1  the words are no command, ask for help, or have a bad value: BadValue\n  \
+    2  the register could not be made or opened: NotARegister, NewerVersion; Store where the file\n     \
+    is not there, is held by another program or is no database; Memory\n  \
+    3  the database or memory ended the command: Store, Broken, Memory\n  \
+    4  its input or its output did: ReadFault, WriteFault, BadHeader\n\n\
+    keyreg(1) says what each name comes of, and what to do.";
 
 const INIT: &str = "Makes an empty register in a file";
 
@@ -73,7 +79,7 @@ const FILE: &str = "The file of the register: a path, not :memory: nor file:..."
 
 const MOMENT: &str = "The moment of all rows, in seconds since 1970, from 0 to 253402300799";
 
-const CALLER: &str = "Who asks: 1 to 64 letters of ASCII, digits, - _ . @";
+const CALLER: &str = "Who asks: 1 to 64 characters, each an ASCII letter, a digit, - _ . or @";
 
 const FIRST: &str = "The request number of the first row, from 1 to 9007199254740991";
 
@@ -139,6 +145,7 @@ fn with_subcommand<'a>(
 fn command<'a>(alloc: Global) -> Result<Command<'a>, AllocError> {
     let command = Command::new(alloc, "keyreg")
         .about(ABOUT)
+        .version(VERSION)
         .after_help(NO_COMMAND)
         .override_usage("keyreg [COMMAND]")
         .subcommand_required(true)

@@ -110,7 +110,7 @@ module _ {W S : Type 0} {contents : W → Option (List ℕ)} {g : Ghosts S} {tab
   puts_as r sound = record {
     written = so.puts.written;
     counted = so.puts.counted;
-    flushed = λ other before. so.puts.flushed (no_fault (tt {0})) before;
+    flushed = λ other. so.puts.flushed (no_fault (tt {0}));
     fault = λ is. absurd (sound is);
     bounded = so.puts.bounded;
   }

@@ -1,5 +1,5 @@
 -- What an import that a row did not end leaves of its writer and of its desk.
-use Rattle.std.proofs.Common.{◌≡◌, ℕ, ◌≤◌, false, List, Option}
+use Rattle.std.proofs.Common.{◌≡◌, ℕ, ◌≤◌, List, Option}
 use Rattle.sqlite_trees.specs.declared.store.Store.{Ghosts}
 use Rattle.csv.specs.declared.reader.Reader.{Reader}
 use Rattle.register_desk.specs.declared.end.End.{End}
@@ -8,7 +8,7 @@ use Rattle.register_desk.specs.declared.runs.Finish.TheVariants.{Ended}
 use Rattle.register_desk.specs.declared.runs.Outcome.{Outcome}
 use Rattle.register_desk.specs.declared.desk.Desk.{Desk}
 use Rattle.register_desk.specs.Desk.{GoesOn}
-use Rattle.register_desk.specs.Run.{LeavesDesk, LeavesWriter, max_idle_turns, Wrote}
+use Rattle.register_desk.specs.Run.{AreFlushed, LeavesDesk, LeavesWriter, max_idle_turns, Wrote}
 use Rattle.register_desk.proofs.Goings.{leaves_going}
 use Rattle.register_report.specs.ImportProgress.{ExplainsEnd, ExplainsNoHeader}
 use Rattle.streams.specs.declared.watched.Watched.{Watched}
@@ -16,11 +16,11 @@ use Rattle.streams.specs.declared.watched.Watched.{Watched}
 -- no write failed
 pub leaves_sound : {W : Type 0} (contents : W → Option (List ℕ)) (old new : Watched W)
     → (outcome : Outcome) → Wrote (contents old.inner) (contents new.inner) outcome.written
-    → (old.unflushed ≡ false → new.unflushed ≡ false) → new.idle ≤ max_idle_turns
+    → AreFlushed outcome.written old.unflushed new.unflushed → new.idle ≤ max_idle_turns
     → (outcome.end ≡ Ended WriteFault → ⊥) → LeavesWriter contents old new outcome
 leaves_sound contents old new outcome wrote flushed bounded sound = record {
   wrote = wrote;
-  flushed = λ other before. flushed before;
+  flushed = λ other. flushed;
   fault = λ is. absurd (sound is);
   bounded = bounded;
 }

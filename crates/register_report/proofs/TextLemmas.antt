@@ -1,5 +1,5 @@
 -- What is written one piece after another.
-use Rattle.std.proofs.Common.{◌≡◌, ◌≢◌, ℕ, List, [], ◌++◌}
+use Rattle.std.proofs.Common.{◌≡◌, ◌≢◌, ℕ, Bool, inl, inr, List, [], ◌++◌, length}
 use Rattle.std.proofs.Common.{Option, Result, Ok, Err, IfOk, OnOk, refl, sym, ap}
 use Rattle.std.proofs.Common.{subst, ◌∙◌, append_assoc, length-append, arith}
 use Rattle.std.specs.Prelude.{IsErrAnd}
@@ -7,7 +7,7 @@ use Rattle.std.proofs.lemmas.List.{append-nil}
 use Rattle.streams.specs.declared.watched.Watched.{Watched}
 use Rattle.register_desk.specs.declared.end.End.{End}
 use Rattle.register_desk.specs.declared.end.End.TheVariants.{WriteFault}
-use Rattle.register_desk.specs.Run.{IsPrefixOf}
+use Rattle.register_desk.specs.Run.{AreFlushed, IsPrefixOf}
 use Rattle.register_desk.proofs.Answering.{appends_none, appends_then}
 use Rattle.register_report.specs.TextWriter.{Puts, PutsText}
 
@@ -37,6 +37,14 @@ pub passed_on : {A : Type 0} (P : Result A End → Type 0) (e : End) (r : Result
 passed_on P e (Ok x) failed fails = absurd failed
 passed_on P e (Err f) same fails = subst (λ (x : End). P (Err x)) (sym same) fails
 
+-- what is flushed after a piece and then another
+flushed_then : (xs ys : List ℕ) {a b c : Bool} → AreFlushed (length xs) a b → AreFlushed (length ys) b c
+    → AreFlushed (length (xs ++ ys)) a c
+flushed_then xs ys one (inl flushed) = inl flushed
+flushed_then xs ys (inl flushed) (inr none) = inl (none.1 ∙ flushed)
+flushed_then xs ys (inr first) (inr none) =
+    inr (let more = length-append xs ys in omega (arith, more, first.0, none.0), none.1 ∙ first.1)
+
 module _ {W : Type 0} (contents : W → Option (List ℕ)) where
   -- nothing was written
   pub puts_nothing : {T : Type 0} (writer : Watched W) (count : ℕ) (result : Result T End)
@@ -44,7 +52,7 @@ module _ {W : Type 0} (contents : W → Option (List ℕ)) where
   puts_nothing writer count result sound = record {
     written = appends_none (contents writer.inner);
     counted = omega arith;
-    flushed = λ other before. before;
+    flushed = λ other. inr (refl, refl);
     fault = λ is. absurd (sound is);
     bounded = λ bounded. bounded;
   }
@@ -66,9 +74,7 @@ module _ {W : Type 0} {contents : W → Option (List ℕ)} {a b : Watched W} {i 
   puts_failed {T} {U} {bytes} {e} puts = record {
     written = puts.written;
     counted = puts.counted;
-    flushed =
-        λ other before. puts.flushed
-        (λ is. other (let same : e ≡ WriteFault = cc in ap Err same)) before;
+    flushed = λ other. puts.flushed (λ is. other (let same : e ≡ WriteFault = cc in ap Err same));
     fault = λ is. puts.fault (let same : e ≡ WriteFault = cc in ap Err same);
     bounded = puts.bounded;
   }
@@ -79,7 +85,7 @@ module _ {W : Type 0} {contents : W → Option (List ℕ)} {a b : Watched W} {i 
   puts_well {T} {U} {bytes} {x} y puts = record {
     written = puts.written;
     counted = puts.counted;
-    flushed = λ other before. puts.flushed (no_fault x) before;
+    flushed = λ other. puts.flushed (no_fault x);
     fault = λ is. absurd (no_fault y is);
     bounded = puts.bounded;
   }
@@ -121,7 +127,7 @@ module _ {W : Type 0} {contents : W → Option (List ℕ)} {a b : Watched W} {i 
           appends_then (contents a.inner) (contents b.inner) (contents c.inner) xs ys
           one.written two.written;
       counted = let more = length-append xs ys in omega (arith, one.counted, two.counted, more);
-      flushed = λ other before. two.flushed other (one.flushed (no_fault x) before);
+      flushed = λ other. flushed_then xs ys (one.flushed (no_fault x)) (two.flushed other);
       fault = two.fault;
       bounded = λ bounded. two.bounded (one.bounded bounded);
     }

@@ -1,11 +1,12 @@
 -- What the rows that were served so far made of the desk and of the bytes, and what ended them.
 -- That it is what the history says is proved of `import`.
 use Rattle.std.specs.Prelude.{◌≡◌, ◌≢◌, ◌⊎◌, ℕ, ◌+◌, Bool, true, false, List, length, Option, Some}
+use Rattle.std.specs.Option.{option_map}
 use Rattle.sqlite_trees.specs.declared.store.Store.{Ghosts}
 use Rattle.csv.specs.declared.reader.Reader.{Reader}
 use Rattle.csv.specs.Records.{AllText}
 use Rattle.csv.specs.Reading.{Reached, ReadRecord, TookRecord, default_config, has_failed}
-use Rattle.csv.specs.Reading.{reader_config, reader_state, source_of}
+use Rattle.csv.specs.Reading.{reader_config, reader_state, source_of, strip_bom}
 use Rattle.register_desk.specs.declared.end.End.{End}
 use Rattle.register_desk.specs.declared.end.End.TheVariants.{Memory, Store, Broken, ReadFault, WriteFault, BadHeader}
 use Rattle.register_desk.specs.declared.runs.Finish.{Finish}
@@ -92,15 +93,26 @@ module _ {S R : Type 0} (g : Ghosts S) (remaining : R → Option (List ℕ)) (mo
     pub stands_for : IsRowItem moment caller (first + replies) row item
     pub leaves : LeavesItem g mid now so_far new item end part
 
-  -- Why the rows ended before the input did: after those that were served a row came, and they were as many as an
-  -- import
-  -- answers, or what came was none that can be read.
+  -- Why the rows ended before the input did: after those that were served a row came, and they were
+  -- as many as an import answers, or what came was none that can be read.
   pub record EndsEarly (start last : Reader R) (old new : Option (List ℕ)) (kept now : Desk S g)
       (replies : ℕ) : Type 0 where
     pub reader : Reader R
     pub served : ServedRows start reader old new kept now replies
     pub why : ((replies ≡ max_rows) × ((fields : Row) × ReadRecord remaining reader last true fields))
         ⊎ ExplainsEnd remaining reader last ReadFault
+
+  -- Why an import ended by 35, as far as `csv` tells: its reader failed, or a record was no text, be it
+  -- the first or one after rows that were served; or there was a row too many. What the reader began
+  -- with is what the import was given.
+  pub record StopsReading (input : R) (old new : Option (List ℕ)) (kept now : Desk S g)
+      (replies : ℕ) : Type 0 where
+    pub begun : Reader R
+    pub start : Reader R
+    pub last : Reader R
+    pub given : source_of remaining begun ≡ option_map strip_bom (remaining input)
+    pub why : ((replies ≡ 0) × ExplainsEnd remaining begun last ReadFault)
+        ⊎ (ReadRecord remaining begun start true header × EndsEarly start last old new kept now replies)
 
   -- memory may give out in reading a row, and in applying its item
   abbrev pub ServesRowsTo : Reader R → Option (List ℕ) → Option (List ℕ) → Desk S g → Desk S g → ℕ

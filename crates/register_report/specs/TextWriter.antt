@@ -20,7 +20,7 @@ use Rattle.register_desk.specs.declared.rows.KeyRows.{KeyRows}
 use Rattle.register_desk.specs.Desk.{ChangesNothing, IsBroken, IsClean, IsWhole}
 use Rattle.register_desk.specs.Register.{StandsFor}
 use Rattle.register_desk.specs.KeyRows.{AreAll, AreSoFar, GoOn, HaveGiven, all_rows, until_of}
-use Rattle.register_desk.specs.Run.{IsPrefixOf, max_idle_turns}
+use Rattle.register_desk.specs.Run.{AreFlushed, IsPrefixOf, max_idle_turns}
 use Rattle.register_report.specs.declared.table.Table.{Table}
 use Rattle.register_report.specs.Table.{count_in, head_text, lines_text, table_text}
 
@@ -32,7 +32,7 @@ pub record Puts {W T : Type 0} (contents : W → Option (List ℕ)) (old new : W
     (before after : ℕ) (bytes : List ℕ) (result : Result T End) : Type 0 where
   pub written : Appends (contents old.inner) (contents new.inner) bytes
   pub counted : after ≡ before + length bytes
-  pub flushed : result ≢ Err WriteFault → old.unflushed ≡ false → new.unflushed ≡ false
+  pub flushed : result ≢ Err WriteFault → AreFlushed (length bytes) old.unflushed new.unflushed
   pub fault : result ≡ Err WriteFault → IsFaulted new.failed max_idle_turns new.idle
   pub bounded : old.idle ≤ max_idle_turns → new.idle ≤ max_idle_turns
 

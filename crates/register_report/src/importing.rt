@@ -15,7 +15,8 @@ ghost use Rattle.register_desk.specs.Lives.{LivesSome};
 ghost use Rattle.register_report.specs.Import.{DoesNothing, EndsWithoutHeader, ImportsBroken};
 ghost use Rattle.register_report.specs.ImportRows.{AreTexts, BeginsWithHeader, HasRowItems, HasRows};
 ghost use Rattle.register_report.specs.ImportRows.{header, max_rows};
-ghost use Rattle.register_report.specs.ImportProgress.{EndsEarly, ExplainsEnd, ExplainsNoHeader, ServesRowsTo};
+ghost use Rattle.register_report.specs.ImportProgress.{EndsEarly, ExplainsEnd, ExplainsNoHeader};
+ghost use Rattle.register_report.specs.ImportProgress.{ServesRowsTo, StopsReading};
 
 use crate::row::{is_header, row_item};
 use csv::{ErrorKind, Reader, ReaderBuilder, StringRecord};
@@ -194,6 +195,11 @@ pub fn import<R: Read + Drop, W: Write, S: Alter>(
     ensures texts { (bytes : List ℕ) (rows : List (List (List ℕ))) →
         R.remaining reader ≡ Some bytes → HasRows bytes rows → AreTexts (take result.replies rows) }
     ensures limit { result.replies ≤ max_rows }
+    // 35 has its cause in the reader, in a record, or in a row too many.
+    ensures cause { result.end ≡ Finish.Ended End.ReadFault
+        → StopsReading S.Store R.remaining moment caller.now first reader
+        (W.contents writer.old.inner) (W.contents writer.new.inner)
+        desk.old desk.new result.replies }
     // Without its header row, nothing is done.
     ensures without { (bytes : List ℕ) →
         R.remaining reader ≡ Some bytes → (BeginsWithHeader bytes → ⊥) →

@@ -110,7 +110,7 @@ abbrev pub state_cell : Option State → ℕ
 state_cell None = 0
 state_cell (Some state) = state_code state
 
--- what is kept of a request; Advance, which is about no key, has key 0
+-- what is kept of a request; Advance and Set period, which are about no key, have key 0
 abbrev pub request_cells : KeptReply → Cells
 request_cells k =
     Words k.caller ∷ Int (pos k.number) ∷ Words (command_text k.command)

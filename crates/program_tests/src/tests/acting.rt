@@ -74,7 +74,7 @@ fn edit_by<F: Files>(rt: &HostRuntime, files: F, file: &str, statement: &str) ->
         return Err(Fail::from("no connection"));
     };
     connection.execute(statement, &[])?;
-    F::checkpoint(connection.into_store());
+    let _ = F::close(connection.into_store());
     Ok(())
 }
 

@@ -87,7 +87,11 @@ fn worked_rows_are_served(rt: HostRuntime) -> Result<(), Fail> {
 }
 
 /// Words that are no command, or ask for help, and the first line of what is said of them.
-static NO_COMMANDS: [(&[&str], &str); 12] = [
+static NO_COMMANDS: [(&[&str], &str); 13] = [
+    (
+        &["--version"],
+        "keyreg 1.0.0 (tables of version 2, program logic dac8208d650f15bf)\n",
+    ),
     (
         &["--help"],
         "The register of cryptographic keys: owners, purposes and lifecycles\n",

@@ -8,12 +8,13 @@ use sqlite::Alter;
 
 impl<S: Alter> Desk<S> {
     ghost use Rattle.std.specs.Prelude.{false, ◌≡◌, ◌≢◌, List, [], Ok, IfOk, IfErr, true, ◌≤◌, ◌+◌};
-    ghost use Rattle.std.specs.Prelude.{◌∷◌, Some, OnOk, OnErr, IfSome};
+    ghost use Rattle.std.specs.Prelude.{◌∷◌, Some, Err, OnOk, OnErr, IfSome};
     ghost use Rattle.register_core.specs.Fold.{history};
     ghost use Rattle.register_core.specs.declared.request.Request.{Request};
     ghost use Rattle.register_store.specs.TableChanges.{Makes};
     ghost use Rattle.register_store.specs.TableReads.{seen};
     ghost use Rattle.register_store.specs.Tables.{Tables};
+    ghost use Rattle.register_core.specs.CommandRule.{looks_at_custody};
     ghost use Rattle.register_desk.specs.Desk.{IsBroken, IsClean, IsWhole, keys_of, latest_of};
     ghost use Rattle.register_desk.specs.Desk.{ChangesNothing, Ends, IsOpen, IsOverAfter};
     ghost use Rattle.register_desk.specs.Desk.{KeepsCounts, LeavesEither, LeavesWithRequest};
@@ -57,6 +58,8 @@ impl<S: Alter> Desk<S> {
             → OnOk result (IsOpen S.Store self.new) }
         // A reply that is given again is one of this register's, whatever the tables hold.
         ensures within { IfOk result (RepeatsWithin (latest_of self.old) (keys_of self.old)) }
+        // Memory is taken where names are read alone.
+        ensures memory { result ≡ Err End.Memory → looks_at_custody request.now.command ≡ true }
         // A repeat and a refusal change nothing, nor does an end other than 31, whatever the tables
         // hold.
         ensures nothing { IfOk result (λ given.
@@ -100,6 +103,7 @@ impl<S: Alter> Desk<S> {
         requires opened { IsOpen S.Store self.old }
         ensures opened { OnOk result (IsOpen S.Store self.new) }
         ensures new { IfOk result (λ given. (first : Reply) → given ≢ Answer.Repeated first) }
+        ensures memory { result ≡ Err End.Memory → looks_at_custody request.now.command ≡ true }
         ensures ends { Ends self.old self.new result }
         ensures clean { IsClean S.Store self.new → IsClean S.Store self.old }
         ensures answer { (h : List Request) → StandsFor S.Store self.old h → IsNew h request.now
@@ -167,6 +171,7 @@ impl<S: Alter> Desk<S> {
     fn find_kept(&mut self, caller: &Name, number: RequestNumber) -> Result<Option<KeptReply>, End>
         requires { IsWhole self.old }
         ensures looks { LooksUp S.Store 2 self.old self.new result }
+        ensures no_memory { result ≢ Err End.Memory }
         ensures kept { (h : List Request) → StandsFor S.Store self.old h → IsClean S.Store self.new
             → IfOk result (IsKeptUnder h caller.now number) }
         ensures within { IfOk result (λ found. IfSome found (λ kept.
@@ -177,7 +182,7 @@ impl<S: Alter> Desk<S> {
                 Err(self.end_by(StoreError::NoRegister))
             }
             Ok(found) => Ok(found),
-            Err(error) => Err(self.end_by(error)),
+            Err(_) => Err(self.end_by(StoreError::NoRegister)),
         }
     }
 }

@@ -16,7 +16,8 @@ impl<S: Alter> Desk<S> {
     ghost use Rattle.std.specs.Borrow.{sem};
     ghost use Rattle.key_rows.specs.declared.key_row.KeyRow.{KeyRow};
     ghost use Rattle.register_desk.specs.LentDesk.{LendsRows};
-    ghost use Rattle.register_desk.specs.KeyRows.{GoOn, HasNextRow, HaveGiven, until_of};
+    ghost use Rattle.register_desk.specs.KeyRows.{CountsOn, GoOn, HasNextRow, HaveGiven, last_of};
+    ghost use Rattle.register_desk.specs.KeyRows.{until_of};
 
     /// The keys as of the latest accepted moment, by number, one row at a time.
     ///
@@ -29,6 +30,7 @@ impl<S: Alter> Desk<S> {
         ensures same { IfOk result (λ rows. rows.desk.now ≡ self.old) }
         ensures begins { IfOk result (λ rows. GoOn rows × (until_of rows ≡ None)
             × ((all : List KeyRow) → HaveGiven rows all [])) }
+        ensures first { IfOk result (λ rows. last_of rows ≡ 0) }
         ensures whole { IfOk result (λ rows. IsWhole self.old) }
         ensures broken { IfErr result (λ end. (end ≡ End.Broken) × IsBroken self.old) }
     {
@@ -81,6 +83,7 @@ impl<S: Alter> Desk<S> {
         ensures mark { self.new.is_broken ≡ self.old.is_broken }
         ensures next { (h : List Request) → StandsFor S.Store self.old h → IsWhole self.old
             → IsClean S.Store self.new → IfOk result (HasNextRow scan (tables h)) }
+        ensures counts_on { IfOk result (CountsOn self.old.keys scan) }
     {
         match scan {
             Scan::ByNumber(last) => self.next_by_number(last),
@@ -88,19 +91,21 @@ impl<S: Alter> Desk<S> {
         }
     }
 
-    /// The row of the key after the one with this number, or `None` after the last.
+    /// The row of the key after the one with this number, or `None` after the last. That of a key
+    /// that is counted is there.
     fn next_by_number(&mut self, last: u32) -> Result<Option<KeyRow>, StoreError>
         ensures reads { ChangesNothing S.Store self.old self.new }
         ensures mark { self.new.is_broken ≡ self.old.is_broken }
         ensures next { (h : List Request) → StandsFor S.Store self.old h → IsWhole self.old
             → IsClean S.Store self.new → IfOk result (HasNextRow (Scan.ByNumber last) (tables h)) }
+        ensures counts_on { IfOk result (CountsOn self.old.keys (Scan.ByNumber last)) }
     {
         if last >= self.keys {
             return Ok(None);
         }
         match each_key(&mut self.connection, last)? {
             Some(key) => Ok(Some(key_row(last + 1, key))),
-            None => Ok(None),
+            None => Err(StoreError::NoRegister),
         }
     }
 

@@ -15,11 +15,13 @@ use sqlite::Alter;
 use std::alloc::Global;
 
 impl<S: Alter> Desk<S> {
-    ghost use Rattle.std.specs.Prelude.{◌≡◌, ◌≢◌, Err, IfOk, IfSome, length};
+    ghost use Rattle.std.specs.Prelude.{◌≡◌, ◌≢◌, ◌⊎◌, ◌<◌, Err, IfOk, IfSome, None, false, length};
+    ghost use Rattle.std.specs.Prelude.{true};
     ghost use Rattle.register_core.specs.History.{period};
     ghost use Rattle.register_store.specs.TableReads.{HasKey, HasRow};
     ghost use Rattle.register_store.specs.Tables.{Tables};
-    ghost use Rattle.register_desk.specs.Desk.{IsClean, IsOpen, IsWhole};
+    ghost use Rattle.register_core.specs.CommandRule.{looks_at_custody};
+    ghost use Rattle.register_desk.specs.Desk.{IsClean, IsNoKey, IsOpen, IsWhole, NamesNoKey};
     ghost use Rattle.register_desk.specs.DeskCalls.{LooksUp};
     ghost use Rattle.register_desk.specs.Register.{Sees};
     ghost use Rattle.register_core.specs.Decision.{IsRightKey};
@@ -35,6 +37,10 @@ impl<S: Alter> Desk<S> {
         ensures latest { IfOk result (λ view. view.latest ≡ self.new.latest) }
         ensures keys { IfOk result (λ view. view.keys ≡ self.new.keys) }
         ensures right { IfOk result (λ view. IsRightKey view.key view.latest) }
+        ensures memory { result ≡ Err End.Memory → looks_at_custody request.now.command ≡ true }
+        ensures there { IfOk result (λ view. view.key ≡ None
+            → (request.now.moment < self.old.latest)
+            ⊎ NamesNoKey self.old.keys request.now.command) }
         ensures found { (t : Tables) → Sees S.Store t self.old → self.old.latest ≡ t.counts.latest
             → self.old.keys ≡ length t.keys → IsClean S.Store self.new
             → IfOk result (IsViewOver t request.now) }
@@ -55,6 +61,7 @@ impl<S: Alter> Desk<S> {
         requires whole { IsWhole self.old }
         requires opened { IsOpen S.Store self.old }
         ensures looks { LooksUp S.Store 2 self.old self.new result }
+        ensures no_memory { result ≢ Err End.Memory }
         ensures found { (t : Tables) → Sees S.Store t self.old → IsClean S.Store self.new
             → IfOk result (λ period. IfSome (needed_type key.now command.now) (λ kind.
             period ≡ period_over t kind)) }
@@ -86,6 +93,10 @@ impl<S: Alter> Desk<S> {
         requires opened { IsOpen S.Store self.old }
         ensures looks { LooksUp S.Store 38 self.old self.new result }
         ensures right { IfOk result (λ key. IsRightKey key self.old.latest) }
+        ensures memory { result ≡ Err End.Memory → looks_at_custody request.now.command ≡ true }
+        ensures there { IfOk result (λ key. key ≡ None
+            → (request.now.moment < self.old.latest)
+            ⊎ NamesNoKey self.old.keys request.now.command) }
         ensures found { (t : Tables) → Sees S.Store t self.old → self.old.latest ≡ t.counts.latest
             → IsClean S.Store self.new → IfOk result (λ key. key ≡ key_needed t request.now) }
     {
@@ -108,6 +119,8 @@ impl<S: Alter> Desk<S> {
         requires whole { IsWhole self.old }
         requires opened { IsOpen S.Store self.old }
         ensures looks { LooksUp S.Store 38 self.old self.new result }
+        ensures memory { result ≡ Err End.Memory → looks_at_custody command.now ≡ true }
+        ensures there { IfOk result (λ key. key ≡ None → IsNoKey self.old.keys number) }
         ensures found { (t : Tables) → Sees S.Store t self.old → IsClean S.Store self.new
             → IfOk result (λ key. key ≡ key_for t command.now number) }
     {
@@ -124,15 +137,25 @@ impl<S: Alter> Desk<S> {
         }
     }
 
-    /// The row of the key with this number as it stands in the tables.
+    /// Whether a key with this number is counted.
+    fn is_counted(&self, number: u32) -> bool
+        ensures { result ≡ false → IsNoKey self.now.keys number }
+    {
+        1 <= number && number <= self.keys
+    }
+
+    /// The row of the key with this number as it stands in the tables. That of a key that is counted
+    /// is there.
     pub(super) fn find(&mut self, number: u32) -> Result<Option<Key>, End>
         requires { IsWhole self.old }
         ensures looks { LooksUp S.Store 2 self.old self.new result }
         ensures no_memory { result ≢ Err End.Memory }
+        ensures there { IfOk result (λ key. key ≡ None → IsNoKey self.old.keys number) }
         ensures found { (t : Tables) → Sees S.Store t self.old → IsClean S.Store self.new
             → IfOk result (HasRow number t) }
     {
         match find_row(&mut self.connection, number) {
+            Ok(None) if self.is_counted(number) => Err(self.end_by(StoreError::NoRegister)),
             Ok(found) => Ok(found),
             Err(_) => Err(self.end_by(StoreError::NoRegister)),
         }
@@ -142,6 +165,7 @@ impl<S: Alter> Desk<S> {
     pub(super) fn need(&mut self, number: u32) -> Result<u8, End>
         requires { IsWhole self.old }
         ensures looks { LooksUp S.Store 2 self.old self.new result }
+        ensures no_memory { result ≢ Err End.Memory }
         ensures found { (t : Tables) → Sees S.Store t self.old → IsClean S.Store self.new
             → IfOk result (λ need. need ≡ need_over t number) }
     {
@@ -170,6 +194,7 @@ impl<S: Alter> Desk<S> {
     /// approvals, with its purpose.
     pub(super) fn load(&mut self, number: u32, need: u8) -> Result<Option<(Held, Purpose)>, End>
         ensures looks { LooksUp S.Store 36 self.old self.new result }
+        ensures there { IfOk result (λ key. key ≡ None → IsNoKey self.old.keys number) }
         ensures found { (t : Tables) → Sees S.Store t self.old → IsClean S.Store self.new
             → IfOk result (HasKey number need t) }
     {
@@ -177,6 +202,7 @@ impl<S: Alter> Desk<S> {
             return Err(End::Broken);
         }
         match load_key(self.alloc, &mut self.connection, number, need) {
+            Ok(None) if self.is_counted(number) => Err(self.end_by(StoreError::NoRegister)),
             Ok(found) => Ok(found),
             Err(error) => Err(self.end_by(error)),
         }

@@ -9,11 +9,12 @@ use register_store::{StoreError, find_period};
 use sqlite::Alter;
 
 impl<S: Alter> Desk<S> {
-    ghost use Rattle.std.specs.Prelude.{◌≡◌, ◌≢◌, List, Err, IfOk, IfErr};
+    ghost use Rattle.std.specs.Prelude.{◌≡◌, ◌≢◌, List, Err, IfOk, IfErr, None};
     ghost use Rattle.register_core.specs.History.{period, set_period};
     ghost use Rattle.register_core.specs.declared.request.Request.{Request};
     ghost use Rattle.register_store.specs.Tables.{Tables};
     ghost use Rattle.register_desk.specs.Desk.{IsBroken, IsClean, IsWhole, ChangesNothing, Ends};
+    ghost use Rattle.register_desk.specs.Desk.{IsNoKey, keys_of};
     ghost use Rattle.register_desk.specs.Register.{StandsFor, Sees};
     ghost use Rattle.period_core.specs.declared.key_type.KeyType.{KeyType};
     ghost use Rattle.register_desk.specs.Shown.{usage, shown};
@@ -32,6 +33,8 @@ impl<S: Alter> Desk<S> {
         ensures reads { ChangesNothing S.Store self.old self.new }
         ensures shown { (h : List Request) → StandsFor S.Store self.old h → IsClean S.Store self.new
             → IfOk result (λ found. found ≡ shown h number) }
+        // None only of a key that is not counted, whatever the tables hold.
+        ensures there { IfOk result (λ found. found ≡ None → IsNoKey (keys_of self.old) number) }
     {
         if self.is_broken {
             return Err(End::Broken);
@@ -119,6 +122,7 @@ impl<S: Alter> Desk<S> {
         ensures no_memory { result ≢ Err End.Memory }
         ensures used { (h : List Request) → StandsFor S.Store self.old h → IsClean S.Store self.new
             → IfOk result (λ found. found ≡ usage h number) }
+        ensures there { IfOk result (λ found. found ≡ None → IsNoKey (keys_of self.old) number) }
     {
         if self.is_broken {
             return Err(End::Broken);

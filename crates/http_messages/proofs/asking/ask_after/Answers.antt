@@ -35,6 +35,7 @@ returns-in-Ok-Whole-clause-reads g c =
       );
       few = reads.few;
       in_range = reads.in_range;
+      tells = λ sound failed. reads.tells (c.in-Ok-Whole.ensures.sound ∙ sound) failed;
       fault = reads.fault;
       bounded = λ before. reads.bounded (c.find_head.ensures.bounded before);
     }

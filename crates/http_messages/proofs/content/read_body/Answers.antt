@@ -9,7 +9,13 @@ reads-init g c =
     let (all, few) =
     held_first c.args.after.now _ c.extend_from_slice.new.self.items c.args.length c.min-held.result
     c.in-Ok.ensures.items c.new-body.ensures.items c.min-held.ensures in
-    record { got = ([], Consumes-nil _, all, refl); few = few; counted = omega arith; bounded = λ e. e }
+    record {
+      got = ([], Consumes-nil _, all, refl);
+      few = few;
+      counted = omega arith;
+      sound = refl;
+      bounded = λ e. e;
+    }
 
 pub returns-in-Err-kept-clause-read : goal.returns-in-Err-kept-clause-read
 returns-in-Err-kept-clause-read g c =

@@ -10,6 +10,7 @@ invariant-reads g l = record {
       × (l.body.items ≡ take l.length l.after ++ more) × (length more ≡ l.read);
   few : length l.body.items ≤ l.length;
   counted : l.read ≤ length l.body.items;
+  sound : l.reader.failed ≡ l.fn.reader.failed;
   bounded : l.fn.reader.turns ≤ MAX_EXCHANGE_READS → l.reader.turns ≤ MAX_EXCHANGE_READS;
 }
 

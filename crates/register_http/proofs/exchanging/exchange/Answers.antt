@@ -1,7 +1,8 @@
 use Rattle.std.proofs.Common.{rules, sym, ap, ◌∙◌}
+use Rattle.moment_core.specs.Moment.{IsMoment}
 use Rattle.streams.specs.declared.watched.Watched.{Watched}
 use Rattle.register_http.proofs.ItemLemmas.{leaves_one, was_clean}
-use Rattle.register_http.proofs.ServingLemmas.{served_after}
+use Rattle.register_http.proofs.ServingLemmas.{read_fault, served_after}
 use Rattle.register_http.proofs.exchanging.exchange.Goals as goal
 
 pub returns-clause-exchanges : goal.returns-clause-exchanges
@@ -19,8 +20,10 @@ returns-clause-exchanges g c = record {
 
 pub returns-clause-leaves : goal.returns-clause-leaves
 returns-clause-leaves g c =
-    leaves_one g.S.Store c.args.moment c.args.desk.now c.send_reply-served.new.desk c.ask-asking.result.asked
-    c.send_reply-served.result _ _ c.send_reply-served.ensures.serves
+    let is_moment : IsMoment c.args.moment = search rules in
+    leaves_one g.S.Store c.args.moment c.args.desk.now c.send_reply-served.new.desk is_moment
+    c.ask-asking.result.asked c.send_reply-served.result _ _ c.ask-asking.ensures.in_range
+    c.send_reply-served.ensures.serves
 
 pub returns-clause-clean : goal.returns-clause-clean
 returns-clause-clean g c =
@@ -36,6 +39,11 @@ returns-clause-reader g c =
         rw (sym (ap (λ (r : Watched g.row.R.Denot). g.R.Read.remaining r.inner) c.begin.ensures)) read.1,
         sym read.2,
       );
+      told = λ failed.
+          let asked = c.ask-asking.ensures.tells
+          (ap (λ (r : Watched g.row.R.Denot). r.failed) c.begin.ensures ∙ c.requires.reader) failed in
+          read_fault g.S.Store c.args.moment c.args.desk.now c.send_reply-served.new.desk c.ask-asking.result.asked _ _
+          c.send_reply-served.result asked c.send_reply-served.ensures.serves;
       fault = search rules;
       bounded = search rules;
     }

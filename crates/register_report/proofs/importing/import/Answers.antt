@@ -1,9 +1,12 @@
-use Rattle.std.proofs.Common.{rules, List, [], ℕ, Option, ap, subst, sym}
+use Rattle.std.proofs.Common.{◌≡◌, rules, List, [], ℕ, Option, ap, inl, inr, refl, subst, sym}
+use Rattle.register_desk.specs.declared.end.End.{End}
+use Rattle.register_desk.specs.declared.end.End.TheVariants.{ReadFault}
 use Rattle.register_desk.specs.declared.runs.Finish.TheVariants.{Ended}
 use Rattle.register_desk.specs.Run.{RunsOver}
 use Rattle.register_desk.specs.Lives.{LivesSome}
 use Rattle.register_desk.proofs.Found.{leaves_next}
 use Rattle.register_report.specs.Import.{ImportsBroken}
+use Rattle.register_report.specs.ImportProgress.{EndsEarly, ExplainsNoHeader}
 use Rattle.register_report.proofs.HeaderLemmas.{begins_so, no_header_lives, no_header_over, no_header_refused}
 use Rattle.register_report.proofs.HeaderLemmas.{reads_input, rows_after}
 use Rattle.register_report.proofs.ImportLemmas.{broken_so, clean_so, lives_so, over_so, texts_so, uses_so}
@@ -64,6 +67,36 @@ returns-in-Ok-clause-broken g c bytes items broken known has =
     subst (λ (old : Option (List ℕ)). ImportsBroken items c.import_rows.result.end
     c.import_rows.result.replies old (g.W.Write.contents c.import_rows.new.writer.inner))
     (ap (λ w. g.W.Write.contents w.inner) c.begin.ensures) runs
+
+pub returns-in-Ok-clause-cause : goal.returns-in-Ok-clause-cause
+returns-in-Ok-clause-cause g c is =
+    let early = c.import_rows.ensures.cause is in
+    let started = subst (λ (old : Option (List ℕ)). EndsEarly g.S.Store g.R.Read.remaining c.args.moment
+    c.args.caller.now c.args.first c.skip_header.new.reader c.import_rows.new.reader old
+    (g.W.Write.contents c.import_rows.new.writer.inner) c.args.desk.now c.import_rows.new.desk
+    c.import_rows.result.replies) (ap (λ w. g.W.Write.contents w.inner) c.begin.ensures) early in
+    record {
+      begun = c.from_reader-reader.result;
+      start = c.skip_header.new.reader;
+      last = c.import_rows.new.reader;
+      given = c.from_reader-reader.ensures.source;
+      why = inr (c.in-Ok.ensures.reads, started);
+    }
+
+pub returns-clause-cause : goal.returns-clause-cause
+returns-clause-cause g c is =
+    let fault : c.in-Err.end ≡ ReadFault = cc in
+    record {
+      begun = c.from_reader-reader.result;
+      start = c.from_reader-reader.result;
+      last = c.skip_header.new.reader;
+      given = c.from_reader-reader.ensures.source;
+      why = inl (
+        refl,
+        subst (λ (end : End). ExplainsNoHeader g.R.Read.remaining c.from_reader-reader.result
+            c.skip_header.new.reader end) fault c.in-Err.ensures.end,
+      );
+    }
 
 pub returns-in-Ok-clause-texts : goal.returns-in-Ok-clause-texts
 returns-in-Ok-clause-texts g c bytes rows known has =

@@ -1,11 +1,11 @@
-use Rattle.std.proofs.Common.{◌≡◌, ◌∙◌, ap, arith, inl, inr, refl, subst}
+use Rattle.std.proofs.Common.{◌≡◌, ◌∙◌, ℕ, ◌+◌, add-zero, ap, arith, inl, inr, refl, subst}
 use Rattle.register_report.specs.ImportProgress.{ExplainsEnd}
 use Rattle.csv.specs.Records.{fields_of}
 use Rattle.register_desk.specs.declared.end.End.{End}
 use Rattle.register_desk.specs.declared.end.End.TheVariants.{ReadFault, WriteFault}
 use Rattle.register_desk.specs.declared.runs.Finish.TheVariants.{AtEnd, Ended}
 use Rattle.register_desk.proofs.Goings.{goes_then, leaves_going, leaves_stopped, still}
-use Rattle.register_desk.proofs.ServingLemmas.{wrote_begin, wrote_item, wrote_part}
+use Rattle.register_desk.proofs.ServingLemmas.{flushed_same, none_written, wrote_begin, wrote_item, wrote_part}
 use Rattle.register_report.proofs.ServedLemmas.{row_stops, rows_none, rows_then, unread_at}
 use Rattle.register_report.proofs.StreamLemmas.{leaves_sound, unread_leaves, unread_sound}
 use Rattle.register_report.proofs.importing.import_rows.Goals as goal
@@ -23,7 +23,7 @@ loop-row-init g c = record {
   within = omega arith;
   short = omega arith;
   idle_bounded = omega (arith, c.requires.idles);
-  flushed = λ before. before;
+  flushed = inr (refl, refl);
   goes_on = still g.S.Store c.args.desk.now;
 }
 
@@ -49,7 +49,7 @@ loop-row-preserved g c =
       within = omega (arith, invariant.within, not_full);
       short = omega (arith, invariant.short, c.in-Ok.ensures.short);
       idle_bounded = c.in-Ok.ensures.bounded invariant.idle_bounded;
-      flushed = λ before. c.in-Ok.ensures.flushed;
+      flushed = inl c.in-Ok.ensures.flushed;
       goes_on =
           goes_then g.S.Store c.args.desk.now c.loop-row.desk
           c.answer_item.new.desk invariant.goes_on c.in-Ok.ensures.goes_on;
@@ -116,9 +116,13 @@ returns-in-Err-answer_item-clause-writer g c =
           c.row_item-item.result c.in-Err-answer_item.stop.end c.loop-row.written
           c.in-Err-answer_item.stop.written invariant.wrote stop.stop;
       flushed =
-          λ other before. ap (λ x. x.unflushed)
-          (stop.untouched (λ fault. other (ap (λ (end : End). Ended end) fault)))
-          ∙ invariant.flushed before;
+          λ sound.
+          let other = λ (fault : c.in-Err-answer_item.stop.end ≡ WriteFault).
+          sound (ap (λ (end : End). Ended end) fault) in
+          let none = none_written g.S.Store _ _ _ _ _ c.in-Err-answer_item.stop.end
+          c.in-Err-answer_item.stop.written stop.stop other in
+          flushed_same (ap (λ (n : ℕ). c.loop-row.written + n) none ∙ add-zero c.loop-row.written)
+          (ap (λ x. x.unflushed) (stop.untouched other)) invariant.flushed;
       fault = λ is. let same : c.in-Err-answer_item.stop.end ≡ WriteFault = cc in stop.cause same;
       bounded = stop.bounded invariant.idle_bounded;
     }

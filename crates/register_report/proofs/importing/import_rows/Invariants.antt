@@ -1,10 +1,10 @@
-use Rattle.std.proofs.Common.{◌≡◌, ◌-◌, ◌*◌, ◌≤◌, true, false}
+use Rattle.std.proofs.Common.{◌≡◌, ◌-◌, ◌*◌, ◌≤◌, true}
 use Rattle.csv.specs.Reading.{Ready, default_config, is_flexible, reader_config, reader_trim}
 use Rattle.csv.specs.declared.reader.Trim.TheVariants as trim
 use Rattle.register_core.specs.declared.line.TheConstants.{MAX_REPLY_LENGTH}
 use Rattle.streams.specs.declared.watched.TheConstants.{MAX_IDLE_TURNS}
 use Rattle.register_desk.specs.Desk.{GoesOn}
-use Rattle.register_desk.specs.Run.{Wrote}
+use Rattle.register_desk.specs.Run.{AreFlushed, Wrote}
 use Rattle.register_report.specs.declared.importing.TheConstants.{MAX_ROWS}
 use Rattle.register_report.specs.ImportProgress.{ServedRows}
 use Rattle.register_report.proofs.importing.import_rows.Given as goal
@@ -24,7 +24,7 @@ invariant-loop-row g l = record {
   within : l.replies ≤ MAX_ROWS;
   short : l.written ≤ MAX_REPLY_LENGTH * l.replies;
   idle_bounded : l.writer.idle ≤ MAX_IDLE_TURNS;
-  flushed : l.fn.writer.unflushed ≡ false → l.writer.unflushed ≡ false;
+  flushed : AreFlushed l.written l.fn.writer.unflushed l.writer.unflushed;
   goes_on : GoesOn l.fn.desk l.desk;
 }
 

@@ -12,7 +12,7 @@ returns-in-Err-clause-puts g c =
       puts = record {
         written = c.in-Err.ensures.part;
         counted = omega (arith, counted);
-        flushed = λ other before. absurd (other refl);
+        flushed = λ other. absurd (other refl);
         fault = λ is. c.in-Err.ensures.err;
         bounded = c.in-Err.ensures.bounded;
       };

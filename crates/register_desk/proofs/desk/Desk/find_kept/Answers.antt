@@ -2,7 +2,7 @@ use Rattle.std.proofs.Common.{rules}
 use Rattle.register_desk.specs.DeskCalls.{IsKeptUnder}
 use Rattle.register_desk.specs.Register.{tables}
 use Rattle.register_desk.proofs.Keeping.{kept_is}
-use Rattle.register_desk.proofs.Readings.{found_in, looks_failed, looks_well}
+use Rattle.register_desk.proofs.Readings.{found_in, looks_well}
 use Rattle.register_desk.proofs.desk.Desk.find_kept.Goals as goal
 
 pub returns-in-Ok-clause-looks : goal.returns-in-Ok-clause-looks
@@ -17,12 +17,6 @@ returns-in-Ok-clause-kept g c h stands clean =
     let kept : IsKeptUnder h c.args.caller.now c.args.number c.in-Ok.found =
     kept_is h stands.lawful c.args.caller.now c.args.number c.in-Ok.found found in
     search rules fits 100
-
-pub returns-in-Err-clause-looks : goal.returns-in-Err-clause-looks
-returns-in-Err-clause-looks g c =
-    looks_failed g.S.Store _ 2 _ _ _ _ _ _ c.requires c.in-Err.ensures.reads
-    (λ h stands clean. c.find_request.ensures.counted)
-    c.end_by-in-Err.ensures.same c.end_by-in-Err.ensures.memory c.end_by-in-Err.ensures.store
 
 pub returns-in-Ok-clause-within : goal.returns-in-Ok-clause-within
 returns-in-Ok-clause-within g c = search rules fits 100

@@ -1,0 +1,57 @@
+-- What closing the files of a store leaves in them.
+use Rattle.std.specs.Prelude.{◌≡◌, ◌⊎◌, ℕ, List, [], Option, IsTrue}
+use Rattle.sqlite_trees.specs.declared.store.Store.{Ghosts}
+use Rattle.sqlite_trees.specs.View.{IsClean as IsCleanStore}
+use Rattle.sqlite.specs.Files.{HoldsDatabase}
+use Rattle.sqlite.specs.Held.{AreDatabases}
+use Rattle.sqlite.specs.Recovery.{Image}
+use Rattle.sqlite.specs.Tree.{Trees}
+use Rattle.register_core.specs.declared.request.Request.{Request}
+use Rattle.register_desk.specs.declared.desk.Desk.{Desk}
+use Rattle.register_desk.specs.declared.runs.Finish.{Finish}
+use Rattle.register_desk.specs.Desk.{LeavesEither}
+use Rattle.register_desk.specs.Lives.{LeavesLife}
+use Rattle.register_files.specs.declared.files.Closed.{Closed}
+use Rattle.register_files.specs.declared.files.LogCopy.TheVariants.{Copied, Broken}
+use Rattle.register_files.specs.Life.{LeavesInFiles, LeavesLifeInFiles}
+
+-- the database file of these two alone, with no log beside it
+abbrev pub alone : Image → Image
+alone whole = record whole { log = [] }
+
+-- what a stop leaves of the desk's database is what is left in files
+pub record LeavesAsDesk {S : Type 0} (g : Ghosts S) (desk : Desk S g) (may : Image → Type 0) : Type 0 where
+  pub one_of : (h other : List Request) → LeavesEither g h other desk → LeavesInFiles h other may
+  pub lives : (h : List Request) (items : List (Option Request)) (end : Finish) (replies : ℕ)
+      → LeavesLife g h items end replies desk → LeavesLifeInFiles h items end replies may
+
+module _ {S : Type 0} (g : Ghosts S) (may_leave : S → Image → Type 0) where
+  -- What may be found in files that were closed: what a stop leaves of them, from when their log was copied on, and, once
+  -- it was copied, the database file of that alone.
+  pub record LeftIn (closed : Closed S) (left : Image) : Type 0 where
+    pub found : may_leave closed.store left
+        ⊎ ((closed.log ≡ Copied) × (whole : Image) × may_leave closed.store whole × (left ≡ alone whole))
+    -- A fault may shut the store while the log is copied. Of that the kit does not say that its tables are numbered as
+    -- they were, so it is asked for.
+    pub numbered : closed.log ≡ Broken → IsTrue (g.view closed.store).is_numbered
+
+  -- what the store may come back as is found in these files
+  abbrev pub HoldsStored : S → Image → Type 0
+  HoldsStored store left = ∥ ((db : Trees) × (g.recovers store db) × HoldsDatabase left db) ∥₁
+
+  -- The files of a store were closed: what may be found in them is a database that it could come back as.
+  pub record ClosesFiles (store : S) (closed : Closed S) : Type 0 where
+    pub clean : IsCleanStore (g.view closed.store) → IsCleanStore (g.view store)
+    pub leaves : IsCleanStore (g.view closed.store) → IsTrue (g.view store).is_numbered → AreDatabases (g.recovers store)
+        → (left : Image) → LeftIn closed left → HoldsStored store left
+
+  -- This is said of what a stop leaves in the files up to their closing, and of what may be found in them from then on.
+  pub record OfClosed (closed : Closed S) (Says : (Image → Type 0) → Type 0) : Type 0 where
+    pub before : S
+    pub closes : ClosesFiles before closed
+    pub up_to : Says (may_leave before)
+    pub from : Says (LeftIn closed)
+
+  -- the files of a desk's database were closed
+  abbrev pub ClosesDesk : Desk S g → Closed S → Type 0
+  ClosesDesk desk closed = OfClosed closed (LeavesAsDesk g desk)
