@@ -17,7 +17,8 @@ parts, all where none is named:
     commands   the commands of README.md and docs/OPERATING.md print what stands after them
                (checks/commands.py)
     stale      no document has another number of tables or commands, another bound on steps, a
-               table, an index, a refusal or an end of another name, or another kit than there is
+               table, an index, a refusal or an end of another name, or another program logic than
+               the kit's
     pictures   README's picture of the states has the transitions of docs/SPECIFICATION.md,
                docs/costs.svg the figures of docs/COSTS.md, and the graph of docs/ARCHITECTURE.md
                the arrows of crates.txt; what its pictures name is a function or a crate
@@ -360,12 +361,14 @@ def name_faults(line, tables, indexes, refusals, ends):
 
 
 def kit_faults():
-    """That README names the kit that is here, where one is."""
+    """That README names the program logic of the kit that is here, where one is. The name of the
+    kit itself is not compared: what is proved rests on its logic."""
     if not shutil.which("rt"):
         return []
     told = subprocess.run(["rt", "version"], capture_output=True, text=True, check=False)
-    version = told.stdout.strip()
-    return [] if version in read("README.md") else [f"README.md: the kit here is {version}"]
+    logic = re.search(r"\blogic \w+", told.stdout)
+    has_logic = logic and re.search(rf"\b{logic[0]}\b", read("README.md"))
+    return [] if has_logic else [f"README.md: the kit here is {told.stdout.strip()}"]
 
 
 def stale_faults():
