@@ -1,0 +1,233 @@
+#!/usr/bin/env python3
+"""The gate: `rt ci`, then the scripts that show from outside the program that it built.
+
+    checks/gate.py [--scripts-only] [PART..]
+
+First each command and module that the scripts use is looked for. Root installs what is missing
+from Debian's packages; where something is missing then, the gate fails and begins nothing. Then
+come `rt ci` and, where that is green, each part of the table below, as many side by side as two
+cores take. Each has a limit of seconds by the clock, after which it is killed and has failed.
+
+A part that passes gets one line, one that fails its output too. The last line counts the passed
+and the failed: those of `rt ci`, and one for each part. The status is 0 where none failed.
+
+--scripts-only  leaves `rt ci` out, and takes the program that KEYREG names, if set; the words
+                after it are the parts that are run, all where none is named
+"""
+import argparse
+import os
+import pathlib
+import re
+import shutil
+import signal
+import subprocess
+import sys
+import tempfile
+import time
+from typing import IO, NamedTuple
+
+TOP = pathlib.Path(__file__).resolve().parent.parent
+PROGRAM = TOP / "crates" / "keyreg" / "out" / "keyreg"
+CORES = 2
+COUNTS = re.compile(rb"(\d+) passed, (\d+) failed\s*")
+
+
+class Part(NamedTuple):
+    """A script under checks/ with its words, its limit in seconds, and how many cores it keeps."""
+    words: str
+    seconds: int
+    cores: int = 1
+
+    def name(self) -> str:
+        return self.words.split()[0].removesuffix(".py")
+
+
+# Those that keep both cores come first, then the longest.
+PARTS = (
+    Part("first_build.py", 120),
+    Part("exchanges_by_curl.py --bound 20", 120),
+    Part("killed_migrations.py 8", 60),
+    Part("killed_runs.py 20", 60),
+    Part("copied_while_served.py --seconds 15", 60),
+    Part("documents.py", 60),
+    Part("manual.py", 30),
+    Part("recipes.py", 30),
+)
+
+# What the scripts call, by the Debian package that has it. Those of one command stand together:
+# the compiler needs the headers of the C library.
+COMMANDS = {
+    "bash": "bash", "cmp": "diffutils", "curl": "curl", "gcc": "gcc libc6-dev",
+    "groff": "groff-base", "mandoc": "mandoc", "sqlite3": "sqlite3", "strace": "strace",
+}
+MODULES = {"jsonschema": "python3-jsonschema", "yaml": "python3-yaml"}
+# Debian's modules belong to its own interpreter.
+INTERPRETERS = (sys.executable, "/usr/bin/python3")
+
+
+# ---- what has to be there
+
+
+def missing_modules(python: str) -> list[str]:
+    """The modules that an interpreter has not; all, where there is no such interpreter."""
+    def has(module: str) -> bool:
+        words = [python, "-c", f"import {module}"]
+        return subprocess.run(words, capture_output=True, check=False).returncode == 0
+
+    return [module for module in MODULES if not shutil.which(python) or not has(module)]
+
+
+def missing() -> dict[str, str]:
+    """What is not there, each with its package."""
+    found = {name: package for name, package in COMMANDS.items() if not shutil.which(name)}
+    if all(missing_modules(python) for python in INTERPRETERS):
+        found |= {name: MODULES[name] for name in missing_modules(INTERPRETERS[-1])}
+    return found
+
+
+def install(packages: list[str]) -> None:
+    """Installs the packages where that can be done; what came of it is looked at afterwards."""
+    if os.geteuid() != 0 or not shutil.which("apt-get"):
+        return
+    print("gate: installs", *packages, flush=True)
+    told = {**os.environ, "DEBIAN_FRONTEND": "noninteractive"}
+    for words in (["update"], ["install", "--yes", "--no-install-recommends", *packages]):
+        subprocess.run(["apt-get", "--quiet", "--quiet", *words], env=told, check=False,
+                       stdin=subprocess.DEVNULL, stdout=sys.stderr)
+
+
+def furnish() -> bool:
+    """Whether all that the scripts use is there, or could be installed."""
+    if wanted := missing():
+        install(sorted({name for packages in wanted.values() for name in packages.split()}))
+    for name, package in missing().items():
+        print(f"gate: {name} is not there: Debian's package {package} has it", flush=True)
+    return not missing()
+
+
+# ---- the proofs
+
+
+def prove() -> tuple[int, int]:
+    """Runs `rt ci`, and gives how many it counted as passed and as failed. A green one has passed
+    some, failed none, said so in its last line and ended with status 0."""
+    if not shutil.which("rt"):
+        print("gate: rt is not there", flush=True)
+        return 0, 1
+    last = b""
+    with subprocess.Popen(["rt", "ci"], cwd=TOP, stdout=subprocess.PIPE) as proofs:
+        for line in proofs.stdout:
+            sys.stdout.buffer.write(line)
+            sys.stdout.buffer.flush()
+            last = line if line.strip() else last
+    counted = COUNTS.fullmatch(last)
+    passed, failed = map(int, counted.groups()) if counted else (0, 0)
+    is_green = proofs.returncode == 0 and passed > 0 and failed == 0
+    return passed, failed if is_green else max(failed, 1)
+
+
+# ---- the scripts
+
+
+class Running:
+    """A part that was begun: in a session of its own, so that it can be ended with all it began."""
+
+    def __init__(self, part: Part, python: str, folder: str, environment: dict[str, str]) -> None:
+        self.part, self.begun = part, time.monotonic()
+        self.output: IO[bytes] = tempfile.TemporaryFile(dir=folder)
+        script, *words = part.words.split()
+        self.process = subprocess.Popen(
+            [python, str(TOP / "checks" / script), *words], cwd=TOP, env=environment,
+            stdin=subprocess.DEVNULL, stdout=self.output, stderr=subprocess.STDOUT,
+            start_new_session=True)
+
+    def seconds(self) -> float:
+        return time.monotonic() - self.begun
+
+    def is_over(self) -> bool:
+        """Whether it has ended or is at its limit. It is not waited for yet: its number is kept."""
+        look = os.WEXITED | os.WNOHANG | os.WNOWAIT
+        return (os.waitid(os.P_PID, self.process.pid, look) is not None
+                or self.seconds() > self.part.seconds)
+
+    def end(self) -> int:
+        """Ends whatever is left of it, and gives its status."""
+        try:
+            os.killpg(self.process.pid, signal.SIGKILL)
+        except ProcessLookupError:
+            pass
+        return self.process.wait()
+
+    def tell(self) -> bool:
+        """Ends it, says how it ended, and gives whether it passed."""
+        name, seconds, late = self.part.name(), self.seconds(), self.seconds() > self.part.seconds
+        has_passed = self.end() == 0 and not late
+        if has_passed:
+            print(f"{name}: passed in {seconds:.0f} s", flush=True)
+        else:
+            self.output.seek(0)
+            sys.stdout.buffer.write(self.output.read())
+            why = f"no end in {self.part.seconds} s" if late else f"status {self.process.returncode}"
+            print(f"{name}: FAILED, {why}", flush=True)
+        self.output.close()
+        return has_passed
+
+
+def run(parts: list[Part], has_given_program: bool) -> int:
+    """Runs the parts, and gives how many of them failed."""
+    python = next(python for python in INTERPRETERS if not missing_modules(python))
+    told = {name: value for name, value in os.environ.items()
+            if name != "KEYREG" or has_given_program}
+    waiting, running, failed = list(parts), [], 0
+    with tempfile.TemporaryDirectory() as folder:
+        told |= {"PYTHONDONTWRITEBYTECODE": "1", "TMPDIR": folder}
+        try:
+            while waiting or running:
+                free = CORES - sum(one.part.cores for one in running)
+                if fitting := next((part for part in waiting if part.cores <= free), None):
+                    waiting.remove(fitting)
+                    running.append(Running(fitting, python, folder, told))
+                    continue
+                time.sleep(0.05)
+                for one in [one for one in running if one.is_over()]:
+                    running.remove(one)
+                    failed += not one.tell()
+        finally:
+            for one in running:
+                one.end()
+    return failed
+
+
+def chosen(names: list[str]) -> list[Part]:
+    known = [part.name() for part in PARTS]
+    if wrong := [name for name in names if name not in known]:
+        sys.exit(f"gate: no part {', '.join(wrong)}; there are {', '.join(known)}")
+    return [part for part in PARTS if not names or part.name() in names]
+
+
+def main() -> None:
+    words = argparse.ArgumentParser()
+    words.add_argument("--scripts-only", action="store_true")
+    words.add_argument("parts", nargs="*", metavar="PART")
+    told = words.parse_args()
+    if told.parts and not told.scripts_only:
+        words.error("the gate is whole without --scripts-only")
+    parts = chosen(told.parts)
+    # Whoever ends the gate ends what it began.
+    signal.signal(signal.SIGTERM, lambda *_: sys.exit(1))
+    if not furnish():
+        passed, failed = 0, 1
+    else:
+        passed, failed = (0, 0) if told.scripts_only else prove()
+        given = os.environ.get("KEYREG") if told.scripts_only else None
+        if failed == 0 and not os.access(given or PROGRAM, os.X_OK):
+            print(f"gate: no program at {given or PROGRAM}", flush=True)
+            failed = 1
+        elif failed == 0:
+            failed = run(parts, has_given_program=bool(given))
+            passed += len(parts) - failed
+    print(f"{passed} passed, {failed} failed", flush=True)
+    sys.exit(1 if failed else 0)
+
+
+main()
