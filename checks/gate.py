@@ -49,6 +49,7 @@ PARTS = (
     Part("killed_migrations.py 8", 60),
     Part("killed_runs.py 20", 60),
     Part("copied_while_served.py --seconds 15", 60),
+    Part("words.py", 60),
     Part("documents.py", 60),
     Part("manual.py", 30),
     Part("recipes.py", 30),
