@@ -1,6 +1,7 @@
 """What the checks over files share: the program (the one that KEYREG names, if set), runs of it, and the tables of
 docs/SPECIFICATION.md."""
 import os
+import shutil
 import subprocess
 import sys
 
@@ -83,6 +84,16 @@ APPROVED_ANEW_ROWS = {
     "period": [],
     "quorum": [],
 }
+
+
+# Where files in memory may stand: the folder that whoever runs the checks clears away, or the system's.
+MEMORY_FOLDER = os.environ.get("KEYREG_IN_MEMORY") or "/dev/shm"
+
+
+def in_memory(least):
+    """A folder in memory with so many bytes of room, where a sync costs nothing; None, which is the usual one, where there is none."""
+    has_room = os.access(MEMORY_FOLDER, os.W_OK) and shutil.disk_usage(MEMORY_FOLDER).free >= least
+    return MEMORY_FOLDER if has_room else None
 
 
 def expect(holds, told):

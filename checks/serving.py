@@ -3,6 +3,7 @@
 It needs Linux: that the port listens is read from /proc, since a connection made to try it would be served as an exchange.
 """
 import os
+import random
 import resource
 import signal
 import socket
@@ -10,24 +11,40 @@ import subprocess
 import tempfile
 import time
 
-from registers import PROGRAM, expect, keyreg
+from registers import PROGRAM, expect, in_memory, keyreg
 
 # So long, in seconds, a start, a reply and an end may take.
 PATIENCE = 60
 LISTEN = "0A"
 
 
+# Ports that the system gives to no client by itself. Each process takes its own of them, so that two of them side by side
+# choose none twice.
+PORTS, SHARES = range(10_000, 32_000), 8
+
+
 def free_port():
-    with socket.socket() as chosen:
-        chosen.bind(("127.0.0.1", 0))
-        return chosen.getsockname()[1]
+    ports = PORTS[os.getpid() % SHARES::SHARES]
+    for place in range(random.randrange(len(ports)), 2 * len(ports)):
+        with socket.socket() as chosen:
+            try:
+                chosen.bind(("127.0.0.1", ports[place % len(ports)]))
+                return chosen.getsockname()[1]
+            except OSError:
+                pass
+    return expect(False, "no port is free")
 
 
 def listens(port):
-    """Whether a socket on 127.0.0.1 listens at the port."""
+    """Whether a socket on 127.0.0.1 listens at the port. Those that listen stand before all others."""
     with open("/proc/net/tcp", encoding="ascii") as sockets:
-        rows = [row.split() for row in sockets]
-    return any(row[1] == f"0100007F:{port:04X}" and row[3] == LISTEN for row in rows[1:])
+        next(sockets)
+        for row in map(str.split, sockets):
+            if row[3] != LISTEN:
+                return False
+            if row[1] == f"0100007F:{port:04X}":
+                return True
+    return False
 
 
 def received(connection):
@@ -45,7 +62,7 @@ class Served:
     """A served register: a new one in a folder of its own, with what the lines make of it, or that of a given file."""
 
     def __init__(self, exchanges=1_000_000, lines=(), file=None, file_limit=None, environment=None):
-        self.folder = None if file else tempfile.TemporaryDirectory()
+        self.folder = None if file else tempfile.TemporaryDirectory(dir=in_memory(2**24))
         self.file = file or os.path.join(self.folder.name, "office.keyreg")
         self.replies = []
         if not file:
