@@ -77,7 +77,8 @@ def main():
     with tempfile.TemporaryDirectory() as folder:
         file = os.path.join(folder, "office.keyreg")
         longest = 4.0 * seconds_of_opening(file)
-        left = [killed_life(file, folder, chance.uniform(0.0, longest)) for _ in range(lives)]
+        # One in each part of that time, so that some come before the file is of version 2 and some after.
+        left = [killed_life(file, folder, chance.uniform(part, part + 1) * longest / lives) for part in range(lives)]
     first, ahead = sum(version == 1 for version, _ in left), sum(more for _, more in left)
     expect(0 < first < lives, f"{first} lives were killed before their files were of version 2")
     print(f"seed {seed}: {lives} lives killed, {first} of their files left of version 1, {ahead} requests accepted and not answered; each held")
