@@ -44,13 +44,16 @@ class Part(NamedTuple):
 
 # Those that keep both cores come first, then the longest.
 PARTS = (
-    Part("first_build.py", 120),
+    Part("want_of_memory.py", 360, cores=2),
+    Part("power_cuts.py --points 120 --choices 2", 120, cores=2),
     Part("exchanges_by_curl.py --bound 20", 120),
-    Part("killed_migrations.py 8", 60),
-    Part("killed_runs.py 20", 60),
-    Part("copied_while_served.py --seconds 15", 60),
-    Part("words.py", 60),
-    Part("documents.py", 60),
+    Part("first_build.py", 120),
+    Part("large_office.py", 120),
+    Part("words.py", 90),
+    Part("copied_while_served.py --seconds 15", 90),
+    Part("killed_migrations.py 16", 90),
+    Part("killed_runs.py 20", 90),
+    Part("documents.py", 90),
     Part("manual.py", 30),
     Part("recipes.py", 30),
 )
@@ -180,8 +183,9 @@ def run(parts: list[Part], has_given_program: bool) -> int:
     told = {name: value for name, value in os.environ.items()
             if name != "KEYREG" or has_given_program}
     waiting, running, failed = list(parts), [], 0
-    with tempfile.TemporaryDirectory() as folder:
-        told |= {"PYTHONDONTWRITEBYTECODE": "1", "TMPDIR": folder}
+    shared = "/dev/shm" if os.access("/dev/shm", os.W_OK) else None
+    with tempfile.TemporaryDirectory() as folder, tempfile.TemporaryDirectory(dir=shared) as memory:
+        told |= {"PYTHONDONTWRITEBYTECODE": "1", "TMPDIR": folder, "KEYREG_IN_MEMORY": memory}
         try:
             while waiting or running:
                 free = CORES - sum(one.part.cores for one in running)
