@@ -25,8 +25,6 @@ PAGE = TOP / "docs" / "AUDIT.md"
 VIEWS = TOP / "examples" / "audit.sql"
 # A block of commands, and the block of what they print, where they print something.
 BLOCK = re.compile(r"```sh\n(.*?)```\n(?:\n```\n(.*?)```\n)?", re.S)
-# The first block is the copy alone, which the register of the page takes again.
-FIRST = 1
 DAYS = 60
 
 
@@ -79,7 +77,7 @@ def look_at_views(folder):
         wanted.append([str(number), register.shown(number)["state"], protects, usage["process"]])
     found = asked(file, "SELECT number, state, protects, processes FROM standing ORDER BY number")
     expect(found == wanted, f"standing is {found}, not {wanted}")
-    lines = keyreg(["report", "--file", os.path.join(folder, "office.keyreg"), "--days", str(DAYS)])
+    lines = keyreg(["report", "--file", os.path.join(folder, "year.keyreg"), "--days", str(DAYS)])
     due = asked(file, "SELECT number, protect_stop, mark, type, owner, purpose FROM due")
     found = ["  ".join([f"{n:>7}", stop, f"{mark:7}", f"{kind:22}", owner, purpose])
              for n, stop, mark, kind, owner, purpose in due]
@@ -92,7 +90,7 @@ def main():
     words.add_argument("--write", action="store_true")
     writes = words.parse_args().write
     text = PAGE.read_text(encoding="utf-8")
-    blocks = list(BLOCK.finditer(text))[FIRST:]
+    blocks = list(BLOCK.finditer(text))
     failures = 0
     with tempfile.TemporaryDirectory() as folder:
         os.symlink(TOP / "examples", os.path.join(folder, "examples"))

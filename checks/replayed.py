@@ -1,0 +1,289 @@
+#!/usr/bin/env python3
+"""Puts registers to examples/replay.py. Those that keyreg wrote are what their requests give: a file of version 1, the same
+taken on to version 2, a register with rows in each table, drawn requests, many of one moment, those with the rows of
+`request` in another order. Then one change is planted in each column of each table, a row too many and one too few in each,
+in a register of each version: each is found, by its table and column. Last a register of many requests, for its time.
+
+    checks/replayed.py [--requests N] [--seed N]
+
+Build the program first: ./keyreg </dev/null
+"""
+import argparse
+import hashlib
+import os
+import pathlib
+import random
+import shutil
+import sqlite3
+import subprocess
+import sys
+import tempfile
+import time
+
+from registers import APPROVED_ANEW, UNSET, expect, keyreg
+
+TOP = pathlib.Path(__file__).resolve().parent.parent
+REPLAY = TOP / "examples" / "replay.py"
+# So long, in seconds, a hundred thousand requests may take.
+MOST_SECONDS = 20
+DAY = 86400
+
+# Rows in each table, a moment apart: periods, needs, custodians and approvals that stand.
+FULL = [line for line, _ in APPROVED_ANEW] + [
+    "200 office 1 set-period master 6 0",
+    "210 office 2 set-period data-encryption 12 24",
+    "220 ann 2 register data-encryption bob 220 - - payroll disks",
+    "230 ann 3 register master eve - - - root",
+    "240 eve 1 set-quorum 3 3",
+    "250 bob 6 set-quorum 2 2",
+    "260 eve 2 add-custodian 3 cat",
+    "270 eve 3 add-custodian 3 dan",
+    "280 cat 2 approve 3",
+    "290 zed 2 revoke 2 3 150",
+    "300 zed 3 advance",
+]
+# One change of each column, with what tells the row, by what no request gives. A request is what is replayed: of its own
+# columns these are changes that the others belie.
+CHANGES = {
+    "meta": ("id = 1", {"id": 2, "version": None, "latest": 5000, "key_count": 77}),
+    "keys": ("number = 1", {
+        "number": 900, "kind": 3, "owner": "nobody", "purpose": "another", "state": 2, "initial": 1, "activation": 7,
+        "protect_stop": 8, "deactivation": 9, "destroyed": 10, "compromised": 11, "occurrence": 12}),
+    "custodian": ("name = 'cat'", {"key_no": 2, "name": "nobody"}),
+    "approval": ("name = 'cat'", {"key_no": 2, "name": "nobody"}),
+    "request": ("command LIKE 'assign%' OR command = 'set-quorum 3 3'", {
+        "caller": "nobody", "number": 0, "command": "assign 1 nobody", "key_no": 2, "state": 5, "moment": 99}),
+    "period": ("kind = 7", {"kind": 3, "originator": 7, "recipient": 1}),
+    "quorum": ("key_no = 3", {"key_no": 1, "need": 5}),
+}
+# A row too many in each table, and what tells the row that is taken away.
+MORE = {
+    "meta": ((2, 2, 0, 0), "id = 1"),
+    "keys": ((50, 1, "bob", "more", 1, 1, *[UNSET] * 6), "number = 1"),
+    "custodian": ((1, "nobody"), "name = 'dan'"),
+    "approval": ((1, "dan2"), "name = 'dan'"),
+    "request": (("zed", 900, "register master bob - - - one more", 51, 1, 99), "command LIKE 'register%'"),
+    "period": ((4, 1, 1), "kind = 7"),
+    "quorum": ((1, 4), "key_no = 3"),
+}
+
+
+def replay(*words):
+    """The status and the lines of a replay, which leaves what it reads as it was."""
+    files = [file + end for file in words if os.path.isfile(file) for end in ("", "-wal") if os.path.isfile(file + end)]
+    before = [hashlib.sha256(pathlib.Path(file).read_bytes()).hexdigest() for file in files]
+    told = subprocess.run([sys.executable, REPLAY, *words], capture_output=True, text=True, check=False)
+    after = [hashlib.sha256(pathlib.Path(file).read_bytes()).hexdigest() for file in files]
+    expect(before == after, f"replay {words} has changed what it read")
+    expect(not told.stderr, f"replay {words}: {told.stderr}")
+    return told.returncode, told.stdout.splitlines()
+
+
+def as_given(file, told=""):
+    """The register is what its requests give, and the lines have this text."""
+    status, lines = replay(file)
+    expect(status == 0, f"{file}: status {status}, {lines[:5]}")
+    expect(told in "\n".join(lines), f"{file}: not told: {told}; {lines}")
+
+
+def changed(file, *statements):
+    """A copy of the file in which another program made these changes."""
+    other = f"{file}.changed"
+    for end in ("", "-wal"):
+        if os.path.exists(other + end):
+            os.remove(other + end)
+    source, target = sqlite3.connect(file), sqlite3.connect(other)
+    source.backup(target)
+    source.close()
+    target.execute("PRAGMA foreign_keys = OFF")
+    for statement in statements:
+        rows = target.execute(*statement).rowcount
+        expect(rows != 0, f"{statement} changed nothing")
+    target.commit()
+    target.close()
+    return other
+
+
+def found(file, told, *statements):
+    """The change is found, and a line begins with the one text and has the other."""
+    status, lines = replay(changed(file, *statements))
+    begin, text = told
+    is_told = any(line.startswith(begin) and text in line for line in lines)
+    expect(status in (1, 2) and is_told, f"{statements}: status {status}, not told {told}: {lines[:8]}")
+    return 1
+
+
+def planted(file, version):
+    """One change in each column of each table, a row too many and one too few; how many were found."""
+    count = 0
+    for table, (where, values) in CHANGES.items():
+        if version == 1 and table in ("period", "quorum"):
+            continue
+        one = f"rowid = (SELECT rowid FROM {table} WHERE {where} LIMIT 1)"
+        for column, value in values.items():
+            value = 3 - version if value is None else value
+            is_key = (table, column) in [("keys", "number"), ("meta", "id"), ("period", "kind"), ("quorum", "key_no")]
+            text = "" if is_key or table in ("custodian", "approval", "request") else f"{column} is {value!r}"
+            # Of another version the tables are others.
+            told = ("", "") if column == "version" else (table, text)
+            count += found(file, told, (f"UPDATE {table} SET {column} = ? WHERE {one}", [value]))
+        row, gone = MORE[table]
+        count += found(file, ("" if table == "meta" else table, ""),
+                       (f"INSERT INTO {table} VALUES ({', '.join('?' * len(row))})", row))
+        one = f"rowid = (SELECT rowid FROM {table} WHERE {gone} LIMIT 1)"
+        count += found(file, ("" if table in ("meta", "request") else table, ""), (f"DELETE FROM {table} WHERE {one}",))
+    return count
+
+
+def shuffled(file, chance):
+    """A copy in which the rows of `request` stand in another order."""
+    connection = sqlite3.connect(file)
+    rows = connection.execute("SELECT * FROM request").fetchall()
+    connection.close()
+    chance.shuffle(rows)
+    puts = [("INSERT INTO request VALUES (?, ?, ?, ?, ?, ?)", row) for row in rows]
+    return changed(file, ("DELETE FROM request",), *puts)
+
+
+# ---- drawn requests
+
+KINDS = ("data-encryption", "private-signature", "master")
+PEOPLE = ("ann", "bob", "cat", "dan", "eve", "office")
+
+
+def drawn(chance, count, steps):
+    """Lines of all commands; many are refused. The moments go on by one of the steps."""
+    moment, date = 1_700_000_000, lambda: chance.choice(["-", "-", moment + chance.randrange(-9, 900) * DAY])
+    for number in range(1, count + 1):
+        moment += chance.choice(steps)
+        key, name, who = chance.randint(1, 2 + number // 8), chance.choice(PEOPLE[:5]), chance.choice(PEOPLE)
+        edits = " ".join(str(chance.choice(["=", "=", date()])) for _ in range(3))
+        reason = chance.randint(1, 7)
+        texts = [
+            f"register {chance.choice(KINDS)} {name} {date()} {date()} {date()} key {number}", f"activate {key}", f"set {key} {edits}",
+            f"revoke {key} {reason} {chance.choice(['-', moment - DAY]) if reason in (2, 3) else '-'}",
+            f"assign {key} {name}", f"add-custodian {key} {name}", f"remove-custodian {key} {name}", f"approve {key}", f"approve {key}",
+            f"withdraw {key}", f"destroy {key}", f"set-quorum {key} {chance.randint(2, 3)}",
+            f"set-period {chance.choice(KINDS)} {chance.randint(1, 40)} {chance.randint(0, 40)}", "advance"]
+        weights = [3, 2, 3, 1, 1, 4, 1, 4, 4, 1, 4, 1, 1, 1]
+        text = chance.choices(texts, weights)[0]
+        yield f"{moment} {'office' if text.startswith('set-period') else who} {number} {text}"
+
+
+def at_one_moment(keys, people=("cat", "dan", "eve")):
+    """Lines of one moment alone: keys that are made, get custodians and approvals, and are destroyed."""
+    lines = []
+    for key in range(1, keys + 1):
+        lines.append(f"ann {key} register master bob - - - key {key}")
+        lines += [f"bob {key * 10 + place} add-custodian {key} {name}" for place, name in enumerate(people)]
+        lines += [f"{name} {key} approve {key}" for name in people[:2]]
+        lines.append(f"bob {key * 10 + 9} destroy {key}")
+    return [f"1700000000 {line}" for line in lines]
+
+
+def made(folder, name, lines):
+    """The file of a register that keyreg made, which accepted something of each."""
+    file = os.path.join(folder, f"{name}.keyreg")
+    keyreg(["init", "--file", file])
+    replies = keyreg(["run", "--file", file], lines)
+    return file, sum(reply.startswith("ok ") for reply in replies)
+
+
+# ---- the parts
+
+def untouched(folder, seed):
+    """Registers of keyreg are what their requests give. Gives those of version 1 and 2, and how many were asked."""
+    first = os.path.join(folder, "first.keyreg")
+    with sqlite3.connect(first) as connection:
+        connection.executescript((TOP / "checks" / "version_1.sql").read_text(encoding="ascii"))
+    connection.close()
+    as_given(first, "version 1: each row")
+    second = shutil.copy(first, os.path.join(folder, "second.keyreg"))
+    keyreg(["report", "--file", second, "--days", "0"])
+    as_given(second, "version 2: each row")
+    full, accepted = made(folder, "full", FULL)
+    expect(accepted == len(FULL) - 1, f"{accepted} of {len(FULL)} accepted")
+    as_given(full)
+    custodians = [f"{10 + n} bob {n} add-custodian 1 name{n}" for n in range(1, 17)]
+    as_given(made(folder, "sixteen", ["10 ann 1 register master bob - - - root", *custodians])[0])
+    chance, asked = random.Random(seed), 4
+    for place, steps in enumerate([(0,), (0, 0, 0, DAY), (0, DAY, 30 * DAY), (1, DAY)]):
+        file, accepted = made(folder, f"drawn_{place}", list(drawn(chance, 1500, steps)))
+        expect(accepted > 200, f"{accepted} drawn requests were accepted")
+        as_given(file)
+        asked += 1
+    file, accepted = made(folder, "level", at_one_moment(400))
+    expect(accepted == 400 * 7, f"{accepted} accepted")
+    as_given(file, "2800 requests share their moment")
+    as_given(shuffled(file, chance), "another one than the rows'")
+    for steps in ((0, 0, DAY), (0, 0, 0, 0, 0, DAY)):
+        file, _ = made(folder, f"shuffled_{len(steps)}", list(drawn(chance, 1500, steps)))
+        as_given(shuffled(file, chance))
+        asked += 1
+    return first, full, asked + 2
+
+
+def no_order(file, folder):
+    """Requests of one moment that no order accepts, and what an earlier copy belies."""
+    level, _ = made(folder, "few", at_one_moment(3))
+    one = "UPDATE request SET state = 1 WHERE command = 'destroy 2'"
+    found(level, ("request ('bob', 29)", "state is 1"), (one,))
+    found(level, ("approval (2, 'cat')", "no row"), ("DELETE FROM approval WHERE key_no = 2 AND name = 'cat'",))
+    later = changed(file, ("UPDATE meta SET latest = 400",),
+                    ("INSERT INTO request VALUES ('zed', 9, 'advance', 0, 0, 400)",))
+    later = shutil.copy(later, os.path.join(folder, "later.keyreg"))
+    expect(replay(later, "--since", file)[0] == 0, "an advance after the earlier copy")
+    for statement in ("UPDATE request SET number = 77 WHERE command = 'advance' AND moment = 300",
+                      "INSERT INTO request VALUES ('zed', 77, 'advance', 0, 0, 250)"):
+        other = changed(later, (statement,))
+        expect(replay(other)[0] == 0, f"{statement}: it is another history")
+        status, lines = replay(other, "--since", file)
+        expect(status == 1 and "earlier copy" in lines[0], f"{statement}: {lines}")
+
+
+def unreadable(folder, file):
+    """What is no register ends with 2."""
+    text, none = os.path.join(folder, "text"), os.path.join(folder, "none")
+    pathlib.Path(text).write_text("no database", encoding="ascii")
+    pathlib.Path(os.path.join(folder, "empty")).write_bytes(b"")
+    for path in (text, none, os.path.join(folder, "empty"), folder):
+        status, lines = replay(path)
+        expect(status == 2 and "cannot be read" in lines[-1], f"{path}: {status}, {lines}")
+    for statement in ("UPDATE meta SET version = 3", "DROP TABLE approval", "ALTER TABLE keys ADD COLUMN more INTEGER",
+                      "ALTER TABLE meta RENAME TO other"):
+        expect(replay(changed(file, (statement,)))[0] == 2, statement)
+
+
+def measured(folder, count, seed):
+    """The seconds that a register of so many requests takes, with some of each kind."""
+    chance = random.Random(seed)
+    lines = [f"{1_700_000_000 + number} ann {number} register {chance.choice(KINDS)} bob {1_700_000_000 + number} - - "
+             f"disks of rack {number}" for number in range(1, count // 2 + 1)]
+    lines += [f"{1_700_000_000 + count + number} bob {number} add-custodian {number} cat" for number in range(1, count // 2 + 1)]
+    file, accepted = made(folder, "many", lines)
+    expect(accepted == len(lines), f"{accepted} of {len(lines)} accepted")
+    begun = time.monotonic()
+    as_given(file)
+    taken = time.monotonic() - begun
+    expect(count > 100_000 or taken <= MOST_SECONDS, f"{count} requests took {taken:.1f} seconds")
+    found(file, ("keys 7: owner is 'eve'", "'bob'"), ("UPDATE keys SET owner = 'eve' WHERE number = 7",))
+    return taken
+
+
+def main():
+    words = argparse.ArgumentParser()
+    words.add_argument("--requests", type=int, default=100_000)
+    words.add_argument("--seed", type=int, default=random.randrange(1_000_000))
+    words = words.parse_args()
+    print(f"seed {words.seed}", flush=True)
+    with tempfile.TemporaryDirectory() as folder:
+        first, full, asked = untouched(folder, words.seed)
+        count = planted(first, 1) + planted(full, 2)
+        no_order(full, folder)
+        unreadable(folder, full)
+        taken = measured(folder, words.requests, words.seed)
+    print(f"{asked} registers are what their requests give; {count} of {count} planted changes were found; "
+          f"{words.requests} requests took {taken:.1f} seconds")
+
+
+main()
