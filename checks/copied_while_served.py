@@ -1,8 +1,8 @@
 #!/usr/bin/env python3
 """Copies a register while it is served and written to, as docs/AUDIT.md says: the database, then
 its log, then `cmp`. Each copy in which `cmp` finds no difference is a sound database and a register
-with every request that was answered before it was begun, and with the first requests alone. Every
-other copy waits between the two until the program has copied its log into the database: `cmp` tells
+with every request that was answered before it was begun, and with the first requests alone, and
+`keyreg export` and `keyreg report` have all its keys. Every other copy waits between the two until the program has copied its log into the database: `cmp` tells
 these.
 
     checks/copied_while_served.py [--seconds N]
@@ -20,7 +20,9 @@ from registers import expect, keyreg
 from rules import compact, request_object
 from serving import Served
 
-COMMAND = ("register", "master", "bob", None, None, None, "spare")
+# A key that is Active, and is so to the end of the check: a report of this many days lists it.
+COMMAND = ("register", "master", "bob", int(time.time()) - 86400, None, None, "spare")
+DAYS = 400
 # So long, in seconds, a copy waits at most.
 PATIENCE = 120
 QUESTION = """PRAGMA integrity_check; SELECT count(*), max(number) FROM request;
@@ -93,6 +95,9 @@ def main():
                    f"a copy of {found} requests, {before} answered before it, {after} after it")
             rows = keyreg(["export", "--file", other])
             expect(len(rows) == found + 1, f"an export of {len(rows)} rows of {found} requests")
+            rows = keyreg(["report", "--file", other, "--days", str(DAYS)])
+            is_whole = len(rows) == found + 2 and rows[-1] == f"total {found}"
+            expect(is_whole, f"a report of {len(rows)} lines, of {found} requests: {rows[-1]}")
             whole += 1
         expect(load.is_alive(), "a registration was not accepted")
         load.ends = True

@@ -16,10 +16,10 @@ The order. Requests are taken by their moments. Of those with one moment the fil
 keyreg writes as it accepts, and which VACUUM and a dump keep. That order is taken first. Where something differs in it,
 another one is looked for: of each key the orders of its requests at one moment are tried, the rows' order first, for one in
 which each is accepted with the state that is kept and which ends in the key's rows. New keys go by their numbers. At most
-20000 steps are tried for a key and 2000000 for all, 24 orders of the periods of a type, and of a key with more than 64
-requests at one moment the rows' order alone. The verdict is always that of one plain replay, in the order that was found. So
-a 0 says that there is such an order, not that it is the only one; and where the bound was met, which is told, a 1 says that
-none was found.
+20000 steps are tried for a key and 2000000 for all, and 24 orders of the periods of a type. Of a key with more than 64
+requests at one moment, and of a type with more than four periods at one, the rows' order alone is. The verdict is always that
+of one plain replay, in the order that was found. So a 0 says that there is such an order, not that it is the only one; and
+where the bound was met, which is told, a 1 says that none was found.
 
 What it cannot know: whether the requests are those that were made. Who may write to the file may write another history, with
 rows that agree with it. --since shows that each request of an earlier copy stands in COPY as it stood, and that none came in
@@ -436,7 +436,7 @@ def differences(name, found, wanted):
 
 # ---- another order of requests at one moment
 
-KEY_STEPS, ALL_STEPS, MOST_AT_ONCE, MOST_ORDERS = 20_000, 2_000_000, 64, 24
+KEY_STEPS, ALL_STEPS, MOST_AT_ONCE, MOST_PERIODS, MOST_ORDERS = 20_000, 2_000_000, 64, 4, 24
 OF_DATES = ("register", "set", "activate")
 
 
@@ -518,7 +518,8 @@ class Search:
     def paths_of(self, kind, numbers):
         """A path for each key of a type, by the first order of its periods in which each has one, or most have."""
         best, kept = (-1, [], {}), self.kept_periods.get(kind)
-        orders = itertools.product(*map(itertools.permutations, by_moment(self.periods[kind])))
+        groups = by_moment(self.periods[kind])
+        orders = itertools.product(*([group] if len(group) > MOST_PERIODS else itertools.permutations(group) for group in groups))
         for order in itertools.islice(orders, MOST_ORDERS):
             self.periods[kind] = given = list(itertools.chain(*order))
             slot, paths = 0, {}
@@ -530,6 +531,8 @@ class Search:
             best = max(best, (sum(map(bool, paths.values())) + is_last, given, paths), key=lambda one: one[0])
             if best[0] > len(numbers):
                 break
+        else:
+            self.met_bound |= any(len(group) > 1 for group in groups)
         self.periods[kind] = best[1]
         return best[2]
 

@@ -1,0 +1,163 @@
+#!/usr/bin/env python3
+"""A register behind nginx with examples/nginx-keyreg.conf, and what reaches it without. Behind it a request has the name of the
+user who sent it, whatever `Caller` it bears: another user than `office` gets NotOffice. Who has no password, and who names
+another host, is refused by nginx, and nothing of it reaches the register. A client that stalls holds up nobody. Without nginx
+the register takes the same requests, with a foreign host and a forged name, as docs/OPERATING.md says; what a browser asks
+before it sends another page's request it refuses.
+
+    checks/behind_nginx.py
+
+It needs Debian's nginx, and installs nginx-light where it is root. Build the program first: ./keyreg </dev/null
+"""
+import base64
+import json
+import os
+import pathlib
+import shutil
+import socket
+import sqlite3
+import subprocess
+import tempfile
+import time
+
+from office import head
+from registers import expect
+from serving import PATIENCE, Served, free_port, listens, received
+
+CONF = pathlib.Path(__file__).resolve().parent.parent / "examples" / "nginx-keyreg.conf"
+HOST, USERS = "keyreg.example", {"alice.meyer": "wonder", "office": "desk"}
+PERIOD = {"kind": "set-period", "type": "master", "originator": 6, "recipient": 0}
+KEY = {"kind": "register", "type": "master", "owner": "bob", "activation": None, "protect_stop": None, "deactivation": None,
+       "purpose": "root"}
+MAIN = """daemon off; pid {folder}/pid; error_log {folder}/error.log; {user}
+events {{ worker_connections 64; }}
+http {{ access_log off; client_body_temp_path {folder}/body; proxy_temp_path {folder}/proxy; fastcgi_temp_path {folder}/f;
+uwsgi_temp_path {folder}/u; scgi_temp_path {folder}/s; include {folder}/keyreg.conf; }}
+"""
+
+
+def program():
+    """Debian's nginx, which is installed where it is not there and may be."""
+    found = shutil.which("nginx") or shutil.which("nginx", path="/usr/sbin")
+    if not found and os.geteuid() == 0 and shutil.which("apt-get"):
+        # Without a service that starts.
+        told = {**os.environ, "RUNLEVEL": "1", "DEBIAN_FRONTEND": "noninteractive"}
+        subprocess.run(["apt-get", "install", "-y", "--no-install-recommends", "nginx-light"], env=told, check=False,
+                       stdout=subprocess.DEVNULL)
+        found = shutil.which("nginx", path="/usr/sbin")
+    expect(found, "nginx is not installed: apt-get install nginx-light")
+    return found
+
+
+class Guard:
+    """nginx with the example's file, on ports of its own."""
+
+    def __init__(self, register_port):
+        self.port, self.folder = free_port(), tempfile.TemporaryDirectory()
+        folder = self.folder.name
+        text = CONF.read_text(encoding="ascii")
+        for old, new in (("8420", str(register_port)), ("8421", str(self.port)), ("/etc/nginx/keyreg.users", f"{folder}/users")):
+            expect(old in text, f"no {old} in {CONF.name}")
+            text = text.replace(old, new)
+        users = "".join(f"{name}:{{PLAIN}}{word}\n" for name, word in USERS.items())
+        main = MAIN.format(folder=folder, user="user root;" if os.geteuid() == 0 else "")
+        for name, given in (("keyreg.conf", text), ("users", users), ("nginx.conf", main)):
+            pathlib.Path(folder, name).write_text(given, encoding="ascii")
+        self.process = subprocess.Popen([program(), "-p", folder, "-c", f"{folder}/nginx.conf"], stderr=subprocess.PIPE)
+        late = time.monotonic() + PATIENCE
+        while not listens(self.port):
+            expect(self.process.poll() is None, f"nginx ended: {self.process.stderr and self.process.stderr.read()}")
+            expect(time.monotonic() < late, "nginx does not listen")
+            time.sleep(0.01)
+
+    def __enter__(self):
+        return self
+
+    def __exit__(self, *_):
+        self.process.terminate()
+        self.process.wait()
+        self.process.stderr.close()
+        self.folder.cleanup()
+
+
+def asked(port, given):
+    """The status, the body's name or value, and the head of the reply to these bytes."""
+    with socket.create_connection(("127.0.0.1", port), timeout=PATIENCE) as connection:
+        connection.sendall(given)
+        reply = received(connection)
+    lines, _, body = reply.partition(b"\r\n\r\n")
+    is_json = b"application/json" in lines
+    return int(lines.split()[1]), json.loads(body) if is_json else None, lines.decode().lower()
+
+
+def posted(port, body, *fields, user=None, word=None, host=HOST):
+    given = json.dumps(body).encode()
+    if user:
+        token = base64.b64encode(f"{user}:{word or USERS[user]}".encode()).decode()
+        fields = (*fields, f"Authorization: Basic {token}")
+    return asked(port, head("POST /requests HTTP/1.1", f"Host: {host}", *fields, f"Content-Length: {len(given)}",
+                            "Connection: close") + given)
+
+
+def behind(guard):
+    """What comes by way of nginx, where each number is used once."""
+    forged = ("Caller: office", "caller: office")
+    number = iter(f"Request-Number: {place}" for place in range(1, 99))
+    for user, word in ((None, None), ("office", "another"), ("nobody", "desk")):
+        status, told, _ = posted(guard.port, PERIOD, *forged, next(number), user=user, word=word)
+        expect((status, told) == (401, None), f"{user} with {word}: {status}, {told}")
+    status, told, _ = posted(guard.port, PERIOD, *forged, next(number), user="alice.meyer")
+    expect((status, told) == (409, {"name": "NotOffice", "refused": 21}), f"a forged caller: {status}, {told}")
+    status, told, _ = posted(guard.port, KEY, "Caller: bob", next(number), user="alice.meyer")
+    expect(status == 200 and told["key"] == 1, f"alice.meyer registers: {status}, {told}")
+    for host in ("evil.example", "127.0.0.1", f"127.0.0.1:{guard.port}", "evil.example:80"):
+        status, told, _ = posted(guard.port, PERIOD, next(number), user="office", host=host)
+        expect((status, told) == (421, None), f"the host {host}: {status}, {told}")
+    status, _, lines = asked(guard.port, head("OPTIONS /requests HTTP/1.1", f"Host: {HOST}", "Origin: http://evil.example",
+                                              "Access-Control-Request-Method: POST", "Connection: close"))
+    expect(status == 401 and "access-control" not in lines, f"a preflight: {status}, {lines}")
+    status, told, _ = posted(guard.port, PERIOD, "Caller: alice.meyer", next(number), user="office")
+    expect((status, told["key"]) == (200, 0), f"the office: {status}, {told}")
+
+
+def stalled(guard):
+    """A client that sends half a body holds up nobody."""
+    with socket.create_connection(("127.0.0.1", guard.port), timeout=PATIENCE) as connection:
+        token = base64.b64encode(b"office:desk").decode()
+        connection.sendall(head("POST /requests HTTP/1.1", f"Host: {HOST}", f"Authorization: Basic {token}",
+                                "Request-Number: 50", "Content-Length: 100") + b'{"kind"')
+        begun = time.monotonic()
+        status, told, _ = posted(guard.port, {"kind": "advance"}, "Request-Number: 51", user="office")
+        expect(status == 200 and time.monotonic() - begun < 5, f"beside a client that stalls: {status}, {told}")
+
+
+def without(port):
+    """What reaches the register itself: any host and any name; no page of another origin that asks first."""
+    status, told, _ = posted(port, PERIOD, "Caller: office", "Request-Number: 60", "Origin: http://evil.example",
+                             host="evil.example")
+    expect(status == 200, f"a foreign host and a forged name: {status}, {told}")
+    status, told, lines = asked(port, head("OPTIONS /requests HTTP/1.1", f"Host: 127.0.0.1:{port}",
+                                           "Origin: http://evil.example", "Access-Control-Request-Method: POST",
+                                           "Access-Control-Request-Headers: caller,request-number"))
+    expect(status == 405 and "access-control" not in lines, f"a preflight: {status}, {lines}")
+    status, told, _ = posted(port, PERIOD, "Origin: http://evil.example", "Content-Type: text/plain", host=f"127.0.0.1:{port}")
+    expect(status == 400, f"a request of a page that may set no header: {status}, {told}")
+
+
+def main():
+    with Served() as served:
+        with Guard(served.port) as guard:
+            behind(guard)
+            stalled(guard)
+        without(served.port)
+        served.process.kill()
+        served.process.wait()
+        with sqlite3.connect(served.file) as connection:
+            rows = connection.execute("SELECT caller, number FROM request ORDER BY rowid").fetchall()
+        connection.close()
+    wanted = [("alice.meyer", 5), ("office", 10), ("office", 51), ("office", 60)]
+    expect(rows == wanted, f"accepted were {rows}, not {wanted}")
+    print("behind nginx a caller is the user who sent the request, and a foreign host is refused; without it both are taken")
+
+
+main()
