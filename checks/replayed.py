@@ -2,7 +2,8 @@
 """Puts registers to examples/replay.py. Those that keyreg wrote are what their requests give: a file of version 1, the same
 taken on to version 2, a register with rows in each table, drawn requests, many of one moment, those with the rows of
 `request` in another order. Then one change is planted in each column of each table, a row too many and one too few in each,
-in a register of each version: each is found, by its table and column. Last a register of many requests, for its time.
+in a register of each version: each is found, by its table and column. So is a request that the rules refuse, by its refusal.
+Last a register of many requests, for its time.
 
     checks/replayed.py [--requests N] [--seed N]
 
@@ -39,6 +40,7 @@ FULL = [line for line, _ in APPROVED_ANEW] + [
     "260 eve 2 add-custodian 3 cat",
     "270 eve 3 add-custodian 3 dan",
     "280 cat 2 approve 3",
+    "285 ann 4 register data-encryption bob 285 - - disks of site B",
     "290 zed 2 revoke 2 3 150",
     "300 zed 3 advance",
 ]
@@ -66,6 +68,22 @@ MORE = {
     "period": ((4, 1, 1), "kind = 7"),
     "quorum": ((1, 4), "key_no = 3"),
 }
+
+# Requests that no register accepts at the end of FULL, each with its refusal, and texts that are no command.
+REFUSED = [
+    ("UnknownKey", "bob", "activate 99"), ("NotOwner", "ann", "assign 3 bob"), ("NotCustodian", "ann", "approve 3"),
+    ("WrongState", "eve", "revoke 3 5 -"), ("DateFrozen", "bob", "set 4 5 = ="),
+    ("DateOrder", "ann", "register master bob 500 400 - x"), ("PeriodTooLong", "ann", "register master bob 0 15638401 - x"),
+    ("PeriodTooLong", "ann", "register data-encryption bob 0 0 63072001 x"),
+    ("DateRange", "ann", "register master bob 253402300799 - - x"), ("AlreadyCustodian", "eve", "add-custodian 3 cat"),
+    ("NoSuchCustodian", "eve", "remove-custodian 3 zed"), ("OwnerCustodian", "eve", "add-custodian 3 eve"),
+    ("OwnerCustodian", "eve", "assign 3 cat"), ("AlreadyApproved", "cat", "approve 3"), ("NoApproval", "dan", "withdraw 3"),
+    ("ApprovalsMissing", "eve", "destroy 3"), ("OccurrenceLater", "ann", "revoke 4 2 9999"),
+    ("NotOffice", "ann", "set-period master 5 5"),
+]
+NO_COMMANDS = ["Advance", "advance ", "activate 01", "activate 0", "approve  3", "revoke 4 5 7", "revoke 4 8 -", "destroy 3 3",
+               "set 4 = = +5", "set-quorum 3 6", "set-period master 0 0", "assign 3 b\u00f6b", "register master bob - - - x ",
+               "register master bob - - - a\tb", "register masters bob - - - x", ""]
 
 
 def replay(*words):
@@ -133,6 +151,18 @@ def planted(file, version):
         one = f"rowid = (SELECT rowid FROM {table} WHERE {gone} LIMIT 1)"
         count += found(file, ("" if table in ("meta", "request") else table, ""), (f"DELETE FROM {table} WHERE {one}",))
     return count
+
+
+def refused(full, sixteen):
+    """Requests among the accepted that the rules refuse, and texts that are none."""
+    put = "INSERT INTO request VALUES (?, 900, ?, 4, 2, 300)"
+    for name, caller, command in REFUSED:
+        found(full, ("request", f"{command!r}: the rules refuse it, {name}"), (put, (caller, command)))
+    for command in NO_COMMANDS:
+        found(full, ("request", f"{command!r}, 4, 2, 300): it is none by the rules"), (put, ("bob", command)))
+    row = ("bob", "add-custodian 1 onemore")
+    found(sixteen, ("request", "the rules refuse it, TooManyCustodians"), (put, row))
+    return len(REFUSED) + len(NO_COMMANDS) + 1
 
 
 def shuffled(file, chance):
@@ -205,7 +235,8 @@ def untouched(folder, seed):
     expect(accepted == len(FULL) - 1, f"{accepted} of {len(FULL)} accepted")
     as_given(full)
     custodians = [f"{10 + n} bob {n} add-custodian 1 name{n}" for n in range(1, 17)]
-    as_given(made(folder, "sixteen", ["10 ann 1 register master bob - - - root", *custodians])[0])
+    sixteen = made(folder, "sixteen", ["10 ann 1 register master bob - - - root", *custodians])[0]
+    as_given(sixteen)
     chance, asked = random.Random(seed), 4
     for place, steps in enumerate([(0,), (0, 0, 0, DAY), (0, DAY, 30 * DAY), (1, DAY)]):
         file, accepted = made(folder, f"drawn_{place}", list(drawn(chance, 1500, steps)))
@@ -220,7 +251,7 @@ def untouched(folder, seed):
         file, _ = made(folder, f"shuffled_{len(steps)}", list(drawn(chance, 1500, steps)))
         as_given(shuffled(file, chance))
         asked += 1
-    return first, full, asked + 2
+    return first, full, sixteen, asked + 2
 
 
 def no_order(file, folder):
@@ -277,8 +308,8 @@ def main():
     words = words.parse_args()
     print(f"seed {words.seed}", flush=True)
     with tempfile.TemporaryDirectory() as folder:
-        first, full, asked = untouched(folder, words.seed)
-        count = planted(first, 1) + planted(full, 2)
+        first, full, sixteen, asked = untouched(folder, words.seed)
+        count = planted(first, 1) + planted(full, 2) + refused(full, sixteen)
         no_order(full, folder)
         unreadable(folder, full)
         taken = measured(folder, words.requests, words.seed)
