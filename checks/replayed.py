@@ -41,6 +41,7 @@ FULL = [line for line, _ in APPROVED_ANEW] + [
     "270 eve 3 add-custodian 3 dan",
     "280 cat 2 approve 3",
     "285 ann 4 register data-encryption bob 285 - - disks of site B",
+    "286 ann 5 register data-encryption bob 286 288 - disks of site C",
     "290 zed 2 revoke 2 3 150",
     "300 zed 3 advance",
 ]
@@ -72,7 +73,7 @@ MORE = {
 # Requests that no register accepts at the end of FULL, each with its refusal, and texts that are no command.
 REFUSED = [
     ("UnknownKey", "bob", "activate 99"), ("NotOwner", "ann", "assign 3 bob"), ("NotCustodian", "ann", "approve 3"),
-    ("WrongState", "eve", "revoke 3 5 -"), ("DateFrozen", "bob", "set 4 5 = ="),
+    ("WrongState", "eve", "revoke 3 5 -"), ("DateFrozen", "bob", "set 4 5 = ="), ("DateFrozen", "bob", "set 5 = 400 ="),
     ("DateOrder", "ann", "register master bob 500 400 - x"), ("PeriodTooLong", "ann", "register master bob 0 15638401 - x"),
     ("PeriodTooLong", "ann", "register data-encryption bob 0 0 63072001 x"),
     ("DateRange", "ann", "register master bob 253402300799 - - x"), ("AlreadyCustodian", "eve", "add-custodian 3 cat"),
