@@ -1,7 +1,8 @@
 #!/usr/bin/env python3
 """Runs each command of docs/AUDIT.md in a folder of its own and compares what it prints with what
 stands there. Then the views of examples/audit.sql are compared with the rules of checks/rules.py:
-each key's state and usage, and what is due with what `keyreg report` writes.
+each key's state and usage, and what is due with what `keyreg report` writes. Of a file of version 1
+each view answers what it does of the same file in version 2.
 
     checks/audit.py [--write]
 
@@ -13,6 +14,8 @@ import argparse
 import os
 import pathlib
 import re
+import shutil
+import sqlite3
 import subprocess
 import sys
 import tempfile
@@ -85,6 +88,24 @@ def look_at_views(folder):
     return len(requests), len(numbers)
 
 
+def look_at_version_1(folder):
+    """Each view answers of a file of version 1 as of the same file in version 2, and not all of them nothing."""
+    names = re.findall(r"^CREATE TEMP VIEW (\w+)", VIEWS.read_text(encoding="utf-8"), re.M)
+    file, later = (os.path.join(folder, f"version_{version}.keyreg") for version in (1, 2))
+    with sqlite3.connect(file) as connection:
+        connection.executescript((TOP / "checks" / "version_1.sql").read_text(encoding="ascii"))
+    connection.close()
+    shutil.copy(file, later)
+    keyreg(["report", "--file", later, "--days", "0"])
+    rows = 0
+    for name in names:
+        found, wanted = (asked(one, f"SELECT * FROM {name}") for one in (file, later))
+        expect(found == wanted, f"{name} of version 1 is {found}, not {wanted}")
+        rows += len(found)
+    expect(rows > len(names), f"{rows} rows of {len(names)} views")
+    return len(names)
+
+
 def main():
     words = argparse.ArgumentParser()
     words.add_argument("--write", action="store_true")
@@ -104,10 +125,11 @@ def main():
                 failures += 1
                 print(f"{block[1]}prints\n{found}and not\n{block[2]}", flush=True)
         requests, keys = look_at_views(folder)
+        views = look_at_version_1(folder)
     if writes:
         PAGE.write_text(text, encoding="utf-8")
     print(f"{len(blocks) - failures} of {len(blocks)} blocks of docs/AUDIT.md print what is there; "
-          f"{keys} keys of {requests} requests are as the rules say")
+          f"{keys} keys of {requests} requests are as the rules say; {views} views answer of version 1 too")
     sys.exit(1 if failures else 0)
 
 

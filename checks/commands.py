@@ -1,10 +1,11 @@
-"""What checks/documents.py runs: the commands of a document, each with its output.
+"""What checks/documents.py runs: the commands of documents, each with its output.
 
-A fenced block `sh` and the next fenced block without a language are commands and their output; a
-block `sh` that no such block follows is run by nobody. The blocks of a document are run one after
-the other in one folder, which has a copy of examples/ and checks/version_1.sql, and the program as
-./keyreg. The port 8420 is replaced by a free one. A moment of the clock, within the time of the
-run, stands in the document as 1795541234.
+A fenced block `sh` is commands, and the next fenced block, where it has no language, their output;
+where it has one they print nothing. The blocks of the documents are run one after the other, from
+the first document's to the last one's, in one folder, as by a reader who goes on from page to page.
+It has a copy of examples/ and checks/version_1.sql, and the program as ./keyreg. The port 8420 is
+replaced by a free one. A moment of the clock, within the time of the run, stands in a document as
+1795541234. Spaces at the ends of lines do not count.
 """
 import difflib
 import os
@@ -32,9 +33,9 @@ def blocks(text):
             begun = None
         elif begun is not None:
             begun[2].append(line)
-    pairs = zip(fences, fences[1:])
-    return [(number, "\n".join(lines), "\n".join(output[2]))
-            for (number, language, lines), output in pairs if language == "sh" and not output[1]]
+    pairs = zip(fences, [*fences[1:], (0, "none", [])])
+    return [(number, "\n".join(lines), "" if output[1] else "\n".join(output[2]))
+            for (number, language, lines), output in pairs if language == "sh"]
 
 
 def free_port():
@@ -68,16 +69,21 @@ def printed(commands, folder):
                   text.replace(port, PORT))
 
 
-def wrong_outputs(document):
+def plain(text):
+    return [line.rstrip() for line in text.rstrip("\n").split("\n")]
+
+
+def wrong_outputs(documents):
     """A line for each block of commands whose output is another one, and how many there are."""
     if not os.access(PROGRAM, os.X_OK):
-        return [f"{document}: no program at {PROGRAM}: ./keyreg </dev/null builds it"], 0
-    faults, found = [], blocks(read(document))
+        return [f"{documents[0]}: no program at {PROGRAM}: ./keyreg </dev/null builds it"], 0
+    faults = []
+    found = [(document, *block) for document in documents for block in blocks(read(document))]
     with tempfile.TemporaryDirectory() as folder:
         furnish(folder)
-        for number, commands, output in found:
-            got = printed(commands, folder).rstrip("\n").split("\n")
-            lines = difflib.unified_diff(output.rstrip("\n").split("\n"), got, lineterm="", n=0)
+        for document, number, commands, output in found:
+            got = plain(printed(commands, folder))
+            lines = difflib.unified_diff(plain(output), got, lineterm="", n=0)
             differs = [line for line in lines if not line.startswith(("---", "+++", "@@"))]
             if differs:
                 faults.append(f"{document}:{number}: another output: " + " / ".join(differs[:4]))

@@ -14,8 +14,8 @@ parts, all where none is named:
     paths      each path and link of a document leads to a file, and an anchor to a heading
     calls      each call in the example of a crate's src/lib.rt is that of a function of ours with
                as many arguments
-    commands   the commands of README.md and docs/OPERATING.md print what stands after them
-               (checks/commands.py)
+    commands   the commands of README.md, docs/OPERATING.md and docs/AUDIT.md, one after the other
+               in one folder, print what stands after them (checks/commands.py)
     stale      no document has another number of tables or commands, another bound on steps, a
                table, an index, a refusal or an end of another name, or another program logic than
                the kit's
@@ -42,7 +42,7 @@ WORDS = """no one two three four five six seven eight nine ten eleven twelve thi
     fifteen sixteen""".split()
 NUMBERS = {word: number for number, word in enumerate(WORDS)}
 STD_CALLS = {"write_all", "as_bytes", "map", "assert_eq"}
-FILE = re.compile(r"[\w.<>/-]*\w\.(?:rt|antt|py|md|sql|sh|csv|txt|yaml|edit|svg|service)\b")
+FILE = re.compile(r"[\w.<>/-]*\w\.(?:rt|antt|py|md|sql|sh|csv|txt|yaml|edit|svg|service|timer|cron|conf)\b")
 FOLDER = re.compile(r"(crates|checks|bench|docs|examples|\.ci)/")
 # The most words in a cell of PROMISES.
 MOST_WORDS = 25
@@ -382,10 +382,7 @@ def stale_faults():
 
 
 def output_faults():
-    faults, count = [], 0
-    for document in ("README.md", "docs/OPERATING.md"):
-        wrong, run = commands.wrong_outputs(document)
-        faults, count = faults + wrong, count + run
+    faults, count = commands.wrong_outputs(["README.md", "docs/OPERATING.md", "docs/AUDIT.md"])
     return faults, f"{count} blocks of commands"
 
 

@@ -154,16 +154,19 @@ def planted(file, version):
     return count
 
 
-def refused(full, sixteen):
-    """Requests among the accepted that the rules refuse, and texts that are none."""
+def refused(first, full, sixteen):
+    """Requests among the accepted that the rules of their version refuse, and texts that are none."""
     put = "INSERT INTO request VALUES (?, 900, ?, 4, 2, 300)"
     for name, caller, command in REFUSED:
         found(full, ("request", f"{command!r}: the rules refuse it, {name}"), (put, (caller, command)))
     for command in NO_COMMANDS:
         found(full, ("request", f"{command!r}, 4, 2, 300): it is none by the rules"), (put, ("bob", command)))
-    row = ("bob", "add-custodian 1 onemore")
-    found(sixteen, ("request", "the rules refuse it, TooManyCustodians"), (put, row))
-    return len(REFUSED) + len(NO_COMMANDS) + 1
+    found(sixteen, ("request", "the rules refuse it, TooManyCustodians"), (put, ("bob", "add-custodian 1 onemore")))
+    for command in ("set-quorum 9 3", "set-period master 6 0"):
+        found(first, ("request", f"{command!r}, 4, 2, 300): it is none by the rules of version 1"), (put, ("office", command)))
+    ninth = [(f"INSERT INTO request VALUES ('fay', {900 + n}, 'add-custodian 9 name{n}', 9, 6, {3001 + n})",) for n in range(7)]
+    found(first, ("request ('fay', 906)", "the rules refuse it, TooManyCustodians"), *ninth)
+    return len(REFUSED) + len(NO_COMMANDS) + 4
 
 
 def shuffled(file, chance):
@@ -310,7 +313,7 @@ def main():
     print(f"seed {words.seed}", flush=True)
     with tempfile.TemporaryDirectory() as folder:
         first, full, sixteen, asked = untouched(folder, words.seed)
-        count = planted(first, 1) + planted(full, 2) + refused(full, sixteen)
+        count = planted(first, 1) + planted(full, 2) + refused(first, full, sixteen)
         no_order(full, folder)
         unreadable(folder, full)
         taken = measured(folder, words.requests, words.seed)

@@ -3,7 +3,7 @@
 --     sqlite3 -readonly -header -column copy.keyreg '.read examples/audit.sql' 'SELECT * FROM standing'
 --
 -- All that is made here is TEMP: it lives in the shell alone, and nothing of it gets into the file. The codes, the
--- rules of states and of usage and the months are those of docs/SPECIFICATION.md.
+-- rules of states and of usage and the months are those of docs/SPECIFICATION.md. A file of version 1 answers too.
 
 -- The moment at which a question is asked, which is the latest accepted one, and the days ahead of what is due. Both
 -- may be set anew: UPDATE question SET now = unixepoch(), days = 90;
@@ -21,11 +21,17 @@ INSERT INTO type_text VALUES (1, 'data-encryption', 24, 36), (2, 'authentication
     (4, 'private-signature', 36, 0), (5, 'private-authentication', 24, 0), (6, 'private-transport', 24, 0),
     (7, 'master', 12, 0);
 
+-- A file of version 1 has neither of these tables. A name without its database is looked for in the file first, and after
+-- it in this one, which is in memory, and may be written to by a shell with -readonly too.
+ATTACH 'file:version_2?mode=memory' AS version_2;
+CREATE TABLE version_2.period (kind INTEGER PRIMARY KEY, originator INTEGER NOT NULL, recipient INTEGER NOT NULL);
+CREATE TABLE version_2.quorum (key_no INTEGER PRIMARY KEY, need INTEGER NOT NULL);
+
 -- The usage period of each type as the office set it last.
 CREATE TEMP VIEW usage_period AS
 SELECT code, type, coalesce(period.originator, type_text.originator) AS originator,
     coalesce(period.recipient, type_text.recipient) AS recipient
-FROM type_text LEFT JOIN main.period ON period.kind = code;
+FROM type_text LEFT JOIN period ON period.kind = code;
 
 -- Each key with NULL for a date that is not set.
 CREATE TEMP VIEW dated AS
@@ -112,3 +118,32 @@ SELECT number, strftime('%Y-%m-%dT%H:%M:%SZ', protect_stop, 'unixepoch') AS prot
 FROM marked
 WHERE mark IS NOT NULL
 ORDER BY marked.protect_stop, number;
+
+-- Each key that has no Activation Date: nothing but a request makes it Active. Since when it is registered.
+CREATE TEMP VIEW undated AS
+SELECT number, type, owner, purpose, strftime('%Y-%m-%dT%H:%M:%SZ', initial, 'unixepoch') AS registered
+FROM stated JOIN type_text ON code = kind
+WHERE state = 'Pre-Active' AND activation IS NULL;
+
+-- Each part that somebody has in a key: its owner's, or a custodian's, whose approval of its destruction stands or not.
+CREATE TEMP VIEW part AS
+SELECT owner AS name, 'owns' AS part, number AS key, type, state, purpose, NULL AS approves
+FROM stated JOIN type_text ON code = kind
+UNION ALL
+SELECT custodian.name, 'guards', number, type, state, purpose, iif(approval.name IS NULL, 'no', 'yes')
+FROM main.custodian JOIN stated ON number = custodian.key_no JOIN type_text ON code = kind
+    LEFT JOIN main.approval ON approval.key_no = number AND approval.name = custodian.name
+ORDER BY 1, 3;
+
+-- Each destruction that somebody approved and that was not done: how many approvals stand, how many it needs, whose they
+-- are, and which other custodians may give one. A key that is Active has to be revoked first.
+CREATE TEMP VIEW pending AS
+SELECT stated.number AS key, owner, state, count(approval.name) AS have, coalesce(quorum.need, 2) AS need,
+    group_concat(approval.name, ' ') AS approved_by,
+    group_concat(iif(approval.name IS NULL, custodian.name, NULL), ' ') AS others
+FROM stated JOIN main.custodian ON custodian.key_no = stated.number
+    LEFT JOIN main.approval ON approval.key_no = stated.number AND approval.name = custodian.name
+    LEFT JOIN quorum ON quorum.key_no = stated.number
+WHERE destroyed IS NULL
+GROUP BY stated.number
+HAVING have > 0;
