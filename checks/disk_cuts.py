@@ -137,11 +137,13 @@ class Choice:
     """What a disk keeps: of each piece that was written since the last sync, one of the ways."""
 
     def __init__(self, ways: dict[str, str], seed: str) -> None:
-        self.ways, self.chance = ways, random.Random(seed)
+        self.ways, self.chance, self.is_last = ways, random.Random(seed), False
 
     def of(self, part: str) -> str:
         """Old, new or noise. For `any` each piece has its own, for `torn` one in six is not as written."""
         way = self.ways[part]
+        if way.startswith("last "):
+            return "new" if self.is_last else way.removeprefix("last ")
         if way == "any":
             return self.chance.choice(("old", "new", "noise"))
         if way == "torn":
@@ -149,8 +151,9 @@ class Choice:
         return way
 
 
-# Both files alike, then one kept and the other not; then at random.
+# Each file old, new or noise, or its last write kept and all before it not; then at random.
 EXTREMES = [{"": one, "-wal": other} for one in ("old", "new", "noise") for other in ("old", "new", "noise")]
+EXTREMES += [{"": way, "-wal": way} for way in ("last old", "last noise")]
 AT_RANDOM = [{"": one, "-wal": one} for one in ("any", "torn")]
 
 
@@ -186,6 +189,7 @@ class Disk:
             return None
         content = bytearray(stands or b"")
         for event in since:
+            choice.is_last = event is since[-1]
             if event.kind == "written":
                 self.keep(content, event, part, choice)
             elif event.kind == "cut" and choice.of(part) != "old":

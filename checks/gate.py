@@ -45,7 +45,7 @@ class Part(NamedTuple):
 # Those that keep both cores come first, then the longest.
 PARTS = (
     Part("want_of_memory.py", 360, cores=2),
-    Part("power_cuts.py --points 120 --choices 2", 120, cores=2),
+    Part("power_cuts.py --points 60 --choices 1", 120, cores=2),
     Part("exchanges_by_curl.py --bound 20", 120),
     Part("first_build.py", 120),
     Part("large_office.py", 120),
