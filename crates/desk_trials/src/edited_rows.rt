@@ -38,7 +38,9 @@ impl Look {
             Look::Next => Ok(each_key(tables, 0)?.is_some()),
             Look::Key => Ok(load_key(alloc, tables, 1, 3)?.is_some()),
             Look::Request => match (Name::new(b"cat"), RequestNumber::new(1)) {
-                (Some(caller), Some(number)) => Ok(find_request(tables, &caller, number)?.is_some()),
+                (Some(caller), Some(number)) => Ok(find_request(
+                    tables, &caller, number,
+                )?.is_some()),
                 _ => Ok(false),
             },
             Look::Need => Ok(find_need(tables, 1)?.is_some()),
@@ -68,8 +70,14 @@ static KEY_EDITS: [&str; 12] = [
 
 /// Edits of the other tables, each with what reads the row.
 static OTHER_EDITS: [(&str, Look); 13] = [
-    ("UPDATE custodian SET name = 'd n' WHERE name = 'dan'", Look::Key),
-    ("UPDATE custodian SET name = '' WHERE name = 'dan'", Look::Key),
+    (
+        "UPDATE custodian SET name = 'd n' WHERE name = 'dan'",
+        Look::Key,
+    ),
+    (
+        "UPDATE custodian SET name = '' WHERE name = 'dan'",
+        Look::Key,
+    ),
     ("UPDATE request SET command = 'approve'", Look::Request),
     ("UPDATE request SET key_no = -1", Look::Request),
     ("UPDATE request SET key_no = 0", Look::Request),
