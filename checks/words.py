@@ -15,6 +15,8 @@ first: ./keyreg </dev/null
 import contextlib
 import itertools
 import os
+import pathlib
+import re
 import resource
 import shutil
 import signal
@@ -25,9 +27,10 @@ import tempfile
 import time
 from typing import Any, Iterator
 
-from registers import APPROVED_ANEW, APPROVED_ANEW_ROWS, PROGRAM, all_rows, keyreg
+from registers import APPROVED_ANEW, APPROVED_ANEW_ROWS, PROGRAM, VERSION, all_rows, keyreg
 from words_of_serve import look_at_serve
 
+TOP = pathlib.Path(__file__).resolve().parent.parent
 # So long, in seconds, a command may take, and so many characters are told of a difference.
 PATIENCE, MOST_TOLD = 30, 400
 OPTIONS = {
@@ -162,6 +165,15 @@ def look_at_wrong_words(folder: str) -> None:
         Differences.tell(not missing, f"the help of {command} has no {missing}")
     told = ended(["--help"])[2]
     Differences.tell(all(command in told for command in OPTIONS), "the help has not all commands")
+    for word in ("--version", "-V"):
+        look(word, [word], (1, version_line()))
+
+
+def version_line() -> str:
+    """The newest version of CHANGES, that of the tables, and the program logic that README names."""
+    newest = re.search(r"^## ([0-9.]+)$", (TOP / "CHANGES.md").read_text(), re.M)[1]
+    logic = re.search(r"logic ([0-9a-f]{16})", (TOP / "README.md").read_text())[1]
+    return f"keyreg {newest} (tables of version {VERSION}, program logic {logic})\n"
 
 
 # ---- values
