@@ -3,10 +3,7 @@
 use crate::cases::first_wrong;
 use crate::fresh_run::desk_of;
 use period_core::KeyType;
-use register_core::{Name, RequestNumber};
-use register_store::{
-    Counted, StoreError, each_key, find_need, find_period, find_request, find_row, load_key,
-};
+use register_store::{Counted, StoreError, each_key, find_need, find_period, find_row, load_key};
 use sqlite::MemStore;
 use std::alloc::Global;
 use std::test::Fail;
@@ -25,7 +22,6 @@ enum Look {
     Row,
     Next,
     Key,
-    Request,
     Need,
     Period,
 }
@@ -37,12 +33,6 @@ impl Look {
             Look::Row => Ok(find_row(tables, 1)?.is_some()),
             Look::Next => Ok(each_key(tables, 0)?.is_some()),
             Look::Key => Ok(load_key(alloc, tables, 1, 3)?.is_some()),
-            Look::Request => match (Name::new(b"cat"), RequestNumber::new(1)) {
-                (Some(caller), Some(number)) => Ok(find_request(
-                    tables, &caller, number,
-                )?.is_some()),
-                _ => Ok(false),
-            },
             Look::Need => Ok(find_need(tables, 1)?.is_some()),
             Look::Period => Ok(find_period(tables, KeyType::Master)?.is_some()),
         }
@@ -69,7 +59,7 @@ static KEY_EDITS: [&str; 12] = [
 ];
 
 /// Edits of the other tables, each with what reads the row.
-static OTHER_EDITS: [(&str, Look); 13] = [
+static OTHER_EDITS: [(&str, Look); 8] = [
     (
         "UPDATE custodian SET name = 'd n' WHERE name = 'dan'",
         Look::Key,
@@ -78,11 +68,6 @@ static OTHER_EDITS: [(&str, Look); 13] = [
         "UPDATE custodian SET name = '' WHERE name = 'dan'",
         Look::Key,
     ),
-    ("UPDATE request SET command = 'approve'", Look::Request),
-    ("UPDATE request SET key_no = -1", Look::Request),
-    ("UPDATE request SET key_no = 0", Look::Request),
-    ("UPDATE request SET state = 7", Look::Request),
-    ("UPDATE request SET moment = 253402300800", Look::Request),
     ("UPDATE quorum SET need = 1", Look::Need),
     ("UPDATE quorum SET need = 6", Look::Need),
     ("UPDATE period SET originator = 1201", Look::Period),
