@@ -1,72 +1,198 @@
 #!/usr/bin/env python3
-"""Each file that a recipe of CONTRIBUTING.md names is there, and each item stands in what the recipe names.
+"""The recipes of CONTRIBUTING.md name what is there, and all that has to change.
 
     checks/recipes.py
 
-A recipe is a section that begins with "Add". A path that does not begin at the top is one of the crates that the section named, the
-last of them first. An item is looked for by its last part in the files that its step names, then in those crates, or in all where
-none is named.
+A recipe is a section that begins with "Add". Each file, folder and item that it names is there. A path that does not
+begin at the top is one of the crates that the section named, the last of them first. An item is looked for by its last
+part in the files that its step names, then in those crates, or in all where none is named.
+
+The other way: KINDS has for each recipe one thing that was added so. Each file that mentions it is named by the recipe,
+or by one that it sends on to, or it stands there with the reason why it is left. What is proved of a function is named
+with the function.
 """
+import fnmatch
 import pathlib
 import re
+import subprocess
 import sys
+from typing import Iterator, NamedTuple
 
 TOP = pathlib.Path(__file__).resolve().parent.parent
 CRATES = {path.name: path for path in (TOP / "crates").iterdir()}
 QUOTED = re.compile(r"`([^`]+)`")
-PATH = re.compile(r"[\w./]+\.(rt|antt|md|py|sh|txt)")
+PATH = re.compile(r"[\w./-]+\.(rt|antt|md|py|sh|txt|sql|bash|zsh|fish)|\./\w+")
+FOLDER = re.compile(r"\w+(/\w+)*/|\w+(/\w+)+")
 ITEM = re.compile(r"[A-Za-z_][\w:]*(\(\))?")
-KINDS = (".rt", ".antt", ".edit")
+DOCUMENT = re.compile(r"\bdocs/[\w.]*\w|\bREADME\b")
+LINK = re.compile(r"\(#([\w-]+)\)")
+SUFFIXES = (".rt", ".antt", ".edit")
 INNER = ("", "src", "src/tests", "proofs", "specs", "must-fail")
 
 
-def recipes(text):
-    """The title of each recipe, with its steps."""
+class Kind(NamedTuple):
+    """A thing that was added: words by which files mention it, the files that are left, where its recipe sends on."""
+    recipe: str
+    words: str
+    left: dict[str, str]
+    others: tuple[str, ...] = ()
+
+
+# Whatever is added.
+ALWAYS = {
+    "the recipes": "CONTRIBUTING.md checks/recipes.py",
+    "wrong bodies, of which rt tells those whose lines changed": "crates/*/must-fail/*",
+}
+KINDS = (
+    Kind("Add a command", r"\b[Ww]ithdraw\b", {
+        "its refusal NoApproval": "*/CustodyRefusal.antt crates/register_core/src/verdict.rt",
+        "a day or a year of an office": "docs/AUDIT.md examples/year.txt checks/version_1.sql",
+    }),
+    Kind("Add a shape of fields", r"\bTypeAndPeriod\b|type_and_period|\bDateEdits\b", {
+        "the kinds that have it": "*/CommandKind.antt */command_kind.rt",
+    }),
+    Kind("Add a refusal", r"\bNoApproval\b|\bno_approval key\b", {}),
+    Kind("Add a route", r"ShowUsage|Route(Pattern)?::Usage|Show, Usage|/usage\b|\busage_(text|reply|data|value|row)", {
+        "one look-up stands for others": "checks/fresh_answers.py crates/fault_trials/src/lent.rt",
+    }),
+    Kind("Add a table", r"TableName::Quorum|TheVariants\.\{[^}]*\bQuorum\}|"
+                        r"\b(FROM|INTO|TABLE|UPDATE) (\w+\.)?quorum\b|\"quorum\"", {
+        "a key's JSON has the need": "bench/exchanges.py",
+        "one name stands for others": "checks/words.py",
+    }, ("Add a version of the tables",)),
+    Kind("Add a column", r"\boccurrence (INTEGER|= \?)|compromised\W+occurrence\b|\bcompromise_occurrence\b", {
+        "the date, which commands set": "crates/*_core/* crates/plain_register/* crates/core_tests/*",
+        "tables of version 1": "*/migrations.rt",
+    }, ("Add a column to the export",)),
+    Kind("Add a column to the export", r"\bexport_fields\b|compromised\W+occurrence\W+purpose|length fields < 1", {}),
+    Kind("Add a command about no key", r"\bSetPeriod\b|set-period|\bset_period\b|\bPeriodSet\b", {
+        "a day or a year of an office": "docs/AUDIT.md examples/office.txt examples/year.txt",
+        "what a period means for keys": "*/UnsetPeriods.antt */register_core/src/laws.rt */KeyRowsOf.antt */exports.rt "
+                                        "*/ListedRows.antt bench/tables.py checks/rules_tried.py",
+        "who the office is": "checks/behind_nginx.py",
+        "it came with version 2": "*/migrations.rt checks/migrated_by_sqlite3.py",
+    }, ("Add a command", "Add a shape of fields", "Add a table")),
+    Kind("Add a command of the program", r"Task::Report|\breport_file\b|keyreg report|\[\"report\"|\"report\":|"
+                                         r"\n +report\)|from report'", {
+        "they ask for a report": "checks/audit.py checks/copied_while_served.py checks/fresh_answers.py "
+                                 "checks/full_register.py checks/replayed.py docs/CHECKS.md examples/keyreg.service",
+        "what a report costs": "bench/tables.py",
+    }),
+    Kind("Add a crate", r"\bregister_report\b", {
+        "its own": "crates/register_report/*",
+        "what names it": "crates/*_trials/* crates/register_files/*",
+        "a law with its crate": "docs/PROMISES.md",
+    }),
+    Kind("Add a version of the tables",
+         r"Version::Second|Version\.TheVariants\.\{[^}]*Second|\w*first_version|\bmigrate\b|\bversion_1\b", {
+             "it copies the file": "checks/commands.py",
+         }),
+    Kind("Add a test", r"\bis_need_of_no_key_refused\b", {"its module": "*/openings.rt"}),
+)
+
+
+class Step(NamedTuple):
+    """What a step names. Of the paths and folders each has the places where it is there."""
+    crates: list[pathlib.Path]
+    paths: dict[str, list[pathlib.Path]]
+    items: list[str]
+
+
+Recipes = dict[str, tuple[list[Step], list[str]]]
+
+
+def places(path: str, crates: list[pathlib.Path]) -> list[pathlib.Path]:
+    """Where a path leads, from the top or from one of the crates."""
+    under = [TOP] + [crate / inner for crate in crates for inner in INNER]
+    return [place / path for place in under if (place / path).exists()]
+
+
+def recipes(text: str) -> Iterator[tuple[str, tuple[list[Step], list[str]]]]:
+    """The title of each recipe, with its steps and the anchors that it links to."""
     for section in re.split(r"^## ", text, flags=re.M)[1:]:
         title, body = section.split("\n", 1)
         if title.startswith("Add "):
-            yield title, re.split(r"\n(?=\d+\. |\n)", re.sub(r"```.*?```", "", body, flags=re.S))
+            body = re.sub(r"```.*?```", "", body, flags=re.S)
+            yield title, (list(steps(re.split(r"\n(?=\d+\. |\n)", body))), LINK.findall(body))
 
 
-def crate_of(quoted):
+def crate_of(quoted: str) -> pathlib.Path | None:
     """The crate that a name or a path from the top names."""
     name = re.sub(r"^crates/", "", quoted).split("/")[0]
     return CRATES.get(name) if quoted in CRATES or quoted.startswith("crates/") else None
 
 
-def found(path, crates):
-    """The file that a path names, from the top or from one of the crates."""
-    places = [TOP / path] + [crate / inner / path for crate in crates for inner in INNER]
-    return next((place for place in places if place.is_file()), None)
+def steps(texts: list[str]) -> Iterator[Step]:
+    crates: list[pathlib.Path] = []
+    for text in texts:
+        quoted = QUOTED.findall(text)
+        for crate in filter(None, map(crate_of, quoted)):
+            crates = [crate] + [other for other in crates if other != crate]
+        documents = [name.replace("README", "README.md") for name in DOCUMENT.findall(text)]
+        paths = [name for name in quoted if PATH.fullmatch(name) or FOLDER.fullmatch(name)] + documents
+        items = [name for name in quoted if ITEM.fullmatch(name) and name not in CRATES]
+        yield Step(crates, {path: places(path, crates) for path in paths}, items)
 
 
-def holds(word, files, crates):
-    """Whether the item stands in one of the files, or in one of the crates or as the name of a file of theirs."""
+def holds(word: str, step: Step) -> bool:
+    """Whether the item stands in a file of the step, or in one of its crates, also as the name of a file of theirs."""
     last = re.compile(rf"\b{re.sub(r'[()]', '', word).split('::')[-1]}\b")
-    if any(last.search(path.read_text()) for path in files):
+    named = [found[0] for path, found in step.paths.items() if found and not DOCUMENT.match(path)]
+    if any(last.search(path.read_text()) for path in named if path.is_file()):
         return True
-    inner = (path for crate in crates for path in crate.rglob("*") if path.suffix in KINDS)
+    inner = (path for crate in step.crates or CRATES.values() for path in crate.rglob("*") if path.suffix in SUFFIXES)
     return any(last.search(path.name) or last.search(path.read_text()) for path in inner)
 
 
-def main():
-    gone, paths, items = [], 0, 0
-    for title, steps in recipes((TOP / "CONTRIBUTING.md").read_text()):
-        crates = []
-        for step in steps:
-            quoted = QUOTED.findall(step)
-            for crate in filter(None, map(crate_of, quoted)):
-                crates = [crate] + [other for other in crates if other != crate]
-            named = {text: found(text, crates) for text in quoted if PATH.fullmatch(text)}
-            words = [text for text in quoted if ITEM.fullmatch(text) and text not in CRATES]
-            files = [path for path in named.values() if path]
-            gone += [f"{title}: no file {text}" for text, path in named.items() if not path]
-            places = crates or CRATES.values()
-            gone += [f"{title}: no {word}" for word in words if not holds(word, files, places)]
-            paths, items = paths + len(named), items + len(words)
-    print(*gone, sep="\n", end="\n" if gone else "")
-    print(f"{paths} files and {items} items named, {len(gone)} of them gone")
-    return 1 if gone else 0
+def names(step: Step, path: str) -> bool:
+    """Whether the step names this file of the repository, or a folder that it lies in."""
+    file = TOP / path
+    found = [place for several in step.paths.values() for place in several if place not in CRATES.values()]
+    is_proof = file.name in ("Answers.antt", "Invariants.antt")
+    return any(place in (file, *file.parents) for place in found) or is_proof and file.parent.name in step.items
+
+
+def one_way(all_recipes: Recipes) -> tuple[list[str], int, int]:
+    """What recipes name that is gone, with how many files and items they name."""
+    gone: list[str] = []
+    paths = items = 0
+    for title, (own, _) in all_recipes.items():
+        for step in own:
+            gone += [f"{title}: no file {path}" for path, found in step.paths.items() if not found]
+            gone += [f"{title}: no {word}" for word in step.items if not holds(word, step)]
+            paths, items = paths + len(step.paths), items + len(step.items)
+    return gone, paths, items
+
+
+def other_way(all_recipes: Recipes) -> tuple[list[str], int]:
+    """Which files mention what was added and are not named, or are left and do not mention it; how many mention it."""
+    listed = subprocess.run(["git", "ls-files"], cwd=TOP, capture_output=True, check=True, text=True).stdout.split("\n")
+    texts = {path: (TOP / path).read_text() for path in listed if path and not path.startswith("out/")}
+    faults: list[str] = []
+    count = 0
+    for kind in KINDS:
+        own, links = all_recipes.get(kind.recipe, ([], []))
+        sent = [title for title in kind.others if title.lower().replace(" ", "-") in links]
+        all_steps = own + [step for title in sent for step in all_recipes[title][0]]
+        mention = [path for path, text in texts.items() if re.search(kind.words, text)]
+        left = " ".join(kind.left.values()).split()
+        reasons = left + " ".join(ALWAYS.values()).split()
+        unsaid = [path for path in mention if not any(fnmatch.fnmatch(path, glob) for glob in reasons)]
+        faults += [f"{kind.recipe}: {path} is not named" for path in unsaid
+                   if not any(names(step, path) for step in all_steps)]
+        faults += [f"{kind.recipe}: {glob} does not mention it" for glob in left if not fnmatch.filter(mention, glob)]
+        count += len(mention)
+    return faults, count
+
+
+def main() -> int:
+    all_recipes = dict(recipes((TOP / "CONTRIBUTING.md").read_text()))
+    gone, paths, items = one_way(all_recipes)
+    faults, count = other_way(all_recipes)
+    print(*gone, *faults, sep="\n", end="\n" if gone or faults else "")
+    print(f"{paths} files and {items} items named, {len(gone)} gone; {count} mentions of {len(KINDS)} things, "
+          f"{len(faults)} faults")
+    return 1 if gone or faults else 0
 
 
 if __name__ == "__main__":
