@@ -166,7 +166,8 @@ def one_way(all_recipes: Recipes) -> tuple[list[str], int, int]:
 
 def other_way(all_recipes: Recipes) -> tuple[list[str], int]:
     """Which files mention what was added and are not named, or are left and do not mention it; how many mention it."""
-    listed = subprocess.run(["git", "ls-files"], cwd=TOP, capture_output=True, check=True, text=True).stdout.split("\n")
+    git = ["git", "-c", "safe.directory=*", "ls-files"]
+    listed = subprocess.run(git, cwd=TOP, stdout=subprocess.PIPE, check=True, text=True).stdout.split("\n")
     texts = {path: (TOP / path).read_text() for path in listed if path and not path.startswith("out/")}
     faults: list[str] = []
     count = 0
