@@ -92,19 +92,19 @@ KINDS = (
 
 
 class Step(NamedTuple):
-    """What a step names. Of the paths and folders each has the places where it is there."""
+    """What a step names: crates, files and folders with the place where each is, and items."""
     crates: list[pathlib.Path]
-    paths: dict[str, list[pathlib.Path]]
+    paths: dict[str, pathlib.Path | None]
     items: list[str]
 
 
 Recipes = dict[str, tuple[list[Step], list[str]]]
 
 
-def places(path: str, crates: list[pathlib.Path]) -> list[pathlib.Path]:
+def place_of(path: str, crates: list[pathlib.Path]) -> pathlib.Path | None:
     """Where a path leads, from the top or from one of the crates."""
     under = [TOP] + [crate / inner for crate in crates for inner in INNER]
-    return [place / path for place in under if (place / path).exists()]
+    return next((place / path for place in under if (place / path).exists()), None)
 
 
 def recipes(text: str) -> Iterator[tuple[str, tuple[list[Step], list[str]]]]:
@@ -131,14 +131,14 @@ def steps(texts: list[str]) -> Iterator[Step]:
         documents = [name.replace("README", "README.md") for name in DOCUMENT.findall(text)]
         paths = [name for name in quoted if PATH.fullmatch(name) or FOLDER.fullmatch(name)] + documents
         items = [name for name in quoted if ITEM.fullmatch(name) and name not in CRATES]
-        yield Step(crates, {path: places(path, crates) for path in paths}, items)
+        yield Step(crates, {path: place_of(path, crates) for path in paths}, items)
 
 
 def holds(word: str, step: Step) -> bool:
     """Whether the item stands in a file of the step, or in one of its crates, also as the name of a file of theirs."""
     last = re.compile(rf"\b{re.sub(r'[()]', '', word).split('::')[-1]}\b")
-    named = [found[0] for path, found in step.paths.items() if found and not DOCUMENT.match(path)]
-    if any(last.search(path.read_text()) for path in named if path.is_file()):
+    named = [place for path, place in step.paths.items() if place and not DOCUMENT.match(path)]
+    if any(last.search(place.read_text()) for place in named if place.is_file()):
         return True
     inner = (path for crate in step.crates or CRATES.values() for path in crate.rglob("*") if path.suffix in SUFFIXES)
     return any(last.search(path.name) or last.search(path.read_text()) for path in inner)
@@ -147,21 +147,17 @@ def holds(word: str, step: Step) -> bool:
 def names(step: Step, path: str) -> bool:
     """Whether the step names this file of the repository, or a folder that it lies in."""
     file = TOP / path
-    found = [place for several in step.paths.values() for place in several if place not in CRATES.values()]
+    named = [place for place in step.paths.values() if place not in CRATES.values()]
     is_proof = file.name in ("Answers.antt", "Invariants.antt")
-    return any(place in (file, *file.parents) for place in found) or is_proof and file.parent.name in step.items
+    return any(place in (file, *file.parents) for place in named) or is_proof and file.parent.name in step.items
 
 
 def one_way(all_recipes: Recipes) -> tuple[list[str], int, int]:
     """What recipes name that is gone, with how many files and items they name."""
-    gone: list[str] = []
-    paths = items = 0
-    for title, (own, _) in all_recipes.items():
-        for step in own:
-            gone += [f"{title}: no file {path}" for path, found in step.paths.items() if not found]
-            gone += [f"{title}: no {word}" for word in step.items if not holds(word, step)]
-            paths, items = paths + len(step.paths), items + len(step.items)
-    return gone, paths, items
+    named = [(title, step) for title, (own, _) in all_recipes.items() for step in own]
+    gone = [f"{title}: no file {path}" for title, step in named for path, place in step.paths.items() if not place]
+    gone += [f"{title}: no {word}" for title, step in named for word in step.items if not holds(word, step)]
+    return gone, sum(len(step.paths) for _, step in named), sum(len(step.items) for _, step in named)
 
 
 def other_way(all_recipes: Recipes) -> tuple[list[str], int]:
