@@ -48,10 +48,15 @@ KINDS = (
         "its refusal NoApproval": "*/CustodyRefusal.antt crates/register_core/src/verdict.rt",
         "a day or a year of an office": "docs/AUDIT.md examples/year.txt checks/version_1.sql",
     }),
+    Kind("Add a command", r"\b(Activate|Assign|AddCustodian|Approve)\b", {
+        "they stand for their shapes": "*/Commands.antt */keyed_command/*",
+        "their refusals": "*/CustodyRefusal.antt crates/register_core/src/verdict.rt",
+        "any command would do": "crates/desk_trials/src/desks.rt docs/COSTS.md",
+    }),
     Kind("Add a shape of fields", r"\bTypeAndPeriod\b|type_and_period|\bDateEdits\b", {
         "the kinds that have it": "*/CommandKind.antt */command_kind.rt",
     }),
-    Kind("Add a refusal", r"\bNoApproval\b|\bno_approval key\b", {}),
+    Kind("Add a refusal", r"\bNoApproval\b|\bno_approval key\b|Refusal::ApprovalsMissing|\(ApprovalsMissing ", {}),
     Kind("Add a route", r"ShowUsage|Route(Pattern)?::Usage|Show, Usage|/usage\b|\busage_(text|reply|data|value|row)", {
         "one look-up stands for others": "checks/fresh_answers.py crates/fault_trials/src/lent.rt",
     }),
@@ -75,8 +80,8 @@ KINDS = (
     Kind("Add a command of the program", r"Task::Report|\breport_file\b|keyreg report|\[\"report\"|\"report\":|"
                                          r"\n +report\)|from report'", {
         "they ask for a report": "checks/audit.py checks/copied_while_served.py checks/fresh_answers.py "
-                                 "checks/full_register.py checks/replayed.py docs/CHECKS.md examples/keyreg.service",
-        "what a report costs": "bench/tables.py",
+                                 "checks/full_register.py checks/replayed.py docs/CHECKS.md examples/keyreg.service "
+                                 "bench/tables.py",
     }),
     Kind("Add a crate", r"\bregister_report\b", {
         "its own": "crates/register_report/*",
@@ -84,9 +89,8 @@ KINDS = (
         "a law with its crate": "docs/PROMISES.md",
     }),
     Kind("Add a version of the tables",
-         r"Version::Second|Version\.TheVariants\.\{[^}]*Second|\w*first_version|\bmigrate\b|\bversion_1\b", {
-             "it copies the file": "checks/commands.py",
-         }),
+         r"Version::Second|Version\.TheVariants\.\{[^}]*Second|first_version|\bmigrate\b|\bversion_1\b",
+         {"it copies the file": "checks/commands.py"}),
     Kind("Add a test", r"\bis_need_of_no_key_refused\b", {"its module": "*/openings.rt"}),
 )
 
@@ -165,8 +169,7 @@ def other_way(all_recipes: Recipes) -> tuple[list[str], int]:
     git = ["git", "-c", "safe.directory=*", "ls-files"]
     listed = subprocess.run(git, cwd=TOP, stdout=subprocess.PIPE, check=True, text=True).stdout.split("\n")
     texts = {path: (TOP / path).read_text() for path in listed if path and not path.startswith("out/")}
-    faults: list[str] = []
-    count = 0
+    faults, count = list[str](), 0
     for kind in KINDS:
         own, links = all_recipes.get(kind.recipe, ([], []))
         sent = [title for title in kind.others if title.lower().replace(" ", "-") in links]
