@@ -62,7 +62,7 @@ PARTS = (
 # What the scripts call, by the Debian package that has it. Those of one command stand together:
 # the compiler needs the headers of the C library.
 COMMANDS = {
-    "bash": "bash", "cmp": "diffutils", "curl": "curl", "gcc": "gcc libc6-dev", "git": "git",
+    "bash": "bash", "cmp": "diffutils", "curl": "curl", "gcc": "gcc libc6-dev",
     "groff": "groff-base", "mandoc": "mandoc", "sqlite3": "sqlite3", "strace": "strace",
 }
 MODULES = {"jsonschema": "python3-jsonschema", "yaml": "python3-yaml"}

@@ -12,9 +12,9 @@ or by one that it sends on to, or it stands there with the reason why it is left
 with the function.
 """
 import fnmatch
+import os
 import pathlib
 import re
-import subprocess
 import sys
 from typing import Iterator, NamedTuple
 
@@ -27,6 +27,8 @@ ITEM = re.compile(r"[A-Za-z_][\w:]*(\(\))?")
 DOCUMENT = re.compile(r"\bdocs/[\w.]*\w|\bREADME\b")
 LINK = re.compile(r"\(#([\w-]+)\)")
 SUFFIXES = (".rt", ".antt", ".edit")
+# The folders that a build, a package and Python make.
+MADE = ("out", "packages", "__pycache__")
 INNER = ("", "src", "src/tests", "proofs", "specs", "must-fail")
 
 
@@ -144,7 +146,8 @@ def holds(word: str, step: Step) -> bool:
     named = [place for path, place in step.paths.items() if place and not DOCUMENT.match(path)]
     if any(last.search(place.read_text()) for place in named if place.is_file()):
         return True
-    inner = (path for crate in step.crates or CRATES.values() for path in crate.rglob("*") if path.suffix in SUFFIXES)
+    inner = (path for crate in step.crates or CRATES.values() for path in crate.rglob("*")
+             if path.suffix in SUFFIXES and "out" not in path.parts)
     return any(last.search(path.name) or last.search(path.read_text()) for path in inner)
 
 
@@ -164,11 +167,16 @@ def one_way(all_recipes: Recipes) -> tuple[list[str], int, int]:
     return gone, sum(len(step.paths) for _, step in named), sum(len(step.items) for _, step in named)
 
 
+def sources() -> Iterator[str]:
+    """The files of the repository, without what a build, a package or Python makes."""
+    for folder, inner, files in os.walk(TOP):
+        inner[:] = [name for name in inner if name not in MADE and not name.startswith(".")]
+        yield from (str(pathlib.Path(folder, name).relative_to(TOP)) for name in files if ".keyreg" not in name)
+
+
 def other_way(all_recipes: Recipes) -> tuple[list[str], int]:
     """Which files mention what was added and are not named, or are left and do not mention it; how many mention it."""
-    git = ["git", "-c", "safe.directory=*", "ls-files"]
-    listed = subprocess.run(git, cwd=TOP, stdout=subprocess.PIPE, check=True, text=True).stdout.split("\n")
-    texts = {path: (TOP / path).read_text() for path in listed if path and not path.startswith("out/")}
+    texts = {path: (TOP / path).read_text() for path in sources()}
     faults, count = list[str](), 0
     for kind in KINDS:
         own, links = all_recipes.get(kind.recipe, ([], []))
