@@ -57,7 +57,7 @@ from typing import NamedTuple
 HERE = os.path.dirname(os.path.abspath(__file__))
 sys.path.insert(0, os.path.join(HERE, "..", "checks"))
 from measuring import built, clock_of, table  # noqa: E402
-from registers import INDEXES, PROGRAM, STATES, TABLES, UNSET, VERSION, all_rows, expect  # noqa: E402
+from registers import INDEXES, PROGRAM, STATES, TABLES, UNSET, VERSION, all_rows, expect, show  # noqa: E402
 
 # The statements of an accepted request, between BEGIN and COMMIT but for the four searches.
 STATEMENTS = {
@@ -871,12 +871,14 @@ def over_files(runs, keys, count, rounds):
         prepared = os.path.join(folder, "prepared.keyreg")
         write(prepared, keys)
         for number in range(rounds):
+            show(f"a file of {keys} keys: round {number + 1} of {rounds}")
             files = {name: os.path.join(folder, f"{name}_{number}.keyreg") for name in PROGRAMS}
             for name, file in files.items():
                 shutil.copy(prepared, file)
                 figures[name].append(measured(runs, name, file, keys, count))
             wanted, *others = map(rows, files.values())
             expect(all(other == wanted for other in others), "the files hold other rows")
+    show()
     return figures
 
 

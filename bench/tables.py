@@ -53,7 +53,7 @@ sys.path.insert(0, os.path.join(HERE, "..", "checks"))
 import registers  # noqa: E402
 from measuring import built, measured, measured_behind, table  # noqa: E402
 from opened import opened  # noqa: E402
-from registers import INDEXES, STATES, TABLES, TYPES, UNSET, VERSION, all_rows, expect, keyreg  # noqa: E402
+from registers import INDEXES, STATES, TABLES, TYPES, UNSET, VERSION, all_rows, expect, keyreg, show  # noqa: E402
 from rules import PERIODS, is_long  # noqa: E402
 
 # What is read of the keys, by the bare program and by Python.
@@ -338,10 +338,12 @@ def table_rounds(table_name, file, days, last, rounds):
     used = {name: [] for name in BESIDE}
     with tempfile.TemporaryDirectory() as folder:
         for number in range(rounds):
+            show(f"{table_name}: round {number + 1} of {rounds}")
             written = {name: os.path.join(folder, f"{name}_{number}") for name in BESIDE}
             for name in BESIDE:
                 used[name].append(measured_behind(words_of(name, table_name, file, days, last), written[name]))
             expect_written(written, table_name, file, last)
+        show()
         with open(written["keyreg"], "rb") as lines:
             return used, sum(1 for _ in lines)
 
@@ -409,6 +411,7 @@ def import_rounds(keys, rounds):
         table_file, lines, replies = write_inputs(folder, keys)
         given = {"import": (table_file, ["--moment", str(LATEST), "--caller", "ann", "--first", "1"]), "run": (lines, [])}
         for number in range(rounds):
+            show(f"import: round {number + 1} of {rounds}")
             left = {}
             for name, (source, options) in given.items():
                 left[name] = os.path.join(folder, f"{name}_{number}.keyreg")
@@ -417,6 +420,7 @@ def import_rounds(keys, rounds):
                 used[name].append(measured([registers.PROGRAM, name, "--file", left[name], *options], source, written))
                 expect(filecmp.cmp(written, replies, shallow=False), f"{name}: other replies")
             expect(rows(left["import"]) == rows(left["run"]), "import and run leave other rows")
+    show()
     return used
 
 

@@ -16,7 +16,7 @@ import subprocess
 import threading
 import time
 
-from registers import expect, keyreg
+from registers import expect, keyreg, show
 from rules import compact, request_object
 from serving import Served
 
@@ -83,6 +83,7 @@ def main():
         while load.answered == 0:
             time.sleep(0.01)
         while time.monotonic() < late:
+            show(f"{load.answered} requests, {whole + changed} copies, {late - time.monotonic():.0f} s left")
             before, waits = load.answered, whole > changed
             is_same = copy(served.file, other, waits)
             expect(not (waits and is_same), "cmp finds no difference after the log was copied")
@@ -99,6 +100,7 @@ def main():
             is_whole = len(rows) == found + 2 and rows[-1] == f"total {found}"
             expect(is_whole, f"a report of {len(rows)} lines, of {found} requests: {rows[-1]}")
             whole += 1
+        show()
         expect(load.is_alive(), "a registration was not accepted")
         load.ends = True
         load.join()

@@ -12,7 +12,7 @@ import os
 import sqlite3
 import tempfile
 
-from registers import INDEXES, TABLES, UNSET, VERSION, expect, keyreg
+from registers import INDEXES, TABLES, UNSET, VERSION, expect, keyreg, show
 
 MAX_KEYS = 1_000_000
 
@@ -79,10 +79,10 @@ def main():
     keys = options.parse_args().keys
     with tempfile.TemporaryDirectory() as folder:
         file = os.path.join(folder, "office.keyreg")
-        write(file, keys)
-        check_export(file, keys)
-        check_report(file, keys)
-        check_run(file, keys)
+        for number, step in enumerate((write, check_export, check_report, check_run)):
+            show(f"step {number + 1} of 4")
+            step(file, keys)
+        show()
     print(f"a register of {keys} keys opens, is exported and reported whole, and answers")
 
 

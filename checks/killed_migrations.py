@@ -15,7 +15,7 @@ import tempfile
 import time
 
 from killed_runs import kept, killed_run, request
-from registers import FIRST_TABLES, INDEXES, STATES, UNSET, VERSION, expect, keyreg
+from registers import FIRST_TABLES, INDEXES, STATES, UNSET, VERSION, expect, keyreg, show
 
 # So many requests made the file of version 1.
 BEFORE = 20_000
@@ -78,7 +78,11 @@ def main():
         file = os.path.join(folder, "office.keyreg")
         longest = 4.0 * seconds_of_opening(file)
         # One in each part of that time, so that some come before the file is of version 2 and some after.
-        left = [killed_life(file, folder, chance.uniform(part, part + 1) * longest / lives) for part in range(lives)]
+        left = []
+        for part in range(lives):
+            show(f"{part} of {lives} lives killed")
+            left.append(killed_life(file, folder, chance.uniform(part, part + 1) * longest / lives))
+        show()
     first, ahead = sum(version == 1 for version, _ in left), sum(more for _, more in left)
     expect(0 < first < lives, f"{first} lives were killed before their files were of version 2")
     print(f"seed {seed}: {lives} lives killed, {first} of their files left of version 1, {ahead} requests accepted and not answered; each held")

@@ -16,7 +16,7 @@ import subprocess
 import sys
 import tempfile
 
-from registers import PROGRAM, VERSION, are_sound, expect, keyreg
+from registers import PROGRAM, VERSION, are_sound, expect, keyreg, show
 
 # So many requests are given to a run, more than it serves before it is killed.
 AHEAD = 3000
@@ -80,7 +80,8 @@ def main():
     with tempfile.TemporaryDirectory() as folder:
         file = os.path.join(folder, "office.keyreg")
         keyreg(["init", "--file", file])
-        for _ in range(runs):
+        for number in range(runs):
+            show(f"{number} of {runs} runs killed")
             answered = stood + killed_run(file, stood, chance.uniform(0.0, LONGEST_SECONDS))
             texts, meta = kept(file, folder)
             expect(answered <= len(texts) <= answered + 1, f"{len(texts)} kept of {answered} answered")
@@ -92,6 +93,7 @@ def main():
             keyreg(["run", "--file", file])
             ahead += len(texts) - answered
             stood = len(texts)
+    show()
     print(f"seed {seed}: {runs} runs killed, {stood} requests accepted, {ahead} of them not answered; each file held")
 
 

@@ -24,7 +24,7 @@ import tempfile
 import time
 from typing import Any, Iterator
 
-from registers import FIRST_TABLES, INDEXES, PROGRAM, TYPES, all_rows, are_sound, expect, in_memory, keyreg, put_rows
+from registers import FIRST_TABLES, INDEXES, PROGRAM, TYPES, all_rows, are_sound, expect, in_memory, keyreg, put_rows, show
 from rules import PERIODS, Register, compact, get_reply, line, post_reply, reply_line, request_object
 from rules_shown import DAY, export_text, import_table, report_text, tables
 from serving import Served
@@ -357,9 +357,12 @@ def main() -> None:
     begun = time.monotonic()
     memory = in_memory(2**27)
     with tempfile.TemporaryDirectory(dir=memory) as folder:
+        show("requests over 150 keys, in both versions")
         office = look_at_versions(folder)
+        show("imports")
         look_at_import(os.path.join(folder, "imported"))
         look_at_rows_of_import(os.path.join(folder, "rows"), told.rows, told.rows if memory else min(told.rows, 3000))
+    show()
     ends = collections.Counter(key.need for key in office.register.keys if key.destroyed is not None)
     expect(set(ends) == {2, 3, 4, 5}, f"destroyed keys by need: {ends}")
     print(f"{len(office.lines)} requests over {KEYS} keys in both versions, imports of {len(ROWS)}, 1100 and {told.rows} rows: all by the rules, "

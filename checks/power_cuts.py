@@ -31,7 +31,7 @@ import time
 from typing import Any, Callable, NamedTuple, Optional
 
 from disk_cuts import AT_RANDOM, EXTREMES, PARTS, Choice, Disk, Event, events_of, put, recorded, traced
-from registers import FIRST_TABLES, INDEXES, PROGRAM, all_rows, are_sound, expect, in_memory, keyreg, put_rows
+from registers import FIRST_TABLES, INDEXES, PROGRAM, all_rows, are_sound, expect, in_memory, keyreg, put_rows, show
 from rules import Register, compact, line, reply_line, request_object
 from rules_shown import Rows, import_table, tables
 from serving import PATIENCE, free_port, listens, received
@@ -298,7 +298,11 @@ def try_all(names: list[str], forgets: bool, told: argparse.Namespace, most: int
         step = max(4, len(points) // 16)
         tasks += [(name, points[first:first + step], forgets, told.choices, told.seed) for first in range(0, len(points), step)]
     with multiprocessing.get_context("fork").Pool(PROCESSES) as pool:
-        results = pool.map(tried, tasks, chunksize=1)
+        results = []
+        for result in pool.imap(tried, tasks, chunksize=1):
+            results.append(result)
+            show(f"{len(results)} of {len(tasks)} parts of the points tried")
+    show()
     return sum(count for count, _ in results), [loss for _, losses in results for loss in losses]
 
 

@@ -101,6 +101,12 @@ def expect(holds, told):
         sys.exit(f"FAILED: {told}")
 
 
+def show(progress=""):
+    """Shows how far a script is where a terminal is at standard error, in place of what was shown before."""
+    if sys.stderr.isatty():
+        print(f"\r\033[K{progress}", end="", file=sys.stderr, flush=True)
+
+
 def keyreg(words, lines=()):
     """Runs the program over the lines, and gives what it writes, line by line, where it ends with status 0."""
     given = "".join(line + "\n" for line in lines)
