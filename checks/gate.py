@@ -1,18 +1,21 @@
 #!/usr/bin/env python3
-"""The gate: `rt ci`, then the scripts that show from outside the program that it built.
+"""The gate's scripts: they show from outside the program that `rt ci` built.
 
-    checks/gate.py [--scripts-only] [PART..]
+    checks/gate.py [PART..]
+    checks/gate.py --furnish
+    rt ci | checks/gate.py --behind-proofs
 
-First each command and module that the scripts use is looked for. Root installs what is missing
-from Debian's packages; where something is missing then, the gate fails and begins nothing. Then
-come `rt ci` and, where that is green, each part of the table below, as many side by side as two
-cores take. Each has a limit of seconds by the clock, after which it is killed and has failed.
+Each part of the table below is run, or those that are named, as many side by side as two cores take.
+Each has a limit of seconds by the clock, after which it is killed and has failed. KEYREG names
+another program than the one that stands.
 
 A part that passes gets one line, one that fails its output too. The last line counts the passed
-and the failed: those of `rt ci`, and one for each part. The status is 0 where none failed.
+and the failed. The status is 0 where none failed.
 
---scripts-only  leaves `rt ci` out, and takes the program that KEYREG names, if set; the words
-                after it are the parts that are run, all where none is named
+--furnish        looks for each command and module that the scripts use, and runs none. Root installs
+                 what is missing from Debian's packages; where something is missing then, it fails
+--behind-proofs  passes on what `rt ci` prints. Where that is green, all parts are run over the
+                 program of this repository. The last line counts those of `rt ci` too
 """
 import argparse
 import os
@@ -113,22 +116,17 @@ def furnish() -> bool:
 # ---- the proofs
 
 
-def prove() -> tuple[int, int]:
-    """Runs `rt ci`, and gives how many it counted as passed and as failed. A green one has passed
-    some, failed none, said so in its last line and ended with status 0."""
-    if not shutil.which("rt"):
-        print("gate: rt is not there", flush=True)
-        return 0, 1
+def pass_on() -> tuple[int, int]:
+    """Passes on what `rt ci` prints, and gives how many it counted as passed and as failed. A green
+    one has passed some, failed none, and said so in its last line."""
     last = b""
-    with subprocess.Popen(["rt", "ci"], cwd=TOP, stdout=subprocess.PIPE) as proofs:
-        for line in proofs.stdout:
-            sys.stdout.buffer.write(line)
-            sys.stdout.buffer.flush()
-            last = line if line.strip() else last
+    for line in sys.stdin.buffer:
+        sys.stdout.buffer.write(line)
+        sys.stdout.buffer.flush()
+        last = line if line.strip() else last
     counted = COUNTS.fullmatch(last)
     passed, failed = map(int, counted.groups()) if counted else (0, 0)
-    is_green = proofs.returncode == 0 and passed > 0 and failed == 0
-    return passed, failed if is_green else max(failed, 1)
+    return passed, failed if passed > 0 and failed == 0 else max(failed, 1)
 
 
 # ---- the scripts
@@ -213,25 +211,27 @@ def chosen(names: list[str]) -> list[Part]:
 
 def main() -> None:
     words = argparse.ArgumentParser()
-    words.add_argument("--scripts-only", action="store_true")
+    words.add_argument("--furnish", action="store_true")
+    words.add_argument("--behind-proofs", action="store_true")
     words.add_argument("parts", nargs="*", metavar="PART")
     told = words.parse_args()
-    if told.parts and not told.scripts_only:
-        words.error("the gate is whole without --scripts-only")
+    if told.parts and (told.furnish or told.behind_proofs):
+        words.error("parts are named alone")
     parts = chosen(told.parts)
     # Whoever ends the gate ends what it began.
     signal.signal(signal.SIGTERM, lambda *_: sys.exit(1))
-    if not furnish():
-        passed, failed = 0, 1
-    else:
-        passed, failed = (0, 0) if told.scripts_only else prove()
-        given = os.environ.get("KEYREG") if told.scripts_only else None
-        if failed == 0 and not os.access(given or PROGRAM, os.X_OK):
-            print(f"gate: no program at {given or PROGRAM}", flush=True)
-            failed = 1
-        elif failed == 0:
-            failed = run(parts, has_given_program=bool(given))
-            passed += len(parts) - failed
+    passed, failed = pass_on() if told.behind_proofs else (0, 0)
+    given = None if told.behind_proofs else os.environ.get("KEYREG")
+    if failed == 0 and not furnish():
+        failed = 1
+    elif told.furnish:
+        return
+    elif failed == 0 and not os.access(given or PROGRAM, os.X_OK):
+        print(f"gate: no program at {given or PROGRAM}", flush=True)
+        failed = 1
+    elif failed == 0:
+        failed = run(parts, has_given_program=bool(given))
+        passed += len(parts) - failed
     print(f"{passed} passed, {failed} failed", flush=True)
     sys.exit(1 if failed else 0)
 
