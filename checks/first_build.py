@@ -55,6 +55,18 @@ def tell(told, *words):
         print(*words, file=file)
 
 
+def hold_folders(crate):
+    """Shuts others out of the folders of a crate and of all that it stands on, as the kit's does, but waits for none."""
+    held = []
+    for name in sorted(crates_below(pathlib.Path("../.."), crate)):
+        held.append(os.open(f"../{name}", os.O_RDONLY))
+        try:
+            fcntl.flock(held[-1], fcntl.LOCK_EX | fcntl.LOCK_NB)
+        except BlockingIOError:
+            sys.exit(f"fn {crate}::module::held: another proof has the folder of {name}")
+    return held
+
+
 def rt():
     """Is `rt version`, or `rt lib --jobs N` and `rt run --jobs N` in the folder of a crate."""
     if sys.argv[1:] == ["version"]:
@@ -64,6 +76,7 @@ def rt():
     if crate == "keyreg":
         write_program(HALF)
     tell(told, "begun", crate, os.getpid(), *sys.argv[1:])
+    held = hold_folders(crate)
     with contextlib.suppress(FileNotFoundError):
         time.sleep(float((told / f"wait-{crate}").read_text(encoding="utf-8")))
     if (told / f"fail-{crate}").exists():
@@ -76,13 +89,16 @@ def rt():
         write_program(PROGRAM)
         subprocess.run(["out/keyreg"], check=True)
     tell(told, "ended", crate)
+    for folder in held:
+        os.close(folder)
 
 
-def crates_below():
-    """Each crate that the program stands on, and its own, with those of ours that it stands on."""
-    lines = (TOP / "crates.txt").read_text(encoding="utf-8").splitlines()
-    rows = dict(line.split("#")[0].split(":") for line in lines if line.strip())
-    found, ahead = {}, ["keyreg"]
+def crates_below(top=TOP, crate="keyreg"):
+    """Each crate that one stands on, and its own, with those of ours that it stands on."""
+    lines = (top / "crates.txt").read_text(encoding="utf-8").splitlines()
+    texts = [line.split("#")[0].strip() for line in lines]
+    rows = dict(text.split(":") for text in texts if text)
+    found, ahead = {}, [crate]
     while ahead:
         name = ahead.pop()
         found[name] = [below for below in rows[name].split() if below in rows]
@@ -126,10 +142,11 @@ class Copy:
         for made in (self.top, self.told, self.rest, folder / "bin"):
             made.mkdir()
         (folder / "bin" / "rt").symlink_to(pathlib.Path(__file__).resolve())
-        for name in ("keyreg", "crates.txt", "README.md"):
+        for name in ("keyreg", "crates.txt", "HANDLES", "README.md"):
             shutil.copy2(TOP / name, self.top)
         for name in ("crates", "docs", "checks"):
-            leaving = shutil.ignore_patterns("out", "__pycache__")
+            # Proofs are most of the files, and each tree of a proof has what it stands on.
+            leaving = shutil.ignore_patterns("out", "__pycache__", "proofs")
             shutil.copytree(TOP / name, self.top / name, ignore=leaving)
         self.words = [self.top / "keyreg", *WORDS]
         path = f"{folder / 'bin'}:{os.environ['PATH']}"
@@ -209,8 +226,12 @@ class Copy:
             yield f"{what}: {called[:2]}"
         if sorted(words[0] for words in self.journal("begun")) != sorted(CRATES):
             yield f"{what}: begun {self.journal('begun')}"
-        if list(self.rest.iterdir()):
-            yield f"{what}: a temporary folder is left"
+        if self.left():
+            yield f"{what}: a folder is left"
+
+    def left(self):
+        """What is left of a build but the program: temporary folders, and the trees of its proofs."""
+        return [*self.rest.iterdir(), *(self.top / "out").glob("*")]
 
     def goes_on(self):
         """The crates whose proofs go on."""
@@ -319,7 +340,7 @@ def terminal(copy):
 def used_at_once(copy):
     """Where no source of the program's changed, it is used at once."""
     edit = next((copy.top / "crates/register_store/must-fail").iterdir())
-    tested = copy.top / "crates/desk_tests/src/lib.rt"
+    tested = copy.top / "crates/test_desk/src/lib.rt"
     for path in ("README.md", "docs/GATE.md", "checks/first_build.py", "keyreg", edit, tested):
         copy.tells()
         copy.renew(path)
@@ -365,7 +386,7 @@ def failed(copy):
         yield f"a failed proof: {said}"
     if time.monotonic() - start > 15 or copy.goes_on():
         yield f"a failed proof: after it went on {copy.goes_on() or 'a proof beside it'}"
-    if copy.begin("register_desk") or list(copy.rest.iterdir()):
+    if copy.begin("register_desk") or copy.left():
         yield "a failed proof: more was begun, or a folder is left"
     copy.tells()
     yield from copy.built(copy.call(), "after a failed proof")
@@ -388,8 +409,8 @@ def stopped(copy, crate, number, whole):
     if number == signal.SIGKILL:
         for left in copy.rest.iterdir():
             shutil.rmtree(left)
-    elif list(copy.rest.iterdir()):
-        yield f"{what}: a temporary folder is left"
+    elif copy.left():
+        yield f"{what}: a folder is left"
     copy.tells()
     yield from copy.built(copy.call(), f"after {what}")
 
@@ -401,7 +422,7 @@ def interrupted(copy):
         copy.renew()
         start = time.monotonic()
         status, wrote, said = copy.on_terminal(30, lambda crate=crate: copy.begin(crate))
-        if (status, wrote) != (130, "") or list(copy.rest.iterdir()):
+        if (status, wrote) != (130, "") or copy.left():
             yield f"Ctrl-C at {crate}: status {status}, {wrote}, or a folder is left"
         if copy.goes_on() or time.monotonic() - start > 15:
             yield f"Ctrl-C at {crate}: {copy.goes_on() or 'what was begun'} goes on"
