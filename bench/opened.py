@@ -9,7 +9,7 @@ import sqlite3
 import sys
 
 sys.path.insert(0, os.path.join(os.path.dirname(os.path.abspath(__file__)), "..", "checks"))
-from registers import STATES, TYPES, UNSET, VERSION, expect  # noqa: E402
+from registers import STATES, TYPES, UNSET, VERSION, columns_of, expect  # noqa: E402
 
 MAX_KEYS, MAX_CUSTODIANS, MAX_REQUEST, MAX_MONTHS = 1_000_000, 16, 2**53 - 1, 1200
 NEEDS = range(2, 6)
@@ -112,7 +112,7 @@ def state_at(moment, activation, deactivation, destroyed, compromised):
 
 def is_sound(latest, row):
     kind, owner, purpose, state, initial, activation, stop, deactivation, destroyed, compromised, occurrence = row
-    dates = (initial, activation, stop, deactivation, destroyed, compromised, occurrence)
+    dates = row[4:]
     return (kind in TYPES and is_name(owner) and is_purpose(purpose) and min(dates) >= 0 and max(dates) <= UNSET
             and are_in_order(activation, stop, deactivation) and are_past(latest, initial, destroyed, compromised, occurrence)
             and state == state_at(latest, activation, deactivation, destroyed, compromised))
@@ -134,8 +134,7 @@ def owners_of(connection, latest, keys):
     """The owners of the keys, by number."""
     owners = []
     for *row, number in connection.execute(
-            "SELECT kind, owner, purpose, state, initial, activation, protect_stop, deactivation, destroyed, compromised, "
-            "occurrence, number FROM keys ORDER BY number"):
+            f"SELECT {', '.join(columns_of('keys')[1:])}, number FROM keys ORDER BY number"):
         owners.append(row[1])
         expect(number == len(owners) and is_sound(latest, row), f"key {number}")
     expect(len(owners) == keys, "keys")

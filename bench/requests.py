@@ -57,26 +57,24 @@ from typing import NamedTuple
 HERE = os.path.dirname(os.path.abspath(__file__))
 sys.path.insert(0, os.path.join(HERE, "..", "checks"))
 from measuring import built, clock_of, table  # noqa: E402
-from registers import INDEXES, PROGRAM, STATES, TABLES, UNSET, VERSION, all_rows, expect, show  # noqa: E402
+from registers import INDEXES, PROGRAM, STATES, TABLES, UNSET, VERSION, all_rows, columns_of, expect, show  # noqa: E402
+
+# The columns of keys past its number, and those that an accepted request may change, with their parameters.
+CELLS = columns_of("keys")[1:]
+GIVEN = [f"{name} = ?{at}" for at, name in enumerate((name for name in CELLS if name not in ("kind", "purpose", "initial")), 2)]
 
 # The statements of an accepted request, between BEGIN and COMMIT but for the four searches.
 STATEMENTS = {
     "FIND_REQUEST": "SELECT command, key_no, state, moment FROM request WHERE caller = ?1 AND number = ?2",
-    "FIND_KEY": "SELECT kind, owner, purpose, state, initial, activation, protect_stop, deactivation, destroyed, "
-    "compromised, occurrence FROM keys WHERE number = ?1",
+    "FIND_KEY": f"SELECT {', '.join(CELLS)} FROM keys WHERE number = ?1",
     "FIND_PERIOD": "SELECT originator, recipient FROM period WHERE kind = ?1",
     "FIND_CUSTODIANS": "SELECT name FROM custodian WHERE key_no = ?1",
     "FIND_APPROVALS": "SELECT name FROM approval WHERE key_no = ?1",
     "ACTIVATE_DUE": "UPDATE keys SET state = 2 WHERE state = 1 AND activation <= ?1",
     "DEACTIVATE_DUE": "UPDATE keys SET state = 3 WHERE state = 2 AND deactivation <= ?1",
-    "ADD_KEY": "INSERT INTO keys (number, kind, owner, purpose, state, initial, activation, protect_stop, "
-    "deactivation, destroyed, compromised, occurrence) VALUES (?1, ?2, ?3, ?4, ?5, ?6, ?7, ?8, ?9, ?10, ?11, ?12)",
-    "UPDATE_KEY": "UPDATE keys SET owner = ?2, state = ?3, activation = ?4, protect_stop = ?5, deactivation = ?6, "
-    "destroyed = ?7, compromised = ?8, occurrence = ?9 WHERE number = ?1 AND NOT (owner = ?2 AND state = ?3 "
-    "AND activation = ?4 AND protect_stop = ?5 AND deactivation = ?6 AND destroyed = ?7 AND compromised = ?8 "
-    "AND occurrence = ?9)",
-    "ADD_REQUEST": "INSERT INTO request (caller, number, command, key_no, state, moment) "
-    "VALUES (?1, ?2, ?3, ?4, ?5, ?6)",
+    "ADD_KEY": f"INSERT INTO keys (number, {', '.join(CELLS)}) VALUES (?{', ?' * len(CELLS)})",
+    "UPDATE_KEY": f"UPDATE keys SET {', '.join(GIVEN)} WHERE number = ?1 AND NOT ({' AND '.join(GIVEN)})",
+    "ADD_REQUEST": f"INSERT INTO request ({', '.join(columns_of('request'))}) VALUES (?, ?, ?, ?, ?, ?)",
     "SET_COUNTS": "UPDATE meta SET latest = ?1, key_count = ?2 WHERE id = 1",
 }
 

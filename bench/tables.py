@@ -53,13 +53,13 @@ sys.path.insert(0, os.path.join(HERE, "..", "checks"))
 import registers  # noqa: E402
 from measuring import built, measured, measured_behind, table  # noqa: E402
 from opened import opened  # noqa: E402
-from registers import INDEXES, STATES, TABLES, TYPES, UNSET, VERSION, all_rows, expect, keyreg, show  # noqa: E402
+from registers import EXPORT_COLUMNS, IMPORT_COLUMNS, INDEXES, STATES, TABLES, TYPES, UNSET, VERSION  # noqa: E402
+from registers import all_rows, expect, keyreg, show  # noqa: E402
 from rules import PERIODS, is_long  # noqa: E402
 
 # What is read of the keys, by the bare program and by Python.
 SELECTS = {
-    "export": "SELECT number, kind, owner, activation, protect_stop, deactivation, state, initial, destroyed, compromised, "
-    "occurrence, purpose FROM keys ORDER BY number",
+    "export": f"SELECT {', '.join(EXPORT_COLUMNS).replace('type', 'kind')} FROM keys ORDER BY number",
     "report": "SELECT number, protect_stop, kind, owner, purpose FROM keys WHERE state = 2 AND protect_stop <= ?1 "
     "ORDER BY protect_stop, number",
 }
@@ -68,10 +68,6 @@ DATED = SELECTS["report"].replace("purpose", "purpose, activation, deactivation"
 
 # The months of originator and of recipient use that the office sets, by type.
 SHORTER = {1: (6, 36), 7: (6, 0)}
-
-HEADER = ("number", "type", "owner", "activation", "protect_stop", "deactivation", "state", "initial", "destroyed",
-          "compromised", "occurrence", "purpose")
-IMPORTED = ("type", "owner", "activation", "protect_stop", "deactivation", "purpose")
 
 # The latest moment, 2001-09-09T01:46:40Z, and the one at which the keys were registered.
 LATEST = 1_000_000_000
@@ -174,7 +170,7 @@ def horizon(latest, days):
 
 def write_export(connection, written, is_flushed):
     rows = csv.writer(written, lineterminator="\n")
-    rows.writerow(HEADER)
+    rows.writerow(EXPORT_COLUMNS)
     written.flush()
     for row in connection.execute(SELECTS["export"]):
         number, kind, owner, activation, stop, deactivation, state, initial, destroyed, compromised, occurrence, text = row
@@ -389,7 +385,7 @@ def write_inputs(folder, keys):
     with open(names[0], "w", encoding="utf-8", newline="") as given, open(names[1], "w", encoding="utf-8") as lines, \
             open(names[2], "w", encoding="utf-8") as replies:
         rows = csv.writer(given, lineterminator="\n")
-        rows.writerow(IMPORTED)
+        rows.writerow(IMPORT_COLUMNS)
         for number, (kind, owner, *dates, text) in enumerate(registrations(keys), 1):
             rows.writerow((TYPES[kind], owner, *map(date_text, dates), text))
             lines.write(f"{LATEST} ann {number} {command(kind, owner, *dates, text)}\n")

@@ -12,7 +12,7 @@ import os
 import sqlite3
 import tempfile
 
-from registers import INDEXES, TABLES, UNSET, VERSION, expect, keyreg, show
+from registers import EXPORT_COLUMNS, INDEXES, TABLES, UNSET, VERSION, expect, keyreg, show
 
 MAX_KEYS = 1_000_000
 
@@ -24,7 +24,6 @@ ACTIVATION, PROTECT_STOP, DEACTIVATION, REGISTERED = 0, 5000, 6000, 100
 
 COMMAND = f"register data-encryption bob {ACTIVATION} {PROTECT_STOP} {DEACTIVATION} disks"
 
-HEADER = "number,type,owner,activation,protect_stop,deactivation,state,initial,destroyed,compromised,occurrence,purpose"
 
 
 def write(file, keys):
@@ -46,7 +45,7 @@ def write(file, keys):
 
 def check_export(file, keys):
     lines = keyreg(["export", "--file", file])
-    expect(lines[0] == HEADER, f"header {lines[0]}")
+    expect(lines[0] == ",".join(EXPORT_COLUMNS), f"header {lines[0]}")
     expect(len(lines) == keys + 1, f"{len(lines)} lines of an export")
     row = "data-encryption,bob,1970-01-01T00:00:00Z,1970-01-01T01:23:20Z,1970-01-01T01:40:00Z,Active,1970-01-01T00:01:40Z,,,,disks"
     for number, line in enumerate(lines[1:], 1):

@@ -12,7 +12,7 @@ import shutil
 import subprocess
 import tempfile
 
-from registers import PROGRAM, expect, keyreg
+from registers import EXPORT_COLUMNS, IMPORT_COLUMNS, PROGRAM, expect, keyreg
 
 PURPOSES = [
     "disks, payroll",
@@ -26,17 +26,10 @@ PURPOSES = [
     "\U0001f511 \u6771\u4eac",
 ]
 
-HEADER = ["type", "owner", "activation", "protect_stop", "deactivation", "purpose"]
-
-# What the export has of each, by the formats: a master key with an Activation Date of 1970-01-01 has its other dates a
-# year later (12 and 0 months), and was registered at second 100.
-COLUMNS = [
-    "number", "type", "owner", "activation", "protect_stop", "deactivation", "state", "initial", "destroyed", "compromised",
-    "occurrence", "purpose",
-]
-
 
 def expected():
+    """What the export has of each, by the formats: a master key with an Activation Date of 1970-01-01 has its other dates a
+    year later (12 and 0 months), and was registered at second 100."""
     rows = []
     for number, purpose in enumerate(PURPOSES, 1):
         year_later = "1971-01-01T00:00:00Z"
@@ -56,7 +49,7 @@ def program(words, given):
 def main():
     table = io.StringIO()
     writer = csv.writer(table, lineterminator="\n")
-    writer.writerow(HEADER)
+    writer.writerow(IMPORT_COLUMNS)
     for purpose in PURPOSES:
         writer.writerow(["master", "bob", "1970-01-01T00:00:00Z", "", "", purpose])
     with tempfile.TemporaryDirectory() as folder:
@@ -68,10 +61,10 @@ def main():
         exported = program(["export", "--file", file], b"")
         readers = ["Python's csv"]
         rows = list(csv.reader(io.StringIO(exported.decode(), newline="")))
-        expect(rows == [COLUMNS, *expected()], f"Python's csv reads {rows}")
+        expect(rows == [list(EXPORT_COLUMNS), *expected()], f"Python's csv reads {rows}")
         if shutil.which("csvjson"):
             done = subprocess.run(["csvjson", "--no-inference"], input=exported, capture_output=True, check=True)
-            told = [[row[column] or "" for column in COLUMNS] for row in json.loads(done.stdout)]
+            told = [[row[column] or "" for column in EXPORT_COLUMNS] for row in json.loads(done.stdout)]
             expect(told == expected(), f"csvjson reads {told}")
             readers.append("csvkit's csvjson")
     print(f"{' and '.join(readers)} read {len(PURPOSES)} rows of an export back to the same fields")

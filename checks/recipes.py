@@ -53,14 +53,14 @@ KINDS = (
     Kind("Add a command", r"\b(Activate|Assign|AddCustodian|Approve)\b", {
         "they stand for their shapes": "*/Commands.antt */keyed_command/*",
         "their refusals": "*/CustodyRefusal.antt crates/register_core/src/verdict.rt",
-        "any command would do": "crates/desk_trials/src/desks.rt docs/COSTS.md",
+        "any command would do": "crates/test_desk_trials/src/desks.rt docs/COSTS.md",
     }),
     Kind("Add a shape of fields", r"\bTypeAndPeriod\b|type_and_period|\bDateEdits\b", {
         "the kinds that have it": "*/CommandKind.antt */command_kind.rt",
     }),
     Kind("Add a refusal", r"\bNoApproval\b|\bno_approval key\b|Refusal::ApprovalsMissing|\(ApprovalsMissing ", {}),
     Kind("Add a route", r"ShowUsage|Route(Pattern)?::Usage|Show, Usage|/usage\b|\busage_(text|reply|data|value|row)", {
-        "one look-up stands for others": "checks/fresh_answers.py crates/fault_trials/src/lent.rt",
+        "one look-up stands for others": "checks/fresh_answers.py crates/test_fault_trials/src/lent.rt",
     }),
     Kind("Add a table", r"TableName::Quorum|TheVariants\.\{[^}]*\bQuorum\}|"
                         r"\b(FROM|INTO|TABLE|UPDATE) (\w+\.)?quorum\b|\"quorum\"", {
@@ -68,7 +68,7 @@ KINDS = (
         "one name stands for others": "checks/words.py",
     }, ("Add a version of the tables",)),
     Kind("Add a column", r"\boccurrence (INTEGER|= \?)|compromised\W+occurrence\b|\bcompromise_occurrence\b", {
-        "the date, which commands set": "crates/*_core/* crates/plain_register/* crates/core_tests/*",
+        "the date, which commands set": "crates/*_core/* crates/test_plain_register/* crates/test_core/*",
         "tables of version 1": "*/migrations.rt",
     }, ("Add a column to the export",)),
     Kind("Add a column to the export", r"\bexport_fields\b|compromised\W+occurrence\W+purpose|length fields < 1", {}),

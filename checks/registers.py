@@ -1,7 +1,9 @@
 """What the checks over files share: the program (the one that KEYREG names, if set), runs of it, and the tables of
 docs/SPECIFICATION.md."""
+import contextlib
 import os
 import shutil
+import sqlite3
 import subprocess
 import sys
 
@@ -19,7 +21,12 @@ UNSET = 253402300800
 # The version of the tables.
 VERSION = 2
 
-# Those that version 1 had, and those that version 2 added.
+# The columns of an export, and of an import.
+EXPORT_COLUMNS = ("number", "type", "owner", "activation", "protect_stop", "deactivation", "state", "initial", "destroyed",
+                  "compromised", "occurrence", "purpose")
+IMPORT_COLUMNS = ("type", "owner", "activation", "protect_stop", "deactivation", "purpose")
+
+# The tables that version 1 had, and those that version 2 added.
 FIRST_TABLES = """
 CREATE TABLE meta (id INTEGER PRIMARY KEY, version INTEGER NOT NULL, latest INTEGER NOT NULL,
     key_count INTEGER NOT NULL) STRICT;
@@ -118,6 +125,13 @@ def keyreg(words, lines=()):
 def all_rows(connection):
     """The rows of each table, in order."""
     return {name: sorted(connection.execute(f"SELECT * FROM {name}")) for name in APPROVED_ANEW_ROWS}
+
+
+def columns_of(name):
+    """The names of a table's columns, in its order."""
+    with contextlib.closing(sqlite3.connect(":memory:")) as connection:
+        connection.executescript(TABLES)
+        return [row[1] for row in connection.execute(f"PRAGMA table_info({name})")]
 
 
 def are_sound(connection):

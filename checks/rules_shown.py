@@ -3,11 +3,9 @@ import calendar
 from datetime import datetime, timedelta, timezone
 from typing import Optional
 
-from registers import STATES, TYPES, UNSET, VERSION
+from registers import EXPORT_COLUMNS, IMPORT_COLUMNS, STATES, TYPES, UNSET, VERSION
 from rules import ACTIVE, LAST, Key, Register, is_long, line
 
-HEADER = "number,type,owner,activation,protect_stop,deactivation,state,initial,destroyed,compromised,occurrence,purpose"
-IMPORT_HEADER = "type,owner,activation,protect_stop,deactivation,purpose"
 DAY = 86400
 STATE_CODES = {text: code for code, text in STATES.items()}
 TYPE_CODES = {text: code for code, text in TYPES.items()}
@@ -72,7 +70,7 @@ def field(text: str) -> str:
 
 
 def export_text(register: Register) -> str:
-    lines = [HEADER]
+    lines = [",".join(EXPORT_COLUMNS)]
     for number, key in enumerate(register.keys, 1):
         given = [moment_text(date) for date in (key.activation, key.stop, key.end)]
         later = [moment_text(date) for date in (key.initial, key.destroyed, key.compromised, key.occurrence)]
@@ -97,7 +95,7 @@ def report_text(register: Register, days: int) -> str:
 
 def import_table(rows: list[tuple]) -> str:
     """The table of an import: of each row its type, owner, the three dates and the purpose."""
-    lines = [IMPORT_HEADER]
+    lines = [",".join(IMPORT_COLUMNS)]
     for kind, owner, *dates, purpose in rows:
         lines.append(",".join(map(field, (kind, owner, *map(moment_text, dates), purpose))))
     return "".join(f"{line}\n" for line in lines)

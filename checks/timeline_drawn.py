@@ -24,7 +24,7 @@ import tempfile
 import time
 from datetime import datetime, timezone
 
-from registers import expect, keyreg
+from registers import EXPORT_COLUMNS, expect, keyreg
 from rules import Key
 
 TIMELINE = pathlib.Path(__file__).resolve().parent.parent / "examples" / "timeline.py"
@@ -167,7 +167,7 @@ def loads_nothing(page, text):
 def many(count):
     """An export of so many keys."""
     chance = random.Random(count)
-    rows = ["number,type,owner,activation,protect_stop,deactivation,state,initial,destroyed,compromised,occurrence,purpose"]
+    rows = [",".join(EXPORT_COLUMNS)]
     for number in range(1, count + 1):
         begin = NOW + chance.randrange(-1200, 300) * DAY
         dates = [datetime.fromtimestamp(begin + DAY * more, timezone.utc).strftime("%Y-%m-%dT%H:%M:%SZ") for more in (0, 700, 1700)]

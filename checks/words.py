@@ -27,7 +27,7 @@ import tempfile
 import time
 from typing import Any, Iterator
 
-from registers import APPROVED_ANEW, APPROVED_ANEW_ROWS, PROGRAM, VERSION, all_rows, keyreg
+from registers import APPROVED_ANEW, APPROVED_ANEW_ROWS, EXPORT_COLUMNS, IMPORT_COLUMNS, PROGRAM, VERSION, all_rows, keyreg
 from words_of_serve import look_at_serve
 
 TOP = pathlib.Path(__file__).resolve().parent.parent
@@ -38,9 +38,7 @@ OPTIONS = {
     "import": {"moment": "100", "caller": "ann", "first": "1"},
     "serve": {"port": "8420", "exchanges": "1"},
 }
-HEADER = "type,owner,activation,protect_stop,deactivation,purpose\n"
-EXPORT_HEADER = ("number,type,owner,activation,protect_stop,deactivation,state,initial,destroyed,compromised,"
-                 "occurrence,purpose\n")
+HEADER, EXPORT_HEADER = (",".join(columns) + "\n" for columns in (IMPORT_COLUMNS, EXPORT_COLUMNS))
 ROW = "master,bob,,,,spare\n"
 LINES = "".join(line + "\n" for line, _ in APPROVED_ANEW)
 REPLIES = "".join(reply + "\n" for _, reply in APPROVED_ANEW)

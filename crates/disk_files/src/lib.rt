@@ -1,8 +1,6 @@
-//! The register's files on the machine's disk, and the program over them.
+//! The register's files on the machine's disk.
 #![tactic(auto)]
 
-mod acting;
 mod disk_files;
 
-pub use acting::act_from;
 pub use disk_files::DiskFiles;

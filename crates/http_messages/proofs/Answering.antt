@@ -6,8 +6,8 @@ use Rattle.std.specs.Io.KnownBytes.{Consumes, IsAtEnd}
 use Rattle.std.proofs.lemmas.List.{take-append-le, append-nil, take_min}
 use Rattle.serde_json.specs.Data.{Data}
 use Rattle.serde_json.specs.Read.{read}
-use Rattle.register_core.specs.declared.request.Command.{Command}
-use Rattle.register_core.specs.Request.{IsCommand}
+use Rattle.register_requests.specs.declared.request.Command.{Command}
+use Rattle.register_requests.specs.Request.{IsCommand}
 use Rattle.http_messages.specs.CommandValue.{command_data}
 use Rattle.httparse.specs.Grammar.{RequestHead}
 use Rattle.http_messages.specs.declared.asked.Asked.{Asked}

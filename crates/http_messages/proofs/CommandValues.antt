@@ -8,20 +8,20 @@ use Rattle.lifecycle_core.specs.Reason.{reason_code}
 use Rattle.period_core.specs.declared.key_type.KeyType.{KeyType}
 use Rattle.period_core.specs.KeyType.{key_type_text}
 use Rattle.period_core.specs.Period.{Period, of_months}
-use Rattle.register_core.specs.CommandRule.{kind_of}
-use Rattle.register_core.specs.RequestLine.{key_type_at, reason_at}
-use Rattle.register_core.specs.declared.command_kind.CommandKind.{CommandKind}
-use Rattle.register_core.specs.declared.request.Command.{Command}
-use Rattle.register_core.specs.declared.fields.Fields.{Fields}
-use Rattle.register_core.specs.declared.fields.Fields.TheVariants.{Nothing, TypeAndPeriod}
-use Rattle.register_core.specs.declared.fields.Fields.TheVariants.{Registration, DateEdits, Revocation}
-use Rattle.register_core.specs.CommandKind.{command_shape}
-use Rattle.register_core.specs.Fields.{fields_of, shape_of}
-use Rattle.register_core.specs.declared.request.Edit.{Edit}
-use Rattle.register_core.specs.declared.request.Edit.TheVariants.{Keep, Clear, Set}
-use Rattle.register_core.proofs.Commands.{has_shape, same_command}
-use Rattle.register_core.proofs.FieldReading.{some_is}
-use Rattle.register_core.proofs.Readers.{key_type_reader, reason_reader, same_kind}
+use Rattle.register_requests.specs.CommandRule.{kind_of}
+use Rattle.register_requests.specs.RequestLine.{key_type_at, reason_at}
+use Rattle.register_requests.specs.declared.command_kind.CommandKind.{CommandKind}
+use Rattle.register_requests.specs.declared.request.Command.{Command}
+use Rattle.register_requests.specs.declared.fields.Fields.{Fields}
+use Rattle.register_requests.specs.declared.fields.Fields.TheVariants.{Nothing, TypeAndPeriod}
+use Rattle.register_requests.specs.declared.fields.Fields.TheVariants.{Registration, DateEdits, Revocation}
+use Rattle.register_requests.specs.CommandKind.{command_shape}
+use Rattle.register_requests.specs.Fields.{fields_of, shape_of}
+use Rattle.register_requests.specs.declared.request.Edit.{Edit}
+use Rattle.register_requests.specs.declared.request.Edit.TheVariants.{Keep, Clear, Set}
+use Rattle.register_requests.proofs.Commands.{has_shape, same_command}
+use Rattle.register_requests.proofs.FieldReading.{some_is}
+use Rattle.register_requests.proofs.Readers.{key_type_reader, reason_reader, same_kind}
 use Rattle.http_messages.specs.CommandValue.{command_data, fields_members, kind_data, date_data, edit_data}
 
 -- ---- the kind of a value

@@ -1,7 +1,7 @@
 -- What is known of the parts of a head is known of the head.
 use Rattle.std.proofs.Common.{◌≡◌, ◌≢◌, ℕ, List, Bool, true, false, map, take, Option, Some, None}
 use Rattle.std.proofs.Common.{subst, sym, refl, ◌∙◌}
-use Rattle.std.specs.Prelude.{IsTrue, not}
+use Rattle.std.specs.Prelude.{not}
 use Rattle.std.specs.Str.{bytes_eq}
 use Rattle.std.proofs.lemmas.Slice.Eq.{bytes_eq-Decides}
 use Rattle.httparse.specs.Grammar.{RequestHead}
@@ -14,6 +14,7 @@ use Rattle.http_messages.specs.Asked.{HasHost, lines_of, AsksAfter, no_host, no_
 use Rattle.http_messages.specs.HeaderFields.{Lines}
 use Rattle.http_messages.specs.Post.{IsFor}
 use Rattle.http_messages.specs.declared.asked.Asked.TheVariants.{Reject}
+use Rattle.http_messages.specs.declared.asked.Rejection.{Rejection}
 use Rattle.http_messages.specs.declared.asked.Rejection.TheVariants.{BadRequest, NoRoute, MethodNotAllowed}
 
 differ : (xs ys : List ℕ) → true ≡ not (bytes_eq xs ys) → xs ≢ ys
@@ -25,9 +26,6 @@ agree_by false P p e = absurd (cc)
 
 agree : (xs ys : List ℕ) → false ≡ not (bytes_eq xs ys) → xs ≡ ys
 agree xs ys e = agree_by (bytes_eq xs ys) (xs ≡ ys) (bytes_eq-Decides xs ys).0 e
-
-no_truth : (v : Bool) → v ≡ false → IsTrue v → ⊥
-no_truth v e p = let both = sym e ∙ p in absurd (cc)
 
 module _ (prefix : List ℕ) (headers : List HeaderSpan) (spans : RequestSpans) (h : RequestHead)
     (at : IsRequestAt prefix headers spans h) where
@@ -44,9 +42,9 @@ module _ (prefix : List ℕ) (headers : List HeaderSpan) (spans : RequestSpans) 
       → IsRouteOf h.target o
   route_is target o e p = subst (λ t. IsRouteOf t o) (e ∙ at.path) p
 
-  pub asks_no_host : (v : Bool) (rest : List ℕ) → v ≡ false → (HasHost spans.version lines → IsTrue v)
-      → AsksAfter h rest (Reject BadRequest)
-  asks_no_host v rest e f = no_host (λ p. let hit = f (host_was p) in no_truth v e hit)
+  pub asks_no_host : (r : Rejection) (rest : List ℕ) → (r ≡ BadRequest) × (HasHost spans.version lines → ⊥)
+      → AsksAfter h rest (Reject r)
+  asks_no_host r rest (is, none) = subst (λ r. AsksAfter h rest (Reject r)) (sym is) (no_host (λ p. none (host_was p)))
 
   pub asks_no_path : (target : List ℕ) (rest : List ℕ) → HasHost spans.version lines
       → target ≡ span_bytes prefix spans.path → IsRouteOf target None → AsksAfter h rest (Reject NoRoute)

@@ -1,5 +1,6 @@
 -- The members of an object, one after the other, and what holds of a reader that gives none.
-use Rattle.std.proofs.Common.{◌≡◌, List, ℕ, Option, None, Some, IfNone}
+use Rattle.std.proofs.Common.{◌≡◌, List, ℕ, Option, None, Some, IfNone, IfSome}
+use Rattle.std.specs.Option.{MatchOption}
 use Rattle.serde_json.specs.Data.{Data, null, boolean, number, string, array, object, Members, member}
 use Rattle.serde_json.specs.Find.{as_object}
 
@@ -26,6 +27,16 @@ object_of (object os) ms e = cc
 pub if_none : {A : Type 0} (o : Option A) (P : Type 0) → P → IfNone o P
 if_none None P p = p
 if_none (Some x) P p = tt
+
+-- what follows from what is said of the one case or the other
+pub some_by : {A : Type 0} (P : Type 0) (Q R : A → Type 0) (o : Option A) → MatchOption o P Q → ((x : A) → Q x → R x)
+    → IfSome o R
+some_by P Q R None says follows = tt
+some_by P Q R (Some x) says follows = follows x says
+
+pub none_by : {A : Type 0} (P R : Type 0) (Q : A → Type 0) (o : Option A) → MatchOption o P Q → (P → R) → IfNone o R
+none_by P R Q None says follows = follows says
+none_by P R Q (Some x) says follows = tt
 
 pub none_then : {A : Type 0} (o : Option A) (P Q : Type 0) → (P → Q) → IfNone o P → IfNone o Q
 none_then None P Q f p = f p

@@ -18,7 +18,7 @@ use Rattle.matchit.specs.Seek.{has_slash, cuts, better, with_suffix}
 use Rattle.http_messages.specs.declared.route.Route.{Route}
 use Rattle.http_messages.specs.declared.route.Route.TheVariants.{Requests, Show, Usage}
 use Rattle.http_messages.specs.declared.route.RoutePattern.{RoutePattern}
-use Rattle.register_core.specs.Request.{IsKeyNumber}
+use Rattle.register_requests.specs.Request.{IsKeyNumber}
 use Rattle.http_messages.specs.Route.{IsRoute, route_text, pattern_of, routes, key_row, usage_row, requests_row}
 
 abbrev pub IsDigit : ℕ → Type 0

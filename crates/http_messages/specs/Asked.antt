@@ -6,8 +6,8 @@ use Rattle.httparse.specs.Grammar.{RequestHead}
 use Rattle.httparse.specs.Spans.{name_and_value}
 use Rattle.http_messages.specs.Head.{HasHead, HasBadHead, HasLargeHead}
 use Rattle.http_messages.specs.Route.{IsRouteOf, method_of}
-use Rattle.register_core.specs.Name.{IsName}
-use Rattle.register_core.specs.Number.{IsNumber}
+use Rattle.register_requests.specs.Name.{IsName}
+use Rattle.register_requests.specs.Number.{IsNumber}
 use Rattle.http_messages.specs.HeaderFields.{Lines, values_of, IsLength}
 use Rattle.http_messages.specs.CommandBody.{IsBodyOf}
 use Rattle.http_messages.specs.declared.asked.Asked.{Asked}
@@ -17,7 +17,7 @@ use Rattle.http_messages.specs.declared.asked.Rejection.TheVariants.{MethodNotAl
 use Rattle.http_messages.specs.declared.asked.Rejection.TheVariants.{LengthRequired, TooLarge}
 use Rattle.http_messages.specs.declared.route.Route.{Route}
 use Rattle.http_messages.specs.declared.route.Route.TheVariants.{Requests, Show, Usage}
-use Rattle.register_core.specs.declared.request.Command.{Command}
+use Rattle.register_requests.specs.declared.request.Command.{Command}
 
 -- the names and the values of a head's header lines
 abbrev pub lines_of : RequestHead → Lines

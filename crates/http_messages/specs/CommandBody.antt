@@ -1,10 +1,10 @@
 -- Which command a body is, and the ranges of what is sent.
 use Rattle.std.specs.Prelude.{◌≡◌, ℕ, List, Some, IsUtf8}
 use Rattle.serde_json.specs.Read.{read}
-use Rattle.register_core.specs.declared.request.Command.{Command}
-use Rattle.register_core.specs.Name.{IsName}
-use Rattle.register_core.specs.Number.{IsNumber}
-use Rattle.register_core.specs.Request.{IsCommand}
+use Rattle.register_requests.specs.declared.request.Command.{Command}
+use Rattle.register_requests.specs.Name.{IsName}
+use Rattle.register_requests.specs.Number.{IsNumber}
+use Rattle.register_requests.specs.Request.{IsCommand}
 use Rattle.http_messages.specs.declared.asked.Asked.{Asked}
 use Rattle.http_messages.specs.declared.asked.Asked.TheVariants.{Reject, ShowKey, ShowUsage, Apply}
 use Rattle.http_messages.specs.declared.asked.Sent.{Sent}

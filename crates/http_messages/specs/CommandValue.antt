@@ -2,19 +2,19 @@
 use Rattle.std.specs.Prelude.{◌≡◌, ℕ, List, codes, Option, Some, None}
 use Rattle.lifecycle_core.specs.Reason.{reason_code}
 use Rattle.period_core.specs.KeyType.{key_type_text}
-use Rattle.register_core.specs.CommandKind.{command_kind_text}
-use Rattle.register_core.specs.CommandRule.{kind_of}
-use Rattle.register_core.specs.declared.command_kind.CommandKind.{CommandKind}
-use Rattle.register_core.specs.declared.request.Command.{Command}
-use Rattle.register_core.specs.declared.fields.Fields.{Fields}
-use Rattle.register_core.specs.declared.fields.Fields.TheVariants.{Nothing, Key, KeyAndName}
-use Rattle.register_core.specs.declared.fields.Fields.TheVariants.{KeyAndOwner, KeyAndNeed, TypeAndPeriod, Registration}
-use Rattle.register_core.specs.declared.fields.Fields.TheVariants.{DateEdits, Revocation}
-use Rattle.register_core.specs.declared.fields.Shape.{Shape}
-use Rattle.register_core.specs.Fields.{fields_of, shape_of}
-use Rattle.register_core.specs.Request.{AreFields}
-use Rattle.register_core.specs.declared.request.Edit.{Edit}
-use Rattle.register_core.specs.declared.request.Edit.TheVariants.{Keep, Clear, Set}
+use Rattle.register_requests.specs.CommandKind.{command_kind_text}
+use Rattle.register_requests.specs.CommandRule.{kind_of}
+use Rattle.register_requests.specs.declared.command_kind.CommandKind.{CommandKind}
+use Rattle.register_requests.specs.declared.request.Command.{Command}
+use Rattle.register_requests.specs.declared.fields.Fields.{Fields}
+use Rattle.register_requests.specs.declared.fields.Fields.TheVariants.{Nothing, Key, KeyAndName}
+use Rattle.register_requests.specs.declared.fields.Fields.TheVariants.{KeyAndOwner, KeyAndNeed, TypeAndPeriod, Registration}
+use Rattle.register_requests.specs.declared.fields.Fields.TheVariants.{DateEdits, Revocation}
+use Rattle.register_requests.specs.declared.fields.Shape.{Shape}
+use Rattle.register_requests.specs.Fields.{fields_of, shape_of}
+use Rattle.register_requests.specs.Request.{AreFields}
+use Rattle.register_requests.specs.declared.request.Edit.{Edit}
+use Rattle.register_requests.specs.declared.request.Edit.TheVariants.{Keep, Clear, Set}
 use Rattle.serde_json.specs.Data.{Data, null, number, unsigned, string, object, Members, member, no_members}
 
 -- ---- the values of members

@@ -2,7 +2,7 @@
 use Rattle.std.specs.Prelude.{◌≡◌, ◌≢◌, ℕ, List, [], ◌∷◌, ◌++◌, Option, Some, None, codes, decimal}
 use Rattle.matchit.specs.Rows.{RowsOf}
 use Rattle.matchit.specs.Router.{RouteOf}
-use Rattle.register_core.specs.Request.{IsKeyNumber}
+use Rattle.register_requests.specs.Request.{IsKeyNumber}
 use Rattle.http_messages.specs.declared.route.Route.{Route}
 use Rattle.http_messages.specs.declared.route.Route.TheVariants.{Requests, Show, Usage}
 use Rattle.http_messages.specs.declared.route.RoutePattern.{RoutePattern}

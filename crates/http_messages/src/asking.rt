@@ -1,7 +1,7 @@
 //! Reads what an input asks for. The register is not asked here.
 ghost use Rattle.std.specs.Prelude.{◌≡◌, ◌↔◌, ◌+◌, ◌≤◌, ◌++◌, ℕ, List, [], length, map, min, take};
 ghost use Rattle.std.specs.Prelude.{drop, Some, Ok, Err, IfOk, IfErr, IfSome, IfNone, IsSomeAnd};
-ghost use Rattle.std.specs.Prelude.{IsTrue};
+ghost use Rattle.std.specs.Prelude.{OnOk};
 ghost use Rattle.httparse.specs.Grammar.{RequestHead};
 ghost use Rattle.httparse.specs.Spans.{IsRequestAt, IsRequestWithin, header_bytes};
 ghost use Rattle.streams.specs.Watched.{IsFaulted};
@@ -84,6 +84,7 @@ fn length_of(text: &[u8]) -> Option<u32>
         if !byte.is_ascii_digit() {
             return None;
         }
+        // Past the limit no length is told from another, and none overflows.
         number = (number * 10 + u32::from(*byte - b'0')).min(MAX_BODY_LENGTH + 1);
     }
     Some(number)
@@ -96,22 +97,9 @@ fn sender_of(fields: &HeaderFields<'_>) -> Option<Sender>
     ensures none { (lines : Lines) → AreGathered lines fields.now → IfNone result
         ((caller : List ℕ) (number : ℕ) → IsFrom lines caller number → ⊥) }
 {
-    let Values::One(caller) = fields.caller else {
-        return None;
-    };
-    let Values::One(field) = fields.request_number else {
-        return None;
-    };
-    let Some(caller) = Name::new(caller) else {
-        return None;
-    };
-    let Some(number) = read_decimal(field) else {
-        return None;
-    };
-    match RequestNumber::new(number) {
-        Some(number) => Some(Sender { caller, number }),
-        None => None,
-    }
+    let caller = Name::new(fields.caller.one()?)?;
+    let number = RequestNumber::new(read_decimal(fields.request_number.one()?)?)?;
+    Some(Sender { caller, number })
 }
 
 /// What the header lines say of the body, or why the request is refused.
@@ -120,11 +108,9 @@ fn post_of(fields: &HeaderFields<'_>) -> Result<Post, Rejection>
     ensures err { (lines : Lines) → AreGathered lines fields.now
         → IfErr result (λ r. (rest : List ℕ) → AsksPost lines rest (Reject r)) }
 {
-    match fields.transfer_encoding {
-        Values::None => {}
-        Values::One(_) => return Err(Rejection::LengthRequired),
-        Values::Several => return Err(Rejection::LengthRequired),
-    }
+    let Values::None = fields.transfer_encoding else {
+        return Err(Rejection::LengthRequired);
+    };
     let text = match fields.content_length {
         Values::None => return Err(Rejection::LengthRequired),
         Values::One(text) => text,
@@ -149,18 +135,17 @@ fn ask_body(alloc: Global, post: Post, body: &[u8]) -> Result<Option<Asked>, Ask
     ensures in_range { IfOk result (λ o. IfSome o IsInRange) }
     ensures err { IfErr result (λ fault. fault ≡ AskFault.Memory) }
 {
-    match value_of(alloc, body) {
-        Ok(Some(value)) => match command_of(&value) {
-            Some(command) => Ok(Some(Asked::Apply(Sent {
-                caller: post.sender.caller,
-                number: post.sender.number,
-                command,
-            }))),
-            None => Ok(Some(Asked::Reject(Rejection::BadRequest))),
-        },
-        Ok(None) => Ok(Some(Asked::Reject(Rejection::BadRequest))),
-        Err(fault) => Err(fault),
-    }
+    let Some(value) = value_of(alloc, body)? else {
+        return Ok(Some(Asked::Reject(Rejection::BadRequest)));
+    };
+    let Some(command) = command_of(&value) else {
+        return Ok(Some(Asked::Reject(Rejection::BadRequest)));
+    };
+    Ok(Some(Asked::Apply(Sent {
+        caller: post.sender.caller,
+        number: post.sender.number,
+        command,
+    })))
 }
 
 /// What a POST asks for whose head said this, with these bytes after its head already read.
@@ -187,63 +172,78 @@ fn ask_post<R: Read>(alloc: Global, after: &[u8], post: Post, reader: &mut Watch
     }
 }
 
-/// Whether a head of this version has the Host that it must have.
-fn has_host(minor: u8, fields: &HeaderFields<'_>) -> bool
-    ensures { (lines : Lines) → AreGathered lines fields.now → IsTrue result ↔ HasHost minor lines }
-{
-    minor != 1 || matches!(fields.host, Values::One(_))
+/// A head that stands whole at the start of what was read.
+#[derive(Clone, Copy)]
+struct Head<'b> {
+    /// All that was read.
+    bytes: &'b [u8],
+    /// Where its header lines are, which may be fewer than there is room for.
+    headers: &'b [HeaderSpan],
+    /// Where its other parts are.
+    spans: RequestSpans,
 }
 
-/// The route that the head is for whose parts these are, or why it is for none.
+/// Refuses a head of this version without the Host that it must have.
+fn check_host(minor: u8, fields: &HeaderFields<'_>) -> Result<(), Rejection>
+    ensures ok { (lines : Lines) → AreGathered lines fields.now
+        → OnOk result (HasHost minor lines) }
+    ensures err { (lines : Lines) → AreGathered lines fields.now
+        → IfErr result (λ r. (r ≡ Rejection.BadRequest) × (HasHost minor lines → ⊥)) }
+{
+    if minor == 1 && !matches!(fields.host, Values::One(_)) {
+        return Err(Rejection::BadRequest);
+    }
+    Ok(())
+}
+
+/// The route that the head is for, or why it is for none.
 fn check_head(
     router: &Router<RoutePattern>,
-    prefix: &[u8],
-    headers: &[HeaderSpan],
-    spans: RequestSpans,
+    head: &Head<'_>,
     fields: &HeaderFields<'_>,
 ) -> Result<Route, Rejection>
     requires routes { router.now ≡ routes }
-    requires within { IsRequestWithin prefix.now headers.now spans }
-    requires gathered { AreGathered
-        (map (header_bytes prefix.now) (take spans.headers headers.now)) fields.now }
-    ensures ok { (h : RequestHead) → IsRequestAt prefix.now headers.now spans h
+    requires within { IsRequestWithin head.now.bytes.now head.now.headers.now head.now.spans }
+    requires gathered { AreGathered (map (header_bytes head.now.bytes.now)
+        (take head.now.spans.headers head.now.headers.now)) fields.now }
+    ensures ok { (h : RequestHead) →
+        IsRequestAt head.now.bytes.now head.now.headers.now head.now.spans h
         → IfOk result (IsFor h) }
-    ensures err { (h : RequestHead) → IsRequestAt prefix.now headers.now spans h
+    ensures err { (h : RequestHead) →
+        IsRequestAt head.now.bytes.now head.now.headers.now head.now.spans h
         → IfErr result (λ r. (rest : List ℕ) → AsksAfter h rest (Asked.Reject r)) }
 {
-    if !has_host(spans.version, fields) {
-        return Err(Rejection::BadRequest);
-    }
-    let Some(route) = route_of(router, spans.path.of(prefix)) else {
+    check_host(head.spans.version, fields)?;
+    let Some(route) = route_of(router, head.spans.path.of(head.bytes)) else {
         return Err(Rejection::NoRoute);
     };
-    if spans.method.of(prefix) != route.method().as_bytes() {
+    if head.spans.method.of(head.bytes) != route.method().as_bytes() {
         return Err(Rejection::MethodNotAllowed(route));
     }
     Ok(route)
 }
 
-/// What a head asks for that stands whole at the start of what was read.
+/// What a head asks for.
 fn ask_head<R: Read>(
     alloc: Global,
     routes: &mut Routes,
-    bytes: &[u8],
-    headers: &[HeaderSpan],
-    spans: RequestSpans,
+    head: &Head<'_>,
     reader: &mut Watched<R>,
 ) -> Asking
-    requires { IsRequestWithin bytes.now headers.now spans }
-    ensures asks { (h : RequestHead) (left : List ℕ) → IsRequestAt bytes.now headers.now spans h
+    requires { IsRequestWithin head.now.bytes.now head.now.headers.now head.now.spans }
+    ensures asks { (h : RequestHead) (left : List ℕ) →
+        IsRequestAt head.now.bytes.now head.now.headers.now head.now.spans h
         → R.remaining reader.old.inner ≡ Some left
-        → IfOk result.asked (λ o. IsSomeAnd o (AsksAfter h (drop spans.len bytes.now ++ left))) }
+        → IfOk result.asked (λ o. IsSomeAnd o
+        (AsksAfter h (drop head.now.spans.len head.now.bytes.now ++ left))) }
     ensures reads { ReadsInput R.remaining reader.old reader.new result.read result }
 {
-    let fields = HeaderFields::gather(bytes, &headers[..spans.headers]);
+    let fields = HeaderFields::gather(head.bytes, &head.headers[..head.spans.headers]);
     let router = match routes.router(alloc) {
         Ok(router) => router,
         Err(fault) => return Asking::unread(Err(fault)),
     };
-    let route = match check_head(router, bytes, headers, spans, &fields) {
+    let route = match check_head(router, head, &fields) {
         Ok(route) => route,
         Err(rejection) => return Asking::rejected(rejection),
     };
@@ -251,7 +251,7 @@ fn ask_head<R: Read>(
         Route::Show(key) => Asking::unread(Ok(Some(Asked::ShowKey(key)))),
         Route::Usage(key) => Asking::unread(Ok(Some(Asked::ShowUsage(key)))),
         Route::Requests => match post_of(&fields) {
-            Ok(post) => ask_post(alloc, &bytes[spans.len..], post, reader),
+            Ok(post) => ask_post(alloc, &head.bytes[head.spans.len..], post, reader),
             Err(rejection) => Asking::rejected(rejection),
         },
     }
@@ -278,7 +278,12 @@ fn ask_after<R: Read>(
         Ok(HeadSearch::Bad) => Asking::rejected(Rejection::BadRequest),
         Ok(HeadSearch::TooLarge) => Asking::rejected(Rejection::TooLarge),
         Ok(HeadSearch::Whole(spans)) => {
-            ask_head(alloc, routes, prefix.bytes(), &headers, spans, reader)
+            let head = Head {
+                bytes: prefix.bytes(),
+                headers: &headers,
+                spans,
+            };
+            ask_head(alloc, routes, &head, reader)
         }
     }
 }

@@ -1,5 +1,6 @@
 //! The header lines that say how a request is answered, gathered by their names in one pass.
-ghost use Rattle.std.specs.Prelude.{◌≡◌, ◌++◌, ◌∷◌, [], ℕ, List, length, map, All};
+ghost use Rattle.std.specs.Prelude.{◌≡◌, ◌≢◌, ◌++◌, ◌∷◌, [], ℕ, List, length, map, All};
+ghost use Rattle.std.specs.Prelude.{IfNone, IfSome};
 ghost use Rattle.std.specs.Char.{to_ascii_lowercase};
 ghost use Rattle.httparse.specs.Spans.{IsHeaderWithin, header_bytes};
 ghost use Rattle.http_messages.specs.HeaderFields.{AreFound, AreGathered, Lines, is_named, values_of};
@@ -24,6 +25,19 @@ pub(crate) enum Values<'b> {
 }
 
 impl<'b> Values<'b> {
+    /// The value, where there is one and no other.
+    pub fn one(self) -> Option<&'b [u8]>
+        ensures found { (vs : List (List ℕ)) → AreFound vs self.entry
+            → IfSome result (λ value. vs ≡ value.now ∷ []) }
+        ensures none { (vs : List (List ℕ)) → AreFound vs self.entry
+            → IfNone result ((value : List ℕ) → vs ≢ value ∷ []) }
+    {
+        match self {
+            Values::One(value) => Some(value),
+            Values::None | Values::Several => None,
+        }
+    }
+
     /// With one value more.
     fn with_value(self, value: &'b [u8]) -> Self
         ensures { (vs : List (List ℕ)) → AreFound vs self.entry

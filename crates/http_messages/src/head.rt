@@ -121,6 +121,7 @@ impl Prefix {
                 return Ok(HeadSearch::TooLarge);
             }
             if self.refill(reader)? == 0 {
+                // A client may connect and leave without a word, which is no fault of it.
                 if self.bytes().is_empty() {
                     return Ok(HeadSearch::Nothing);
                 }

@@ -9,11 +9,11 @@ ghost use Rattle.lifecycle_core.specs.Reason.{reason_code};
 ghost use Rattle.period_core.specs.Period.{Period, IsPeriod};
 ghost use Rattle.period_core.specs.declared.key_type.KeyType.{KeyType};
 ghost use Rattle.period_core.specs.KeyType.{key_type_text};
-ghost use Rattle.register_core.specs.Name.{IsName};
-ghost use Rattle.register_core.specs.Purpose.{IsPurpose};
-ghost use Rattle.register_core.specs.Quorum.{IsQuorum};
-ghost use Rattle.register_core.specs.Request.{IsDate, IsEdit, IsKeyNumber};
-ghost use Rattle.register_core.specs.declared.request.Edit.{Edit};
+ghost use Rattle.register_requests.specs.Name.{IsName};
+ghost use Rattle.register_requests.specs.Purpose.{IsPurpose};
+ghost use Rattle.register_requests.specs.Quorum.{IsQuorum};
+ghost use Rattle.register_requests.specs.Request.{IsDate, IsEdit, IsKeyNumber};
+ghost use Rattle.register_requests.specs.declared.request.Edit.{Edit};
 ghost use Rattle.http_messages.specs.CommandValue.{number_data, date_data, edit_data};
 
 use lifecycle_core::Reason;

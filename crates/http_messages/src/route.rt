@@ -2,7 +2,7 @@
 ghost use Rattle.std.specs.Prelude.{◌≡◌, ◌≢◌, ◌<◌, ◌^◌, ◌++◌, ℕ, List, decimal, IfOk, IfErr, IfSome, IfNone};
 ghost use Rattle.std.specs.Option.{ForSome};
 ghost use Rattle.http_messages.specs.Route.{routes, route_text, pattern_of, IsRoute, IsRouteOf};
-ghost use Rattle.register_core.specs.Request.{IsKeyNumber};
+ghost use Rattle.register_requests.specs.Request.{IsKeyNumber};
 
 use crate::asked::AskFault;
 use matchit::{InsertError, Router};
@@ -88,9 +88,7 @@ fn key_number(field: &[u8]) -> Option<u32>
     ensures found { IfSome result (λ n. (field.now ≡ decimal n) × IsKeyNumber n) }
     ensures none { IfNone result ((n : ℕ) → IsKeyNumber n → field.now ≢ decimal n) }
 {
-    let Some(number) = read_decimal(field) else {
-        return None;
-    };
+    let number = read_decimal(field)?;
     if number >= 1 && number <= u64::from(u32::MAX) {
         Some(number as u32)
     } else {
@@ -104,13 +102,8 @@ fn field_between<'t>(target: &'t [u8], prefix: &[u8], back: &[u8]) -> Option<&'t
     ensures none { IfNone result ((field : List ℕ) →
         target.now ≢ prefix.now ++ (field ++ back.now)) }
 {
-    match target.strip_prefix(prefix) {
-        Some(rest) => match rest.strip_suffix(back) {
-            Some(field) => Some(field),
-            None => None,
-        },
-        None => None,
-    }
+    let rest = target.strip_prefix(prefix)?;
+    rest.strip_suffix(back)
 }
 
 /// The number of a key that stands between the prefix and the back.
@@ -120,13 +113,8 @@ fn key_between(target: &[u8], prefix: &[u8], back: &[u8]) -> Option<u32>
     ensures none { IfNone result ((n : ℕ) → IsKeyNumber n →
         target.now ≢ prefix.now ++ (decimal n ++ back.now)) }
 {
-    match field_between(target, prefix, back) {
-        Some(field) => match key_number(field) {
-            Some(number) => Some(number),
-            None => None,
-        },
-        None => None,
-    }
+    let field = field_between(target, prefix, back)?;
+    key_number(field)
 }
 
 /// The pattern to which the router leads the target.
@@ -157,14 +145,14 @@ fn route_at(pattern: RoutePattern, target: &[u8]) -> Option<Route>
                 None
             }
         }
-        RoutePattern::Key => match key_between(target, b"/keys/", b"") {
-            Some(number) => Some(Route::Show(number)),
-            None => None,
-        },
-        RoutePattern::Usage => match key_between(target, b"/keys/", b"/usage") {
-            Some(number) => Some(Route::Usage(number)),
-            None => None,
-        },
+        RoutePattern::Key => {
+            let key = key_between(target, b"/keys/", b"")?;
+            Some(Route::Show(key))
+        }
+        RoutePattern::Usage => {
+            let key = key_between(target, b"/keys/", b"/usage")?;
+            Some(Route::Usage(key))
+        }
     }
 }
 
@@ -173,8 +161,7 @@ pub(crate) fn route_of(router: &Router<RoutePattern>, target: &[u8]) -> Option<R
     requires { router.now ≡ routes }
     ensures { IsRouteOf target.now result }
 {
-    match pattern_at(router, target) {
-        Some(pattern) => route_at(pattern, target),
-        None => None,
-    }
+    // The router takes any segment for a number: the text of the route alone decides.
+    let pattern = pattern_at(router, target)?;
+    route_at(pattern, target)
 }

@@ -15,8 +15,8 @@ use Rattle.lifecycle_core.specs.declared.state.State.{State}
 use Rattle.lifecycle_core.specs.State.{state_text}
 use Rattle.lifecycle_core.proofs.States.{of_each_state}
 use Rattle.moment_core.specs.MomentText.{moment_text}
-use Rattle.register_core.specs.Name.{IsName, is_name_byte}
-use Rattle.register_core.specs.Purpose.{IsPurpose, is_purpose_byte}
+use Rattle.register_requests.specs.Name.{IsName, is_name_byte}
+use Rattle.register_requests.specs.Purpose.{IsPurpose, is_purpose_byte}
 use Rattle.key_rows.specs.declared.key_row.KeyRow.{KeyRow}
 use Rattle.key_rows.specs.Export.{IsPrintable, date_text, export_fields}
 

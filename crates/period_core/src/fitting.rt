@@ -6,7 +6,8 @@ ghost use Rattle.period_core.specs.Fitting.{Fits, is_not_after, are_in_order, or
 ghost use Rattle.period_core.specs.Fitting.{recipient_limit, is_long, earlier_of, cut};
 ghost use Rattle.period_core.specs.Fitting.{with_protect_stop, with_deactivation, with_defaults};
 ghost use Rattle.period_core.specs.Fitting.{within_limits, order_refusal, length_refusal};
-ghost use Rattle.period_core.specs.Fitting.{range_refusal, fill_of, trim_of, KeepsGiven, Gives};
+ghost use Rattle.period_core.specs.Fitting.{range_refusal, fill_of, trim_of, Checks, KeepsGiven};
+ghost use Rattle.period_core.specs.Fitting.{Gives};
 
 use crate::period::Period;
 use lifecycle_core::Dates;
@@ -47,20 +48,14 @@ pub fn are_in_order(dates: &Dates) -> bool
 pub(crate) fn originator_limit(period: Period, dates: &Dates) -> Option<Moment>
     ensures { result ≡ originator_limit period dates.now }
 {
-    match dates.activation {
-        Some(activation) => activation.plus_months(period.originator()),
-        None => None,
-    }
+    dates.activation?.plus_months(period.originator())
 }
 
 /// The last moment of recipient use, where there is one.
 pub(crate) fn recipient_limit(period: Period, dates: &Dates) -> Option<Moment>
     ensures { result ≡ recipient_limit period dates.now }
 {
-    match dates.protect_stop {
-        Some(protect_stop) => protect_stop.plus_months(period.recipient()),
-        None => None,
-    }
+    dates.protect_stop?.plus_months(period.recipient())
 }
 
 /// Whether the dates fit the period: they are in order, and neither use is longer than its months.
@@ -102,29 +97,58 @@ fn cut(date: Option<Moment>, limit: Option<Moment>) -> Option<Moment>
     }
 }
 
-/// The dates with a Protect Stop, where Activation is set and it is not.
-fn with_protect_stop(period: Period, dates: Dates) -> Dates
-    ensures { result ≡ with_protect_stop period dates }
+/// The dates with a Protect Stop, where Activation is set and it is not; this is their originator
+/// limit.
+fn with_protect_stop(originator: &Option<Moment>, dates: &Dates) -> Dates
+    ensures { (period : Period) → originator.now ≡ originator_limit period dates.now
+        → result ≡ with_protect_stop period dates.now }
 {
     if dates.activation.is_none() || dates.protect_stop.is_some() {
-        return dates;
+        return *dates;
     }
     Dates {
-        protect_stop: earlier_of(originator_limit(period, &dates), dates.deactivation),
-        ..dates
+        protect_stop: earlier_of(*originator, dates.deactivation),
+        ..*dates
     }
 }
 
-/// The dates with a Deactivation, where Activation is set and it is not.
-fn with_deactivation(period: Period, dates: Dates) -> Dates
-    ensures { result ≡ with_deactivation period dates }
+/// The dates with a Deactivation, where Activation is set and it is not; this is their recipient
+/// limit.
+fn with_deactivation(recipient: &Option<Moment>, dates: &Dates) -> Dates
+    ensures { (period : Period) → recipient.now ≡ recipient_limit period dates.now
+        → result ≡ with_deactivation period dates.now }
 {
     if dates.activation.is_none() || dates.deactivation.is_some() {
-        return dates;
+        return *dates;
     }
     Dates {
-        deactivation: recipient_limit(period, &dates),
-        ..dates
+        deactivation: *recipient,
+        ..*dates
+    }
+}
+
+/// Dates, with the limits of their uses.
+#[derive(Clone, Copy, Debug)]
+struct Limited {
+    dates: Dates,
+    originator: Option<Moment>,
+    recipient: Option<Moment>,
+}
+
+/// The dates with their defaults, and their limits: a default moves no date that a limit before it
+/// goes by, so each limit is one sum of months.
+fn with_limits(period: Period, dates: &Dates) -> Limited
+    ensures dates { result.dates ≡ with_defaults period dates.now }
+    ensures originator { result.originator ≡ originator_limit period result.dates }
+    ensures recipient { result.recipient ≡ recipient_limit period result.dates }
+{
+    let originator = originator_limit(period, dates);
+    let stopped = with_protect_stop(&originator, dates);
+    let recipient = recipient_limit(period, &stopped);
+    Limited {
+        dates: with_deactivation(&recipient, &stopped),
+        originator,
+        recipient,
     }
 }
 
@@ -132,59 +156,62 @@ fn with_deactivation(period: Period, dates: Dates) -> Dates
 pub fn with_defaults(period: Period, dates: Dates) -> Dates
     ensures { result ≡ with_defaults period dates }
 {
-    with_deactivation(period, with_protect_stop(period, dates))
+    with_limits(period, &dates).dates
 }
 
 /// The dates with their defaults, each cut to its limit.
 pub fn within_limits(period: Period, dates: Dates) -> Dates
     ensures { result ≡ within_limits period dates }
 {
-    let first = with_protect_stop(period, dates);
+    let originator = originator_limit(period, &dates);
+    let first = with_protect_stop(&originator, &dates);
     let stopped = Dates {
-        protect_stop: cut(first.protect_stop, originator_limit(period, &first)),
+        protect_stop: cut(first.protect_stop, originator),
         ..first
     };
-    let second = with_deactivation(period, stopped);
+    let recipient = recipient_limit(period, &stopped);
+    let second = with_deactivation(&recipient, &stopped);
     Dates {
-        deactivation: cut(second.deactivation, recipient_limit(period, &second)),
+        deactivation: cut(second.deactivation, recipient),
         ..second
     }
 }
 
-fn order_refusal(dates: &Dates) -> Option<DateRefusal>
-    ensures { result ≡ order_refusal dates.now }
+/// The dates are in order.
+fn check_order(dates: &Dates) -> Result<(), DateRefusal>
+    ensures { Checks (order_refusal dates.now) result }
 {
     if are_in_order(dates) {
-        None
+        Ok(())
     } else {
-        Some(DateRefusal::DateOrder)
+        Err(DateRefusal::DateOrder)
     }
 }
 
-fn length_refusal(date: Option<Moment>, limit: Option<Moment>) -> Option<DateRefusal>
-    ensures { result ≡ length_refusal date limit }
+/// The date is not past its limit.
+fn check_length(date: Option<Moment>, limit: Option<Moment>) -> Result<(), DateRefusal>
+    ensures { Checks (length_refusal date limit) result }
 {
-    match (date, limit) {
-        (Some(date), Some(limit)) => {
-            if limit < date {
-                Some(DateRefusal::PeriodTooLong { limit })
-            } else {
-                None
-            }
-        }
-        _ => None,
+    let (Some(date), Some(limit)) = (date, limit) else {
+        return Ok(());
+    };
+    if limit < date {
+        Err(DateRefusal::PeriodTooLong { limit })
+    } else {
+        Ok(())
     }
 }
 
-fn range_refusal(dates: &Dates) -> Option<DateRefusal>
-    ensures { result ≡ range_refusal dates.now }
+/// Where Activation is set the other two are: no default was past the last moment.
+fn check_range(dates: &Dates) -> Result<(), DateRefusal>
+    ensures { Checks (range_refusal dates.now) result }
 {
     if dates.activation.is_some()
         && (dates.protect_stop.is_none() || dates.deactivation.is_none())
     {
-        Some(DateRefusal::DateRange)
+        Err(DateRefusal::DateRange)
     } else {
-        None
+        Ok(())
     }
 }
 
@@ -199,19 +226,15 @@ pub fn fill(period: Period, dates: &mut Dates) -> Result<(), DateRefusal>
     ensures fits { OnOk result (Fits period dates.new) }
     ensures keeps { OnOk result (KeepsGiven dates.old dates.new) }
 {
-    let full = with_defaults(period, *dates);
-    if let Some(refusal) = order_refusal(&full) {
-        return Err(refusal);
-    }
-    if let Some(refusal) = length_refusal(full.protect_stop, originator_limit(period, &full)) {
-        return Err(refusal);
-    }
-    if let Some(refusal) = length_refusal(full.deactivation, recipient_limit(period, &full)) {
-        return Err(refusal);
-    }
-    if let Some(refusal) = range_refusal(&full) {
-        return Err(refusal);
-    }
+    let Limited {
+        dates: full,
+        originator,
+        recipient,
+    } = with_limits(period, dates);
+    check_order(&full)?;
+    check_length(full.protect_stop, originator)?;
+    check_length(full.deactivation, recipient)?;
+    check_range(&full)?;
     *dates = full;
     Ok(())
 }
@@ -229,12 +252,8 @@ pub fn trim(period: Period, dates: &mut Dates) -> Result<(), DateRefusal>
         (limit : ℕ) → refusal ≢ DateRefusal.PeriodTooLong limit) }
 {
     let full = within_limits(period, *dates);
-    if let Some(refusal) = order_refusal(&full) {
-        return Err(refusal);
-    }
-    if let Some(refusal) = range_refusal(&full) {
-        return Err(refusal);
-    }
+    check_order(&full)?;
+    check_range(&full)?;
     *dates = full;
     Ok(())
 }

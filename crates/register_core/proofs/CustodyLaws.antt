@@ -7,17 +7,17 @@ use Rattle.std.proofs.lemmas.Bool.Decides.{eqb_tells}
 use Rattle.lifecycle_core.specs.declared.dates.Dates.{Dates}
 use Rattle.lifecycle_core.specs.Reason.{is_compromise}
 use Rattle.period_core.specs.Period.{Period}
-use Rattle.register_core.specs.declared.request.Request.{Request}
-use Rattle.register_core.specs.declared.request.Command.{Command}
-use Rattle.register_core.specs.declared.request.Command.TheVariants.{Register as Registers, Activate, SetDates}
-use Rattle.register_core.specs.declared.request.Command.TheVariants.{Revoke, Destroy}
+use Rattle.register_requests.specs.declared.request.Request.{Request}
+use Rattle.register_requests.specs.declared.request.Command.{Command}
+use Rattle.register_requests.specs.declared.request.Command.TheVariants.{Register as Registers, Activate, SetDates}
+use Rattle.register_requests.specs.declared.request.Command.TheVariants.{Revoke, Destroy}
 use Rattle.register_core.specs.KeyName.{names_at}
 use Rattle.register_core.specs.Names.{sorted_names}
 use Rattle.register_core.specs.History.{count, type, period, dates}
-use Rattle.register_core.specs.Subject.{named}
+use Rattle.register_requests.specs.Subject.{named}
 use Rattle.register_core.specs.Effect.{edited_dates, compromised, deactivated, dates_after, custody_change}
 use Rattle.register_core.specs.Custody.{all_custodians, all_approvals, approvals, need}
-use Rattle.register_core.specs.Quorum.{min_approvals}
+use Rattle.register_requests.specs.Quorum.{min_approvals}
 use Rattle.register_core.proofs.Settled.{need_in_range}
 use Rattle.register_core.specs.Verdict.{judgement}
 use Rattle.register_core.specs.CustodyRefusal.{approvals_missing}

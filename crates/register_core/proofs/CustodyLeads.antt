@@ -7,18 +7,18 @@ use Rattle.std.specs.Ordering.{nat_cmp}
 use Rattle.std.specs.Cmp.Lexicographic.{slice_cmp}
 use Rattle.std.proofs.lemmas.List.{append-nil}
 use Rattle.lifecycle_core.specs.Reason.{is_compromise}
-use Rattle.register_core.specs.declared.request.Request.{Request}
-use Rattle.register_core.specs.declared.request.Command.{Command}
-use Rattle.register_core.specs.declared.request.Command.TheVariants.{Revoke, AddCustodian, RemoveCustodian, Approve, Withdraw, Advance, SetPeriod, SetQuorum}
+use Rattle.register_requests.specs.declared.request.Request.{Request}
+use Rattle.register_requests.specs.declared.request.Command.{Command}
+use Rattle.register_requests.specs.declared.request.Command.TheVariants.{Revoke, AddCustodian, RemoveCustodian, Approve, Withdraw, Advance, SetPeriod, SetQuorum}
 use Rattle.register_core.specs.declared.reply.Refusal.{Refusal}
 use Rattle.register_core.specs.declared.change.CustodyChange.{CustodyChange}
 use Rattle.register_core.specs.declared.change.CustodyChange.TheVariants.{Kept, ApprovalsEnded}
 use Rattle.register_core.specs.KeyName.{KeyName, key_name, is_key_name, is_at, names_at}
 use Rattle.register_core.specs.Names.{with_name, sorted_names}
-use Rattle.register_core.specs.Name.{is_among}
+use Rattle.register_requests.specs.Name.{is_among}
 use Rattle.register_core.specs.History.{dates}
 use Rattle.register_core.specs.Custody.{added_by, is_about, all_custodians, approved_by, ends_by, all_approvals, custodians, approvals}
-use Rattle.register_core.specs.Subject.{named}
+use Rattle.register_requests.specs.Subject.{named}
 use Rattle.register_core.specs.Decision.{custodians_by, approvals_by, needs_by, CustodyLead}
 use Rattle.register_core.specs.Settings.{KeyNeed, needs_after, all_needs}
 use Rattle.register_core.specs.Effect.{custody_change}

@@ -10,9 +10,9 @@ use Rattle.lifecycle_core.specs.declared.state.State.TheVariants.{Destroyed, Des
 use Rattle.lifecycle_core.specs.declared.dates.Dates.{Dates}
 use Rattle.lifecycle_core.specs.State.{state_at}
 use Rattle.lifecycle_core.specs.Reason.{is_compromise}
-use Rattle.register_core.specs.declared.request.Request.{Request}
-use Rattle.register_core.specs.declared.request.Command.{Command}
-use Rattle.register_core.specs.declared.request.Command.TheVariants.{Revoke, RemoveCustodian, Approve, Withdraw}
+use Rattle.register_requests.specs.declared.request.Request.{Request}
+use Rattle.register_requests.specs.declared.request.Command.{Command}
+use Rattle.register_requests.specs.declared.request.Command.TheVariants.{Revoke, RemoveCustodian, Approve, Withdraw}
 use Rattle.register_core.specs.declared.change.CustodyChange.{CustodyChange}
 use Rattle.register_core.specs.declared.change.CustodyChange.TheVariants.{Kept, CustodianAdded, CustodianRemoved}
 use Rattle.register_core.specs.declared.change.CustodyChange.TheVariants.{Approved, Withdrawn, ApprovalsEnded}
@@ -21,9 +21,9 @@ use Rattle.register_core.specs.KeyName.{KeyName, key_name, is_key_name, is_at, n
 use Rattle.register_core.specs.Names.{sorted_names}
 use Rattle.register_core.specs.History.{count, dates}
 use Rattle.register_core.specs.Custody.{all_custodians, all_approvals, approvals}
-use Rattle.register_core.specs.CommandRule.{is_for}
+use Rattle.register_requests.specs.CommandRule.{is_for}
 use Rattle.register_core.specs.Verdict.{judgement}
-use Rattle.register_core.specs.Subject.{named_by, is_key, named}
+use Rattle.register_requests.specs.Subject.{named_by, is_key, named}
 use Rattle.register_core.specs.Decision.{custodians_by, approvals_by}
 use Rattle.register_core.specs.Effect.{custody_change}
 use Rattle.register_core.proofs.Histories.{key_named}

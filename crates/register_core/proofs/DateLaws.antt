@@ -3,7 +3,7 @@ use Rattle.std.proofs.Common.{◌≡◌, ℕ, cond, List, [], ◌∷◌, ◌++�
 use Rattle.lifecycle_core.specs.declared.dates.Dates.{Dates}
 use Rattle.period_core.specs.Period.{Period}
 use Rattle.period_core.specs.Fitting.{with_defaults}
-use Rattle.register_core.specs.declared.request.Request.{Request}
+use Rattle.register_requests.specs.declared.request.Request.{Request}
 use Rattle.register_core.specs.History.{period, type, dates, dated_by}
 use Rattle.register_core.specs.Effect.{dates_after, sets_dates}
 use Rattle.register_core.specs.Verdict.{dates_refusal, judgement}
@@ -11,7 +11,7 @@ use Rattle.register_core.specs.Fold.{IsLawful}
 use Rattle.register_core.specs.Laws.{IsAccepted, HasKey, MovesOnly}
 use Rattle.register_core.proofs.Verdicts.{judged}
 use Rattle.register_core.proofs.Histories.{count_grows, dates_other, dated_other, dates_named, dated_named, dated_made}
-use Rattle.register_core.proofs.Subjects.{is_registration}
+use Rattle.register_requests.proofs.Subjects.{is_registration}
 use Rattle.register_core.proofs.Decisions.{standing}
 use Rattle.register_core.proofs.Lawful.{lawful_holds}
 use Rattle.register_core.proofs.OnKey.{IsOn, IsMade, dates_when_made, given_to, which}

@@ -12,17 +12,17 @@ use Rattle.moment_core.specs.Moment.{IsMoment, last_second}
 use Rattle.period_core.specs.Fitting.{cut, earlier_of, with_defaults, months_on_date, originator_limit}
 use Rattle.period_core.specs.Fitting.{recipient_limit, within_limits, with_deactivation, with_protect_stop}
 use Rattle.period_core.specs.Period.{Period}
-use Rattle.register_core.specs.declared.request.Command.{Command}
-use Rattle.register_core.specs.declared.request.Command.TheVariants.{Register as Registers, Activate, SetDates}
-use Rattle.register_core.specs.declared.request.Command.TheVariants.{Revoke, Destroy}
-use Rattle.register_core.specs.declared.request.Edit.{Edit}
-use Rattle.register_core.specs.declared.request.Edit.TheVariants.{Keep, Clear, Set}
-use Rattle.register_core.specs.declared.request.Request.{Request}
+use Rattle.register_requests.specs.declared.request.Command.{Command}
+use Rattle.register_requests.specs.declared.request.Command.TheVariants.{Register as Registers, Activate, SetDates}
+use Rattle.register_requests.specs.declared.request.Command.TheVariants.{Revoke, Destroy}
+use Rattle.register_requests.specs.declared.request.Edit.{Edit}
+use Rattle.register_requests.specs.declared.request.Edit.TheVariants.{Keep, Clear, Set}
+use Rattle.register_requests.specs.declared.request.Request.{Request}
 use Rattle.register_core.specs.Effect.{dates_after, deactivated, apply_edit, edited_dates, given_dates, cut_at}
 use Rattle.register_core.specs.Fold.{IsLawful}
 use Rattle.register_core.specs.History.{Placed, count, dates, own_from, period, type}
-use Rattle.register_core.specs.Request.{IsCommand, IsDate, IsEdit, IsRequest}
-use Rattle.register_core.specs.Subject.{is_key, key_of}
+use Rattle.register_requests.specs.Request.{IsCommand, IsDate, IsEdit, IsRequest}
+use Rattle.register_requests.specs.Subject.{is_key, key_of}
 use Rattle.register_core.proofs.Histories.{concerning, placed}
 
 record AreDates (d : Dates) : Type 0 where

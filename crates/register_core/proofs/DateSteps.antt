@@ -13,17 +13,17 @@ use Rattle.moment_core.proofs.Forward.{months_forward}
 use Rattle.period_core.specs.declared.key_type.KeyType.{KeyType}
 use Rattle.period_core.specs.Period.{Period}
 use Rattle.period_core.specs.Fitting.{is_not_after, months_on_date, Fits, KeepsDate, cut, with_defaults, within_limits}
-use Rattle.register_core.specs.declared.request.Command.{Command}
-use Rattle.register_core.specs.declared.request.Command.TheVariants.{Register as Registers, Activate, SetDates}
-use Rattle.register_core.specs.declared.request.Command.TheVariants.{Revoke, Destroy}
-use Rattle.register_core.specs.declared.request.Edit.{Edit}
-use Rattle.register_core.specs.declared.request.Edit.TheVariants.{Keep, Clear, Set}
+use Rattle.register_requests.specs.declared.request.Command.{Command}
+use Rattle.register_requests.specs.declared.request.Command.TheVariants.{Register as Registers, Activate, SetDates}
+use Rattle.register_requests.specs.declared.request.Command.TheVariants.{Revoke, Destroy}
+use Rattle.register_requests.specs.declared.request.Edit.{Edit}
+use Rattle.register_requests.specs.declared.request.Edit.TheVariants.{Keep, Clear, Set}
 use Rattle.register_core.specs.declared.view.Held.{Held}
 use Rattle.register_core.specs.Effect.{apply_edit, edited_dates, cut_at, compromised, deactivated, dates_after}
 use Rattle.register_core.specs.Effect.{sets_dates}
-use Rattle.register_core.specs.CommandRule.{before_compromise, is_one_of, is_for}
+use Rattle.register_requests.specs.CommandRule.{before_compromise, is_one_of, is_for}
 use Rattle.register_core.specs.Verdict.{keeps_date, freeze_refusal, dates_refusal}
-use Rattle.register_core.specs.Subject.{named}
+use Rattle.register_requests.specs.Subject.{named}
 use Rattle.register_core.specs.Laws.{MovesOnly}
 use Rattle.register_core.proofs.CustodyLeads.{not_refused}
 use Rattle.register_core.proofs.Dating.{KeepsOthers, IsWhole, filled_keeps, trimmed_keeps, filled_stop, trimmed_stop}

@@ -10,9 +10,9 @@ use Rattle.lifecycle_core.specs.State.{state_at}
 use Rattle.period_core.specs.declared.key_type.KeyType.{KeyType}
 use Rattle.period_core.specs.Period.{Period}
 use Rattle.period_core.specs.Fitting.{with_defaults}
-use Rattle.register_core.specs.declared.request.Request.{Request}
-use Rattle.register_core.specs.declared.request.Command.{Command}
-use Rattle.register_core.specs.declared.request.Command.TheVariants.{Advance, SetPeriod}
+use Rattle.register_requests.specs.declared.request.Request.{Request}
+use Rattle.register_requests.specs.declared.request.Command.{Command}
+use Rattle.register_requests.specs.declared.request.Command.TheVariants.{Advance, SetPeriod}
 use Rattle.register_core.specs.Settings.{TypePeriod, periods_after, all_periods}
 use Rattle.register_core.proofs.Settled.{periods_next}
 use Rattle.register_core.specs.declared.reply.Reply.{Reply}
@@ -21,13 +21,13 @@ use Rattle.register_core.specs.declared.view.Held.{Held}
 use Rattle.register_core.specs.declared.change.Change.{Change}
 use Rattle.register_core.specs.declared.change.Change.TheVariants as change
 use Rattle.register_core.specs.History.{latest, count, period, type, dates, owner}
-use Rattle.register_core.specs.Subject.{Registration, Subject, Makes, Names, NoKey, subject, named_by, key_by}
-use Rattle.register_core.specs.Subject.{count_by, key_of, made_by, named}
-use Rattle.register_core.proofs.Subjects.{is_named}
+use Rattle.register_requests.specs.Subject.{Registration, Subject, Makes, Names, NoKey, subject, named_by, key_by}
+use Rattle.register_requests.specs.Subject.{count_by, key_of, made_by, named}
+use Rattle.register_requests.proofs.Subjects.{is_named}
 use Rattle.register_core.specs.Effect.{given_dates, dates_after, owner_after, row_at}
 use Rattle.register_core.specs.Custody.{custodians, approvals, need, held}
 use Rattle.register_core.specs.KeptReply.{reply}
-use Rattle.register_core.specs.Version.{current}
+use Rattle.register_requests.specs.Version.{current}
 use Rattle.register_core.specs.Verdict.{key_refusal, named_key, judgement}
 use Rattle.register_core.specs.CustodyRefusal.{already_custodian, already_approved}
 use Rattle.register_core.specs.Decision.{held_change, registered_key, change_of, change_by, change_without_key}

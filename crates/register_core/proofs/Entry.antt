@@ -1,8 +1,9 @@
 -- The refusals of who asks, of which key and when, in the order in which the code looks for them.
-use Rattle.std.proofs.Common.{◌≡◌, ℕ, List, [], ◌∷◌, Option, None, Some, refl, sym, ap, ◌∙◌}
-use Rattle.period_core.specs.Fitting.{first_that_holds}
+use Rattle.std.proofs.Common.{◌≡◌, ℕ, List, [], ◌∷◌, Option, None, Some, Result, Ok, Err, refl, sym, ap, ◌∙◌, subst}
+use Rattle.std.specs.Prelude.{IsErrAnd}
+use Rattle.period_core.specs.Fitting.{first_that_holds, Checks}
 use Rattle.register_core.specs.declared.reply.Refusal.{Refusal}
-use Rattle.register_core.specs.declared.request.Request.{Request}
+use Rattle.register_requests.specs.declared.request.Request.{Request}
 use Rattle.register_core.specs.declared.view.Held.{Held}
 use Rattle.register_core.specs.Verdict.{moment_refusal, key_refusal, owner_refusal, custodian_refusal, office_refusal}
 use Rattle.register_core.specs.Verdict.{giver_refusal, state_refusal, entry_refusal}
@@ -34,15 +35,21 @@ by_giver {last} {key} {q} own =
 
 -- then the giver's refusal is the first, if there is one,
 pub giver_first : {last : ℕ} {key : Option Held} {q : Request} {refusal : Refusal} → IsIn last key q
-    → giver_refusal key q.caller q.command ≡ Some refusal → Some refusal ≡ entry_refusal last key q
-giver_first {last} {key} {q} own is =
-    sym (by_giver own
-    ∙ ap (λ (x : Option Refusal). first_that_holds (x ∷ state_refusal key q.moment q.command ∷ [])) is)
+    → giver_refusal key q.caller q.command ≡ Some refusal → (told : Result (Unit {0}) Refusal)
+    → IsErrAnd told (λ x. x ≡ refusal) → Checks (entry_refusal last key q) told
+giver_first own is (Ok passed) tells = absurd tells
+giver_first {last} {key} {q} own is (Err told) tells =
+    by_giver own
+    ∙ ap (λ (x : Option Refusal). first_that_holds (x ∷ state_refusal key q.moment q.command ∷ [])) is
+    ∙ ap Some (sym tells)
 
 -- and else that of the state
 pub state_last : {last : ℕ} {key : Option Held} {q : Request} → IsIn last key q
-    → giver_refusal key q.caller q.command ≡ None → state_refusal key q.moment q.command ≡ entry_refusal last key q
-state_last {last} {key} {q} own none =
-    sym (by_giver own
+    → giver_refusal key q.caller q.command ≡ None → (told : Result (Unit {0}) Refusal)
+    → Checks (state_refusal key q.moment q.command) told → Checks (entry_refusal last key q) told
+state_last {last} {key} {q} own none told checked =
+    subst (λ (refusal : Option Refusal). Checks refusal told)
+    (sym (by_giver own
     ∙ ap (λ (x : Option Refusal). first_that_holds (x ∷ state_refusal key q.moment q.command ∷ [])) none
-    ∙ the_last (state_refusal key q.moment q.command))
+    ∙ the_last (state_refusal key q.moment q.command)))
+    checked

@@ -6,12 +6,12 @@ use Rattle.std.proofs.lemmas.Slice.Eq.{bytes_eq-Decides}
 use Rattle.std.proofs.lemmas.Bool.{or_left, or_right}
 use Rattle.std.proofs.lemmas.List.Sums.{length-filter, count_by-le-length}
 use Rattle.std.proofs.lemmas.Map.Views.{any-filter_same}
-use Rattle.register_core.specs.declared.request.Request.{Request}
-use Rattle.register_core.specs.declared.version.Version.{Version}
-use Rattle.register_core.specs.Name.{is_among}
+use Rattle.register_requests.specs.declared.request.Request.{Request}
+use Rattle.register_requests.specs.declared.version.Version.{Version}
+use Rattle.register_requests.specs.Name.{is_among}
 use Rattle.register_core.specs.KeyName.{names_at}
 use Rattle.register_core.specs.Custody.{all_approvals, custodians, approvals}
-use Rattle.register_core.specs.Version.{custodians_of}
+use Rattle.register_requests.specs.Version.{custodians_of}
 use Rattle.register_core.specs.Laws.{AreDifferent}
 use Rattle.register_core.specs.Fold.{IsLawfulIn}
 use Rattle.register_core.proofs.CustodyOnce.{different}

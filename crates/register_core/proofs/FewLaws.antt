@@ -7,19 +7,19 @@ use Rattle.std.specs.Cmp.Lexicographic.{slice_cmp}
 use Rattle.std.proofs.lemmas.Bool.{leb-false, cases_lt}
 use Rattle.std.proofs.lemmas.List.{length-append}
 use Rattle.lifecycle_core.specs.Reason.{is_compromise}
-use Rattle.register_core.specs.declared.request.Request.{Request}
-use Rattle.register_core.specs.declared.version.Version.{Version}
-use Rattle.register_core.specs.declared.request.Command.{Command}
-use Rattle.register_core.specs.declared.request.Command.TheVariants.{Register as Registers, Revoke, AddCustodian, RemoveCustodian}
+use Rattle.register_requests.specs.declared.request.Request.{Request}
+use Rattle.register_requests.specs.declared.version.Version.{Version}
+use Rattle.register_requests.specs.declared.request.Command.{Command}
+use Rattle.register_requests.specs.declared.request.Command.TheVariants.{Register as Registers, Revoke, AddCustodian, RemoveCustodian}
 use Rattle.register_core.specs.KeyName.{KeyName, key_name, is_key_name, is_at, names_at}
 use Rattle.register_core.specs.Names.{with_name, sorted_names}
 use Rattle.register_core.specs.History.{latest, count, period, dates}
-use Rattle.register_core.specs.Subject.{made_by}
+use Rattle.register_requests.specs.Subject.{made_by}
 use Rattle.register_core.specs.Effect.{custody_change}
 use Rattle.register_core.specs.Custody.{all_custodians, custodians, held}
 use Rattle.register_core.specs.Verdict.{Accepts, max_keys, limit_refusal, named_key, judgement, judgement_in, verdict_in}
 use Rattle.register_core.specs.CustodyRefusal.{too_many_custodians}
-use Rattle.register_core.specs.Version.{current, custodians_of}
+use Rattle.register_requests.specs.Version.{current, custodians_of}
 use Rattle.register_core.specs.Decision.{custodians_by}
 use Rattle.register_core.specs.Fold.{IsLawful, IsLawfulIn}
 use Rattle.register_core.proofs.Histories.{count_grows}

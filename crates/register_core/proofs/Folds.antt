@@ -3,10 +3,10 @@ use Rattle.std.proofs.Common.{◌≡◌, ℕ, ◌+◌, ◌≤◌, ◌<◌, Bool,
 use Rattle.std.proofs.Common.{take, Option, None, Some, refl, sym, ap, ◌∙◌, arith}
 use Rattle.std.proofs.lemmas.List.{length-append, take_more}
 use Rattle.std.proofs.lemmas.List.Sums.{fold-append}
-use Rattle.register_core.specs.declared.request.Request.{Request}
-use Rattle.register_core.specs.declared.version.Version.{Version}
+use Rattle.register_requests.specs.declared.request.Request.{Request}
+use Rattle.register_requests.specs.declared.version.Version.{Version}
 use Rattle.register_core.specs.Verdict.{verdict_in, is_accepted}
-use Rattle.register_core.specs.Version.{current}
+use Rattle.register_requests.specs.Version.{current}
 use Rattle.register_core.specs.Fold.{history_after, history_after_in, history, history_in}
 use Rattle.register_core.specs.Fold.{answer_to, answer_to_in, answers, answers_in}
 

@@ -11,13 +11,13 @@ use Rattle.lifecycle_core.specs.declared.dates.Dates.{Dates}
 use Rattle.period_core.specs.declared.key_type.KeyType.{KeyType}
 use Rattle.period_core.specs.declared.key_type.KeyType.TheVariants.{DataEncryption}
 use Rattle.period_core.specs.Fitting.{with_defaults}
-use Rattle.register_core.specs.declared.request.Request.{Request}
-use Rattle.register_core.specs.declared.request.Command.{Command}
+use Rattle.register_requests.specs.declared.request.Request.{Request}
+use Rattle.register_requests.specs.declared.request.Command.{Command}
 use Rattle.register_core.specs.History.{latest, registrations, count, Placed, own_from, own, period, type, dates}
 use Rattle.register_core.specs.History.{owner, dated_by}
-use Rattle.register_core.specs.Subject.{Registration, Subject, Makes, Names, NoKey, subject, registration_by}
-use Rattle.register_core.specs.Subject.{named_by, key_by, count_by, registration_of, named, key_of, made_by, is_key}
-use Rattle.register_core.proofs.Subjects.{is_registration, is_named}
+use Rattle.register_requests.specs.Subject.{Registration, Subject, Makes, Names, NoKey, subject, registration_by}
+use Rattle.register_requests.specs.Subject.{named_by, key_by, count_by, registration_of, named, key_of, made_by, is_key}
+use Rattle.register_requests.proofs.Subjects.{is_registration, is_named}
 use Rattle.register_core.specs.Effect.{kind_by, kind_after, no_dates, given_dates, dates_after, owner_after, sets_dates}
 use Rattle.period_core.specs.Period.{Period, periods}
 

@@ -20,9 +20,9 @@ use Rattle.register_core.specs.declared.change.Change.TheVariants as change
 use Rattle.register_core.specs.declared.kept_reply.KeptReply.{KeptReply}
 use Rattle.period_core.specs.declared.key_type.KeyType.{KeyType}
 use Rattle.period_core.specs.Period.{Period}
-use Rattle.register_core.specs.declared.request.Request.{Request}
-use Rattle.register_core.specs.declared.request.Command.{Command}
-use Rattle.register_core.specs.declared.request.Command.TheVariants.{SetPeriod}
+use Rattle.register_requests.specs.declared.request.Request.{Request}
+use Rattle.register_requests.specs.declared.request.Command.{Command}
+use Rattle.register_requests.specs.declared.request.Command.TheVariants.{SetPeriod}
 use Rattle.register_core.specs.declared.reply.Reply.{Reply}
 use Rattle.register_core.specs.declared.view.Held.{Held}
 use Rattle.register_core.specs.declared.view.View.{View}
@@ -33,9 +33,9 @@ use Rattle.register_core.specs.History.{count, dates}
 use Rattle.register_core.specs.KeptReply.{reply, kept_with, kept_of, kept_from, kept, is_under, kept_under}
 use Rattle.register_core.specs.KeptReply.{is_whole_by, IsKeptReply}
 use Rattle.register_core.specs.Laws.{IsAccepted, IsKeptIn, sent_under}
-use Rattle.register_core.specs.Request.{IsRequest, IsKeyNumber, max_key_number, command_text}
-use Rattle.register_core.specs.Subject.{Subject, Makes, Names, NoKey, subject, named, named_by, key_by, count_by}
-use Rattle.register_core.specs.Version.{current}
+use Rattle.register_requests.specs.Request.{IsRequest, IsKeyNumber, max_key_number, command_text}
+use Rattle.register_requests.specs.Subject.{Subject, Makes, Names, NoKey, subject, named, named_by, key_by, count_by}
+use Rattle.register_requests.specs.Version.{current}
 use Rattle.register_core.specs.Verdict.{Accepts, Repeats, Refuses, max_keys, always, judge, judge_view, verdict}
 use Rattle.register_core.specs.Verdict.{is_accepted, is_same_command, repeated}
 use Rattle.register_core.proofs.Decisions.{unknown_named}
@@ -43,7 +43,7 @@ use Rattle.register_core.proofs.FewLaws.{few_keys}
 use Rattle.register_core.proofs.Histories.{count_grows, latest_grows, next_prefix}
 use Rattle.register_core.proofs.Lawful.{holds_of_each, all_more, all_but_last, all_weaker}
 use Rattle.register_core.proofs.OnKey.{on_key, not_after}
-use Rattle.register_core.proofs.Ranges.{named_in_range}
+use Rattle.register_requests.proofs.Ranges.{named_in_range}
 use Rattle.register_core.proofs.Refusals.{passes}
 use Rattle.register_core.proofs.Verdicts.{is_new, judged, verdict_again}
 

@@ -4,10 +4,10 @@ use Rattle.std.proofs.Common.{Some, refl, sym, ap, subst, ◌∙◌, append_asso
 use Rattle.std.proofs.lemmas.List.{append-nil, length-append, map-append}
 use Rattle.std.proofs.lemmas.List.Sums.{fold-append}
 use Rattle.std.specs.List.{AllByRecursion}
-use Rattle.register_core.specs.declared.request.Request.{Request}
-use Rattle.register_core.specs.Request.{IsRequest}
-use Rattle.register_core.specs.declared.version.Version.{Version}
-use Rattle.register_core.specs.Version.{current}
+use Rattle.register_requests.specs.declared.request.Request.{Request}
+use Rattle.register_requests.specs.Request.{IsRequest}
+use Rattle.register_requests.specs.declared.version.Version.{Version}
+use Rattle.register_requests.specs.Version.{current}
 use Rattle.register_core.specs.Verdict.{Verdict, Accepts, Repeats, Refuses, verdict, verdict_in, judgement, is_accepted}
 use Rattle.register_core.proofs.Verdicts.{judged}
 use Rattle.register_core.specs.Fold.{history_after, history_after_in, history_in, items, IsLawful, IsLawfulIn}

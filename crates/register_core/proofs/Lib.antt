@@ -1,4 +1,3 @@
-pub mod Subjects
 pub mod Filling
 pub mod Histories
 pub mod CustodyGrow
@@ -6,20 +5,13 @@ pub mod Settled
 pub mod CustodyLeads
 pub mod Walks
 pub mod Folds
-pub mod NameTexts
 pub mod NameOrder
-pub mod TextLengths
-pub mod FieldReading
-pub mod Commands
-pub mod Readers
-pub mod Lines
 pub mod Refusals
 pub mod Entry
 pub mod Decisions
 pub mod Needed
 pub mod Verdicts
 pub mod Lawful
-pub mod Ranges
 pub mod OnKey
 pub mod Versions
 pub mod NeedLaws

@@ -2,13 +2,13 @@
 use Rattle.std.proofs.Common.{◌≡◌, ◌==◌, ℕ, ◌≤◌, Bool, true, false, not, cond, List, [], ◌∷◌, ◌++◌, filter, None}
 use Rattle.std.proofs.Common.{refl, sym, ap, subst, arith}
 use Rattle.std.specs.List.{AllByRecursion}
-use Rattle.register_core.specs.declared.request.Request.{Request}
-use Rattle.register_core.specs.declared.request.Command.{Command}
-use Rattle.register_core.specs.declared.request.Command.TheVariants.{SetQuorum}
+use Rattle.register_requests.specs.declared.request.Request.{Request}
+use Rattle.register_requests.specs.declared.request.Command.{Command}
+use Rattle.register_requests.specs.declared.request.Command.TheVariants.{SetQuorum}
 use Rattle.register_core.specs.Fold.{IsLawful}
 use Rattle.register_core.specs.History.{count}
 use Rattle.register_core.specs.Settings.{KeyNeed, needs_after, all_needs}
-use Rattle.register_core.specs.Subject.{named}
+use Rattle.register_requests.specs.Subject.{named}
 use Rattle.register_core.specs.Verdict.{judgement}
 use Rattle.register_core.proofs.Histories.{count_grows}
 use Rattle.register_core.proofs.Lawful.{all_more, all_weaker, lawful_holds}

@@ -7,21 +7,21 @@ use Rattle.lifecycle_core.specs.Reason.{is_compromise}
 use Rattle.period_core.specs.declared.key_type.KeyType.{KeyType}
 use Rattle.period_core.specs.Period.{Period}
 use Rattle.period_core.specs.Fitting.{fill_of, trim_of, first_that_holds}
-use Rattle.register_core.specs.declared.command_rule.Giver.TheVariants.{Anybody, Owner, Custodian}
-use Rattle.register_core.specs.declared.request.Request.{Request}
-use Rattle.register_core.specs.declared.request.Command.{Command}
-use Rattle.register_core.specs.declared.request.Command.TheVariants.{Activate, Approve, Revoke, SetDates}
-use Rattle.register_core.specs.declared.request.Command.TheVariants.{Register as Registers}
+use Rattle.register_requests.specs.declared.command_rule.Giver.TheVariants.{Anybody, Owner, Custodian}
+use Rattle.register_requests.specs.declared.request.Request.{Request}
+use Rattle.register_requests.specs.declared.request.Command.{Command}
+use Rattle.register_requests.specs.declared.request.Command.TheVariants.{Activate, Approve, Revoke, SetDates}
+use Rattle.register_requests.specs.declared.request.Command.TheVariants.{Register as Registers}
 use Rattle.register_core.specs.declared.reply.Refusal.{Refusal}
 use Rattle.register_core.specs.declared.reply.Refusal.TheVariants.{MomentBehind, NotCustodian}
 use Rattle.register_core.specs.declared.view.Held.{Held}
 use Rattle.register_core.specs.declared.view.View.{View}
 use Rattle.register_core.specs.declared.change.Change.TheVariants as change
 use Rattle.register_core.specs.History.{latest, count, period}
-use Rattle.register_core.specs.Subject.{Subject, Makes, Names, NoKey, named_by, subject, named}
+use Rattle.register_requests.specs.Subject.{Subject, Makes, Names, NoKey, named_by, subject, named}
 use Rattle.register_core.specs.KeptReply.{reply}
-use Rattle.register_core.specs.Name.{is_among}
-use Rattle.register_core.specs.CommandRule.{is_same_giver}
+use Rattle.register_requests.specs.Name.{is_among}
+use Rattle.register_requests.specs.CommandRule.{is_same_giver}
 use Rattle.register_core.specs.CustodyRefusal.{custody_refusal}
 use Rattle.register_core.specs.Verdict.{refused_dates, dates_refusal, custodian_refusal, always, judge, judge_view}
 use Rattle.register_core.specs.Verdict.{judgement, named_key}
@@ -29,7 +29,7 @@ use Rattle.register_core.specs.Decision.{registered_key, change_of, change_by, r
 use Rattle.register_core.specs.Effect.{given_dates, edited_dates, dates_after}
 use Rattle.register_core.specs.Need.{needed_of, needed_key, needed_type, Suffices}
 use Rattle.register_core.proofs.Decisions.{agrees_as}
-use Rattle.register_core.proofs.Subjects.{is_registration}
+use Rattle.register_requests.proofs.Subjects.{is_registration}
 
 -- ---- the lists that a command does not look at
 

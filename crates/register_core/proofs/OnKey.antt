@@ -7,18 +7,18 @@ use Rattle.std.proofs.lemmas.Bool.Decides.{eqb_tells}
 use Rattle.lifecycle_core.specs.declared.dates.Dates.{Dates}
 use Rattle.lifecycle_core.specs.State.{state_at}
 use Rattle.period_core.specs.Fitting.{with_defaults}
-use Rattle.register_core.specs.declared.request.Request.{Request}
+use Rattle.register_requests.specs.declared.request.Request.{Request}
 use Rattle.register_core.specs.declared.reply.Refusal.{Refusal}
 use Rattle.register_core.specs.declared.view.Held.{Held}
 use Rattle.register_core.specs.Effect.{given_dates}
 use Rattle.register_core.specs.History.{latest, count, period, dates}
-use Rattle.register_core.specs.Subject.{Registration, Subject, Makes, Names, NoKey, subject, named_by, key_by}
-use Rattle.register_core.specs.Subject.{count_by, key_of, is_key, named}
+use Rattle.register_requests.specs.Subject.{Registration, Subject, Makes, Names, NoKey, subject, named_by, key_by}
+use Rattle.register_requests.specs.Subject.{count_by, key_of, is_key, named}
 use Rattle.register_core.specs.Custody.{held}
-use Rattle.register_core.specs.CommandRule.{is_for}
+use Rattle.register_requests.specs.CommandRule.{is_for}
 use Rattle.register_core.specs.Verdict.{custodian_refusal, freeze_refusal, dates_refusal, occurrence_refusal, judge}
 use Rattle.register_core.specs.Verdict.{named_key, judgement}
-use Rattle.register_core.specs.Version.{current}
+use Rattle.register_requests.specs.Version.{current}
 use Rattle.register_core.specs.CustodyRefusal.{owner_custodian, approvals_missing}
 use Rattle.register_core.proofs.Histories.{count_grows, dates_made}
 use Rattle.register_core.proofs.CustodyLeads.{not_refused, IsNew}

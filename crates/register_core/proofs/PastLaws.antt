@@ -8,12 +8,12 @@ use Rattle.lifecycle_core.specs.declared.reason.Reason.{Reason}
 use Rattle.lifecycle_core.specs.Reason.{is_compromise}
 use Rattle.period_core.specs.Period.{Period}
 use Rattle.period_core.specs.Fitting.{is_not_after, with_defaults}
-use Rattle.register_core.specs.declared.request.Request.{Request}
-use Rattle.register_core.specs.declared.request.Command.{Command}
-use Rattle.register_core.specs.declared.request.Command.TheVariants.{Register as Registers, Activate, SetDates}
-use Rattle.register_core.specs.declared.request.Command.TheVariants.{Revoke, Destroy}
+use Rattle.register_requests.specs.declared.request.Request.{Request}
+use Rattle.register_requests.specs.declared.request.Command.{Command}
+use Rattle.register_requests.specs.declared.request.Command.TheVariants.{Register as Registers, Activate, SetDates}
+use Rattle.register_requests.specs.declared.request.Command.TheVariants.{Revoke, Destroy}
 use Rattle.register_core.specs.History.{latest, type, period, dates}
-use Rattle.register_core.specs.Subject.{named}
+use Rattle.register_requests.specs.Subject.{named}
 use Rattle.register_core.specs.Effect.{edited_dates, compromised, deactivated, dates_after}
 use Rattle.register_core.specs.Verdict.{occurrence_refusal, judgement}
 use Rattle.register_core.specs.Fold.{IsLawful}

@@ -12,13 +12,13 @@ use Rattle.lifecycle_core.specs.Transition.{IsPath, Leads}
 use Rattle.lifecycle_core.proofs.Transitions.{is_transition, listed}
 use Rattle.period_core.specs.Period.{Period}
 use Rattle.period_core.specs.Fitting.{with_defaults, within_limits}
-use Rattle.register_core.specs.declared.request.Command.{Command}
-use Rattle.register_core.specs.declared.request.Command.TheVariants.{Register as Registers, Activate, SetDates}
-use Rattle.register_core.specs.declared.request.Command.TheVariants.{Revoke, Destroy}
-use Rattle.register_core.specs.declared.request.Edit.{Edit}
+use Rattle.register_requests.specs.declared.request.Command.{Command}
+use Rattle.register_requests.specs.declared.request.Command.TheVariants.{Register as Registers, Activate, SetDates}
+use Rattle.register_requests.specs.declared.request.Command.TheVariants.{Revoke, Destroy}
+use Rattle.register_requests.specs.declared.request.Edit.{Edit}
 use Rattle.register_core.specs.Effect.{edited_dates, compromised, deactivated, dates_after}
-use Rattle.register_core.specs.CommandRule.{before_compromise, is_one_of, is_for}
-use Rattle.register_core.specs.Subject.{named}
+use Rattle.register_requests.specs.CommandRule.{before_compromise, is_one_of, is_for}
+use Rattle.register_requests.specs.Subject.{named}
 use Rattle.register_core.specs.Laws.{MovesOnly}
 use Rattle.register_core.proofs.Dating.{filled_keeps, trimmed_keeps}
 use Rattle.register_core.proofs.Showing.{Shows, shows, state_is, is_pre_active, is_active, is_early}

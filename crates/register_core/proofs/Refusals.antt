@@ -2,8 +2,8 @@
 use Rattle.std.proofs.Common.{◌≡◌, ℕ, Option, None}
 use Rattle.period_core.specs.declared.key_type.KeyType.{KeyType}
 use Rattle.period_core.specs.Period.{Period}
-use Rattle.register_core.specs.declared.request.Request.{Request}
-use Rattle.register_core.specs.declared.version.Version.{Version}
+use Rattle.register_requests.specs.declared.request.Request.{Request}
+use Rattle.register_requests.specs.declared.version.Version.{Version}
 use Rattle.register_core.specs.declared.view.Held.{Held}
 use Rattle.register_core.specs.CustodyRefusal.{already_custodian, no_such_custodian, too_many_custodians}
 use Rattle.register_core.specs.CustodyRefusal.{owner_custodian, already_approved, no_approval, approvals_missing}

@@ -8,14 +8,14 @@ use Rattle.period_core.specs.KeyType.{key_type_code}
 use Rattle.period_core.specs.Period.{Period, periods}
 use Rattle.period_core.specs.Fitting.{Fits, is_long, is_not_after, originator_limit, recipient_limit}
 use Rattle.lifecycle_core.specs.declared.dates.Dates.{Dates}
-use Rattle.register_core.specs.declared.request.Request.{Request}
-use Rattle.register_core.specs.declared.request.Command.{Command}
-use Rattle.register_core.specs.declared.request.Command.TheVariants.{SetPeriod}
+use Rattle.register_requests.specs.declared.request.Request.{Request}
+use Rattle.register_requests.specs.declared.request.Command.{Command}
+use Rattle.register_requests.specs.declared.request.Command.TheVariants.{SetPeriod}
 use Rattle.register_core.specs.Effect.{period_after, sets_dates}
 use Rattle.register_core.specs.Fold.{IsLawful}
 use Rattle.register_core.specs.History.{Placed, count, dates, own_from, period, set_period, type}
 use Rattle.register_core.specs.Laws.{HasKey}
-use Rattle.register_core.specs.Subject.{is_key, key_of}
+use Rattle.register_requests.specs.Subject.{is_key, key_of}
 use Rattle.register_core.proofs.Histories.{concerning, placed}
 use Rattle.register_core.proofs.DateLaws.{all_sound}
 

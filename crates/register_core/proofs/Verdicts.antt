@@ -1,13 +1,13 @@
 -- A verdict beside the judgement that it rests on, and beside what is kept.
 use Rattle.std.proofs.Common.{◌≡◌, Bool, true, false, cond, List, [], ◌∷◌, Option, None, Some, refl, ap, ◌∙◌}
 use Rattle.register_core.specs.declared.kept_reply.KeptReply.{KeptReply}
-use Rattle.register_core.specs.declared.request.Request.{Request}
-use Rattle.register_core.specs.declared.version.Version.{Version}
-use Rattle.register_core.specs.declared.request.Command.{Command}
+use Rattle.register_requests.specs.declared.request.Request.{Request}
+use Rattle.register_requests.specs.declared.version.Version.{Version}
+use Rattle.register_requests.specs.declared.request.Command.{Command}
 use Rattle.register_core.specs.declared.reply.Refusal.{Refusal}
 use Rattle.register_core.specs.declared.reply.Refusal.TheVariants.{BadLine, RequestReused}
 use Rattle.register_core.specs.KeptReply.{kept, kept_under}
-use Rattle.register_core.specs.Version.{knows}
+use Rattle.register_requests.specs.Version.{knows}
 use Rattle.register_core.specs.Verdict.{Verdict, Accepts, Repeats, Refuses, verdict, verdict_by, judgement}
 use Rattle.register_core.specs.Verdict.{judgement_in, verdict_in, is_accepted, is_same_command, repeated, unless_kept}
 

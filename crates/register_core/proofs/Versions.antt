@@ -8,14 +8,14 @@ use Rattle.std.proofs.lemmas.List.{map-append}
 use Rattle.period_core.specs.declared.key_type.KeyType.{KeyType}
 use Rattle.period_core.specs.Period.{Period}
 use Rattle.period_core.specs.Fitting.{first_that_holds}
-use Rattle.register_core.specs.declared.request.Request.{Request}
-use Rattle.register_core.specs.declared.request.Command.{Command}
-use Rattle.register_core.specs.declared.request.Command.TheVariants.{AddCustodian, SetPeriod, SetQuorum}
+use Rattle.register_requests.specs.declared.request.Request.{Request}
+use Rattle.register_requests.specs.declared.request.Command.{Command}
+use Rattle.register_requests.specs.declared.request.Command.TheVariants.{AddCustodian, SetPeriod, SetQuorum}
 use Rattle.register_core.specs.declared.reply.Refusal.{Refusal}
 use Rattle.register_core.specs.declared.reply.Refusal.TheVariants.{TooManyCustodians}
 use Rattle.register_core.specs.declared.reply.Reply.{Reply}
-use Rattle.register_core.specs.declared.version.Version.{Version}
-use Rattle.register_core.specs.declared.version.Version.TheVariants.{First, Second}
+use Rattle.register_requests.specs.declared.version.Version.{Version}
+use Rattle.register_requests.specs.declared.version.Version.TheVariants.{First, Second}
 use Rattle.register_core.specs.declared.view.Held.{Held}
 use Rattle.register_core.specs.Answer.{outcome}
 use Rattle.register_core.specs.CustodyRefusal.{already_custodian, no_such_custodian, too_many_custodians}
@@ -26,12 +26,12 @@ use Rattle.register_core.specs.Fold.{answer_to_in, answers_in, history_after_in,
 use Rattle.register_core.specs.Fold.{items, IsLawful, IsLawfulIn}
 use Rattle.register_core.specs.History.{latest, count, period, set_period}
 use Rattle.register_core.specs.KeptReply.{reply}
-use Rattle.register_core.specs.Request.{IsRequest}
+use Rattle.register_requests.specs.Request.{IsRequest}
 use Rattle.register_core.specs.Settings.{KeyNeed, TypePeriod, all_needs, all_periods, needs_after, periods_after}
 use Rattle.register_core.specs.Verdict.{Verdict, Accepts, answer_by, freeze_refusal, judge_in, judgement}
 use Rattle.register_core.specs.Verdict.{named_key, occurrence_refusal, entry_refusal, limit_refusal}
 use Rattle.register_core.specs.Verdict.{dates_refusal, unless_kept, verdict, verdict_by, verdict_in}
-use Rattle.register_core.specs.Version.{current, custodians_of, is_of_first, knows}
+use Rattle.register_requests.specs.Version.{current, custodians_of, is_of_first, knows}
 use Rattle.register_core.proofs.CustodyLeads.{not_refused}
 use Rattle.register_core.proofs.Filling.{past}
 use Rattle.register_core.proofs.Folds.{answers_push}

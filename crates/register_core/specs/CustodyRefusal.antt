@@ -2,17 +2,17 @@
 use Rattle.std.specs.Prelude.{ℕ, nat_lt, nat_le, List, [], ◌∷◌, Option, None, Some, length, if◌then◌else◌}
 use Rattle.std.specs.Str.{bytes_eq}
 use Rattle.period_core.specs.Fitting.{first_that_holds}
-use Rattle.register_core.specs.declared.request.Command.{Command}
-use Rattle.register_core.specs.declared.request.Command.TheVariants.{Assign, AddCustodian, RemoveCustodian, Approve}
-use Rattle.register_core.specs.declared.request.Command.TheVariants.{Withdraw, Destroy}
+use Rattle.register_requests.specs.declared.request.Command.{Command}
+use Rattle.register_requests.specs.declared.request.Command.TheVariants.{Assign, AddCustodian, RemoveCustodian, Approve}
+use Rattle.register_requests.specs.declared.request.Command.TheVariants.{Withdraw, Destroy}
 use Rattle.register_core.specs.declared.view.Held.{Held}
 use Rattle.register_core.specs.declared.reply.Refusal.{Refusal}
 use Rattle.register_core.specs.declared.reply.Refusal.TheVariants.{AlreadyCustodian, NoSuchCustodian}
 use Rattle.register_core.specs.declared.reply.Refusal.TheVariants.{TooManyCustodians, OwnerCustodian, AlreadyApproved}
 use Rattle.register_core.specs.declared.reply.Refusal.TheVariants.{NoApproval, ApprovalsMissing}
-use Rattle.register_core.specs.Name.{is_among}
-use Rattle.register_core.specs.declared.version.Version.{Version}
-use Rattle.register_core.specs.Version.{current, custodians_of}
+use Rattle.register_requests.specs.Name.{is_among}
+use Rattle.register_requests.specs.declared.version.Version.{Version}
+use Rattle.register_requests.specs.Version.{current, custodians_of}
 
 -- the name to add is a custodian of the key already
 abbrev pub already_custodian : Option Held → Command → Option Refusal

@@ -6,9 +6,9 @@ use Rattle.lifecycle_core.specs.Row.{IsRightAt}
 use Rattle.period_core.specs.declared.key_type.KeyType.{KeyType}
 use Rattle.period_core.specs.Period.{Period}
 use Rattle.period_core.specs.Fitting.{with_defaults}
-use Rattle.register_core.specs.declared.request.Request.{Request}
-use Rattle.register_core.specs.declared.request.Command.{Command}
-use Rattle.register_core.specs.declared.request.Command.TheVariants.{SetPeriod}
+use Rattle.register_requests.specs.declared.request.Request.{Request}
+use Rattle.register_requests.specs.declared.request.Command.{Command}
+use Rattle.register_requests.specs.declared.request.Command.TheVariants.{SetPeriod}
 use Rattle.register_core.specs.declared.reply.Reply.{Reply}
 use Rattle.register_core.specs.declared.view.Held.{Held}
 use Rattle.register_core.specs.declared.view.View.{View}
@@ -24,7 +24,7 @@ use Rattle.register_core.specs.Custody.{all_custodians, custodians, all_approval
 use Rattle.register_core.specs.declared.key.Key.{Key}
 use Rattle.register_core.specs.Verdict.{named_key, always}
 use Rattle.register_core.specs.Need.{needed_type}
-use Rattle.register_core.specs.Subject.{Registration, Subject, Makes, Names, NoKey, subject}
+use Rattle.register_requests.specs.Subject.{Registration, Subject, Makes, Names, NoKey, subject}
 use Rattle.register_core.specs.Effect.{no_dates, given_dates, dates_after, owner_after, row_at, custody_change}
 use Rattle.register_core.specs.KeyName.{is_key_name, is_at, KeyName, key_name}
 

@@ -7,8 +7,8 @@ use Rattle.period_core.specs.declared.key_type.KeyType.{KeyType}
 use Rattle.period_core.specs.declared.key_type.KeyType.TheVariants.{DataEncryption}
 use Rattle.period_core.specs.Period.{Period}
 use Rattle.period_core.specs.Period.{periods}
-use Rattle.register_core.specs.declared.request.Request.{Request}
-use Rattle.register_core.specs.Subject.{Registration, registration_of, key_of, is_key}
+use Rattle.register_requests.specs.declared.request.Request.{Request}
+use Rattle.register_requests.specs.Subject.{Registration, registration_of, key_of, is_key}
 use Rattle.register_core.specs.Effect.{kind_after, owner_after, period_after, sets_dates, no_dates, dates_after}
 
 -- the moment of the latest accepted request, 0 before the first

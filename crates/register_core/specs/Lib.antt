@@ -1,20 +1,8 @@
-pub mod Version
-pub mod Text
-pub mod Name
 pub mod Names
 pub mod KeyName
 pub mod Settings
-pub mod Number
-pub mod Purpose
-pub mod Quorum
 pub mod Reply
 pub mod Answer
-pub mod CommandKind
-pub mod Fields
-pub mod Request
-pub mod CommandRule
-pub mod CommandText
-pub mod Subject
 pub mod Effect
 pub mod History
 pub mod Custody
@@ -25,4 +13,3 @@ pub mod Decision
 pub mod Need
 pub mod Fold
 pub mod Laws
-pub mod RequestLine

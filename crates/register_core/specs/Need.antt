@@ -3,14 +3,14 @@
 use Rattle.std.specs.Prelude.{◌≡◌, nat_lt, List, [], Option, None, Some, IfSome, if◌then◌else◌}
 use Rattle.std.specs.Option.{option_map}
 use Rattle.period_core.specs.declared.key_type.KeyType.{KeyType}
-use Rattle.register_core.specs.declared.request.Request.{Request}
-use Rattle.register_core.specs.declared.request.Command.{Command}
-use Rattle.register_core.specs.declared.request.Command.TheVariants.{Register, Activate, SetDates}
+use Rattle.register_requests.specs.declared.request.Request.{Request}
+use Rattle.register_requests.specs.declared.request.Command.{Command}
+use Rattle.register_requests.specs.declared.request.Command.TheVariants.{Register, Activate, SetDates}
 use Rattle.register_core.specs.declared.view.Held.{Held}
 use Rattle.register_core.specs.declared.view.View.{View}
 use Rattle.register_core.specs.History.{latest, count, period}
-use Rattle.register_core.specs.CommandRule.{looks_at_custody, needs_approvals}
-use Rattle.register_core.specs.Quorum.{min_approvals}
+use Rattle.register_requests.specs.CommandRule.{looks_at_custody, needs_approvals}
+use Rattle.register_requests.specs.Quorum.{min_approvals}
 use Rattle.register_core.specs.Verdict.{named_key}
 
 -- the key, with both lists left empty where the command looks at neither, and the least need where it does not look at

@@ -5,11 +5,11 @@ use Rattle.std.specs.Option.{option_and_then}
 use Rattle.std.specs.Str.{bytes_eq}
 use Rattle.lifecycle_core.specs.declared.state.State.TheVariants.{PreActive}
 use Rattle.lifecycle_core.specs.State.{state_at, is_reached_at}
-use Rattle.register_core.specs.declared.request.Request.{Request}
-use Rattle.register_core.specs.declared.request.Command.{Command}
-use Rattle.register_core.specs.declared.request.Command.TheVariants.{Register, Activate, SetDates, Revoke}
-use Rattle.register_core.specs.declared.request.Edit.{Edit}
-use Rattle.register_core.specs.declared.request.Edit.TheVariants.{Keep}
+use Rattle.register_requests.specs.declared.request.Request.{Request}
+use Rattle.register_requests.specs.declared.request.Command.{Command}
+use Rattle.register_requests.specs.declared.request.Command.TheVariants.{Register, Activate, SetDates, Revoke}
+use Rattle.register_requests.specs.declared.request.Edit.{Edit}
+use Rattle.register_requests.specs.declared.request.Edit.TheVariants.{Keep}
 use Rattle.register_core.specs.declared.answer.Answer.{Answer}
 use Rattle.register_core.specs.declared.answer.Answer.TheVariants.{Accepted, Repeated, Refused}
 use Rattle.register_core.specs.declared.view.Held.{Held}
@@ -27,17 +27,17 @@ use Rattle.period_core.specs.declared.fitting.DateRefusal.TheVariants as dates
 use Rattle.period_core.specs.Fitting.{first_that_holds, fill_of, trim_of}
 use Rattle.period_core.specs.declared.key_type.KeyType.{KeyType}
 use Rattle.period_core.specs.Period.{Period}
-use Rattle.register_core.specs.Name.{is_among}
+use Rattle.register_requests.specs.Name.{is_among}
 use Rattle.register_core.specs.History.{latest, count, period}
 use Rattle.register_core.specs.KeptReply.{reply, kept, kept_under}
-use Rattle.register_core.specs.Request.{command_text}
+use Rattle.register_requests.specs.Request.{command_text}
 use Rattle.register_core.specs.Effect.{given_dates, edited_dates}
 use Rattle.register_core.specs.Custody.{held}
-use Rattle.register_core.specs.CommandRule.{is_owners, is_custodians, is_offices, is_one_of, is_for}
+use Rattle.register_requests.specs.CommandRule.{is_owners, is_custodians, is_offices, is_one_of, is_for}
 use Rattle.register_core.specs.CustodyRefusal.{custody_refusal_in}
-use Rattle.register_core.specs.declared.version.Version.{Version}
-use Rattle.register_core.specs.Version.{current, knows}
-use Rattle.register_core.specs.Subject.{named}
+use Rattle.register_requests.specs.declared.version.Version.{Version}
+use Rattle.register_requests.specs.Version.{current, knows}
+use Rattle.register_requests.specs.Subject.{named}
 
 -- ---- the refusals, each where its condition holds
 

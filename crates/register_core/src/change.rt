@@ -1,10 +1,9 @@
 //! What an accepted request changes, and its reply.
 use crate::key::Key;
-use crate::name::Name;
-use crate::quorum::Quorum;
 use crate::reply::Reply;
 use lifecycle_core::Row;
 use period_core::{KeyType, Period};
+use register_requests::{Name, Quorum};
 
 /// What becomes of the custodians of a key, and of the approvals of its destruction.
 #[derive(Clone, Copy, Debug, PartialEq, Eq)]

@@ -9,10 +9,10 @@ ghost use Rattle.register_core.specs.Need.{Suffices};
 use crate::change::{Accept, Change};
 use crate::effect::change_by;
 use crate::reply::{Refusal, Reply};
-use crate::request::Request;
 use crate::verdict::accepted_dates;
 use crate::view::View;
 use moment_core::Moment;
+use register_requests::Request;
 
 /// The reply to an accepted request with this change, where this many keys were made before it.
 fn reply_to(keys: u32, at: Moment, change: &Change) -> Reply

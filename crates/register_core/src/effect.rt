@@ -12,13 +12,12 @@ ghost use Rattle.register_core.specs.Verdict.{always, dates_refusal, key_refusal
 
 use crate::change::{Change, CustodyChange};
 use crate::key::Key;
-use crate::name::Name;
 use crate::reply::Refusal;
-use crate::request::{Command, Edit, Request};
 use crate::view::Held;
 use lifecycle_core::{Dates, Row, state_of};
 use moment_core::Moment;
 use period_core::{DateRefusal, Period, fill, trim};
+use register_requests::{Command, Edit, Name, Request};
 
 /// The dates of a key before it is registered: none is set.
 fn no_dates() -> Dates
@@ -198,10 +197,7 @@ pub(crate) fn dates_by(
     ensures err { key_refusal key.now command.now ≡ None → IfErr result (λ refusal.
         dates_refusal (always period) key.now at command.now ≡ Some refusal) }
 {
-    match dates_after(period, &dates_before(key), at, command) {
-        Ok(dates) => Ok(dates),
-        Err(refusal) => Err(Refusal::from(refusal)),
-    }
+    Ok(dates_after(period, &dates_before(key), at, command)?)
 }
 
 /// What becomes of the custody of a key with these dates, by the caller's command.
@@ -209,6 +205,7 @@ fn custody_change(dates: &Dates, caller: Name, command: &Command) -> CustodyChan
     ensures { result ≡ custody_change dates.now caller command.now }
 {
     match *command {
+        // Those of a destroyed key stay: they tell who approved of what was done.
         Command::Revoke { reason, .. } if reason.is_compromise() && dates.destroy.is_none() => {
             CustodyChange::ApprovalsEnded
         }

@@ -1,11 +1,7 @@
 //! What is kept of an accepted request, so that it acts once.
 use crate::answer::Answer;
-use crate::command_format::command_text;
-use crate::fields::Fields;
-use crate::name::Name;
-use crate::number::RequestNumber;
 use crate::reply::{Refusal, Reply};
-use crate::request::{Command, Request};
+use register_requests::{Command, Fields, Name, Request, RequestNumber, command_text};
 
 /// What is kept of an accepted request: who made it under which number, its command, and its reply.
 #[derive(Clone, Copy, Debug, PartialEq, Eq)]
@@ -42,7 +38,13 @@ impl KeptReply {
         match self.command.fields() {
             Fields::Nothing | Fields::TypeAndPeriod { .. } => self.reply.key == 0
                 && self.reply.state.is_none(),
-            _ => self.reply.key > 0 && self.reply.state.is_some(),
+            Fields::Key { .. }
+            | Fields::KeyAndName { .. }
+            | Fields::KeyAndOwner { .. }
+            | Fields::KeyAndNeed { .. }
+            | Fields::Registration { .. }
+            | Fields::DateEdits { .. }
+            | Fields::Revocation { .. } => self.reply.key > 0 && self.reply.state.is_some(),
         }
     }
 

@@ -9,8 +9,8 @@ ghost use Rattle.lifecycle_core.specs.State.{state_at};
 ghost use Rattle.lifecycle_core.specs.Transition.{Leads};
 ghost use Rattle.period_core.specs.Fitting.{Fits, is_long, is_not_after};
 ghost use Rattle.period_core.specs.Period.{periods};
-ghost use Rattle.register_core.specs.declared.request.Request.{Request};
-ghost use Rattle.register_core.specs.declared.request.Command.{Command};
+ghost use Rattle.register_requests.specs.declared.request.Request.{Request};
+ghost use Rattle.register_requests.specs.declared.request.Command.{Command};
 ghost use Rattle.register_core.specs.declared.reply.Refusal.TheVariants.{RequestReused};
 ghost use Rattle.register_core.specs.Fold.{IsLawful, IsLawfulIn, answers, answers_in};
 ghost use Rattle.register_core.specs.Fold.{history, history_in, items};
@@ -18,17 +18,17 @@ ghost use Rattle.register_core.specs.History.{latest, count, type, dates, dated_
 ghost use Rattle.register_core.specs.Laws.{IsAccepted, HasKey, MovesOnly, AreDifferent};
 ghost use Rattle.register_core.specs.KeptReply.{kept, reply};
 ghost use Rattle.register_core.specs.Laws.{IsKeptIn, sent_under, state_of_key};
-ghost use Rattle.register_core.specs.Name.{is_among};
+ghost use Rattle.register_requests.specs.Name.{is_among};
 ghost use Rattle.register_core.specs.Custody.{custodians, approvals};
 ghost use Rattle.register_core.specs.Names.{sorted_names};
-ghost use Rattle.register_core.specs.Request.{IsCommand, IsDate, IsLineOf, IsRequest, command_text};
+ghost use Rattle.register_requests.specs.Request.{IsCommand, IsDate, IsLineOf, IsRequest, command_text};
 ghost use Rattle.register_core.specs.Verdict.{max_keys, verdict, Repeats, Refuses};
 ghost use Rattle.register_core.specs.Verdict.{is_same_command};
-ghost use Rattle.register_core.specs.declared.version.Version.{Version};
-ghost use Rattle.register_core.specs.declared.version.Version.TheVariants.{First};
+ghost use Rattle.register_requests.specs.declared.version.Version.{Version};
+ghost use Rattle.register_requests.specs.declared.version.Version.TheVariants.{First};
 ghost use Rattle.register_core.specs.Settings.{all_needs, all_periods};
-ghost use Rattle.register_core.specs.Version.{custodians_of, knows};
-ghost use Rattle.register_core.specs.CommandText.{IsCommandText, max_command_length};
+ghost use Rattle.register_requests.specs.Version.{custodians_of, knows};
+ghost use Rattle.register_requests.specs.CommandText.{IsCommandText, max_command_length};
 
 /// No bytes are the line of two requests.
 pub fn one_request()

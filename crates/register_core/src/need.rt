@@ -2,9 +2,9 @@
 ghost use Rattle.std.specs.Prelude.{◌≡◌};
 ghost use Rattle.register_core.specs.Need.{needed_type};
 
-use crate::request::Command;
 use crate::view::Held;
 use period_core::KeyType;
+use register_requests::Command;
 
 /// The type whose usage period the dates that the command gives are held to: the registered type,
 /// or that of the key that the command names. `None` where it gives no dates, or the key is not

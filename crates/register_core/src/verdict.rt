@@ -1,7 +1,8 @@
 //! The verdict on a request, where the key that it names is known.
 ghost use Rattle.std.specs.Prelude.{◌≡◌, None, Some, IfOk, IfErr, OnOk};
-ghost use Rattle.register_core.specs.declared.request.Command.{Command};
-ghost use Rattle.register_core.specs.CommandRule.{rule};
+ghost use Rattle.register_requests.specs.declared.request.Command.{Command};
+ghost use Rattle.period_core.specs.Fitting.{Checks};
+ghost use Rattle.register_requests.specs.CommandRule.{rule};
 ghost use Rattle.register_core.specs.CustodyRefusal.{already_custodian, no_such_custodian};
 ghost use Rattle.register_core.specs.CustodyRefusal.{too_many_custodians, owner_custodian};
 ghost use Rattle.register_core.specs.CustodyRefusal.{already_approved, no_approval};
@@ -11,72 +12,68 @@ ghost use Rattle.register_core.specs.Verdict.{moment_refusal, key_refusal, giver
 ghost use Rattle.register_core.specs.Verdict.{state_refusal, keeps_date, freeze_refusal};
 ghost use Rattle.register_core.specs.Verdict.{entry_refusal, occurrence_refusal, limit_refusal};
 ghost use Rattle.register_core.specs.Verdict.{judge_view};
-ghost use Rattle.register_core.specs.Version.{current};
+ghost use Rattle.register_requests.specs.Version.{current};
 
-use crate::command_rule::Giver;
 use crate::effect::dates_by;
-use crate::limits::{MAX_KEYS, OFFICE};
-use crate::name::Name;
+use crate::limits::MAX_KEYS;
 use crate::reply::Refusal;
-use crate::request::{Command, Edit, Request};
-use crate::version::Version;
 use crate::view::{Held, View};
 use lifecycle_core::{Dates, State, state_of};
 use moment_core::Moment;
+use register_requests::{Command, Edit, Giver, Name, OFFICE, Request, Version};
 
-/// The moment is below the latest.
-fn moment_refusal(latest: Moment, at: Moment) -> Option<Refusal>
-    ensures { result ≡ moment_refusal latest at }
+/// The moment is not below the latest.
+fn check_moment(latest: Moment, at: Moment) -> Result<(), Refusal>
+    ensures { Checks (moment_refusal latest at) result }
 {
     if at < latest {
-        Some(Refusal::MomentBehind { latest })
+        Err(Refusal::MomentBehind { latest })
     } else {
-        None
+        Ok(())
     }
 }
 
-/// The command names a key that is not there.
-fn key_refusal(key: &Option<Held>, command: &Command) -> Option<Refusal>
-    ensures { result ≡ key_refusal key.now command.now }
+/// A key that the command names is there.
+fn check_key(key: &Option<Held>, command: &Command) -> Result<(), Refusal>
+    ensures { Checks (key_refusal key.now command.now) result }
 {
     match (key, command.key()) {
-        (None, Some(_)) => Some(Refusal::UnknownKey),
-        _ => None,
+        (None, Some(_)) => Err(Refusal::UnknownKey),
+        _ => Ok(()),
     }
 }
 
-/// The caller is another than the command's rule has as its giver.
-fn giver_refusal(giver: Giver, key: &Option<Held>, caller: &Name) -> Option<Refusal>
+/// The caller is the one whom the command's rule has as its giver.
+fn check_giver(giver: Giver, key: &Option<Held>, caller: &Name) -> Result<(), Refusal>
     ensures { (command : Command) → giver ≡ (rule command).giver
-        → result ≡ giver_refusal key.now caller.now command }
+        → Checks (giver_refusal key.now caller.now command) result }
 {
     match (giver, key) {
         (Giver::Owner, Some(held)) if caller.text().as_bytes() != held.owner.text().as_bytes() => {
-            Some(Refusal::NotOwner)
+            Err(Refusal::NotOwner)
         }
         (Giver::Custodian, Some(held)) if !held.custodians.contains(caller) => {
-            Some(Refusal::NotCustodian)
+            Err(Refusal::NotCustodian)
         }
-        (Giver::Office, _) if caller.text() != OFFICE => Some(Refusal::NotOffice),
-        _ => None,
+        (Giver::Office, _) if caller.text() != OFFICE => Err(Refusal::NotOffice),
+        // With no key there is no owner to compare: that was refused before.
+        _ => Ok(()),
     }
 }
 
-/// The key has at the moment none of these states.
-fn state_refusal(states: &[State], key: &Option<Held>, at: Moment) -> Option<Refusal>
+/// The key has at the moment one of these states.
+fn check_state(states: &[State], key: &Option<Held>, at: Moment) -> Result<(), Refusal>
     ensures { (command : Command) → states.now ≡ (rule command).states
-        → result ≡ state_refusal key.now at command }
+        → Checks (state_refusal key.now at command) result }
 {
-    match key {
-        Some(held) => {
-            let state = state_of(&held.row.dates, at);
-            if states.contains(&state) {
-                None
-            } else {
-                Some(Refusal::WrongState { state })
-            }
-        }
-        None => None,
+    let Some(held) = key else {
+        return Ok(());
+    };
+    let state = state_of(&held.row.dates, at);
+    if states.contains(&state) {
+        Ok(())
+    } else {
+        Err(Refusal::WrongState { state })
     }
 }
 
@@ -87,78 +84,71 @@ fn keeps_date(edit: Edit) -> bool
     matches!(edit, Edit::Keep)
 }
 
-/// An Activation Date that is not kept outside Pre-Active, or a Protect Stop that is reached and
-/// not kept.
-fn freeze_refusal(key: &Option<Held>, at: Moment, command: &Command) -> Option<Refusal>
-    ensures { result ≡ freeze_refusal key.now at command.now }
+/// An Activation Date is kept outside Pre-Active, and a Protect Stop that is reached.
+fn check_freeze(key: &Option<Held>, at: Moment, command: &Command) -> Result<(), Refusal>
+    ensures { Checks (freeze_refusal key.now at command.now) result }
 {
-    match (key, command) {
-        (
-            Some(held),
-            Command::SetDates {
-                activation,
-                protect_stop,
-                ..
-            },
-        ) => {
-            let dates = &held.row.dates;
-            let is_active = state_of(dates, at) != State::PreActive;
-            let is_stopped = match dates.protect_stop {
-                Some(stop) => stop <= at,
-                None => false,
-            };
-            if (!keeps_date(*activation) && is_active)
-                || (!keeps_date(*protect_stop) && is_stopped)
-            {
-                Some(Refusal::DateFrozen)
-            } else {
-                None
-            }
-        }
-        _ => None,
+    let (
+        Some(held),
+        Command::SetDates {
+            activation,
+            protect_stop,
+            ..
+        },
+    ) = (key, command)
+    else {
+        return Ok(());
+    };
+    let dates = &held.row.dates;
+    let is_active = state_of(dates, at) != State::PreActive;
+    let is_stopped = dates.protect_stop.is_some_and(|stop| stop <= at);
+    if (!keeps_date(*activation) && is_active) || (!keeps_date(*protect_stop) && is_stopped) {
+        Err(Refusal::DateFrozen)
+    } else {
+        Ok(())
     }
 }
 
-/// The name to add is a custodian already.
-fn already_custodian(key: &Option<Held>, command: &Command) -> Option<Refusal>
-    ensures { result ≡ already_custodian key.now command.now }
+/// The name to add is no custodian yet.
+fn check_new_custodian(key: &Option<Held>, command: &Command) -> Result<(), Refusal>
+    ensures { Checks (already_custodian key.now command.now) result }
 {
     match (key, command) {
         (Some(held), Command::AddCustodian { name, .. }) if held.custodians.contains(name) => {
-            Some(Refusal::AlreadyCustodian)
+            Err(Refusal::AlreadyCustodian)
         }
-        _ => None,
+        _ => Ok(()),
     }
 }
 
-/// The name to remove is no custodian.
-fn no_such_custodian(key: &Option<Held>, command: &Command) -> Option<Refusal>
-    ensures { result ≡ no_such_custodian key.now command.now }
+/// The name to remove is a custodian.
+fn check_old_custodian(key: &Option<Held>, command: &Command) -> Result<(), Refusal>
+    ensures { Checks (no_such_custodian key.now command.now) result }
 {
     match (key, command) {
         (Some(held), Command::RemoveCustodian { name, .. }) if !held.custodians.contains(name) => {
-            Some(Refusal::NoSuchCustodian)
+            Err(Refusal::NoSuchCustodian)
         }
-        _ => None,
+        _ => Ok(()),
     }
 }
 
-/// A custodian is to be added where there are as many as a key may have.
-fn too_many_custodians(key: &Option<Held>, command: &Command) -> Option<Refusal>
-    ensures { result ≡ too_many_custodians current key.now command.now }
+/// A custodian is added only where there are fewer than a key may have.
+fn check_room(key: &Option<Held>, command: &Command) -> Result<(), Refusal>
+    ensures { Checks (too_many_custodians current key.now command.now) result }
 {
     match (key, command) {
         (Some(held), Command::AddCustodian { .. })
             if held.custodians.len() >= Version::CURRENT.max_custodians() => {
-            Some(Refusal::TooManyCustodians)
+            Err(Refusal::TooManyCustodians)
         }
-        _ => None,
+        _ => Ok(()),
     }
 }
 
-/// A custodian would be the owner, or the owner a custodian.
-fn owner_custodian(key: &Option<Held>, command: &Command) -> Option<Refusal>
-    ensures { result ≡ owner_custodian key.now command.now }
+/// No custodian becomes the owner, and no owner a custodian.
+fn check_apart(key: &Option<Held>, command: &Command) -> Result<(), Refusal>
+    ensures { Checks (owner_custodian key.now command.now) result }
 {
     let is_both = match (key, command) {
         (Some(held), Command::AddCustodian { name, .. }) => {
@@ -168,119 +158,99 @@ fn owner_custodian(key: &Option<Held>, command: &Command) -> Option<Refusal>
         _ => false,
     };
     if is_both {
-        Some(Refusal::OwnerCustodian)
+        Err(Refusal::OwnerCustodian)
     } else {
-        None
+        Ok(())
     }
 }
 
-/// The caller approves where its approval stands already.
-fn already_approved(key: &Option<Held>, caller: &Name, command: &Command) -> Option<Refusal>
-    ensures { result ≡ already_approved key.now caller.now command.now }
+/// The caller approves only where no approval of its stands.
+fn check_new_approval(key: &Option<Held>, caller: &Name, command: &Command) -> Result<(), Refusal>
+    ensures { Checks (already_approved key.now caller.now command.now) result }
 {
     match (key, command) {
         (Some(held), Command::Approve { .. }) if held.approvals.contains(caller) => {
-            Some(Refusal::AlreadyApproved)
+            Err(Refusal::AlreadyApproved)
         }
-        _ => None,
+        _ => Ok(()),
     }
 }
 
-/// The caller withdraws where no approval of its stands.
-fn no_approval(key: &Option<Held>, caller: &Name, command: &Command) -> Option<Refusal>
-    ensures { result ≡ no_approval key.now caller.now command.now }
+/// The caller withdraws only where its approval stands.
+fn check_old_approval(key: &Option<Held>, caller: &Name, command: &Command) -> Result<(), Refusal>
+    ensures { Checks (no_approval key.now caller.now command.now) result }
 {
     match (key, command) {
         (Some(held), Command::Withdraw { .. }) if !held.approvals.contains(caller) => {
-            Some(Refusal::NoApproval)
+            Err(Refusal::NoApproval)
         }
-        _ => None,
+        _ => Ok(()),
     }
 }
 
-/// The key is to be destroyed where fewer approvals stand than that needs.
-fn approvals_missing(key: &Option<Held>, command: &Command) -> Option<Refusal>
-    ensures { result ≡ approvals_missing key.now command.now }
+/// The key is destroyed only where as many approvals stand as that needs.
+fn check_approvals(key: &Option<Held>, command: &Command) -> Result<(), Refusal>
+    ensures { Checks (approvals_missing key.now command.now) result }
 {
-    match (key, command) {
-        (Some(held), Command::Destroy { .. }) => {
-            let have = held.approvals.len();
-            let need = usize::from(held.need);
-            if have < need {
-                Some(Refusal::ApprovalsMissing { have, need })
-            } else {
-                None
-            }
-        }
-        _ => None,
+    let (Some(held), Command::Destroy { .. }) = (key, command) else {
+        return Ok(());
+    };
+    let have = held.approvals.len();
+    let need = usize::from(held.need);
+    if have < need {
+        Err(Refusal::ApprovalsMissing { have, need })
+    } else {
+        Ok(())
     }
 }
 
-/// The first of these refusals that holds, if one does.
-fn custody_refusal(key: &Option<Held>, caller: &Name, command: &Command) -> Option<Refusal>
-    ensures { result ≡ custody_refusal key.now caller.now command.now }
+/// No refusal of custody holds; else the first.
+fn check_custody(key: &Option<Held>, caller: &Name, command: &Command) -> Result<(), Refusal>
+    ensures { Checks (custody_refusal key.now caller.now command.now) result }
 {
-    if let Some(refusal) = already_custodian(key, command) {
-        return Some(refusal);
-    }
-    if let Some(refusal) = no_such_custodian(key, command) {
-        return Some(refusal);
-    }
-    if let Some(refusal) = too_many_custodians(key, command) {
-        return Some(refusal);
-    }
-    if let Some(refusal) = owner_custodian(key, command) {
-        return Some(refusal);
-    }
-    if let Some(refusal) = already_approved(key, caller, command) {
-        return Some(refusal);
-    }
-    if let Some(refusal) = no_approval(key, caller, command) {
-        return Some(refusal);
-    }
-    approvals_missing(key, command)
+    check_new_custodian(key, command)?;
+    check_old_custodian(key, command)?;
+    check_room(key, command)?;
+    check_apart(key, command)?;
+    check_new_approval(key, caller, command)?;
+    check_old_approval(key, caller, command)?;
+    check_approvals(key, command)
 }
 
-/// The occurrence of a compromise is after the moment.
-fn occurrence_refusal(at: Moment, command: &Command) -> Option<Refusal>
-    ensures { result ≡ occurrence_refusal at command.now }
+/// The occurrence of a compromise is not after the moment.
+fn check_occurrence(at: Moment, command: &Command) -> Result<(), Refusal>
+    ensures { Checks (occurrence_refusal at command.now) result }
 {
     match *command {
         Command::Revoke {
             occurrence: Some(occurrence),
             ..
-        } if at < occurrence => Some(Refusal::OccurrenceLater),
-        _ => None,
+        } if at < occurrence => Err(Refusal::OccurrenceLater),
+        _ => Ok(()),
     }
 }
 
-/// The command makes a key, and there are as many as the register takes.
-fn limit_refusal(keys: u32, command: &Command) -> Option<Refusal>
-    ensures { result ≡ limit_refusal keys command.now }
+/// A key is made only where there are fewer than the register takes.
+fn check_limit(keys: u32, command: &Command) -> Result<(), Refusal>
+    ensures { Checks (limit_refusal keys command.now) result }
 {
     match command {
-        Command::Register { .. } if keys >= MAX_KEYS => Some(Refusal::Full),
-        _ => None,
+        Command::Register { .. } if keys >= MAX_KEYS => Err(Refusal::Full),
+        _ => Ok(()),
     }
 }
 
-/// The first refusal of who asks, of which key and when, if one holds.
-fn entry_refusal(view: &View, request: &Request) -> Option<Refusal>
-    ensures { result ≡ entry_refusal view.now.latest view.now.key request.now }
+/// No refusal of who asks, of which key and when, holds; else the first.
+fn check_entry(view: &View, request: &Request) -> Result<(), Refusal>
+    ensures { Checks (entry_refusal view.now.latest view.now.key request.now) result }
 {
     let at = request.moment;
     let command = &request.command;
-    if let Some(refusal) = moment_refusal(view.latest, at) {
-        return Some(refusal);
-    }
-    if let Some(refusal) = key_refusal(&view.key, command) {
-        return Some(refusal);
-    }
+    check_moment(view.latest, at)?;
+    check_key(&view.key, command)?;
     let rule = command.rule();
-    if let Some(refusal) = giver_refusal(rule.giver, &view.key, &request.caller) {
-        return Some(refusal);
-    }
-    state_refusal(rule.states, &view.key, at)
+    check_giver(rule.giver, &view.key, &request.caller)?;
+    check_state(rule.states, &view.key, at)
 }
 
 /// The dates of the key that the request makes or names, as they are after it where it is accepted.
@@ -294,23 +264,13 @@ pub(crate) fn accepted_dates(view: &View, request: &Request) -> Result<Dates, Re
 {
     let at = request.moment;
     let command = &request.command;
-    if let Some(refusal) = entry_refusal(view, request) {
-        return Err(refusal);
-    }
-    if let Some(refusal) = freeze_refusal(&view.key, at, command) {
-        return Err(refusal);
-    }
+    check_entry(view, request)?;
+    check_freeze(&view.key, at, command)?;
     let dates = dates_by(view.period, &view.key, at, command)?;
-    if let Some(refusal) = custody_refusal(&view.key, &request.caller, command) {
-        return Err(refusal);
-    }
-    if let Some(refusal) = occurrence_refusal(at, command) {
-        return Err(refusal);
-    }
-    match limit_refusal(view.keys, command) {
-        Some(refusal) => Err(refusal),
-        None => Ok(dates),
-    }
+    check_custody(&view.key, &request.caller, command)?;
+    check_occurrence(at, command)?;
+    check_limit(view.keys, command)?;
+    Ok(dates)
 }
 
 /// The first refusal of the request that holds, or `None`: it is accepted.

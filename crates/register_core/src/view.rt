@@ -1,10 +1,10 @@
 //! What a decision rests on: the latest moment, the number of keys, the usage period that the dates
 //! are held to, and the key that the request names.
-use crate::name::Name;
 use crate::names::Names;
 use lifecycle_core::Row;
 use moment_core::Moment;
 use period_core::{KeyType, Period};
+use register_requests::Name;
 
 /// A key as it stands at some moment.
 #[derive(Drop, Debug)]

@@ -17,11 +17,11 @@ use Rattle.period_core.specs.Period.{Period}
 use Rattle.key_rows.specs.declared.key_row.KeyRow.{KeyRow}
 use Rattle.key_rows.specs.DueRows.{HaveOwnNumbers, is_due, is_listed}
 use Rattle.register_core.specs.declared.key.Key.{Key}
-use Rattle.register_core.specs.declared.request.Request.{Request}
+use Rattle.register_requests.specs.declared.request.Request.{Request}
 use Rattle.register_core.specs.Fold.{IsLawful}
 use Rattle.register_core.specs.History.{dates, period, set_period, type}
 use Rattle.register_core.specs.Laws.{HasKey}
-use Rattle.register_core.specs.Request.{IsDate}
+use Rattle.register_requests.specs.Request.{IsDate}
 use Rattle.register_core.proofs.DateRanges.{stop_in_range}
 use Rattle.register_core.proofs.UnsetPeriods.{none_long}
 use Rattle.register_store.specs.TableChanges.{key_at}

@@ -5,12 +5,12 @@ use Rattle.std.proofs.lemmas.List.{append-nil}
 use Rattle.std.proofs.lemmas.Option.{slice_get_within}
 use Rattle.register_store.specs.Schema.{Holds}
 use Rattle.sqlite_trees.specs.declared.store.Store.{Ghosts}
-use Rattle.register_core.specs.declared.request.Request.{Request}
+use Rattle.register_requests.specs.declared.request.Request.{Request}
 use Rattle.register_core.specs.Fold.{history}
-use Rattle.register_core.specs.Request.{IsItem}
+use Rattle.register_requests.specs.Request.{IsItem}
 use Rattle.register_core.proofs.Lawful.{all_more}
 use Rattle.std.specs.Prelude.{IfSome}
-use Rattle.register_core.specs.Request.{IsRequest}
+use Rattle.register_requests.specs.Request.{IsRequest}
 use Rattle.register_desk.specs.declared.end.End.{End}
 use Rattle.register_desk.specs.declared.end.End.TheVariants.{Memory, Store, Broken, ReadFault, WriteFault, BadHeader}
 use Rattle.register_desk.specs.declared.runs.Finish.{Finish}

@@ -20,16 +20,16 @@ use Rattle.register_core.specs.declared.key.Key.{Key}
 use Rattle.register_core.specs.declared.kept_reply.KeptReply.{KeptReply}
 use Rattle.register_core.specs.declared.reply.Reply.{Reply}
 use Rattle.register_core.specs.declared.reply.Refusal.TheVariants.{RequestReused}
-use Rattle.register_core.specs.declared.request.Request.{Request}
+use Rattle.register_requests.specs.declared.request.Request.{Request}
 use Rattle.period_core.specs.declared.key_type.KeyType.{KeyType}
 use Rattle.period_core.specs.Period.{Period}
 use Rattle.register_core.specs.declared.view.Held.{Held}
 use Rattle.register_core.specs.declared.view.View.{View}
 use Rattle.register_core.specs.Decision.{change_by, change_of, change_without_key, reply_of_view, reply_to}
-use Rattle.register_core.specs.declared.request.Command.{Command}
-use Rattle.register_core.specs.declared.request.Command.TheVariants.{SetPeriod}
+use Rattle.register_requests.specs.declared.request.Command.{Command}
+use Rattle.register_requests.specs.declared.request.Command.TheVariants.{SetPeriod}
 use Rattle.register_core.specs.KeptReply.{kept_with, IsKeptReply}
-use Rattle.register_core.specs.Subject.{Subject, Makes, Names, NoKey, subject}
+use Rattle.register_requests.specs.Subject.{Subject, Makes, Names, NoKey, subject}
 use Rattle.register_core.specs.Verdict.{always, answer_by, judge, judge_view, Repeats, Refuses}
 use Rattle.register_core.proofs.Needed.{judge_by, changed_by}
 use Rattle.register_core.proofs.Lawful.{all_more}

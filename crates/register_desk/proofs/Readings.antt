@@ -5,7 +5,7 @@ use Rattle.sqlite_trees.specs.declared.store.Store as store
 use Rattle.sqlite.specs.State.{State, HasCleanDisk, IsUnchanged, Survives}
 use Rattle.sqlite.proofs.StateLemmas.{survives_then}
 use Rattle.register_store.specs.declared.counted.Counted.{Counted}
-use Rattle.register_core.specs.declared.request.Request.{Request}
+use Rattle.register_requests.specs.declared.request.Request.{Request}
 use Rattle.register_core.specs.Fold.{history_after}
 use Rattle.register_core.specs.Verdict.{is_accepted, max_keys, verdict}
 use Rattle.register_store.specs.declared.error.StoreError.{StoreError}

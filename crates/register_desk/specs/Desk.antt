@@ -8,11 +8,11 @@ use Rattle.register_core.specs.declared.answer.Answer.{Answer}
 use Rattle.register_core.specs.declared.answer.Answer.TheVariants.{Accepted, Repeated, Refused}
 use Rattle.register_core.specs.declared.change.Change.{Change}
 use Rattle.register_core.specs.declared.reply.Reply.{Reply}
-use Rattle.register_core.specs.declared.request.Command.{Command}
-use Rattle.register_core.specs.declared.request.Request.{Request}
+use Rattle.register_requests.specs.declared.request.Command.{Command}
+use Rattle.register_requests.specs.declared.request.Request.{Request}
 use Rattle.register_core.specs.Decision.{change_by, reply_to}
 use Rattle.register_core.specs.KeptReply.{kept_with}
-use Rattle.register_core.specs.Subject.{named}
+use Rattle.register_requests.specs.Subject.{named}
 use Rattle.register_core.specs.Verdict.{judge}
 use Rattle.register_store.specs.Tables.{Tables}
 use Rattle.register_store.specs.TableReads.{Calls, seen}

@@ -4,9 +4,9 @@ use Rattle.std.specs.List.{cons_option}
 use Rattle.sqlite_trees.specs.declared.store.Store.{Ghosts}
 use Rattle.register_core.specs.declared.answer.Answer.{Answer}
 use Rattle.register_core.specs.declared.kept_reply.KeptReply.{KeptReply}
-use Rattle.register_core.specs.declared.request.Request.{Request}
+use Rattle.register_requests.specs.declared.request.Request.{Request}
 use Rattle.register_core.specs.KeptReply.{kept, kept_under}
-use Rattle.register_core.specs.Request.{IsRequest}
+use Rattle.register_requests.specs.Request.{IsRequest}
 use Rattle.register_store.specs.Tables.{Tables}
 use Rattle.register_desk.specs.declared.desk.Desk.{Desk}
 use Rattle.register_desk.specs.declared.end.End.{End}

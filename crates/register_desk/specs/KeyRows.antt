@@ -5,7 +5,7 @@ use Rattle.sqlite_trees.specs.declared.store.Store.{Ghosts}
 use Rattle.key_rows.specs.declared.key_row.KeyRow.{KeyRow}
 use Rattle.key_rows.specs.DueRows.{AreDue, AreFirstDue, stop_of}
 use Rattle.register_core.specs.declared.key.Key.{Key}
-use Rattle.register_core.specs.declared.request.Request.{Request}
+use Rattle.register_requests.specs.declared.request.Request.{Request}
 use Rattle.register_store.specs.declared.key_scan.DueCursor.{DueCursor}
 use Rattle.register_store.specs.KeyScan.{HasNextDue, next_run}
 use Rattle.register_store.specs.TableChanges.{key_at}

@@ -7,8 +7,8 @@ use Rattle.sqlite.specs.State.{State, HasCleanDisk, IsUnchanged, Survives}
 use Rattle.sqlite.specs.Tree.{Trees}
 use Rattle.sql_steps.specs.Steps.{KeepsCommitted}
 use Rattle.register_store.specs.Creation.{HasTable, MakesRegister}
-use Rattle.register_core.specs.declared.version.Version.TheVariants.{First}
-use Rattle.register_core.specs.Version.{current}
+use Rattle.register_requests.specs.declared.version.Version.TheVariants.{First}
+use Rattle.register_requests.specs.Version.{current}
 use Rattle.register_store.specs.Schema.{Holds}
 use Rattle.register_store.specs.CheckedTables.{FailsOne, HasNewer, Passes}
 use Rattle.register_store.specs.Migration.{HasNewTable}

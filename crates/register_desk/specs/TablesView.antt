@@ -6,15 +6,15 @@ use Rattle.std.specs.Option.{option_and_then, option_map}
 use Rattle.period_core.specs.declared.key_type.KeyType.{KeyType}
 use Rattle.period_core.specs.Period.{Period, periods}
 use Rattle.register_core.specs.declared.key.Key.{Key}
-use Rattle.register_core.specs.declared.request.Command.{Command}
-use Rattle.register_core.specs.declared.request.Request.{Request}
+use Rattle.register_requests.specs.declared.request.Command.{Command}
+use Rattle.register_requests.specs.declared.request.Request.{Request}
 use Rattle.register_core.specs.declared.view.Held.{Held}
 use Rattle.register_core.specs.declared.view.View.{View}
-use Rattle.register_core.specs.CommandRule.{looks_at_custody, needs_approvals}
-use Rattle.register_core.specs.Quorum.{min_approvals}
+use Rattle.register_requests.specs.CommandRule.{looks_at_custody, needs_approvals}
+use Rattle.register_requests.specs.Quorum.{min_approvals}
 use Rattle.register_core.specs.Settings.{need_at, period_at}
 use Rattle.register_core.specs.Need.{needed_type}
-use Rattle.register_core.specs.Subject.{named}
+use Rattle.register_requests.specs.Subject.{named}
 use Rattle.register_store.specs.TableChanges.{key_at}
 use Rattle.register_store.specs.TableReads.{loaded}
 use Rattle.register_store.specs.Tables.{Tables}

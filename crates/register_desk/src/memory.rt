@@ -20,9 +20,8 @@ pub fn create_in_memory(alloc: Global) -> Result<Desk<MemStore>, OpenRefusal>
     ensures refused { IfErr result (λ refusal.
         (refusal ≡ OpenRefusal.Memory) ⊎ (refusal ≡ OpenRefusal.Store)) }
 {
-    let connection = match Connection::open_in_memory(alloc) {
-        Ok(connection) => connection,
-        Err(_) => return Err(OpenRefusal::Memory),
+    let Ok(connection) = Connection::open_in_memory(alloc) else {
+        return Err(OpenRefusal::Memory);
     };
     match Desk::create(alloc, connection) {
         Ok(desk) => Ok(desk),

@@ -9,8 +9,8 @@ use Rattle.sqlite.specs.Held.{Held, AreDatabases, state}
 use Rattle.sqlite.specs.Recovery.{Image}
 use Rattle.sqlite.specs.State.{HasCleanDisk}
 use Rattle.sqlite.specs.Tree.{Trees}
-use Rattle.register_core.specs.declared.request.Request.{Request}
-use Rattle.register_core.specs.declared.version.Version.{Version}
+use Rattle.register_requests.specs.declared.request.Request.{Request}
+use Rattle.register_requests.specs.declared.version.Version.{Version}
 use Rattle.register_core.specs.Fold.{IsLawful, IsLawfulIn}
 use Rattle.register_desk.specs.declared.opening.OpenRefusal.{OpenRefusal}
 use Rattle.register_desk.specs.declared.opening.OpenRefusal.TheVariants.{Memory, NewerVersion, NotARegister, Store}

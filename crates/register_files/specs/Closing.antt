@@ -6,7 +6,7 @@ use Rattle.sqlite.specs.Files.{HoldsDatabase}
 use Rattle.sqlite.specs.Held.{AreDatabases}
 use Rattle.sqlite.specs.Recovery.{Image}
 use Rattle.sqlite.specs.Tree.{Trees}
-use Rattle.register_core.specs.declared.request.Request.{Request}
+use Rattle.register_requests.specs.declared.request.Request.{Request}
 use Rattle.register_desk.specs.declared.desk.Desk.{Desk}
 use Rattle.register_desk.specs.declared.runs.Finish.{Finish}
 use Rattle.register_desk.specs.Desk.{LeavesEither}

@@ -8,7 +8,7 @@ use Rattle.key_rows.specs.declared.key_row.KeyRow.{KeyRow}
 use Rattle.key_rows.specs.DueRows.{AreListed}
 use Rattle.key_rows.specs.Export.{export_text}
 use Rattle.key_rows.specs.Report.{horizon, report_text}
-use Rattle.register_core.specs.declared.request.Request.{Request}
+use Rattle.register_requests.specs.declared.request.Request.{Request}
 use Rattle.register_core.specs.Fold.{IsLawful}
 use Rattle.register_core.specs.History.{latest, period}
 use Rattle.register_desk.specs.DatabaseFiles.{HoldsRegister}

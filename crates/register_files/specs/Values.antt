@@ -2,8 +2,8 @@
 -- exchanges are this register's own.
 use Rattle.std.specs.Prelude.{◌≡◌, ◌≤◌, ℕ, List, decimal, Option, None, Some}
 use Rattle.moment_core.specs.Moment.{last_second}
-use Rattle.register_core.specs.Name.{IsName}
-use Rattle.register_core.specs.Number.{IsNumber}
+use Rattle.register_requests.specs.Name.{IsName}
+use Rattle.register_requests.specs.Number.{IsNumber}
 use Rattle.register_files.specs.declared.values.Bounds.{Bounds}
 use Rattle.register_files.specs.declared.values.GivenBounds.{GivenBounds}
 use Rattle.register_files.specs.declared.values.GivenTerms.{GivenTerms}

@@ -1,7 +1,7 @@
 //! Laws about this crate's definitions. A function's contract is the law; it does nothing.
 ghost use Rattle.std.specs.Prelude.{◌≡◌, List};
 ghost use Rattle.sqlite.specs.Recovery.{Image};
-ghost use Rattle.register_core.specs.declared.request.Request.{Request};
+ghost use Rattle.register_requests.specs.declared.request.Request.{Request};
 ghost use Rattle.register_desk.specs.DatabaseFiles.{HoldsOneOf};
 ghost use Rattle.register_files.specs.Closing.{LeftIn, alone};
 ghost use Rattle.register_files.specs.Life.{LeavesInFiles};

@@ -13,5 +13,5 @@ pub use register_file::{
     Life, Refused, export_file, import_file, init_file, open_file, report_file, run_file,
     serve_file,
 };
-pub use serving::{MachineClock, Now, listen, serve_at, serve_on};
+pub use serving::{Clocks, MachineClock, Now, listen, serve_at, serve_on};
 pub use values::{Bounds, GivenBounds, GivenTerms, MAX_DAYS, MAX_EXCHANGES, Terms, read_days};

@@ -1,7 +1,7 @@
 //! The register in a file: the database file, and its log beside it.
 ghost use Rattle.std.specs.Prelude.{◌≡◌, List, None, false, IfOk, IfErr};
 ghost use Rattle.sqlite_trees.specs.View.{IsClean as IsCleanStore};
-ghost use Rattle.register_core.specs.declared.request.Request.{Request};
+ghost use Rattle.register_requests.specs.declared.request.Request.{Request};
 ghost use Rattle.register_core.specs.Fold.{IsLawful};
 ghost use Rattle.register_desk.specs.DatabaseFiles.{HoldsRegister};
 ghost use Rattle.register_desk.specs.Desk.{IsClean, IsWhole};
@@ -251,12 +251,7 @@ pub fn serve_file<F: Files + Drop>(
     let mut desk = open_file(rt, file, files)?;
     let end = serve_at(rt, &mut desk, bounds.port, bounds.exchanges);
     Ok(Life {
-        outcome: Outcome {
-            read: 0,
-            written: 0,
-            replies: 0,
-            end,
-        },
+        outcome: Outcome::of(end),
         files: into_files::<F>(desk),
     })
 }

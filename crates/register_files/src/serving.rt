@@ -1,6 +1,6 @@
 //! Serves connections one after the other, one HTTP exchange each.
 ghost use Rattle.std.specs.Prelude.{◌≡◌, List};
-ghost use Rattle.register_core.specs.declared.request.Request.{Request};
+ghost use Rattle.register_requests.specs.declared.request.Request.{Request};
 ghost use Rattle.register_desk.specs.Desk.{IsClean, IsWhole};
 ghost use Rattle.register_desk.specs.Register.{StandsFor};
 ghost use Rattle.register_http.specs.OneItem.{LeavesOne};
@@ -43,12 +43,35 @@ impl<'a, C: Clock> MachineClock<'a, C> {
 
 impl<C: Clock> Now for MachineClock<'_, C> {
     fn now(&self) -> Option<Moment> {
-        let Ok(time) = SystemTime::now(self.clock) else {
-            return None;
-        };
-        match time.duration_since(UNIX_EPOCH) {
-            Ok(since) => Moment::new(since.as_secs()),
-            Err(_) => None,
+        let time = SystemTime::now(self.clock).ok()?;
+        let since = time.duration_since(UNIX_EPOCH).ok()?;
+        Moment::new(since.as_secs())
+    }
+}
+
+/// What serving goes by.
+#[derive(Drop)]
+pub struct Clocks<'a, C: Clock, N: Now> {
+    /// Measures how long a client takes.
+    pub timer: &'a C,
+    /// Tells the moment of each exchange.
+    pub moments: &'a N,
+}
+
+/// A client's connection, and what measures its time.
+#[derive(Drop)]
+struct Client<'a, C: Clock> {
+    stream: &'a TcpStream,
+    timer: &'a C,
+}
+
+impl<'a, C: Clock> Client<'a, C> {
+    /// The connection, for as long as an exchange that began then may take.
+    fn timed_from(&self, start: Instant) -> Timed<'a, C> {
+        Timed {
+            stream: self.stream,
+            timer: self.timer,
+            start,
         }
     }
 }
@@ -57,14 +80,14 @@ impl<C: Clock> Now for MachineClock<'_, C> {
 #[derive(Drop)]
 struct Timed<'a, C: Clock> {
     stream: &'a TcpStream,
-    clock: &'a C,
+    timer: &'a C,
     start: Instant,
 }
 
 impl<C: Clock> Timed<'_, C> {
     /// How long the client may still keep the exchange waiting.
     fn time_left(&self) -> io::Result<Duration> {
-        let elapsed = self.start.elapsed(self.clock)?;
+        let elapsed = self.start.elapsed(self.timer)?;
         match Duration::from_secs(MAX_CLIENT_SECONDS).checked_sub(elapsed) {
             Some(left) if !left.is_zero() => Ok(left),
             _ => Err(io::Error::from(ErrorKind::TimedOut)),
@@ -88,6 +111,7 @@ impl<C: Clock> Write for Timed<'_, C> {
     }
 
     fn flush(&mut self) -> io::Result<()> {
+        // The system keeps nothing back of what it took.
         Ok(())
     }
 }
@@ -114,29 +138,20 @@ fn serve_one<S: Alter, C: Clock>(
     alloc: Global,
     routes: &mut Routes,
     desk: &mut Desk<S>,
-    stream: &TcpStream,
-    clock: &C,
+    client: &Client<'_, C>,
     moment: Moment,
 ) -> Finish
     ensures leaves { (h : List Request) → StandsFor S.Store desk.old h → IsWhole desk.old
         → IsClean S.Store desk.new → LeavesOne S.Store h desk.new result }
     ensures clean { IsClean S.Store desk.new → IsClean S.Store desk.old }
 {
-    let Ok(start) = Instant::now(clock) else {
+    let Ok(start) = Instant::now(client.timer) else {
         return Finish::Ended(End::ReadFault);
     };
-    let mut reader = Watched::new(Timed {
-        stream,
-        clock,
-        start,
-    });
-    let mut writer = Watched::new(Timed {
-        stream,
-        clock,
-        start,
-    });
+    let mut reader = Watched::new(client.timed_from(start));
+    let mut writer = Watched::new(client.timed_from(start));
     let outcome = exchange(alloc, routes, desk, moment, &mut reader, &mut writer);
-    drain(stream);
+    drain(client.stream);
     outcome.end
 }
 
@@ -152,8 +167,8 @@ fn goes_on(finish: Finish) -> bool
 }
 
 /// Serves so many connections that come to the listener, one after the other, each one exchange at
-/// the moment that `now` tells once it was accepted. A client that is slow keeps the next one
-/// waiting no longer than ten seconds, and a connection is closed after its reply.
+/// the moment that is told once it was accepted. A client that is slow keeps the next one waiting
+/// no longer than ten seconds, and a connection is closed after its reply.
 ///
 /// Gives the end of what there is to do after that many, or [`End::Store`] or [`End::Broken`] of
 /// an exchange, or [`End::ReadFault`] where a connection could not be accepted or no moment was
@@ -162,8 +177,7 @@ pub fn serve_on<S: Alter, C: Clock, N: Now>(
     alloc: Global,
     desk: &mut Desk<S>,
     listener: &TcpListener,
-    clock: &C,
-    now: &N,
+    clocks: &Clocks<'_, C, N>,
     exchanges: u32,
 ) -> Finish
     ensures leaves { (h : List Request) → StandsFor S.Store desk.old h → IsWhole desk.old
@@ -177,10 +191,14 @@ pub fn serve_on<S: Alter, C: Clock, N: Now>(
         let Ok((stream, _)) = listener.accept() else {
             return Finish::Ended(End::ReadFault);
         };
-        let Some(moment) = now.now() else {
+        let Some(moment) = clocks.moments.now() else {
             return Finish::Ended(End::ReadFault);
         };
-        let finish = serve_one(alloc, &mut routes, desk, &stream, clock, moment);
+        let client = Client {
+            stream: &stream,
+            timer: clocks.timer,
+        };
+        let finish = serve_one(alloc, &mut routes, desk, &client, moment);
         if !goes_on(finish) {
             return finish;
         }
@@ -208,6 +226,10 @@ pub fn serve_at<S: Alter>(rt: &HostRuntime, desk: &mut Desk<S>, port: u16, excha
     let Ok(listener) = listen(rt, port) else {
         return Finish::Ended(End::ReadFault);
     };
-    let now = MachineClock::new(rt);
-    serve_on(rt.alloc(), desk, &listener, rt, &now, exchanges)
+    let moments = MachineClock::new(rt);
+    let clocks = Clocks {
+        timer: rt,
+        moments: &moments,
+    };
+    serve_on(rt.alloc(), desk, &listener, &clocks, exchanges)
 }

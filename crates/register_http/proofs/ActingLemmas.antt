@@ -7,7 +7,7 @@ use Rattle.sqlite_trees.specs.declared.store.Store.{Ghosts}
 use Rattle.register_core.specs.declared.answer.Answer.{Answer}
 use Rattle.register_core.specs.declared.answer.Answer.TheVariants.{Accepted, Repeated, Refused}
 use Rattle.register_core.specs.Answer.{UnlessAccepted, outcome}
-use Rattle.register_core.specs.declared.request.Request.{Request}
+use Rattle.register_requests.specs.declared.request.Request.{Request}
 use Rattle.register_core.specs.declared.reply.Reply as core
 use Rattle.register_core.specs.declared.reply.Refusal.{Refusal}
 use Rattle.http_messages.specs.AnswerText.{outcome_reply}

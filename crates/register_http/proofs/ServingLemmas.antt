@@ -1,14 +1,36 @@
--- An exchange was served, however many bytes were read before.
-use Rattle.std.proofs.Common.{◌≡◌, ℕ, List, Option, Some, None, Result, Ok, Err, subst}
+-- What an exchange was served comes to, however many bytes were read before.
+use Rattle.std.proofs.Common.{◌≡◌, ◌⊎◌, ℕ, List, [], Option, Some, None, String, Result, Ok, Err, inl, inr, refl, sym}
+use Rattle.std.proofs.Common.{subst, ◌∙◌, ◌≤◌, true, arith}
+use Rattle.std.proofs.lemmas.Result.{IfErr-at_err}
+use Rattle.std.specs.Prelude.{IfErr, OnOk}
+use Rattle.std.specs.declared.alloc.Global.{Global}
 use Rattle.sqlite_trees.specs.declared.store.Store.{Ghosts}
+use Rattle.streams.specs.declared.watched.Watched.{Watched}
+use Rattle.streams.specs.Watched.{IsFaulted}
 use Rattle.register_desk.specs.declared.desk.Desk.{Desk}
-use Rattle.register_desk.specs.declared.end.End.TheVariants.{ReadFault}
-use Rattle.register_desk.specs.declared.runs.Finish.TheVariants.{Ended}
+use Rattle.register_desk.specs.declared.end.End.{End}
+use Rattle.register_desk.specs.declared.end.End.TheVariants.{Memory, Store, Broken, ReadFault, WriteFault, BadHeader}
+use Rattle.register_desk.specs.declared.runs.Finish.{Finish}
+use Rattle.register_desk.specs.declared.runs.Finish.TheVariants.{AtEnd, Ended}
 use Rattle.register_desk.specs.declared.runs.Outcome.{Outcome}
+use Rattle.register_desk.specs.Run.{TookBytes}
+use Rattle.register_desk.proofs.Answering.{appends_none}
 use Rattle.http_messages.specs.declared.asked.AskFault.{AskFault}
 use Rattle.http_messages.specs.declared.asked.AskFault.TheVariants as fault
 use Rattle.http_messages.specs.declared.asked.Asked.{Asked}
-use Rattle.register_http.specs.Exchange.{ServesAsked}
+use Rattle.register_http.specs.Action.{Acts}
+use Rattle.register_http.specs.Exchange.{EndsAs, KeepsWriter, Leaves, LeavesReader, LeavesWriter, ServesAsked}
+use Rattle.register_http.specs.Exchange.{max_exchange_reads}
+use Rattle.register_http.specs.SentReply.{Sends, reply_text}
+
+-- the end that was answered, or what became of the writing where a text was
+pub ends_by : (answered : Result (String Global) End) (otherwise end : Finish) (replies : ℕ)
+    → ((otherwise ≡ AtEnd 0) × (replies ≡ 1)) ⊎ ((otherwise ≡ Ended WriteFault) × (replies ≡ 0))
+    → OnOk answered (end ≡ otherwise)
+    → IfErr answered (λ e. end ≡ Ended e) → EndsAs answered end replies
+ends_by (Ok text) otherwise end replies both ok err =
+    subst (λ (f : Finish). ((f ≡ AtEnd 0) × (replies ≡ 1)) ⊎ ((f ≡ Ended WriteFault) × (replies ≡ 0))) (sym ok) both
+ends_by (Err e) otherwise end replies both ok err = err
 
 module _ {S : Type 0} (g : Ghosts S) (moment : ℕ) (kept now : Desk S g) where
   reads_too : (asked : Result (Option Asked) AskFault) (old new : Option (List ℕ)) (o : Outcome) (n : ℕ)
@@ -32,8 +54,132 @@ module _ {S : Type 0} (g : Ghosts S) (moment : ℕ) (kept now : Desk S g) where
   served_after asked begun old new o n e s =
       subst (λ w. ServesAsked g moment asked kept now w new (record o { read = n })) e (reads_too asked begun new o n s)
 
-  -- where the reader failed, that is the end
+  -- an answer never comes to a fault of the reader
+  no_read_fault : {A : Type 0} (asked : Asked) (result : Result (String Global) End) (end : Finish) (replies : ℕ)
+      → Acts g moment asked kept now result → EndsAs result end replies → end ≡ Ended ReadFault → A
+  no_read_fault asked (Ok text) end replies acts ends is = elim ends [
+    | inl whole ↦ let both = sym whole.0 ∙ is in absurd (cc)
+    | inr part ↦ let both = sym part.0 ∙ is in absurd (cc)
+  ]
+  no_read_fault asked (Err Memory) end replies acts ends is = let both = sym ends ∙ is in absurd (cc)
+  no_read_fault asked (Err Store) end replies acts ends is = let both = sym ends ∙ is in absurd (cc)
+  no_read_fault asked (Err Broken) end replies acts ends is = let both = sym ends ∙ is in absurd (cc)
+  no_read_fault asked (Err ReadFault) end replies acts ends is = absurd acts.ends
+  no_read_fault asked (Err WriteFault) end replies acts ends is = let both = sym ends ∙ is in absurd (cc)
+  no_read_fault asked (Err BadHeader) end replies acts ends is = let both = sym ends ∙ is in absurd (cc)
+
+  -- where the reader failed, that is the end, and nowhere else
   pub read_fault : (asked : Result (Option Asked) AskFault) (old new : Option (List ℕ)) (o : Outcome)
       → asked ≡ Err fault.ReadFault → ServesAsked g moment asked kept now old new o → o.end ≡ Ended ReadFault
   read_fault asked old new o is s =
       (subst (λ (a : Result (Option Asked) AskFault). ServesAsked g moment a kept now old new o) is s).0.ends
+
+  pub was_read_fault : (asked : Result (Option Asked) AskFault) (old new : Option (List ℕ)) (o : Outcome)
+      → ServesAsked g moment asked kept now old new o → o.end ≡ Ended ReadFault → asked ≡ Err fault.ReadFault
+  was_read_fault (Ok (Some asked)) old new o s is =
+      no_read_fault asked s.result o.end o.replies s.acts s.ends is
+  was_read_fault (Ok None) old new o (s, none) is = let both = sym s.ends ∙ is in absurd (cc)
+  was_read_fault (Err fault.Memory) old new o s is = let both = sym s.ends ∙ is in absurd (cc)
+  was_read_fault (Err fault.ReadFault) old new o (s, none) is = refl
+
+  -- what was asked was answered, and the reply to that was sent
+  pub sent_answer : (asked : Result (Option Asked) AskFault) (one : Asked) (old new : Option (List ℕ)) (o : Outcome)
+      (answered : Result (String Global) End) (left : Desk S g) (given : Result (String Global) End) → now ≡ left
+      → answered ≡ given → Acts g moment one kept left given
+      → Sends (reply_text answered) old new o.written o.replies → EndsAs answered o.end o.replies
+      → asked ≡ Ok (Some one) → ServesAsked g moment asked kept now old new o
+  sent_answer asked one old new o answered left given desk_is given_is acts sends ends is =
+      let made = subst (λ (d : Desk S g). Acts g moment one kept d given) (sym desk_is) acts in
+      subst (λ (a : Result (Option Asked) AskFault). ServesAsked g moment a kept now old new o) (sym is) (record {
+        result = answered;
+        acts = subst (λ (r : Result (String Global) End). Acts g moment one kept now r) (sym given_is) made;
+        sends = sends;
+        ends = ends;
+      })
+
+  -- memory gave out as it was read what is asked, and the reply to that was sent
+  pub sent_memory : (asked : Result (Option Asked) AskFault) (old new : Option (List ℕ)) (o : Outcome)
+      (answered : Result (String Global) End) → asked ≡ Err fault.Memory → now ≡ kept → answered ≡ Err Memory
+      → Sends (reply_text answered) old new o.written o.replies → EndsAs answered o.end o.replies
+      → ServesAsked g moment asked kept now old new o
+  sent_memory asked old new o answered is same memory sends ends =
+      subst (λ (a : Result (Option Asked) AskFault). ServesAsked g moment a kept now old new o) (sym is) (record {
+        same = same;
+        sends = subst (λ (r : Result (String Global) End). Sends (reply_text r) old new o.written o.replies) memory sends;
+        ends = subst (λ (r : Result (String Global) End). EndsAs r o.end o.replies) memory ends;
+      })
+
+  -- nothing was done, and nothing written
+  silent : (end : Finish) (w : Option (List ℕ)) (o : Outcome) → now ≡ kept
+      → o ≡ record { read = 0; written = 0; replies = 0; end = end }
+      → Leaves g end [] kept now w w o × (o.replies ≡ 0)
+  silent end w o same is = subst (λ (x : Outcome). Leaves g end [] kept now w w x × (x.replies ≡ 0)) (sym is) (
+    record {
+      same = same;
+      sends = record { part = []; prefix = ([], refl); wrote = appends_none w; counted = refl; whole = inr refl };
+      ends = refl;
+    },
+    refl,
+  )
+
+  pub sent_nothing : (asked : Result (Option Asked) AskFault) (w : Option (List ℕ)) (o : Outcome) → asked ≡ Ok None
+      → now ≡ kept → o ≡ record { read = 0; written = 0; replies = 0; end = AtEnd 0 }
+      → ServesAsked g moment asked kept now w w o
+  sent_nothing asked w o is same all =
+      subst (λ (a : Result (Option Asked) AskFault). ServesAsked g moment a kept now w w o) (sym is)
+      (silent (AtEnd 0) w o same all)
+
+  pub sent_no_reply : (asked : Result (Option Asked) AskFault) (w : Option (List ℕ)) (o : Outcome)
+      → asked ≡ Err fault.ReadFault → now ≡ kept
+      → o ≡ record { read = 0; written = 0; replies = 0; end = Ended ReadFault }
+      → ServesAsked g moment asked kept now w w o
+  sent_no_reply asked w o is same all =
+      subst (λ (a : Result (Option Asked) AskFault). ServesAsked g moment a kept now w w o) (sym is)
+      (silent (Ended ReadFault) w o same all)
+
+  -- where the writer failed, no reply was written whole
+  cut_off : (asked : Asked) (result : Result (String Global) End) (end : Finish) (replies : ℕ)
+      → Acts g moment asked kept now result → EndsAs result end replies → end ≡ Ended WriteFault → replies ≡ 0
+  cut_off asked (Ok text) end replies acts ends is = elim ends [
+    | inl whole ↦ let both = sym whole.0 ∙ is in absurd (cc)
+    | inr part ↦ part.1
+  ]
+  cut_off asked (Err Memory) end replies acts ends is = let both = sym ends ∙ is in absurd (cc)
+  cut_off asked (Err Store) end replies acts ends is = let both = sym ends ∙ is in absurd (cc)
+  cut_off asked (Err Broken) end replies acts ends is = let both = sym ends ∙ is in absurd (cc)
+  cut_off asked (Err ReadFault) end replies acts ends is = let both = sym ends ∙ is in absurd (cc)
+  cut_off asked (Err WriteFault) end replies acts ends is = absurd acts.ends
+  cut_off asked (Err BadHeader) end replies acts ends is = let both = sym ends ∙ is in absurd (cc)
+
+  pub was_cut_off : (asked : Result (Option Asked) AskFault) (old new : Option (List ℕ)) (o : Outcome)
+      → ServesAsked g moment asked kept now old new o → o.end ≡ Ended WriteFault → o.replies ≡ 0
+  was_cut_off (Ok (Some asked)) old new o s is = cut_off asked s.result o.end o.replies s.acts s.ends is
+  was_cut_off (Ok None) old new o (s, none) is = none
+  was_cut_off (Err fault.Memory) old new o s is = let both = sym s.ends ∙ is in absurd (cc)
+  was_cut_off (Err fault.ReadFault) old new o (s, none) is = none
+
+  module _ (asked : Result (Option Asked) AskFault) (v w : Option (List ℕ)) (o : Outcome)
+      (serves : ServesAsked g moment asked kept now v w o) where
+    -- what is left of the reader, by what came of asking
+    pub leaves_reader : {R : Type 0} (remaining : R → Option (List ℕ)) (old new : Watched R)
+        → TookBytes (remaining old.inner) (remaining new.inner) o.read
+        → (new.failed ≡ true → asked ≡ Err fault.ReadFault)
+        → IfErr asked (λ f. f ≡ fault.ReadFault → IsFaulted new.failed max_exchange_reads new.turns)
+        → new.turns ≤ max_exchange_reads → LeavesReader remaining old new o
+    leaves_reader remaining old new took tells faulted bounded = record {
+      took = took;
+      told = λ failed. read_fault asked v w o (tells failed) serves;
+      fault = λ is. IfErr-at_err (λ f. f ≡ fault.ReadFault → IsFaulted new.failed max_exchange_reads new.turns)
+          (was_read_fault asked v w o serves is) faulted refl;
+      bounded = bounded;
+    }
+
+    -- what is left of the writer, where a reply was begun
+    pub leaves_writer : {W : Type 0} (old new : Watched W) → KeepsWriter old new o.replies → old.idle ≡ 0
+        → LeavesWriter new o
+    leaves_writer old new keeps idle = record {
+      flushed = keeps.flushed;
+      unanswered = λ none. inr (inr (keeps.fault none));
+      fault = λ is. keeps.fault (was_cut_off asked v w o serves is);
+      bounded = keeps.bounded (omega (arith, idle));
+    }

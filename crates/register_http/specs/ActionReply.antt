@@ -1,6 +1,6 @@
 -- What a register answers to what an exchange asks, and what it is then. All of it is this register's own.
 use Rattle.std.specs.Prelude.{ℕ, Bool, true, false, List, [], ◌∷◌, Option, None, Some, Err}
-use Rattle.register_core.specs.declared.request.Request.{Request}
+use Rattle.register_requests.specs.declared.request.Request.{Request}
 use Rattle.register_core.specs.declared.reply.Refusal.TheVariants.{UnknownKey}
 use Rattle.register_core.specs.Answer.{outcome}
 use Rattle.register_core.specs.Fold.{history}

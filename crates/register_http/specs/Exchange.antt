@@ -64,8 +64,8 @@ module _ {S : Type 0} (g : Ghosts S) where
     pub asks : (bytes : List ℕ) → input ≡ Some bytes → IfOk asked (AsksFor bytes)
     pub serves : ServesAsked moment asked kept now old new outcome
 
--- What it leaves of its reader: each byte that was read is counted, a read that failed is told, a fault is the reader's own or the bound on reads,
--- and that is never passed. The turns are those of this exchange alone.
+-- What it leaves of its reader: each byte that was read is counted, a read that failed is told, a fault is the reader's
+-- own or the bound on reads, and that is never passed. The turns are those of this exchange alone.
 pub record LeavesReader {R : Type 0} (remaining : R → Option (List ℕ)) (old new : Watched R)
     (outcome : Outcome) : Type 0 where
   pub took : TookBytes (remaining old.inner) (remaining new.inner) outcome.read

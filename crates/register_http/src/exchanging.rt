@@ -1,18 +1,18 @@
 //! One exchange: a request is read, the register asked once, and a reply written.
-ghost use Rattle.std.specs.Prelude.{◌≡◌, ℕ, List, false, Ok, Err, IfOk, IfSome, OnErr};
-ghost use Rattle.register_core.specs.Request.{IsRequest};
+ghost use Rattle.std.specs.Prelude.{◌≡◌, ℕ, List, false, Ok, Err, IfErr, IfOk, OnErr, OnOk};
+ghost use Rattle.register_requests.specs.Request.{IsRequest};
 ghost use Rattle.register_core.specs.declared.reply.Refusal.TheVariants.{UnknownKey};
-ghost use Rattle.register_core.specs.declared.request.Request.{Request};
+ghost use Rattle.register_requests.specs.declared.request.Request.{Request};
 ghost use Rattle.http_messages.specs.AnswerText.{outcome_reply};
 ghost use Rattle.http_messages.specs.CommandBody.{IsInRange};
 ghost use Rattle.register_desk.specs.Desk.{IsClean, IsWhole};
 ghost use Rattle.register_desk.specs.Register.{StandsFor};
 ghost use Rattle.register_http.specs.Action.{Acts, IsTextOf};
 ghost use Rattle.register_http.specs.ActionReply.{request_at};
-ghost use Rattle.register_http.specs.Exchange.{Exchanges, LeavesReader, LeavesWriter, Serves};
-ghost use Rattle.register_http.specs.Exchange.{KeepsWriter, ServesAsked};
+ghost use Rattle.register_http.specs.Exchange.{EndsAs, Exchanges, KeepsWriter, LeavesReader};
+ghost use Rattle.register_http.specs.Exchange.{LeavesWriter};
 ghost use Rattle.register_http.specs.OneItem.{LeavesOne};
-ghost use Rattle.register_http.specs.SentReply.{Sends, end_reply};
+ghost use Rattle.register_http.specs.SentReply.{Sends, end_reply, reply_text};
 
 use http_messages::{
     AskFault, Asked, Routes, Sent, ask, key_text, outcome_text, rejection_text, usage_text,
@@ -23,15 +23,6 @@ use register_desk::{Desk, End, Finish, MAX_IDLE_TURNS, Outcome, Watched};
 use sqlite::Alter;
 use std::alloc::{AllocError, Global};
 use std::io::{Read, Write};
-
-/// What was written of a reply.
-#[derive(Clone, Copy)]
-struct Sending {
-    /// How many bytes.
-    written: u64,
-    /// 1 where it was written whole.
-    replies: u64,
-}
 
 /// The reply to an end, which takes no memory.
 fn end_reply(end: End) -> &'static str
@@ -51,33 +42,12 @@ fn end_reply(end: End) -> &'static str
     }
 }
 
-/// Writes a reply.
-fn send<W: Write>(writer: &mut Watched<W>, reply: &[u8]) -> Sending
-    ensures sends { Sends reply.now (W.contents writer.old.inner) (W.contents writer.new.inner)
-        result.written result.replies }
-    ensures keeps { KeepsWriter writer.old writer.new result.replies }
-{
-    match writer.write_flushed(MAX_IDLE_TURNS, reply) {
-        Ok(()) => Sending {
-            written: reply.len() as u64,
-            replies: 1,
-        },
-        Err(fault) => Sending {
-            written: fault.written as u64,
-            replies: 0,
-        },
-    }
-}
-
 /// The text, or the end that the want of memory for it is.
 fn text_or_end(text: Result<String, AllocError>) -> Result<String, End>
     ensures ok { IfOk text (λ s. result ≡ Ok s) }
     ensures err { OnErr text (result ≡ Err End.Memory) }
 {
-    match text {
-        Ok(text) => Ok(text),
-        Err(_) => Err(End::Memory),
-    }
+    Ok(text?)
 }
 
 /// The reply where there is no such key.
@@ -91,10 +61,9 @@ fn unknown_text(alloc: Global) -> Result<String, AllocError>
 fn show_reply<S: Alter>(alloc: Global, desk: &mut Desk<S>, key: u32) -> Result<String, End>
     ensures { (moment : ℕ) → Acts S.Store moment (Asked.ShowKey key) desk.old desk.new result }
 {
-    match desk.show(key) {
-        Ok(Some(shown)) => text_or_end(key_text(alloc, &shown)),
-        Ok(None) => text_or_end(unknown_text(alloc)),
-        Err(end) => Err(end),
+    match desk.show(key)? {
+        Some(shown) => text_or_end(key_text(alloc, &shown)),
+        None => text_or_end(unknown_text(alloc)),
     }
 }
 
@@ -102,10 +71,9 @@ fn show_reply<S: Alter>(alloc: Global, desk: &mut Desk<S>, key: u32) -> Result<S
 fn usage_reply<S: Alter>(alloc: Global, desk: &mut Desk<S>, key: u32) -> Result<String, End>
     ensures { (moment : ℕ) → Acts S.Store moment (Asked.ShowUsage key) desk.old desk.new result }
 {
-    match desk.usage(key) {
-        Ok(Some(usage)) => text_or_end(usage_text(alloc, &usage)),
-        Ok(None) => text_or_end(unknown_text(alloc)),
-        Err(end) => Err(end),
+    match desk.usage(key)? {
+        Some(usage) => text_or_end(usage_text(alloc, &usage)),
+        None => text_or_end(unknown_text(alloc)),
     }
 }
 
@@ -133,10 +101,8 @@ fn apply_reply<S: Alter>(
     ensures { Acts S.Store moment (Asked.Apply sent.now) desk.old desk.new result }
 {
     let request = request_at(moment, sent);
-    match desk.apply(&request) {
-        Ok(answer) => text_or_end(outcome_text(alloc, &answer.outcome())),
-        Err(end) => Err(end),
-    }
+    let answer = desk.apply(&request)?;
+    text_or_end(outcome_text(alloc, &answer.outcome()))
 }
 
 /// Does what is asked at this moment, and gives the text of the reply.
@@ -161,89 +127,45 @@ fn answer<S: Alter>(
     }
 }
 
-/// Does what is asked, and writes the reply.
-fn send_answer<W: Write, S: Alter>(
-    alloc: Global,
-    desk: &mut Desk<S>,
-    moment: Moment,
-    asked: &Asked,
-    writer: &mut Watched<W>,
-) -> Outcome
-    requires { IsInRange asked.now }
-    ensures serves { Serves S.Store moment asked.now desk.old desk.new
-        (W.contents writer.old.inner) (W.contents writer.new.inner) result }
-    ensures keeps { KeepsWriter writer.old writer.new result.replies }
-    ensures unread { result.read ≡ 0 }
+/// The bytes of the reply to what was answered.
+fn reply_bytes(answered: &Result<String, End>) -> &[u8]
+    ensures { result.now ≡ reply_text answered.now }
 {
-    match answer(alloc, desk, moment, asked) {
-        Ok(text) => {
-            let sending = send(writer, text.as_bytes());
-            Outcome {
-                read: 0,
-                written: sending.written,
-                replies: sending.replies,
-                end: if sending.replies == 1 {
-                    Finish::AtEnd { rest: 0 }
-                } else {
-                    Finish::Ended(End::WriteFault)
-                },
-            }
-        }
-        Err(end) => refuse(end, writer),
+    match answered {
+        Ok(text) => text.as_bytes(),
+        Err(end) => end_reply(*end).as_bytes(),
     }
 }
 
-/// Answers nothing but the fixed reply to an end.
-fn refuse<W: Write>(end: End, writer: &mut Watched<W>) -> Outcome
-    ensures sends { Sends (end_reply end) (W.contents writer.old.inner)
+/// The end that was answered, or this one where a text was.
+fn end_or(answered: &Result<String, End>, finish: Finish) -> Finish
+    ensures ok { OnOk answered.now (result ≡ finish) }
+    ensures err { IfErr answered.now (λ end. result ≡ Finish.Ended end) }
+{
+    match answered {
+        Ok(_) => finish,
+        Err(end) => Finish::Ended(*end),
+    }
+}
+
+/// Writes the reply to what was answered.
+fn send<W: Write>(writer: &mut Watched<W>, answered: &Result<String, End>) -> Outcome
+    ensures sends { Sends (reply_text answered.now) (W.contents writer.old.inner)
         (W.contents writer.new.inner) result.written result.replies }
-    ensures ends { result.end ≡ Finish.Ended end }
+    ensures ends { EndsAs answered.now result.end result.replies }
     ensures keeps { KeepsWriter writer.old writer.new result.replies }
     ensures unread { result.read ≡ 0 }
 {
-    let sending = send(writer, end_reply(end).as_bytes());
-    Outcome {
-        read: 0,
-        written: sending.written,
-        replies: sending.replies,
-        end: Finish::Ended(end),
-    }
-}
-
-/// What an exchange did that wrote nothing.
-fn silent_outcome(end: Finish) -> Outcome
-    ensures { result ≡ record { read = 0; written = 0; replies = 0; end = end } }
-{
-    Outcome {
-        read: 0,
-        written: 0,
-        replies: 0,
-        end,
-    }
-}
-
-/// Answers what came of reading, and writes the reply.
-fn send_reply<W: Write, S: Alter>(
-    alloc: Global,
-    desk: &mut Desk<S>,
-    moment: Moment,
-    asked: &Result<Option<Asked>, AskFault>,
-    writer: &mut Watched<W>,
-) -> Outcome
-    requires in_range { IfOk asked.now (λ o. IfSome o IsInRange) }
-    requires idle { writer.old.idle ≡ 0 }
-    ensures serves { ServesAsked S.Store moment asked.now desk.old desk.new
-        (W.contents writer.old.inner) (W.contents writer.new.inner) result }
-    ensures writer { LeavesWriter writer.new result }
-    ensures read_fault { result.end ≡ Finish.Ended End.ReadFault
-        → asked.now ≡ Err AskFault.ReadFault }
-    ensures unread { result.read ≡ 0 }
-{
-    match asked {
-        Ok(Some(asked)) => send_answer(alloc, desk, moment, asked, writer),
-        Ok(None) => silent_outcome(Finish::AtEnd { rest: 0 }),
-        Err(AskFault::Memory) => refuse(End::Memory, writer),
-        Err(AskFault::ReadFault) => silent_outcome(Finish::Ended(End::ReadFault)),
+    let reply = reply_bytes(answered);
+    match writer.write_flushed(MAX_IDLE_TURNS, reply) {
+        Ok(()) => Outcome::of(end_or(answered, Finish::AtEnd { rest: 0 })).with_written(
+            reply.len() as u64,
+            1,
+        ),
+        Err(fault) => Outcome::of(end_or(answered, Finish::Ended(End::WriteFault))).with_written(
+            fault.written as u64,
+            0,
+        ),
     }
 }
 
@@ -277,11 +199,14 @@ pub fn exchange<R: Read, W: Write, S: Alter>(
     reader.begin();
     writer.begin();
     let asking = ask(alloc, routes, reader);
-    let served = send_reply(alloc, desk, moment, &asking.asked, writer);
-    Outcome {
-        read: asking.read as u64,
-        written: served.written,
-        replies: served.replies,
-        end: served.end,
-    }
+    let read = asking.read as u64;
+    let answered = match asking.asked {
+        Ok(Some(asked)) => answer(alloc, desk, moment, &asked),
+        Ok(None) => return Outcome::of(Finish::AtEnd { rest: 0 }).with_read(read),
+        Err(AskFault::Memory) => Err(End::Memory),
+        Err(AskFault::ReadFault) => {
+            return Outcome::of(Finish::Ended(End::ReadFault)).with_read(read);
+        }
+    };
+    send(writer, &answered).with_read(read)
 }

@@ -1,6 +1,6 @@
 //! What the program does, over the streams that it is given.
 ghost use Rattle.std.specs.Prelude.{◌≡◌, ◌≤◌, ℕ, List, Option, Some, false, length};
-ghost use Rattle.register_core.specs.declared.request.Request.{Request};
+ghost use Rattle.register_requests.specs.declared.request.Request.{Request};
 ghost use Rattle.register_desk.specs.Input.{HasItems};
 ghost use Rattle.register_desk.specs.End.{exit_status};
 ghost use Rattle.register_program.specs.Act.{unopened_status, usage_status, status_of, Acts};
@@ -67,6 +67,13 @@ pub fn report_refusal(refusal: OpenRefusal, faults: &mut impl Write) -> u8
 {
     let _ = writeln!(faults, "keyreg: {refusal}");
     UNOPENED
+}
+
+/// What the program writes to: its output, and what it has to say of an end, a refusal or the words.
+#[derive(Drop)]
+pub struct Outputs<W, E> {
+    pub writer: Watched<W>,
+    pub faults: E,
 }
 
 /// What a task came to.
@@ -148,31 +155,31 @@ fn conclude<S: Drop>(done: Done<S>, faults: &mut impl Write) -> u8
 
 /// Does what the words ask for, over these files where they name one. The first word is the
 /// program's own name; with no more words it is a run over the request lines of `reader`, over a
-/// new register in memory. What it has to say of an end, a refusal or the words it writes to
-/// `faults`.
+/// new register in memory.
 ///
 /// Gives the exit status: 0 where all went well, 1 where the words are no command, ask for help or
 /// have a bad value, 2 where the register could not be made or opened, 3 after an end of the
 /// register or want of memory for the words, and 4 after a fault of a stream or an import without
 /// its header row.
-pub fn act<F: Files + Drop, R: Read + Drop, W: Write>(
+pub fn act<F: Files + Drop, R: Read + Drop, W: Write, E: Write>(
     rt: &HostRuntime,
     files: F,
     words: &[String],
     reader: R,
-    writer: &mut Watched<W>,
-    faults: &mut impl Write,
+    outputs: &mut Outputs<W, E>,
 ) -> u8
-    requires { writer.old.failed ≡ false }
+    requires { outputs.old.writer.failed ≡ false }
     // A task is done as it says, or the words are none and nothing is written.
     ensures does { ActsBy F.Opened.Store F.may_leave F.start (R.remaining reader)
-        (W.contents writer.old.inner) (W.contents writer.new.inner) result }
+        (W.contents outputs.old.writer.inner) (W.contents outputs.new.writer.inner) result }
     // With no words but its name, what is written and the status are those of a run from the empty
     // history, where the reader's bytes are known.
     ensures acts { (bytes : List ℕ) (items : List (Option Request)) (rest : List ℕ) →
         length words.now ≤ 1 → R.remaining reader ≡ Some bytes → HasItems bytes items rest →
-        Acts items rest result (W.contents writer.old.inner) (W.contents writer.new.inner) }
+        Acts items rest result
+        (W.contents outputs.old.writer.inner) (W.contents outputs.new.writer.inner) }
 {
+    let Outputs { writer, faults } = outputs;
     match read_words(rt.alloc(), words) {
         Ok(task) => conclude(perform(rt, files, &task, reader, writer), faults),
         Err(error) => report_words(&error, faults),

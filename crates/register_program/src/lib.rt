@@ -5,5 +5,5 @@
 mod acting;
 mod words;
 
-pub use acting::{Done, act, perform, report_bad_value, report_end, report_refusal};
+pub use acting::{Done, Outputs, act, perform, report_bad_value, report_end, report_refusal};
 pub use words::Task;

@@ -195,6 +195,7 @@ fn task_of<'a>(command: &str, options: &ArgMatches<'a>) -> Option<Task<'a>> {
 pub fn read_words(alloc: Global, words: &[String]) -> Result<Task<'_>, Error>
     ensures { length words.now ≤ 1 → result ≡ Ok Task.RunInMemory }
 {
+    // `clap` would ask for a command.
     if words.len() <= 1 {
         return Ok(Task::RunInMemory);
     }

@@ -8,7 +8,7 @@ use Rattle.csv.specs.Reading.{AreRecords, Reached, ReadRecord, default_config, r
 use Rattle.csv.specs.declared.parser.State.{State}
 use Rattle.csv.specs.declared.reader.Reader.{Reader}
 use Rattle.csv.proofs.ReadFacts.{rows-end, rows-more}
-use Rattle.register_core.specs.declared.request.Request.{Request}
+use Rattle.register_requests.specs.declared.request.Request.{Request}
 use Rattle.register_desk.specs.declared.end.End.{End}
 use Rattle.register_desk.specs.declared.end.End.TheVariants.{Memory, Store, Broken, ReadFault, WriteFault, BadHeader}
 use Rattle.register_desk.specs.declared.runs.Finish.{Finish}
@@ -20,7 +20,7 @@ use Rattle.register_desk.specs.Run.{Answered, IsRequestNext, LeavesDesk, Refused
 use Rattle.register_desk.specs.Lives.{AreInRange, LivesSome}
 use Rattle.register_desk.proofs.Lived.{lived}
 use Rattle.register_core.proofs.Lawful.{all_more}
-use Rattle.register_core.specs.Request.{IsRequest}
+use Rattle.register_requests.specs.Request.{IsRequest}
 use Rattle.std.specs.Prelude.{IfSome}
 use Rattle.register_desk.proofs.Answering.{prefix_refused, prefix_so, stopped_broken, stopped_so, there}
 use Rattle.register_report.specs.Import.{ImportsBroken}

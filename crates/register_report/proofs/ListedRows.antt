@@ -12,7 +12,7 @@ use Rattle.key_rows.specs.declared.key_row.KeyRow.{KeyRow}
 use Rattle.key_rows.specs.DueRows.{AreDue, AreListed, is_due, is_listed}
 use Rattle.key_rows.specs.Report.{report_line, report_text, report_total}
 use Rattle.key_rows.proofs.DueRows.{a_list, fewer, one_list}
-use Rattle.register_core.specs.declared.request.Request.{Request}
+use Rattle.register_requests.specs.declared.request.Request.{Request}
 use Rattle.register_core.specs.Fold.{IsLawful}
 use Rattle.register_core.specs.History.{period, set_period}
 use Rattle.register_desk.specs.KeyRows.{all_rows}

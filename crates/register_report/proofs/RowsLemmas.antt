@@ -10,10 +10,10 @@ use Rattle.csv.specs.declared.reader.Reader.{Reader}
 use Rattle.moment_core.proofs.Texts.{one_moment, text_length}
 use Rattle.period_core.specs.declared.key_type.KeyType.{KeyType}
 use Rattle.period_core.specs.KeyType.{key_type_text}
-use Rattle.register_core.specs.declared.request.Request.{Request}
-use Rattle.register_core.specs.Request.{IsDate, IsRequest}
-use Rattle.register_core.specs.RequestLine.{key_type_at}
-use Rattle.register_core.proofs.Readers.{key_type_reader}
+use Rattle.register_requests.specs.declared.request.Request.{Request}
+use Rattle.register_requests.specs.Request.{IsDate, IsRequest}
+use Rattle.register_requests.specs.RequestLine.{key_type_at}
+use Rattle.register_requests.proofs.Readers.{key_type_reader}
 use Rattle.register_report.specs.ImportRows.{AreRowItems, IsRowItem, IsRowOf, Item, Row, date_field}
 
 -- ---- no row asks for two registrations

@@ -16,14 +16,14 @@ use Rattle.moment_core.specs.Moment.{IsMoment, last_second}
 use Rattle.moment_core.specs.MomentText.{moment_text}
 use Rattle.period_core.specs.declared.key_type.KeyType.{KeyType}
 use Rattle.period_core.specs.KeyType.{key_type_text}
-use Rattle.register_core.specs.declared.request.Request.{Request}
-use Rattle.register_core.specs.declared.request.Command.TheVariants.{Register}
-use Rattle.register_core.specs.Name.{IsName}
-use Rattle.register_core.specs.Number.{IsNumber, max_request_number}
-use Rattle.register_core.specs.Purpose.{IsPurpose}
-use Rattle.register_core.specs.Request.{IsDate, IsRequest}
-use Rattle.register_core.proofs.FieldReading.{IsReader}
-use Rattle.register_core.proofs.Readers.{key_type_reader, name_reader, purpose_reader}
+use Rattle.register_requests.specs.declared.request.Request.{Request}
+use Rattle.register_requests.specs.declared.request.Command.TheVariants.{Register}
+use Rattle.register_requests.specs.Name.{IsName}
+use Rattle.register_requests.specs.Number.{IsNumber, max_request_number}
+use Rattle.register_requests.specs.Purpose.{IsPurpose}
+use Rattle.register_requests.specs.Request.{IsDate, IsRequest}
+use Rattle.register_requests.proofs.FieldReading.{IsReader}
+use Rattle.register_requests.proofs.Readers.{key_type_reader, name_reader, purpose_reader}
 use Rattle.register_report.specs.ImportRows.{AreRowItems, BeginsWithHeader, HasRowItems, HasRows}
 use Rattle.register_report.specs.ImportRows.{IsRowItem, IsRowOf, Item, Row, date_field, header}
 use Rattle.register_report.proofs.HeaderLemmas.{same_tail}

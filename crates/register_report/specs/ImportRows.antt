@@ -11,10 +11,10 @@ use Rattle.csv.specs.declared.parser.State.{State}
 use Rattle.csv.specs.declared.parser.State.TheVariants as states
 use Rattle.moment_core.specs.MomentText.{moment_text}
 use Rattle.period_core.specs.KeyType.{key_type_text}
-use Rattle.register_core.specs.Subject.{Registration}
-use Rattle.register_core.specs.declared.request.Request.{Request}
-use Rattle.register_core.specs.declared.request.Command.TheVariants.{Register}
-use Rattle.register_core.specs.Request.{IsRequest}
+use Rattle.register_requests.specs.Subject.{Registration}
+use Rattle.register_requests.specs.declared.request.Request.{Request}
+use Rattle.register_requests.specs.declared.request.Command.TheVariants.{Register}
+use Rattle.register_requests.specs.Request.{IsRequest}
 
 -- a row's fields
 abbrev pub Row : Type 0

@@ -1,7 +1,7 @@
 //! The export of all keys, and the report on those that are due for rotation.
 ghost use Rattle.std.specs.Prelude.{◌≡◌, false, List, IfErr};
 ghost use Rattle.register_core.specs.History.{latest, period};
-ghost use Rattle.register_core.specs.declared.request.Request.{Request};
+ghost use Rattle.register_requests.specs.declared.request.Request.{Request};
 ghost use Rattle.key_rows.specs.DueRows.{AreListed};
 ghost use Rattle.key_rows.specs.Export.{export_text};
 ghost use Rattle.key_rows.specs.Report.{horizon, report_text};
@@ -30,12 +30,7 @@ fn outcome(written: u64, done: Result<(), End>) -> Outcome
         Ok(()) => Finish::AtEnd { rest: 0 },
         Err(end) => Finish::Ended(end),
     };
-    Outcome {
-        read: 0,
-        written,
-        replies: 0,
-        end,
-    }
+    Outcome::of(end).with_written(written, 0)
 }
 
 /// Writes the export of all keys.

@@ -5,8 +5,8 @@ ghost use Rattle.csv.specs.Records.{AllText, fields_of};
 ghost use Rattle.csv.specs.Reading.{Ready, ReadRecord, default_config, is_flexible};
 ghost use Rattle.csv.specs.Reading.{reader_config, reader_trim};
 ghost use Rattle.csv.specs.declared.reader.Trim.TheVariants as trim;
-ghost use Rattle.register_core.specs.declared.request.Request.{Request};
-ghost use Rattle.register_core.specs.Number.{IsNumber};
+ghost use Rattle.register_requests.specs.declared.request.Request.{Request};
+ghost use Rattle.register_requests.specs.Number.{IsNumber};
 ghost use Rattle.register_desk.specs.Desk.{IsBroken, IsClean, IsWhole};
 ghost use Rattle.register_desk.specs.Register.{StandsFor};
 ghost use Rattle.register_desk.specs.Run.{LeavesDesk, LeavesNext, LeavesWriter};
@@ -29,6 +29,15 @@ use std::io::{Read, Write};
 
 /// How many rows of an import are answered at most. A further one ends it by [`End::ReadFault`].
 pub const MAX_ROWS: u64 = 1_000_000;
+
+/// The requests that the rows of a table are: of one moment and one caller, the first under this
+/// number and each other under the next.
+#[derive(Clone, Copy)]
+struct Series {
+    moment: Moment,
+    caller: Name,
+    first: u64,
+}
 
 /// Reads the next record, and tells whether there was one.
 fn next_row<R: Read>(reader: &mut Reader<R>, row: &mut StringRecord) -> Result<bool, End>
@@ -76,9 +85,7 @@ fn skip_header<R: Read>(reader: &mut Reader<R>, row: &mut StringRecord) -> Resul
 fn import_rows<R: Read, W: Write, S: Alter>(
     reader: &mut Reader<R>,
     row: &mut StringRecord,
-    moment: Moment,
-    caller: Name,
-    first: u64,
+    series: &Series,
     writer: &mut Watched<W>,
     desk: &mut Desk<S>,
 ) -> Outcome
@@ -86,16 +93,18 @@ fn import_rows<R: Read, W: Write, S: Alter>(
     requires flexible { is_flexible reader.old ≡ true }
     requires ready { Ready reader.old }
     requires config { reader_config reader.old ≡ default_config }
-    requires first { IsNumber first }
+    requires first { IsNumber series.now.first }
     // The bound is on the turns of this import alone.
     requires idles { writer.old.idle ≡ 0 }
-    ensures serves { ServesRowsTo S.Store R.remaining moment caller first reader.old
+    ensures serves { ServesRowsTo S.Store R.remaining
+        series.now.moment series.now.caller series.now.first reader.old
         (W.contents writer.old.inner) (W.contents writer.new.inner)
         desk.old desk.new result.replies result.end }
     ensures limit { result.replies ≤ max_rows }
     // No row is refused for its number but the one after as many as there may be.
     ensures cause { result.end ≡ Finish.Ended End.ReadFault
-        → EndsEarly S.Store R.remaining moment caller first reader.old reader.new
+        → EndsEarly S.Store R.remaining
+        series.now.moment series.now.caller series.now.first reader.old reader.new
         (W.contents writer.old.inner) (W.contents writer.new.inner)
         desk.old desk.new result.replies }
     ensures writer { LeavesWriter W.contents writer.old writer.new result }
@@ -108,10 +117,11 @@ fn import_rows<R: Read, W: Write, S: Alter>(
     let end = loop {
         match next_row(reader, row) {
             Ok(true) => {
+                // Only a row that is there is one too many.
                 if replies == MAX_ROWS {
                     break Finish::Ended(End::ReadFault);
                 }
-                let item = row_item(moment, caller, first + replies, row);
+                let item = row_item(series.moment, series.caller, series.first + replies, row);
                 match answer_item(&item, writer, desk) {
                     Ok(count) => {
                         written += count as u64;
@@ -219,13 +229,13 @@ pub fn import<R: Read + Drop, W: Write, S: Alter>(
         .flexible(true)
         .from_reader(alloc, reader);
     let mut row = StringRecord::new(alloc);
+    let series = Series {
+        moment,
+        caller: *caller,
+        first,
+    };
     match skip_header(&mut reader, &mut row) {
-        Ok(()) => import_rows(&mut reader, &mut row, moment, *caller, first, writer, desk),
-        Err(end) => Outcome {
-            read: 0,
-            written: 0,
-            replies: 0,
-            end: Finish::Ended(end),
-        },
+        Ok(()) => import_rows(&mut reader, &mut row, &series, writer, desk),
+        Err(end) => Outcome::of(Finish::Ended(end)),
     }
 }

@@ -1,6 +1,6 @@
 //! Laws about this crate's definitions. A function's contract is the law; it does nothing.
 ghost use Rattle.std.specs.Prelude.{◌≡◌, ℕ, List, Option};
-ghost use Rattle.register_core.specs.declared.request.Request.{Request};
+ghost use Rattle.register_requests.specs.declared.request.Request.{Request};
 ghost use Rattle.register_report.specs.ImportRows.{BeginsWithHeader, HasRowItems, HasRows};
 
 /// An input that begins with its header row has rows after it, which stand for a list of items.

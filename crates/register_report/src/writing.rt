@@ -16,10 +16,7 @@ fn formed(text: Result<Vec<u8>, AllocError>) -> Result<Vec<u8>, End>
     ensures text { IfOk result (λ formed. text ≡ Ok formed) }
     ensures end { IfErr result (λ end. end ≡ End.Memory) }
 {
-    match text {
-        Ok(text) => Ok(text),
-        Err(AllocError) => Err(End::Memory),
-    }
+    Ok(text?)
 }
 
 /// Writes the text and flushes it, and counts what was written of it. A count that has no room for

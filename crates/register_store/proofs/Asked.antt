@@ -22,26 +22,28 @@ use Rattle.register_store.specs.declared.table.TableName.{TableName}
 use Rattle.register_store.specs.declared.table.TableName.TheVariants.{Meta, Keys, Custodian, Approval, Request, Period}
 use Rattle.register_store.specs.declared.table.TableName.TheVariants.{Quorum}
 use Rattle.sqlite_resolve.specs.Compile.{first}
-use Rattle.register_core.specs.declared.version.Version.{Version}
-use Rattle.register_core.specs.declared.version.Version.TheVariants.{First, Second}
+use Rattle.register_requests.specs.declared.version.Version.{Version}
+use Rattle.register_requests.specs.declared.version.Version.TheVariants.{First, Second}
 use Rattle.register_store.specs.CheckedTables.{BlamesNone, FailsCheck, HasNewer, IsReasonAt, ShowsRows, ChecksTable, check_text}
+use Rattle.register_store.specs.Columns.{meta_columns, name_columns, request_columns, period_columns, need_columns}
 use Rattle.register_store.specs.Schema.{schema_in}
 use Rattle.register_store.specs.Stored.{HoldsStored, Part, Stored, part, with_part}
 use Rattle.register_store.specs.Tables.{Layout, place_of, table_count, table_of}
 use Rattle.register_store.proofs.Meanings.{Asks, IsPlacedIn, Meant, asks, classes_in, placed_as}
 use Rattle.register_store.specs.OpeningChecks.{MeetsCheck, MeetsChecks}
+use Rattle.register_store.proofs.ColumnTerms.{key_shown, shown_from}
 use Rattle.register_store.proofs.Ordered.{ordered_query}
 
 -- ---- what the texts mean
 
 abbrev pub shown_of_table : TableName → List Term
-shown_of_table Meta = col 1 0 ∷ col 1 2 ∷ col 1 3 ∷ col 1 4 ∷ []
-shown_of_table Keys = col 1 2 ∷ col 1 3 ∷ col 1 4 ∷ col 1 5 ∷ col 1 6 ∷ col 1 7 ∷ col 1 8 ∷ col 1 9 ∷ col 1 10 ∷ col 1 11 ∷ col 1 12 ∷ col 1 0 ∷ []
-shown_of_table Custodian = col 1 1 ∷ col 1 2 ∷ []
-shown_of_table Approval = col 1 1 ∷ col 1 2 ∷ []
-shown_of_table Request = col 1 3 ∷ col 1 4 ∷ col 1 5 ∷ col 1 6 ∷ col 1 1 ∷ col 1 2 ∷ []
-shown_of_table Period = col 1 0 ∷ col 1 2 ∷ col 1 3 ∷ []
-shown_of_table Quorum = col 1 0 ∷ col 1 2 ∷ []
+shown_of_table Meta = col 1 0 ∷ shown_from 2 meta_columns
+shown_of_table Keys = key_shown ++ col 1 0 ∷ []
+shown_of_table Custodian = shown_from 1 name_columns
+shown_of_table Approval = shown_from 1 name_columns
+shown_of_table Request = shown_from 3 request_columns ++ col 1 1 ∷ col 1 2 ∷ []
+shown_of_table Period = col 1 0 ∷ shown_from 2 period_columns
+shown_of_table Quorum = col 1 0 ∷ shown_from 2 need_columns
 
 abbrev pub asked : Layout → TableName → Query
 asked l Meta = ordered_query (l.tree Meta) (shown_of_table Meta)

@@ -23,9 +23,9 @@ use Rattle.row_checks.specs.EachRow.{ShowEach}
 use Rattle.row_checks.specs.ShownRows.{HasNoMeaning, ShowsAll, ShowsFirst}
 use Rattle.row_checks.proofs.Each.{all_prefix, all_last, all_more, show_prefix, show_less, show_more, show_same}
 use Rattle.sql_steps.proofs.Members.{filter_permutation}
-use Rattle.register_core.specs.Version.{custodians_of}
+use Rattle.register_requests.specs.Version.{custodians_of}
 use Rattle.register_core.specs.KeyName.{KeyName, is_at, names_at}
-use Rattle.register_core.specs.Name.{is_among}
+use Rattle.register_requests.specs.Name.{is_among}
 use Rattle.register_store.specs.declared.error.CheckError.{CheckError}
 use Rattle.register_store.specs.declared.error.CheckError.TheVariants.{Memory as Ran_out}
 use Rattle.register_store.specs.declared.table.TableName.TheVariants.{Custodian}

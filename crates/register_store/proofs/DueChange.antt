@@ -1,10 +1,10 @@
 -- What the UPDATEs of the states of due keys do.
-use Rattle.std.proofs.Common.{◌≡◌, ◌==◌, ◌&&◌, ℕ, ◌+◌, pos, List, [], ◌∷◌, map, Bool, true, Ok, Option, None, Some}
+use Rattle.std.proofs.Common.{◌≡◌, ◌==◌, ◌&&◌, ℕ, ◌+◌, pos, List, [], ◌∷◌, map, Bool, true, Ok, Option, None, Some, set}
 use Rattle.std.proofs.Common.{nat_le, inl, inr, refl, ap, ap₂, subst, ◌∙◌, arith}
 use Rattle.std.proofs.Math.Bool.{and-true}
 use Rattle.std.proofs.lemmas.Bool.Decides.{leb_tells}
 use Rattle.std.specs.List.{enumerate_from}
-use Rattle.sqlite.specs.declared.types.Value.TheVariants.{Null, Int}
+use Rattle.sqlite.specs.declared.types.Value.TheVariants.{Int}
 use Rattle.sqlite.specs.Collation.TheVariants.{Binary}
 use Rattle.sqlite.specs.Order.{Row as Cells}
 use Rattle.sqlite.specs.State.{State as View, Executes}
@@ -24,6 +24,7 @@ use Rattle.register_store.specs.Schema.{Holds}
 use Rattle.register_store.specs.TableChanges.{Makes, Always, in_state}
 use Rattle.register_store.specs.Due.{date_of, is_due, moved_on, state_before, state_after, update_text, with_each}
 use Rattle.sqlite_resolve.specs.Compile.{first}
+use Rattle.register_store.proofs.ColumnTerms.{key_kept}
 use Rattle.register_store.proofs.KeyChange.{IsUpdate, changed_where, changes_keys, image_of, passes_row}
 
 -- the column of a date
@@ -39,9 +40,7 @@ passes date =
 
 -- a row with the state after
 abbrev shown : DueDate → List Term
-shown date =
-    col 1 0 ∷ lit Null ∷ col 1 2 ∷ col 1 3 ∷ col 1 4 ∷ lit (Int (pos (state_code (state_after date)))) ∷ col 1 6
-    ∷ col 1 7 ∷ col 1 8 ∷ col 1 9 ∷ col 1 10 ∷ col 1 11 ∷ col 1 12 ∷ []
+shown date = set key_kept 5 (lit (Int (pos (state_code (state_after date)))))
 
 parts : (date : DueDate) → IsUpdate (update_text date) (passes date) (shown date)
 unfolding everything first

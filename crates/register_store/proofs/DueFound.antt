@@ -34,6 +34,7 @@ use Rattle.register_core.specs.declared.key.Key.{Key}
 use Rattle.register_store.specs.declared.table.TableName.TheVariants.{Keys}
 use Rattle.register_store.specs.declared.key_scan.DueSearch.{DueSearch}
 use Rattle.register_store.specs.declared.key_scan.DueSearch.TheVariants.{Past, SameStop}
+use Rattle.register_store.specs.Columns.{key_columns, select}
 use Rattle.register_store.specs.KeyScan.{IsAfter}
 use Rattle.register_store.specs.TableReads.{ShowsAt}
 use Rattle.register_store.specs.Schema.{Holds, schema_with}
@@ -54,7 +55,8 @@ abbrev pub same_text : List ℕ
 same_text = search_text SameStop
 
 abbrev pub later_text : List ℕ
-later_text = codes "SELECT kind, owner, purpose, state, initial, activation, protect_stop, deactivation, destroyed, compromised, occurrence, number FROM keys WHERE state = 2 AND protect_stop > ?1 AND protect_stop <= ?2 ORDER BY protect_stop, number"
+later_text = select key_columns
+    (codes ", number FROM keys WHERE state = 2 AND protect_stop > ?1 AND protect_stop <= ?2 ORDER BY protect_stop, number")
 
 abbrev pub past_text : List ℕ
 past_text = search_text Past

@@ -1,5 +1,6 @@
 -- Rows that pass each by itself.
-use Rattle.std.proofs.Common.{List, [], ◌∷◌, ◌++◌, subst}
+use Rattle.std.proofs.Common.{◌≡◌, true, false, List, [], ◌∷◌, ◌++◌, Option, None, Some, subst}
+use Rattle.std.specs.Prelude.{MatchOption, is_some}
 use Rattle.std.specs.List.{AllByRecursion}
 use Rattle.sqlite.specs.Order.{Row}
 use Rattle.row_checks.specs.EachRow.{ShowEach}
@@ -35,3 +36,15 @@ module _ {A : Type 0} (Shows : Row → A → Type 0) (P : A → Type 0) where
         shown = it.3;
         each = all_prefix P it.0 it.1 (subst (AllByRecursion P) it.2 each);
       })
+
+-- ---- what is found of a row, or is not
+
+pub found_one : {A : Type 0} (found : Option A) (P : Type 0) (Q : A → Type 0) → MatchOption found P Q
+    → is_some found ≡ true → (x : A) × Q x
+found_one None P Q holds is = absurd cc
+found_one (Some x) P Q holds is = (x, holds)
+
+pub found_none : {A : Type 0} (found : Option A) (P : Type 0) (Q : A → Type 0) → MatchOption found P Q
+    → is_some found ≡ false → P
+found_none None P Q holds is = holds
+found_none (Some x) P Q holds is = absurd cc

@@ -1,15 +1,15 @@
 -- What an UPDATE of keys does: of the one with a number, or of any others.
-use Rattle.std.proofs.Common.{◌≡◌, ◌==◌, ℕ, ◌+◌, pos, List, [], ◌∷◌, codes, map, Bool, cond, Ok, Option, Some, not}
+use Rattle.std.proofs.Common.{◌≡◌, ◌==◌, ℕ, ◌+◌, pos, List, [], ◌∷◌, ◌++◌, codes, map, Bool, cond, Ok, Option, Some, not}
 use Rattle.std.proofs.Common.{◌&&◌, true, false, refl, sym, ap, ap₂, subst, ◌∙◌}
 use Rattle.std.proofs.Math.Bool.{and-true}
 use Rattle.std.specs.List.{AllByRecursion, enumerate_from}
 use Rattle.sqlite.specs.declared.types.Value.{Value}
-use Rattle.sqlite.specs.declared.types.Value.TheVariants.{Null, Int, Text as Words}
+use Rattle.sqlite.specs.declared.types.Value.TheVariants.{Int, Text as Words}
 use Rattle.sqlite.specs.Collation.TheVariants.{Binary}
 use Rattle.sqlite.specs.Order.{Row as Cells}
 use Rattle.sqlite.specs.State.{State as View, Executes}
 use Rattle.sqlite.specs.Ops.{from_truth, is_true, unary}
-use Rattle.sqlite.specs.Term.{Term, eval, lit, col, op1, op2}
+use Rattle.sqlite.specs.Term.{Term, eval, col, op1, op2}
 use Rattle.sqlite.specs.Tree.{IsTable}
 use Rattle.sqlite_sql.specs.declared.ops.BinaryOp.TheVariants.{Compare}
 use Rattle.sqlite_sql.specs.declared.ops.CompareOp.TheVariants.{Eq}
@@ -24,16 +24,18 @@ use Rattle.lifecycle_core.specs.declared.dates.Dates.{Dates}
 use Rattle.lifecycle_core.specs.declared.row.Row.{Row}
 use Rattle.lifecycle_core.specs.State.{state_code}
 use Rattle.register_core.specs.declared.key.Key.{Key}
-use Rattle.register_core.specs.Name.{IsName}
+use Rattle.register_requests.specs.Name.{IsName}
 use Rattle.register_store.specs.declared.table.TableName.TheVariants.{Keys}
+use Rattle.register_store.specs.Columns.{joined}
 use Rattle.register_store.specs.Tables.{Layout, fresh, keys, place_of, AreDates, IsKey, date_cell, key_row, numbered}
 use Rattle.register_store.specs.Schema.{schema_with, Holds, rows_of}
 use Rattle.register_store.specs.TableChanges.{Makes, Always, held_by, where_number, with_key_at}
 use Rattle.register_store.proofs.Actions.{idle, shows_all}
+use Rattle.register_store.proofs.ColumnTerms.{key_kept, with_given}
 use Rattle.sqlite_resolve.specs.Compile.{first}
 use Rattle.register_store.proofs.Meanings.{Sets, classes, placed, sets}
 use Rattle.register_store.proofs.Frame.{holds_with}
-use Rattle.register_store.proofs.KeyStands.{joined, stands, stands_so, where_it_differs}
+use Rattle.register_store.proofs.KeyStands.{both_so, given_places, stands, stands_so, where_it_differs}
 use Rattle.register_store.proofs.Numbers.{is_table}
 
 -- the text gives the rows that pass other cells
@@ -101,19 +103,25 @@ module _ (sql : List ℕ) (passes shown : List Term) (parts : IsUpdate sql passe
 
 -- ---- what an accepted request can change
 
+-- the columns with the parameters that they are given
+abbrev given_texts : List (List ℕ)
+given_texts =
+    codes "owner = ?2" ∷ codes "state = ?3" ∷ codes "activation = ?4" ∷ codes "protect_stop = ?5"
+    ∷ codes "deactivation = ?6" ∷ codes "destroyed = ?7" ∷ codes "compromised = ?8" ∷ codes "occurrence = ?9" ∷ []
+
 abbrev pub key_text : List ℕ
-key_text = codes "UPDATE keys SET owner = ?2, state = ?3, activation = ?4, protect_stop = ?5, deactivation = ?6, destroyed = ?7, compromised = ?8, occurrence = ?9 WHERE number = ?1 AND NOT (owner = ?2 AND state = ?3 AND activation = ?4 AND protect_stop = ?5 AND deactivation = ?6 AND destroyed = ?7 AND compromised = ?8 AND occurrence = ?9)"
+key_text =
+    codes "UPDATE keys SET " ++ joined (codes ", ") given_texts ++ codes " WHERE number = ?1 AND NOT ("
+    ++ joined (codes " AND ") given_texts ++ codes ")"
 
 -- the rowid is the one that is given first, and the key stands otherwise than it is to
 abbrev differs : List Term
 differs = op2 (Compare Eq Binary) (col 1 0) (col 0 0) ∷ op1 Not stands_so ∷ []
 
-abbrev key_shown : List Term
-key_shown =
-    col 1 0 ∷ lit Null ∷ col 1 2 ∷ col 0 1 ∷ col 1 4 ∷ col 0 2 ∷ col 1 6 ∷ col 0 3 ∷ col 0 4 ∷ col 0 5 ∷ col 0 6
-    ∷ col 0 7 ∷ col 0 8 ∷ []
+abbrev key_given : List Term
+key_given = with_given 1 given_places key_kept
 
-key_parts : IsUpdate key_text differs key_shown
+key_parts : IsUpdate key_text differs key_given
 unfolding everything first
 key_parts l = record { p = _; name = _; sets = _; check = _; d = _; parsed = refl; untimed = refl; is = refl; named = refl; there = refl; drafted = refl; same = refl; from = refl; accepted = refl }
 
@@ -147,8 +155,8 @@ module _ (number : ℕ) (owner : List ℕ) (row : Row) where
       let d = row.dates in
       let e = k.row.dates in
       let date = λ (a b : Option ℕ). equal_integers (date_cell a) (date_cell b) in
-      joined _ _ _ _ (joined _ _ _ _ (joined _ _ _ _ (joined _ _ _ _ (joined _ _ _ _ (joined _ _ _ _
-      (joined _ _ _ _ (equal_texts k.owner owner) (equal_integers (state_code k.row.state) (state_code row.state)))
+      both_so _ _ _ _ (both_so _ _ _ _ (both_so _ _ _ _ (both_so _ _ _ _ (both_so _ _ _ _ (both_so _ _ _ _
+      (both_so _ _ _ _ (equal_texts k.owner owner) (equal_integers (state_code k.row.state) (state_code row.state)))
       (date e.activation d.activation)) (date e.protect_stop d.protect_stop)) (date e.deactivation d.deactivation))
       (date e.destroy d.destroy)) (date e.compromise d.compromise))
       (date e.compromise_occurrence d.compromise_occurrence)
@@ -166,7 +174,7 @@ module _ (number : ℕ) (owner : List ℕ) (row : Row) where
       → Executes key_text (key_params number owner row) old new (Ok count)
       → Makes Always (with_key_at number (held_by owner row)) old.now new.now
   updates_key name dates old new count ran t holds always =
-      let made = changes_keys key_text differs key_shown key_parts (key_params number owner row) is_to_change
+      let made = changes_keys key_text differs key_given key_parts (key_params number owner row) is_to_change
       (held_by owner row) (stays_key owner row name dates)
       (λ p. ap₂ (λ (a : Bool) (v : Value). a && (is_true (unary Not v) && true)) (equal_numbers p.0 number)
       (condition_is p.1)

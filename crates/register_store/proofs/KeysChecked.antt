@@ -1,7 +1,7 @@
 -- The check of the table of keys.
-use Rattle.std.proofs.Common.{◌≡◌, ◌≢◌, ◌==◌, ◌≤◌, ◌<◌, ◌+◌, Bool, true, false, inr, ℕ, suc, pos, Result, Ok, Err}
+use Rattle.std.proofs.Common.{◌≡◌, ◌≢◌, ◌==◌, ◌≤◌, ◌<◌, ◌+◌, Bool, true, false, inl, inr, ℕ, suc, pos, Result, Ok, Err}
 use Rattle.std.proofs.Common.{List, [], ◌∷◌, ◌++◌, length, length-append, map, sym, ap, subst, ◌∙◌, refl, arith}
-use Rattle.std.proofs.lemmas.Bool.{eq-eqb, eqb-true}
+use Rattle.std.proofs.lemmas.Bool.{cases_Bool, eq-eqb, eqb-true}
 use Rattle.std.proofs.lemmas.List.{map-append}
 use Rattle.std.specs.List.{AllByRecursion, enumerate_from}
 use Rattle.std.specs.Global.{Vec}
@@ -22,7 +22,7 @@ use Rattle.register_store.specs.declared.found.Found.{Found}
 use Rattle.register_store.specs.declared.error.CheckError.{CheckError}
 use Rattle.register_store.specs.declared.error.CheckError.TheVariants.{NotARegister}
 use Rattle.register_store.specs.declared.table.TableName.TheVariants.{Keys}
-use Rattle.register_core.specs.declared.version.Version.{Version}
+use Rattle.register_requests.specs.declared.version.Version.{Version}
 use Rattle.register_store.specs.CheckedTables.{IsOdd, IsReasonAt, ShowsNumbered, ShowsRows, ChecksTable, check_error}
 use Rattle.register_store.specs.CheckedTables.{check_text, mark_of}
 use Rattle.register_store.specs.Schema.{rows_of}
@@ -285,3 +285,15 @@ module _ (t : Stored) (found : Found) (told : mark_of found ≡ mark t) (old new
 
     pub keys_given : (q : Result (Vec (List ℕ)) CheckError) → q ≡ owners_where (count == seen.keys) owners → Checked q
     keys_given q is = subst Checked (sym is) (given_by (count == seen.keys) refl)
+
+-- ---- whether there are as many as are counted
+
+pub all_where : (count many : ℕ) (owners : Vec (List ℕ)) → count ≡ many → Ok owners ≡ owners_where (count == many) owners
+all_where count many owners same = ap (λ all. owners_where all owners) (sym (eq-eqb count many same))
+
+pub none_where : (count many : ℕ) (owners : Vec (List ℕ)) → (count ≡ many → ⊥)
+    → Err NotARegister ≡ owners_where (count == many) owners
+none_where count many owners apart = elim (cases_Bool (count == many)) [
+  | inl same ↦ absurd (apart (eqb-true count many same))
+  | inr other ↦ ap (λ all. owners_where all owners) (sym other)
+]

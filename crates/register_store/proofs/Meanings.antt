@@ -36,9 +36,9 @@ use Rattle.sqlite_typing.specs.declared.class.Class.{Class}
 use Rattle.sqlite_typing.specs.Types.{accepts_over, accepts_after, filled, is_count, table_classes, row_classes}
 use Rattle.sqlite_value.specs.declared.keys.Collation.{Collation}
 use Rattle.register_store.specs.declared.table.TableName.{TableName}
-use Rattle.register_core.specs.declared.version.Version.{Version}
-use Rattle.register_core.specs.declared.version.Version.TheVariants.{First, Second}
-use Rattle.register_core.specs.Version.{current}
+use Rattle.register_requests.specs.declared.version.Version.{Version}
+use Rattle.register_requests.specs.declared.version.Version.TheVariants.{First, Second}
+use Rattle.register_requests.specs.Version.{current}
 use Rattle.register_store.specs.Tables.{Layout, AreApart, AreApartBelow, AreApartIn, Tables, all_tables, place_of}
 use Rattle.register_store.specs.Tables.{table_count, table_of}
 use Rattle.register_store.specs.Schema.{Holds, HoldsIn, schema_in, schema_with}

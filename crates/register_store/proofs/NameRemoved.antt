@@ -22,7 +22,7 @@ use Rattle.sql_steps.proofs.Deletes.{ids_shown}
 use Rattle.sql_steps.proofs.Orphans.{removes_both}
 use Rattle.sql_steps.proofs.Removing.{removes}
 use Rattle.sql_steps.proofs.Statements.{plain_query, is_picked}
-use Rattle.register_core.specs.Name.{IsName}
+use Rattle.register_requests.specs.Name.{IsName}
 use Rattle.register_core.specs.KeyName.{KeyName, key_name, is_key_name, is_at}
 use Rattle.register_store.specs.declared.custody.Role.{Role}
 use Rattle.register_store.specs.declared.custody.Role.TheVariants as role

@@ -20,7 +20,7 @@ use Rattle.sql_steps.proofs.Updates.{has_permutation}
 use Rattle.sql_steps.proofs.Queries.{gives_all, only_reads}
 use Rattle.sql_steps.proofs.Statements.{plain_query, picked}
 use Rattle.register_core.specs.KeyName.{KeyName, is_at, names_at}
-use Rattle.register_core.specs.Name.{IsName}
+use Rattle.register_requests.specs.Name.{IsName}
 use Rattle.register_core.specs.Names.{sorted_names}
 use Rattle.register_store.specs.declared.error.StoreError.{StoreError}
 use Rattle.register_store.specs.declared.error.StoreError.TheVariants.{Database, NoRegister}

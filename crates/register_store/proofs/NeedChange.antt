@@ -1,5 +1,5 @@
 -- What computing the statements on needs shows.
-use Rattle.std.proofs.Common.{◌==◌, ℕ, pos, List, [], ◌∷◌, codes, refl}
+use Rattle.std.proofs.Common.{◌==◌, ℕ, pos, List, [], ◌∷◌, ◌++◌, codes, refl}
 use Rattle.std.proofs.Math.Bool.{and-true}
 use Rattle.sqlite.specs.declared.types.Value.TheVariants.{Null, Int}
 use Rattle.sqlite.specs.Order.{Row as Cells}
@@ -12,9 +12,11 @@ use Rattle.sql_steps.proofs.Deletes.{ids_shown}
 use Rattle.sql_steps.proofs.Statements.{plain_query, cast_int, cast_null}
 use Rattle.register_core.specs.Settings.{KeyNeed}
 use Rattle.register_store.specs.declared.table.TableName.TheVariants.{Quorum}
+use Rattle.register_store.specs.Columns.{need_columns, given, listed}
 use Rattle.register_store.specs.Tables.{Layout, IsSetNeed, Tables, need_row, place_of, table_of}
 use Rattle.register_store.specs.Schema.{schema_with}
 use Rattle.register_store.proofs.Actions.{idle}
+use Rattle.register_store.proofs.ColumnTerms.{given_from}
 use Rattle.register_store.proofs.EntryAdded.{IsInsert}
 use Rattle.register_store.proofs.Frame.{holds_with}
 use Rattle.register_store.proofs.KeyedChange.{IsSetTable}
@@ -30,10 +32,10 @@ unfolding everything first
 takes_need l = record { p = _; name = _; check = _; d = _; parsed = refl; untimed = refl; is = refl; named = refl; there = refl; drafted = refl; same = refl; from = refl; accepted = refl }
 
 abbrev pub need_text : List ℕ
-need_text = codes "INSERT INTO quorum (key_no, need) VALUES (?1, ?2)"
+need_text = codes "INSERT INTO quorum (key_no, " ++ listed need_columns ++ codes ") VALUES (:key_no" ++ given need_columns ++ codes ")"
 
 abbrev need_terms : List Term
-need_terms = col 0 0 ∷ lit Null ∷ col 0 1 ∷ []
+need_terms = col 0 0 ∷ lit Null ∷ given_from 1 need_columns
 
 need_parts : IsInsert need_text (place_of Quorum) need_terms 3
 unfolding understood everything

@@ -1,18 +1,21 @@
 -- The search for a key's need, and what its table shows.
-use Rattle.std.proofs.Common.{◌≡◌, ◌==◌, ℕ, pos, List, [], ◌∷◌, codes, refl}
+use Rattle.std.proofs.Common.{◌≡◌, ◌==◌, ℕ, pos, List, [], ◌∷◌, map, codes, refl}
 use Rattle.std.proofs.Math.Bool.{and-true}
 use Rattle.sqlite.specs.declared.types.Value.TheVariants.{Int}
 use Rattle.sqlite.specs.Order.{Row as Cells}
-use Rattle.sqlite.specs.Term.{Term, col}
+use Rattle.sqlite.specs.Term.{Term}
 use Rattle.sqlite_resolve.specs.Compile.{first}
 use Rattle.sqlite_tied.specs.Compute.{everything}
 use Rattle.sql_steps.proofs.Comparing.{equal_numbers}
-use Rattle.register_core.specs.Quorum.{IsQuorum}
+use Rattle.register_requests.specs.Quorum.{IsQuorum}
 use Rattle.register_core.specs.Settings.{KeyNeed}
 use Rattle.sql_steps.proofs.Statements.{plain_query}
 use Rattle.register_store.specs.declared.table.TableName.TheVariants.{Quorum}
+use Rattle.register_store.specs.Columns.{need_columns, select}
+use Rattle.register_store.specs.TableForms.{name_of}
 use Rattle.register_store.specs.Tables.{Layout, Tables, need_row, table_of}
 use Rattle.register_store.specs.TableReads.{ShowsNeed}
+use Rattle.register_store.proofs.ColumnTerms.{shown_from}
 use Rattle.register_store.proofs.KeyedFound.{IsKeyed}
 use Rattle.register_store.specs.Schema.{schema_with}
 use Rattle.register_store.proofs.Meanings.{Asks}
@@ -20,13 +23,13 @@ use Rattle.register_store.proofs.Readings.{IsSearch, search_by}
 use Rattle.register_store.proofs.Texts.{has_number}
 
 abbrev pub need_text : List ℕ
-need_text = codes "SELECT need FROM quorum WHERE key_no = ?1"
+need_text = select need_columns (codes " FROM quorum WHERE key_no = ?1")
 
 abbrev need_shown : List Term
-need_shown = col 1 2 ∷ []
+need_shown = shown_from 2 need_columns
 
 abbrev need_names : List (List ℕ)
-need_names = codes "need" ∷ []
+need_names = map name_of need_columns
 
 asks_need : (l : Layout) → Asks (schema_with l) (table_of l Quorum) need_text (plain_query (l.tree Quorum) has_number need_shown) need_names
 unfolding everything first

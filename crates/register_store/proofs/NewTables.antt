@@ -29,7 +29,7 @@ use Rattle.sql_steps.proofs.Creating.{makes}
 use Rattle.register_store.specs.declared.table.TableName.{TableName}
 use Rattle.register_store.specs.declared.table.TableName.TheVariants.{Meta, Keys, Custodian, Approval, Request}
 use Rattle.register_store.specs.declared.table.TableName.TheVariants.{Period, Quorum}
-use Rattle.register_core.specs.declared.version.Version.TheVariants.{First}
+use Rattle.register_requests.specs.declared.version.Version.TheVariants.{First}
 use Rattle.register_store.specs.Migration.{MakesNext}
 use Rattle.register_store.specs.Schema.{rows_of, schema_below}
 use Rattle.register_store.specs.Tables.{AreApartBelow, Layout, ShowsIn, content, create_text, place_of, table_count}

@@ -3,7 +3,7 @@ use Rattle.std.proofs.Common.{◌≡◌, inl, inr, Err, refl, sym, ◌∙◌}
 use Rattle.sqlite.specs.Listing.{understood, listing_schema}
 use Rattle.sqlite_resolve.specs.declared.error.CompileError.{CompileError}
 use Rattle.sqlite_tied.specs.Compute.{everything}
-use Rattle.register_core.specs.declared.version.Version.TheVariants.{First}
+use Rattle.register_requests.specs.declared.version.Version.TheVariants.{First}
 use Rattle.register_store.specs.declared.table.TableName.TheVariants.{Period, Quorum}
 use Rattle.register_store.specs.Migration.{HasNewTable}
 use Rattle.register_store.specs.Schema.{schema_in}

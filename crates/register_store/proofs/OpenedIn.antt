@@ -7,8 +7,8 @@ use Rattle.sqlite.specs.Tree.{Trees}
 use Rattle.sqlite.proofs.Callers.{unchanged_then}
 use Rattle.sqlite.proofs.StateLemmas.{survives_then}
 use Rattle.sql_steps.specs.Steps.{TransactsBy}
-use Rattle.register_core.specs.declared.version.Version.{Version}
-use Rattle.register_core.specs.declared.version.Version.TheVariants.{First, Second}
+use Rattle.register_requests.specs.declared.version.Version.{Version}
+use Rattle.register_requests.specs.declared.version.Version.TheVariants.{First, Second}
 use Rattle.register_store.specs.declared.error.CheckError.{CheckError}
 use Rattle.register_store.specs.declared.error.CheckError.TheVariants.{NotARegister, NewerVersion, Memory, Database}
 use Rattle.register_store.specs.declared.error.CreateError.{CreateError}

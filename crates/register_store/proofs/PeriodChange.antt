@@ -1,5 +1,5 @@
 -- What computing the statements on periods shows.
-use Rattle.std.proofs.Common.{◌==◌, ℕ, pos, List, [], ◌∷◌, codes, refl}
+use Rattle.std.proofs.Common.{◌==◌, ℕ, pos, List, [], ◌∷◌, ◌++◌, codes, refl}
 use Rattle.std.proofs.Math.Bool.{and-true}
 use Rattle.sqlite.specs.declared.types.Value.TheVariants.{Null, Int}
 use Rattle.sqlite.specs.Listing.{understood}
@@ -13,9 +13,11 @@ use Rattle.sql_steps.proofs.Statements.{plain_query, cast_int, cast_null}
 use Rattle.period_core.specs.KeyType.{key_type_code}
 use Rattle.register_core.specs.Settings.{TypePeriod}
 use Rattle.register_store.specs.declared.table.TableName.TheVariants.{Period}
+use Rattle.register_store.specs.Columns.{period_columns, given, listed}
 use Rattle.register_store.specs.Tables.{Layout, IsSetPeriod, Tables, period_row, place_of, table_of}
 use Rattle.register_store.specs.Schema.{schema_with}
 use Rattle.register_store.proofs.Actions.{idle}
+use Rattle.register_store.proofs.ColumnTerms.{given_from}
 use Rattle.register_store.proofs.EntryAdded.{IsInsert}
 use Rattle.register_store.proofs.Frame.{holds_with}
 use Rattle.register_store.proofs.KeyedChange.{IsSetTable}
@@ -31,10 +33,10 @@ unfolding everything first
 takes_period l = record { p = _; name = _; check = _; d = _; parsed = refl; untimed = refl; is = refl; named = refl; there = refl; drafted = refl; same = refl; from = refl; accepted = refl }
 
 abbrev pub period_text : List ℕ
-period_text = codes "INSERT INTO period (kind, originator, recipient) VALUES (?1, ?2, ?3)"
+period_text = codes "INSERT INTO period (kind, " ++ listed period_columns ++ codes ") VALUES (:kind" ++ given period_columns ++ codes ")"
 
 abbrev period_terms : List Term
-period_terms = col 0 0 ∷ lit Null ∷ col 0 1 ∷ col 0 2 ∷ []
+period_terms = col 0 0 ∷ lit Null ∷ given_from 1 period_columns
 
 period_parts : IsInsert period_text (place_of Period) period_terms 4
 unfolding understood everything

@@ -1,9 +1,9 @@
 -- The search for the period of a type, and what its table shows.
-use Rattle.std.proofs.Common.{◌≡◌, ◌==◌, ℕ, pos, List, [], ◌∷◌, codes, refl}
+use Rattle.std.proofs.Common.{◌≡◌, ◌==◌, ℕ, pos, List, [], ◌∷◌, map, codes, refl}
 use Rattle.std.proofs.Math.Bool.{and-true}
 use Rattle.sqlite.specs.declared.types.Value.TheVariants.{Int}
 use Rattle.sqlite.specs.Order.{Row as Cells}
-use Rattle.sqlite.specs.Term.{Term, col}
+use Rattle.sqlite.specs.Term.{Term}
 use Rattle.sqlite_resolve.specs.Compile.{first}
 use Rattle.sqlite_tied.specs.Compute.{everything}
 use Rattle.sql_steps.proofs.Comparing.{equal_numbers}
@@ -12,8 +12,11 @@ use Rattle.period_core.specs.Period.{IsPeriod, Period as UsagePeriod}
 use Rattle.register_core.specs.Settings.{TypePeriod}
 use Rattle.sql_steps.proofs.Statements.{plain_query}
 use Rattle.register_store.specs.declared.table.TableName.TheVariants.{Period}
+use Rattle.register_store.specs.Columns.{period_columns, select}
+use Rattle.register_store.specs.TableForms.{name_of}
 use Rattle.register_store.specs.Tables.{Layout, Tables, period_row, table_of}
 use Rattle.register_store.specs.TableReads.{ShowsPeriod}
+use Rattle.register_store.proofs.ColumnTerms.{shown_from}
 use Rattle.register_store.proofs.KeyedFound.{IsKeyed}
 use Rattle.register_store.specs.Schema.{schema_with}
 use Rattle.register_store.proofs.Meanings.{Asks}
@@ -21,13 +24,13 @@ use Rattle.register_store.proofs.Readings.{IsSearch, search_by}
 use Rattle.register_store.proofs.Texts.{has_number}
 
 abbrev pub period_text : List ℕ
-period_text = codes "SELECT originator, recipient FROM period WHERE kind = ?1"
+period_text = select period_columns (codes " FROM period WHERE kind = ?1")
 
 abbrev period_shown : List Term
-period_shown = col 1 2 ∷ col 1 3 ∷ []
+period_shown = shown_from 2 period_columns
 
 abbrev period_names : List (List ℕ)
-period_names = codes "originator" ∷ codes "recipient" ∷ []
+period_names = map name_of period_columns
 
 asks_period : (l : Layout) → Asks (schema_with l) (table_of l Period) period_text (plain_query (l.tree Period) has_number period_shown) period_names
 unfolding everything first

@@ -19,11 +19,14 @@ use Rattle.sql_steps.proofs.Comparing.{equal_numbers, equal_words}
 use Rattle.sql_steps.proofs.Statements.{plain_query, picked, is_picked}
 use Rattle.register_core.specs.declared.kept_reply.KeptReply.{KeptReply}
 use Rattle.register_core.specs.KeptReply.{IsKeptReply, is_under, kept_under}
-use Rattle.register_core.specs.Request.{command_text}
+use Rattle.register_requests.specs.Request.{command_text}
 use Rattle.register_store.specs.declared.table.TableName.TheVariants.{Request}
 use Rattle.register_store.specs.Tables.{Layout, Tables, request_cells, state_cell, table_of}
+use Rattle.register_store.specs.Columns.{request_columns, select}
 use Rattle.register_store.specs.Schema.{schema_with, Holds, rows_of}
+use Rattle.register_store.specs.TableForms.{name_of}
 use Rattle.register_store.specs.TableReads.{HasRequest, ShowsRequest}
+use Rattle.register_store.proofs.ColumnTerms.{shown_from}
 use Rattle.register_store.proofs.Decoding.{same_request}
 use Rattle.register_store.proofs.EntryRows.{picks_entries}
 use Rattle.register_store.proofs.Meanings.{Asks}
@@ -34,17 +37,17 @@ use Rattle.register_store.proofs.RowFound.{row_read}
 -- ---- the text
 
 abbrev pub search_text : List ℕ
-search_text = codes "SELECT command, key_no, state, moment FROM request WHERE caller = ?1 AND number = ?2"
+search_text = select request_columns (codes " FROM request WHERE caller = ?1 AND number = ?2")
 
 -- the caller is the first parameter, and the number the second
 abbrev under : List Term
 under = op2 (Compare Eq Binary) (col 1 1) (col 0 0) ∷ op2 (Compare Eq Binary) (col 1 2) (col 0 1) ∷ []
 
 abbrev answer_shown : List Term
-answer_shown = col 1 3 ∷ col 1 4 ∷ col 1 5 ∷ col 1 6 ∷ []
+answer_shown = shown_from 3 request_columns
 
 abbrev answer_names : List (List ℕ)
-answer_names = codes "command" ∷ codes "key_no" ∷ codes "state" ∷ codes "moment" ∷ []
+answer_names = map name_of request_columns
 
 asks_request : (l : Layout)
     → Asks (schema_with l) (table_of l Request) search_text (plain_query (l.tree Request) under answer_shown)

@@ -20,8 +20,8 @@ use Rattle.sql_steps.proofs.Stepping.{steps_as, steps_then}
 use Rattle.row_checks.specs.ShownRows.{IsQuery}
 use Rattle.row_checks.proofs.RowByRow.{no_meaning}
 use Rattle.row_checks.proofs.Selects.{IsSelect, select_plain}
-use Rattle.register_core.specs.declared.version.Version.{Version}
-use Rattle.register_core.specs.declared.version.Version.TheVariants.{First, Second}
+use Rattle.register_requests.specs.declared.version.Version.{Version}
+use Rattle.register_requests.specs.declared.version.Version.TheVariants.{First, Second}
 use Rattle.register_store.specs.declared.table.TableName.{TableName}
 use Rattle.register_store.specs.declared.table.TableName.TheVariants.{Meta}
 use Rattle.register_store.specs.Creation.{Answers, HasMeaning, HasTable, IsThere, LacksFirst}

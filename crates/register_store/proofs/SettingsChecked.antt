@@ -8,8 +8,8 @@ use Rattle.register_core.specs.Settings.{KeyNeed, TypePeriod}
 use Rattle.register_store.specs.declared.found.Found.{Found}
 use Rattle.register_store.specs.declared.table.TableName.{TableName}
 use Rattle.register_store.specs.declared.table.TableName.TheVariants.{Period, Quorum}
-use Rattle.register_core.specs.declared.version.Version.{Version}
-use Rattle.register_core.specs.declared.version.Version.TheVariants.{Second}
+use Rattle.register_requests.specs.declared.version.Version.{Version}
+use Rattle.register_requests.specs.declared.version.Version.TheVariants.{Second}
 use Rattle.register_store.specs.CheckedTables.{ShowsKeyNeed, ShowsTypePeriod, counts_of, mark_of}
 use Rattle.register_store.specs.Stored.{HoldsStored, Stored, mark}
 use Rattle.register_store.specs.Tables.{Counts, IsSetNeed, IsSetPeriod, ShowsSinceSecond, need_row, period_row}

@@ -10,7 +10,7 @@ use Rattle.period_core.specs.declared.key_type.KeyType.{KeyType}
 use Rattle.period_core.specs.Period.{Period}
 use Rattle.register_core.specs.declared.key.Key.{Key}
 use Rattle.register_core.specs.KeyName.{KeyName, names_at}
-use Rattle.register_core.specs.Name.{is_among}
+use Rattle.register_requests.specs.Name.{is_among}
 use Rattle.register_core.specs.Settings.{KeyNeed, TypePeriod}
 use Rattle.register_core.specs.Verdict.{max_keys}
 use Rattle.register_store.specs.declared.error.CheckError.{CheckError}
@@ -18,7 +18,7 @@ use Rattle.register_store.specs.declared.error.CheckError.TheVariants.{NewerVers
 use Rattle.register_store.specs.declared.found.Found.{Found}
 use Rattle.register_store.specs.declared.meta_check.MetaRow.{MetaRow}
 use Rattle.register_store.specs.declared.meta_check.MetaRow.TheVariants.{Newer, Counts as CountsKeys}
-use Rattle.register_core.specs.declared.version.Version.{Version}
+use Rattle.register_requests.specs.declared.version.Version.{Version}
 use Rattle.register_store.specs.Tables.{Counts, numbered}
 use Rattle.register_store.specs.Stored.{HoldsStored, Stored, mark}
 use Rattle.register_store.specs.declared.table.TableName.{TableName}

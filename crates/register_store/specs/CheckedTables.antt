@@ -1,5 +1,5 @@
 -- Putting the tables of a file to the checks of opening, whatever the file's schema is.
-use Rattle.std.specs.Prelude.{◌≡◌, ◌≤◌, ◌⊎◌, ◌<◌, ℕ, pos, List, [], ◌∷◌, ◌++◌, codes, Result, IfOk, IfErr}
+use Rattle.std.specs.Prelude.{◌≡◌, ◌≤◌, ◌⊎◌, ◌<◌, ℕ, pos, List, [], ◌∷◌, ◌++◌, length, codes, Result, IfOk, IfErr}
 use Rattle.sqlite.specs.declared.types.Value.TheVariants.{Int, Text as Words}
 use Rattle.sqlite.specs.Order.{Row, column}
 use Rattle.sqlite.specs.Held.{Held as Connection, state}
@@ -15,17 +15,19 @@ use Rattle.register_core.specs.declared.kept_reply.KeptReply.{KeptReply}
 use Rattle.register_core.specs.declared.key.Key.{Key}
 use Rattle.register_core.specs.KeptReply.{IsKeptReply}
 use Rattle.register_core.specs.KeyName.{KeyName}
-use Rattle.register_core.specs.Name.{IsName}
+use Rattle.register_requests.specs.Name.{IsName}
 use Rattle.register_core.specs.Settings.{KeyNeed, TypePeriod}
-use Rattle.register_core.specs.declared.version.Version.{Version}
+use Rattle.register_requests.specs.declared.version.Version.{Version}
 use Rattle.register_core.specs.Verdict.{max_keys}
-use Rattle.register_core.specs.Version.{version_number}
+use Rattle.register_requests.specs.Version.{version_number}
 use Rattle.register_store.specs.declared.found.Found.{Found}
 use Rattle.register_store.specs.declared.error.CheckError.{CheckError}
 use Rattle.register_store.specs.declared.error.CheckError.TheVariants.{NotARegister, NewerVersion, Memory, Database}
 use Rattle.register_store.specs.declared.table.TableName.{TableName}
 use Rattle.register_store.specs.declared.table.TableName.TheVariants.{Meta, Keys, Custodian, Approval, Request, Period}
 use Rattle.register_store.specs.declared.table.TableName.TheVariants.{Quorum}
+use Rattle.register_store.specs.Columns.{meta_columns, key_columns, name_columns, request_columns}
+use Rattle.register_store.specs.Columns.{period_columns, need_columns, listed, select}
 use Rattle.register_store.specs.TableReads.{ShowsKey, ShowsRequest}
 use Rattle.register_store.specs.Stored.{HoldsStored, Part, Stored, mark, part, with_part}
 use Rattle.register_store.specs.Tables.{Counts, IsKey, IsSetNeed, IsSetPeriod, numbered, place_of, table_count, version}
@@ -44,7 +46,7 @@ pub record ShowsCounts (row : Row) (told : Version × Counts) : Type 0 where
 -- the row shows this key with its number
 pub record ShowsNumbered (row : Row) (it : ℕ × Key) : Type 0 where
   pub cells : ShowsKey row it.1
-  pub number : column row 11 ≡ Int (pos it.0)
+  pub number : column row (length key_columns) ≡ Int (pos it.0)
   pub in_range : IsKey it.1
 
 -- the row shows this name at its key
@@ -80,26 +82,29 @@ pub record Check (C : Type 0) : Type 1 where
 
 abbrev pub check_of : (name : TableName) → Check (Part name)
 check_of Meta = record {
-  text = codes "SELECT id, version, latest, key_count FROM meta ORDER BY id";
+  text = codes "SELECT id, " ++ listed meta_columns ++ codes " FROM meta ORDER BY id";
   Shows = λ rows told. ShowEach ShowsCounts rows (told ∷ []);
 }
 check_of Keys = record {
-  text = codes
-      "SELECT kind, owner, purpose, state, initial, activation, protect_stop, deactivation, destroyed, compromised, occurrence, number FROM keys ORDER BY number";
+  text = select key_columns (codes ", number FROM keys ORDER BY number");
   Shows = λ rows keys. ShowEach ShowsNumbered rows (numbered keys);
 }
 check_of Custodian =
-    record { text = codes "SELECT key_no, name FROM custodian"; Shows = ShowEach ShowsName }
+    record { text = select name_columns (codes " FROM custodian"); Shows = ShowEach ShowsName }
 check_of Approval =
-    record { text = codes "SELECT key_no, name FROM approval"; Shows = ShowEach ShowsName }
+    record { text = select name_columns (codes " FROM approval"); Shows = ShowEach ShowsName }
 check_of Request = record {
-  text = codes "SELECT command, key_no, state, moment, caller, number FROM request";
+  text = select request_columns (codes ", caller, number FROM request");
   Shows = ShowEach ShowsKept;
 }
-check_of Period =
-    record { text = codes "SELECT kind, originator, recipient FROM period"; Shows = ShowEach ShowsTypePeriod }
-check_of Quorum =
-    record { text = codes "SELECT key_no, need FROM quorum"; Shows = ShowEach ShowsKeyNeed }
+check_of Period = record {
+  text = codes "SELECT kind, " ++ listed period_columns ++ codes " FROM period";
+  Shows = ShowEach ShowsTypePeriod;
+}
+check_of Quorum = record {
+  text = codes "SELECT key_no, " ++ listed need_columns ++ codes " FROM quorum";
+  Shows = ShowEach ShowsKeyNeed;
+}
 
 abbrev pub check_text : TableName → List ℕ
 check_text name = (check_of name).text

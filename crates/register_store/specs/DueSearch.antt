@@ -7,6 +7,7 @@ use Rattle.register_core.specs.declared.key.Key.{Key}
 use Rattle.register_store.specs.declared.key_scan.DueCursor.{DueCursor}
 use Rattle.register_store.specs.declared.key_scan.DueSearch.{DueSearch}
 use Rattle.register_store.specs.declared.key_scan.DueSearch.TheVariants.{Past, SameStop}
+use Rattle.register_store.specs.Columns.{key_columns, select}
 use Rattle.register_store.specs.KeyScan.{IsAfter}
 use Rattle.register_store.specs.Tables.{IsKey, Tables, date_cell, numbered}
 
@@ -37,8 +38,10 @@ is_past until last x =
 
 -- the text of each search after a cursor
 abbrev pub search_text : DueSearch → List ℕ
-search_text SameStop = codes "SELECT kind, owner, purpose, state, initial, activation, protect_stop, deactivation, destroyed, compromised, occurrence, number FROM keys WHERE state = 2 AND protect_stop = ?1 AND protect_stop <= ?2 AND number > ?3 ORDER BY protect_stop, number"
-search_text Past = codes "SELECT kind, owner, purpose, state, initial, activation, protect_stop, deactivation, destroyed, compromised, occurrence, number FROM keys WHERE state = 2 AND protect_stop >= ?1 AND protect_stop <= ?2 AND (protect_stop > ?1 OR number > ?3) ORDER BY protect_stop, number"
+search_text SameStop = select key_columns
+    (codes ", number FROM keys WHERE state = 2 AND protect_stop = ?1 AND protect_stop <= ?2 AND number > ?3 ORDER BY protect_stop, number")
+search_text Past = select key_columns
+    (codes ", number FROM keys WHERE state = 2 AND protect_stop >= ?1 AND protect_stop <= ?2 AND (protect_stop > ?1 OR number > ?3) ORDER BY protect_stop, number")
 
 -- what it finds the first of
 abbrev pub is_found : DueSearch → ℕ → DueCursor → ℕ × Key → Bool

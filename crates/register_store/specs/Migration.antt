@@ -5,7 +5,7 @@ use Rattle.sqlite.specs.Held.{Held as Connection}
 use Rattle.sqlite.specs.Schema.{Schema}
 use Rattle.sqlite_trees.specs.declared.store.Store.{Ghosts}
 use Rattle.sql_steps.specs.Steps.{Change}
-use Rattle.register_core.specs.declared.version.Version.TheVariants.{First, Second}
+use Rattle.register_requests.specs.declared.version.Version.TheVariants.{First, Second}
 use Rattle.register_store.specs.declared.table.TableName.{TableName}
 use Rattle.register_store.specs.declared.table.TableName.TheVariants.{Period, Quorum}
 use Rattle.register_store.specs.Creation.{FindsIn, IsThere, WhereNone}

@@ -5,9 +5,9 @@ use Rattle.sqlite.specs.Held.{Held as Connection, state}
 use Rattle.sqlite.specs.State.{State, HasCleanDisk, IsUnchanged, Survives}
 use Rattle.sqlite.specs.Tree.{Trees}
 use Rattle.sqlite_trees.specs.declared.store.Store.{Ghosts}
-use Rattle.register_core.specs.declared.version.Version.{Version}
-use Rattle.register_core.specs.declared.version.Version.TheVariants.{First, Second}
-use Rattle.register_core.specs.Version.{current}
+use Rattle.register_requests.specs.declared.version.Version.{Version}
+use Rattle.register_requests.specs.declared.version.Version.TheVariants.{First, Second}
+use Rattle.register_requests.specs.Version.{current}
 use Rattle.register_store.specs.declared.error.CheckError.{CheckError}
 use Rattle.register_store.specs.declared.error.CheckError.TheVariants.{NotARegister, NewerVersion, Memory}
 use Rattle.register_store.specs.declared.error.CheckError.TheVariants.{Database as Stopped}

@@ -9,11 +9,11 @@ use Rattle.period_core.specs.Fitting.{Fits, are_in_order, is_not_after}
 use Rattle.period_core.specs.Period.{periods}
 use Rattle.register_core.specs.declared.kept_reply.KeptReply.{KeptReply}
 use Rattle.register_core.specs.declared.key.Key.{Key}
-use Rattle.register_core.specs.declared.version.Version.{Version}
-use Rattle.register_core.specs.declared.version.Version.TheVariants.{First, Second}
-use Rattle.register_core.specs.Version.{custodians_of, knows}
+use Rattle.register_requests.specs.declared.version.Version.{Version}
+use Rattle.register_requests.specs.declared.version.Version.TheVariants.{First, Second}
+use Rattle.register_requests.specs.Version.{custodians_of, knows}
 use Rattle.register_core.specs.KeyName.{KeyName, names_at}
-use Rattle.register_core.specs.Name.{is_among}
+use Rattle.register_requests.specs.Name.{is_among}
 use Rattle.register_core.specs.Settings.{KeyNeed}
 use Rattle.register_core.specs.Verdict.{max_keys}
 use Rattle.register_store.specs.declared.table.TableName.{TableName}

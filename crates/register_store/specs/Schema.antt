@@ -10,8 +10,8 @@ use Rattle.register_store.specs.declared.key_index.KeyIndex.{KeyIndex}
 use Rattle.register_store.specs.declared.key_index.KeyIndex.TheVariants.{Activation, Deactivation, ProtectStop}
 use Rattle.register_store.specs.declared.table.TableName.{TableName}
 use Rattle.register_store.specs.declared.table.TableName.TheVariants.{Keys}
-use Rattle.register_core.specs.declared.version.Version.{Version}
-use Rattle.register_core.specs.Version.{current}
+use Rattle.register_requests.specs.declared.version.Version.{Version}
+use Rattle.register_requests.specs.Version.{current}
 use Rattle.register_store.specs.Tables.{Layout, AreApartIn, fresh, Tables, content, IsInRange, ShowsIn, all_tables}
 use Rattle.register_store.specs.Tables.{table_of, table_count, key_indexes, trees_of}
 

@@ -1,6 +1,6 @@
 -- Tables with the version in which they are stored.
 use Rattle.sqlite.specs.Effect.{Database}
-use Rattle.register_core.specs.declared.version.Version.{Version}
+use Rattle.register_requests.specs.declared.version.Version.{Version}
 use Rattle.register_store.specs.declared.table.TableName.{TableName}
 use Rattle.register_store.specs.declared.table.TableName.TheVariants.{Meta}
 use Rattle.register_store.specs.Schema.{HoldsIn}

@@ -20,15 +20,16 @@ use Rattle.register_core.specs.declared.key.Key.{Key}
 use Rattle.register_core.specs.declared.view.Held.{Held}
 use Rattle.register_core.specs.KeptReply.{is_whole, kept_under}
 use Rattle.register_core.specs.KeyName.{names_at}
-use Rattle.register_core.specs.Name.{IsName}
+use Rattle.register_requests.specs.Name.{IsName}
 use Rattle.register_core.specs.Names.{sorted_names}
-use Rattle.register_core.specs.Quorum.{IsQuorum}
+use Rattle.register_requests.specs.Quorum.{IsQuorum}
 use Rattle.register_core.specs.Settings.{need_at, period_at}
-use Rattle.register_core.specs.Request.{IsCommand, IsDate, command_text}
+use Rattle.register_requests.specs.Request.{IsCommand, IsDate, command_text}
 use Rattle.register_store.specs.declared.counted.Counted.{Counted}
 use Rattle.register_store.specs.declared.custody.Role.{Role}
 use Rattle.register_store.specs.declared.error.StoreError.{StoreError}
 use Rattle.register_store.specs.declared.error.StoreError.TheVariants.{Database, Memory, NoRegister}
+use Rattle.register_store.specs.Columns.{key_columns}
 use Rattle.register_store.specs.Roles.{names_of}
 use Rattle.register_store.specs.Tables.{Tables, date_cell, state_cell}
 use Rattle.register_store.specs.Schema.{Holds}
@@ -165,7 +166,7 @@ pub record ShowsKey (row : Row) (k : Key) : Type 0 where
 -- and its number after them
 pub record ShowsAt (row : Row) (it : ℕ × Key) : Type 0 where
   pub cells : ShowsKey row it.1
-  pub number : column row 11 ≡ Int (pos it.0)
+  pub number : column row (length key_columns) ≡ Int (pos it.0)
 
 -- the row shows this period
 pub record ShowsPeriod (row : Row) (period : Period) : Type 0 where

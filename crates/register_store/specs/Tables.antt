@@ -21,18 +21,20 @@ use Rattle.register_core.specs.declared.kept_reply.KeptReply.{KeptReply}
 use Rattle.register_core.specs.declared.key.Key.{Key}
 use Rattle.register_core.specs.KeptReply.{IsKeptReply}
 use Rattle.register_core.specs.KeyName.{KeyName}
-use Rattle.register_core.specs.Name.{IsName}
-use Rattle.register_core.specs.Purpose.{IsPurpose}
-use Rattle.register_core.specs.Request.{IsDate, command_text}
-use Rattle.register_core.specs.Quorum.{IsQuorum}
+use Rattle.register_requests.specs.Name.{IsName}
+use Rattle.register_requests.specs.Purpose.{IsPurpose}
+use Rattle.register_requests.specs.Request.{IsDate, command_text}
+use Rattle.register_requests.specs.Quorum.{IsQuorum}
 use Rattle.register_core.specs.Settings.{KeyNeed, TypePeriod}
-use Rattle.register_core.specs.declared.version.Version.{Version}
-use Rattle.register_core.specs.declared.version.Version.TheVariants.{First, Second}
-use Rattle.register_core.specs.Version.{current, version_number}
+use Rattle.register_requests.specs.declared.version.Version.{Version}
+use Rattle.register_requests.specs.declared.version.Version.TheVariants.{First, Second}
+use Rattle.register_requests.specs.Version.{current, version_number}
 use Rattle.register_store.specs.declared.table.TableName.{TableName}
 use Rattle.register_store.specs.declared.table.TableName.TheVariants.{Meta, Keys, Custodian, Approval, Request, Period}
 use Rattle.register_store.specs.declared.table.TableName.TheVariants.{Quorum}
-use Rattle.register_store.specs.TableForms.{number_column, text_column, key_column, keyed, indexed, paired}
+use Rattle.register_store.specs.Columns.{meta_columns, key_columns, name_columns, request_columns, period_columns}
+use Rattle.register_store.specs.Columns.{need_columns, defined, paired}
+use Rattle.register_store.specs.TableForms.{Numbers, Texts, keyed, indexed}
 
 -- ---- what they hold
 
@@ -223,10 +225,8 @@ form Meta = record {
   Content = Counts;
   content = λ t. t.counts;
   with_content = λ counts t. record t { counts = counts };
-  table = keyed (codes "meta") (key_column (codes "id") ∷ number_column (codes "version")
-      ∷ number_column (codes "latest") ∷ number_column (codes "key_count") ∷ []) [];
-  create_text = codes
-      "CREATE TABLE meta (id INTEGER PRIMARY KEY, version INTEGER NOT NULL, latest INTEGER NOT NULL, key_count INTEGER NOT NULL) STRICT";
+  table = keyed (codes "meta") (codes "id") meta_columns [];
+  create_text = codes "CREATE TABLE meta (id INTEGER PRIMARY KEY, " ++ defined meta_columns ++ codes ") STRICT";
   Shows = λ v counts rows. rows ≡ counts_row_in v counts ∷ [];
   IsInRange = λ counts. IsMoment counts.latest;
 }
@@ -235,13 +235,8 @@ form Keys = record {
   Content = List Key;
   content = λ t. t.keys;
   with_content = λ keys t. record t { keys = keys };
-  table = keyed (codes "keys") (key_column (codes "number") ∷ number_column (codes "kind")
-      ∷ text_column (codes "owner") ∷ text_column (codes "purpose") ∷ number_column (codes "state")
-      ∷ number_column (codes "initial") ∷ number_column (codes "activation") ∷ number_column (codes "protect_stop")
-      ∷ number_column (codes "deactivation") ∷ number_column (codes "destroyed")
-      ∷ number_column (codes "compromised") ∷ number_column (codes "occurrence") ∷ []) [];
-  create_text = codes
-      "CREATE TABLE keys (number INTEGER PRIMARY KEY, kind INTEGER NOT NULL, owner TEXT NOT NULL, purpose TEXT NOT NULL, state INTEGER NOT NULL, initial INTEGER NOT NULL, activation INTEGER NOT NULL, protect_stop INTEGER NOT NULL, deactivation INTEGER NOT NULL, destroyed INTEGER NOT NULL, compromised INTEGER NOT NULL, occurrence INTEGER NOT NULL) STRICT";
+  table = keyed (codes "keys") (codes "number") key_columns [];
+  create_text = codes "CREATE TABLE keys (number INTEGER PRIMARY KEY, " ++ defined key_columns ++ codes ") STRICT";
   Shows = λ v keys rows. rows ≡ map key_row (numbered keys);
   IsInRange = AllByRecursion IsKey;
 }
@@ -262,8 +257,8 @@ form Approval = record {
   content = λ t. t.approvals;
   with_content = λ approvals t. record t { approvals = approvals };
   table = paired (codes "approval") to_custodian;
-  create_text = codes
-      "CREATE TABLE approval (key_no INTEGER NOT NULL, name TEXT NOT NULL, PRIMARY KEY (key_no, name), FOREIGN KEY (key_no, name) REFERENCES custodian(key_no, name) ON DELETE CASCADE) STRICT";
+  create_text = codes "CREATE TABLE approval (" ++ defined name_columns
+      ++ codes ", PRIMARY KEY (key_no, name), FOREIGN KEY (key_no, name) REFERENCES custodian(key_no, name) ON DELETE CASCADE) STRICT";
   Shows = λ v. ShowsEntries name_cells;
   IsInRange = AreNames;
 }
@@ -273,11 +268,9 @@ form Request = record {
   Content = List KeptReply;
   content = λ t. t.requests;
   with_content = λ requests t. record t { requests = requests };
-  table = indexed (codes "request") (text_column (codes "caller") ∷ number_column (codes "number")
-      ∷ text_column (codes "command") ∷ number_column (codes "key_no") ∷ number_column (codes "state")
-      ∷ number_column (codes "moment") ∷ []) [];
-  create_text = codes
-      "CREATE TABLE request (caller TEXT NOT NULL, number INTEGER NOT NULL, command TEXT NOT NULL, key_no INTEGER NOT NULL, state INTEGER NOT NULL, moment INTEGER NOT NULL, PRIMARY KEY (caller, number)) STRICT";
+  table = indexed (codes "request") (Texts (codes "caller") ∷ Numbers (codes "number") ∷ request_columns) [];
+  create_text = codes "CREATE TABLE request (caller TEXT NOT NULL, number INTEGER NOT NULL, " ++ defined request_columns
+      ++ codes ", PRIMARY KEY (caller, number)) STRICT";
   Shows = λ v. ShowsEntries request_cells;
   IsInRange = AllByRecursion IsKeptReply;
 }
@@ -287,10 +280,8 @@ form Period = record {
   Content = List TypePeriod;
   content = λ t. t.periods;
   with_content = λ periods t. record t { periods = periods };
-  table = keyed (codes "period") (key_column (codes "kind") ∷ number_column (codes "originator")
-      ∷ number_column (codes "recipient") ∷ []) [];
-  create_text = codes
-      "CREATE TABLE period (kind INTEGER PRIMARY KEY, originator INTEGER NOT NULL, recipient INTEGER NOT NULL) STRICT";
+  table = keyed (codes "period") (codes "kind") period_columns [];
+  create_text = codes "CREATE TABLE period (kind INTEGER PRIMARY KEY, " ++ defined period_columns ++ codes ") STRICT";
   Shows = ShowsSinceSecond period_row;
   IsInRange = AllByRecursion IsSetPeriod;
 }
@@ -300,10 +291,9 @@ form Quorum = record {
   Content = List KeyNeed;
   content = λ t. t.needs;
   with_content = λ needs t. record t { needs = needs };
-  table = keyed (codes "quorum") (key_column (codes "key_no") ∷ number_column (codes "need") ∷ [])
-      (rowid_to_keys ∷ []);
-  create_text = codes
-      "CREATE TABLE quorum (key_no INTEGER PRIMARY KEY REFERENCES keys(number), need INTEGER NOT NULL) STRICT";
+  table = keyed (codes "quorum") (codes "key_no") need_columns (rowid_to_keys ∷ []);
+  create_text = codes "CREATE TABLE quorum (key_no INTEGER PRIMARY KEY REFERENCES keys(number), "
+      ++ defined need_columns ++ codes ") STRICT";
   Shows = ShowsSinceSecond need_row;
   IsInRange = AllByRecursion IsSetNeed;
 }

@@ -78,9 +78,11 @@ fn advance_due<T: Inside>(
         (Makes (AreRightAt latest) (with_keys_advanced at))
         tx.old tx.new steps.old steps.new result }
 {
+    // No date comes to be reached at a moment that was there already.
     if latest == at {
         return Ok(());
     }
+    // In this order, since a key may pass both dates at once: the second takes the Active keys on.
     move_due(tx, steps, DueDate::Activation, at)?;
     move_due(tx, steps, DueDate::Deactivation, at)
 }

@@ -1,10 +1,9 @@
 //! The checks of the tables of custodians and of approvals.
-ghost use Rattle.std.specs.Prelude.{◌≡◌, ◌≢◌, ◌<◌, ◌↔◌, ◌∷◌, ◌++◌, ℕ, suc, [], false, length, slice_get};
+ghost use Rattle.std.specs.Prelude.{◌≡◌, ◌≢◌, ◌<◌, ◌∷◌, ◌++◌, ℕ, suc, [], false, length, slice_get};
 ghost use Rattle.std.specs.Prelude.{Some, IsTrue, OnOk, IfOk, IfErr, MatchOption};
 ghost use Rattle.sqlite.specs.Held.{state};
 ghost use Rattle.sqlite.specs.State.{HasCleanDisk, Survives};
 ghost use Rattle.register_core.specs.KeyName.{KeyName, key_name};
-ghost use Rattle.register_core.specs.Name.{is_among};
 ghost use Rattle.register_store.specs.CheckedTables.{ShowsName, ChecksTable};
 ghost use Rattle.register_store.specs.Stored.{Stored};
 ghost use Rattle.register_store.specs.CheckedRows.{AreEmpty, IsAny, KnowsCustodians};
@@ -12,6 +11,7 @@ ghost use Rattle.register_store.specs.OpeningChecks.{owners_of};
 ghost use Rattle.register_store.specs.declared.table.TableName.TheVariants.{Approval, Custodian};
 
 use crate::cell::{name_in, number_in};
+use crate::columns::{NameCell, columns};
 use crate::error::CheckError;
 use register_core::{Name, Version};
 use row_checks::{RowCheck, check_rows};
@@ -31,8 +31,8 @@ fn name_at_key_in(row: &Row) -> Option<NameAtKey>
         (λ shown. ShowsName row.now (key_name shown.key shown.name)) }
 {
     Some(NameAtKey {
-        key: number_in(row, 0)?,
-        name: name_in(row, 1)?,
+        key: number_in(row, NameCell::Key as usize)?,
+        name: name_in(row, NameCell::Name as usize)?,
     })
 }
 
@@ -40,29 +40,7 @@ fn name_at_key_in(row: &Row) -> Option<NameAtKey>
 fn key_index(key: u64) -> Option<usize>
     ensures { MatchOption result (key ≡ 0) (λ at. key ≡ suc at) }
 {
-    if key == 0 {
-        return None;
-    }
-    match usize::try_from(key - 1) {
-        Ok(at) => Some(at),
-        Err(_) => None,
-    }
-}
-
-/// Whether the names are equal.
-fn is_same(one: &Name, other: &Name) -> bool
-    ensures { IsTrue result ↔ (one.now ≡ other.now) }
-{
-    one == other
-}
-
-/// Whether the name is one of these.
-fn is_among(names: &[Name], name: &Name) -> bool
-    ensures { result ≡ is_among name.now names.now }
-{
-    names
-        .iter()
-        .any(|other| other.text().as_bytes() == name.text().as_bytes())
+    usize::try_from(key.checked_sub(1)?).ok()
 }
 
 /// Adds a name to the list at this place.
@@ -117,10 +95,11 @@ impl RowCheck for CustodianCheck {
         let Some(at) = key_index(shown.key) else {
             return Ok(false);
         };
+        // The lists are equally long in each check that began so; of any other this is safe too.
         if at >= self.owners.len() || at >= self.custodians.len() {
             return Ok(false);
         }
-        if self.custodians[at].len() >= self.most || is_same(&self.owners[at], &shown.name) {
+        if self.custodians[at].len() >= self.most || self.owners[at] == shown.name {
             return Ok(false);
         }
         add_name(&mut self.custodians, at, shown.name)?;
@@ -155,7 +134,11 @@ pub(crate) fn check_custodians<S: Alter>(
         owners,
         custodians,
     };
-    check_rows(connection, "SELECT key_no, name FROM custodian", &mut check)?;
+    check_rows(
+        connection,
+        columns!(names listed "SELECT ", " FROM custodian"),
+        &mut check,
+    )?;
     Ok(check.custodians)
 }
 
@@ -186,7 +169,7 @@ impl RowCheck for ApprovalCheck {
         if at >= self.custodians.len() {
             return Ok(false);
         }
-        Ok(is_among(&self.custodians[at], &shown.name))
+        Ok(self.custodians[at].contains(&shown.name))
     }
 }
 
@@ -207,6 +190,10 @@ pub(crate) fn check_approvals<S: Alter>(
         (state S.Store connection.new) (λ _. ⊥) }
 {
     let mut check = ApprovalCheck { custodians };
-    check_rows(connection, "SELECT key_no, name FROM approval", &mut check)?;
+    check_rows(
+        connection,
+        columns!(names listed "SELECT ", " FROM approval"),
+        &mut check,
+    )?;
     Ok(())
 }

@@ -1,5 +1,5 @@
 //! The check of the table of keys.
-ghost use Rattle.std.specs.Prelude.{◌≡◌, ◌↔◌, ◌==◌, false, suc, MatchOption, IsTrue, IsSome};
+ghost use Rattle.std.specs.Prelude.{◌≡◌, ◌↔◌, false, MatchOption, IsTrue};
 ghost use Rattle.sqlite.specs.Held.{state};
 ghost use Rattle.sqlite.specs.State.{Survives};
 ghost use Rattle.register_core.specs.declared.key.Key.{Key};
@@ -7,9 +7,10 @@ ghost use Rattle.register_store.specs.declared.table.TableName.TheVariants.{Keys
 ghost use Rattle.register_store.specs.Stored.{Stored, mark};
 ghost use Rattle.register_store.specs.OpeningChecks.{ArePast, DatesFit, IsSoundAt};
 ghost use Rattle.register_store.specs.CheckedTables.{ShowsNumbered, ChecksTable, mark_of};
-ghost use Rattle.register_store.specs.CheckedRows.{AreOwners, owners_where};
+ghost use Rattle.register_store.specs.CheckedRows.{AreOwners};
 
 use crate::cell::number_in;
+use crate::columns::{KeyCell, columns};
 use crate::error::CheckError;
 use crate::found::Found;
 use crate::key_row::key_in;
@@ -20,13 +21,6 @@ use register_core::{Key, Name, Version};
 use row_checks::{RowCheck, check_rows};
 use sqlite::{Alter, Connection, Row};
 use std::alloc::{AllocError, Global};
-
-/// Whether the second date is set where the first is.
-fn is_set_with(first: Option<Moment>, second: Option<Moment>) -> bool
-    ensures { IsTrue result ↔ (IsSome first → IsSome second) }
-{
-    first.is_none() || second.is_some()
-}
 
 /// Whether the dates are those of a key whose latest request was at this moment or before.
 fn are_past(dates: &Dates, latest: Moment) -> bool
@@ -55,8 +49,8 @@ fn is_sound(version: Version, key: &Key, latest: Moment) -> bool
 {
     let dates = &key.row.dates;
     dates_fit(version, key.kind, dates)
-        && is_set_with(dates.activation, dates.protect_stop)
-        && is_set_with(dates.activation, dates.deactivation)
+        && (dates.activation.is_none() || dates.protect_stop.is_some())
+        && (dates.activation.is_none() || dates.deactivation.is_some())
         && are_past(dates, latest)
         && key.row.is_right_at(latest)
 }
@@ -67,7 +61,7 @@ fn sound_key_in(row: &Row, number: u32, found: Found) -> Option<Key>
         ((k : Key) → ShowsNumbered row.now (number, k) → ¬ IsSoundAt found.version found.latest k)
         (λ k. ShowsNumbered row.now (number, k) × IsSoundAt found.version found.latest k) }
 {
-    let shown = number_in(row, 11)?;
+    let shown = number_in(row, KeyCell::Number as usize)?;
     let key = key_in(row)?;
     if shown == u64::from(number) && is_sound(found.version, &key, found.latest) {
         Some(key)
@@ -94,6 +88,7 @@ impl RowCheck for KeyCheck {
     ghost refuses = { λ first check rows. RefusesKeys first.found rows };
 
     fn take(&mut self, row: &Row) -> Result<bool, AllocError> {
+        // Before the row is read: no more owners are kept than meta counts, whatever the file has.
         if self.count >= self.found.keys {
             return Ok(false);
         }
@@ -104,17 +99,6 @@ impl RowCheck for KeyCheck {
         self.owners.push(key.owner)?;
         self.count = number;
         Ok(true)
-    }
-}
-
-/// The owners, where there are as many keys as meta counts.
-fn all_owners(check: KeyCheck) -> Result<Vec<Name>, CheckError>
-    ensures { result ≡ owners_where (check.count == check.found.keys) check.owners }
-{
-    if check.count == check.found.keys {
-        Ok(check.owners)
-    } else {
-        Err(CheckError::NotARegister)
     }
 }
 
@@ -142,9 +126,12 @@ pub(crate) fn check_keys<S: Alter>(
     };
     check_rows(
         connection,
-        "SELECT kind, owner, purpose, state, initial, activation, protect_stop, deactivation, destroyed, compromised, \
-        occurrence, number FROM keys ORDER BY number",
+        columns!(keys listed "SELECT ", ", number FROM keys ORDER BY number"),
         &mut check,
     )?;
-    all_owners(check)
+    if check.count == check.found.keys {
+        Ok(check.owners)
+    } else {
+        Err(CheckError::NotARegister)
+    }
 }

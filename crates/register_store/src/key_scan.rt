@@ -10,6 +10,7 @@ ghost use Rattle.register_store.specs.DueSearch.{search_text};
 ghost use Rattle.register_store.specs.declared.key_scan.DateRun.{DateRun};
 
 use crate::cell::{MomentCell, number_in};
+use crate::columns::{KeyCell, columns};
 use crate::counted::Counted;
 use crate::error::StoreError;
 use crate::key_row::{find_row, key_in};
@@ -18,10 +19,11 @@ use register_core::Key;
 use sqlite::{Alter, Row, params};
 
 /// The search for the first of the keys that are due and have a later Protect Stop Date.
-const FIND_LATER_STOP: &str =
-    "SELECT kind, owner, purpose, state, initial, activation, protect_stop, deactivation, \
-    destroyed, compromised, occurrence, number FROM keys WHERE state = 2 AND protect_stop > ?1 \
-    AND protect_stop <= ?2 ORDER BY protect_stop, number";
+const FIND_LATER_STOP: &str = columns!(
+    keys listed "SELECT ",
+    ", number FROM keys WHERE state = 2 AND protect_stop > ?1 AND protect_stop <= ?2 \
+    ORDER BY protect_stop, number"
+);
 
 /// Where a scan of the keys that are due stands: after the key with this number, of those with this
 /// Protect Stop Date.
@@ -69,18 +71,16 @@ impl DueSearch {
         ensures { result.now ≡ search_text self }
     {
         match self {
-            DueSearch::SameStop => {
-                "SELECT kind, owner, purpose, state, initial, activation, protect_stop, \
-                deactivation, destroyed, compromised, occurrence, number FROM keys WHERE state = 2 \
-                AND protect_stop = ?1 AND protect_stop <= ?2 AND number > ?3 \
-                ORDER BY protect_stop, number"
-            }
-            DueSearch::Past => {
-                "SELECT kind, owner, purpose, state, initial, activation, protect_stop, \
-                deactivation, destroyed, compromised, occurrence, number FROM keys WHERE state = 2 \
-                AND protect_stop >= ?1 AND protect_stop <= ?2 \
+            DueSearch::SameStop => columns!(
+                keys listed "SELECT ",
+                ", number FROM keys WHERE state = 2 AND protect_stop = ?1 AND protect_stop <= ?2 \
+                AND number > ?3 ORDER BY protect_stop, number"
+            ),
+            DueSearch::Past => columns!(
+                keys listed "SELECT ",
+                ", number FROM keys WHERE state = 2 AND protect_stop >= ?1 AND protect_stop <= ?2 \
                 AND (protect_stop > ?1 OR number > ?3) ORDER BY protect_stop, number"
-            }
+            ),
         }
     }
 }
@@ -90,7 +90,7 @@ fn numbered_in(row: &Row) -> Option<(u64, Key)>
     ensures { MatchOption result ((x : ℕ × Key) → IsNumbered x → ¬ ShowsAt row.now x)
         (λ x. ShowsAt row.now (x.0, x.1)) }
 {
-    Some((number_in(row, 11)?, key_in(row)?))
+    Some((number_in(row, KeyCell::Number as usize)?, key_in(row)?))
 }
 
 /// The first of the keys that the search finds after this cursor.

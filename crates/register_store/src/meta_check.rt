@@ -1,55 +1,20 @@
 //! The check of the table meta.
-ghost use Rattle.std.specs.Prelude.{◌≡◌, ◌≤◌, ℕ, [], ◌∷◌, false, MatchOption};
+ghost use Rattle.std.specs.Prelude.{◌≡◌, [], ◌∷◌, false, MatchOption};
 ghost use Rattle.sqlite.specs.Held.{state};
 ghost use Rattle.sqlite.specs.State.{Survives};
-ghost use Rattle.register_core.specs.Verdict.{max_keys};
 ghost use Rattle.register_store.specs.declared.table.TableName.TheVariants.{Meta};
-ghost use Rattle.register_core.specs.declared.version.Version.{Version};
-ghost use Rattle.register_store.specs.Tables.{Counts};
 ghost use Rattle.register_store.specs.Stored.{Stored};
-ghost use Rattle.register_store.specs.CheckedTables.{ShowsCounts, ShowsNewer, ChecksTable, mark_of};
+ghost use Rattle.register_store.specs.CheckedTables.{ChecksTable};
 ghost use Rattle.register_store.specs.CheckedRows.{IsCounts, RefusesMeta, TellsMeta};
 
 use crate::cell::{key_number_in, moment_in, number_in};
+use crate::columns::{MetaCell, columns};
 use crate::error::CheckError;
 use crate::found::Found;
 use register_core::{MAX_KEYS, Version};
 use row_checks::{RowCheck, check_rows};
 use sqlite::{Alter, Connection, Row};
 use std::alloc::AllocError;
-
-/// The version in the row of the register's own, where it is above this program's.
-fn newer_in(row: &Row) -> Option<u64>
-    ensures { MatchOption result ((found : ℕ) → ¬ ShowsNewer row.now found) (ShowsNewer row.now) }
-{
-    match (number_in(row, 0), number_in(row, 1)) {
-        (Some(1), Some(found)) if found > u64::from(Version::CURRENT.number()) => Some(found),
-        _ => None,
-    }
-}
-
-/// The version in the row, and what it counts, where this program knows the version.
-fn found_in(row: &Row) -> Option<Found>
-    ensures { MatchOption result
-        ((told : Version × Counts) → told.1.key_count ≤ max_keys → ¬ ShowsCounts row.now told)
-        (λ found. ShowsCounts row.now (mark_of found) × (found.keys ≤ max_keys)) }
-{
-    let (Some(1), Some(number)) = (number_in(row, 0), number_in(row, 1)) else {
-        return None;
-    };
-    let version = Version::of_number(number)?;
-    let latest = moment_in(row, 2)?;
-    let keys = key_number_in(row, 3)?;
-    if keys <= MAX_KEYS {
-        Some(Found {
-            version,
-            latest,
-            keys,
-        })
-    } else {
-        None
-    }
-}
 
 /// What a row of meta tells.
 #[derive(Clone, Copy)]
@@ -78,10 +43,25 @@ impl MetaRow {
 fn meta_row_in(row: &Row) -> Option<MetaRow>
     ensures { MatchOption result (RefusesMeta (row.now ∷ [])) (TellsMeta row.now) }
 {
-    match newer_in(row) {
-        Some(found) => Some(MetaRow::Newer(found)),
-        None => found_in(row).map(MetaRow::Counts),
+    if number_in(row, MetaCell::Id as usize)? != 1 {
+        return None;
     }
+    let number = number_in(row, MetaCell::Version as usize)?;
+    // Before any other cell is looked at: a later version may mean something else by it.
+    if number > u64::from(Version::CURRENT.number()) {
+        return Some(MetaRow::Newer(number));
+    }
+    let version = Version::of_number(number)?;
+    let latest = moment_in(row, MetaCell::Latest as usize)?;
+    let keys = key_number_in(row, MetaCell::KeyCount as usize)?;
+    if keys > MAX_KEYS {
+        return None;
+    }
+    Some(MetaRow::Counts(Found {
+        version,
+        latest,
+        keys,
+    }))
 }
 
 /// The one row of meta.
@@ -122,7 +102,7 @@ pub(crate) fn check_meta<S: Alter>(connection: &mut Connection<S>) -> Result<Fou
     let mut check = MetaCheck { told: None };
     check_rows(
         connection,
-        "SELECT id, version, latest, key_count FROM meta ORDER BY id",
+        columns!(meta listed "SELECT id, ", " FROM meta ORDER BY id"),
         &mut check,
     )?;
     match check.told {

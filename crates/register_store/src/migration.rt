@@ -1,26 +1,14 @@
 //! Taking a register of the first version to the second.
-ghost use Rattle.std.specs.Prelude.{◌≡◌, ◌≤◌, false, Err};
+ghost use Rattle.std.specs.Prelude.{◌≡◌, false, Err};
 ghost use Rattle.sql_steps.specs.Steps.{Steps, Transacts};
-ghost use Rattle.register_core.specs.declared.version.Version.TheVariants.{First};
-ghost use Rattle.register_store.specs.Tables.{place_of, table_count};
 ghost use Rattle.register_store.specs.Migration.{FindsNew};
-ghost use Rattle.register_store.specs.Migration.{MakesNext, Migrates, SetsVersion};
+ghost use Rattle.register_store.specs.Migration.{Migrates, SetsVersion};
 
-use crate::creation::is_there;
 use crate::error::CreateError;
-use crate::schema_change::{SchemaChange, change_schema};
+use crate::schema_change::{SchemaChange, change_schema, is_there, make_table};
 use crate::table::TableName;
 use register_core::Version;
 use sqlite::{Alter, Connection, Error, Transaction, params};
-
-/// Makes one of the two, empty, after the tables that stand before it.
-fn make_next<S: Alter>(tx: &mut Transaction<'_, S>, table: TableName) -> Result<usize, Error>
-    requires { table_count First ≤ place_of table }
-    ensures same_reference { tx.new.conn.ghost_name ≡ tx.old.conn.ghost_name }
-    ensures made { Steps S.Store (λ _. MakesNext table) tx.old.conn.now tx.new.conn.now result }
-{
-    tx.execute(table.create_sql(), &[])
-}
 
 /// Writes the version.
 fn set_version<S: Alter>(tx: &mut Transaction<'_, S>) -> Result<usize, Error>
@@ -53,8 +41,8 @@ impl SchemaChange for Migration {
     }
 
     fn make<S: Alter>(&self, tx: &mut Transaction<'_, S>) -> Result<(), Error> {
-        make_next(tx, TableName::Period)?;
-        make_next(tx, TableName::Quorum)?;
+        make_table(tx, TableName::Period)?;
+        make_table(tx, TableName::Quorum)?;
         set_version(tx)?;
         Ok(())
     }

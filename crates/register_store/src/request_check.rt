@@ -10,6 +10,7 @@ ghost use Rattle.register_store.specs.CheckedTables.{ShowsKept, ChecksTable, mar
 ghost use Rattle.register_store.specs.CheckedRows.{IsAny};
 
 use crate::cell::name_in;
+use crate::columns::{RequestCell, columns};
 use crate::error::CheckError;
 use crate::found::Found;
 use crate::request_row::{request_in, request_number_in};
@@ -23,8 +24,8 @@ fn kept_in(row: &Row) -> Option<KeptReply>
     ensures { MatchOption result
         ((k : KeptReply) → ¬ ShowsKept row.now k) (ShowsKept row.now) }
 {
-    let caller = name_in(row, 4)?;
-    let number = request_number_in(row, 5)?;
+    let caller = name_in(row, RequestCell::Caller as usize)?;
+    let number = request_number_in(row, RequestCell::Number as usize)?;
     request_in(row, &caller, number)
 }
 
@@ -79,7 +80,7 @@ pub(crate) fn check_requests<S: Alter>(
     let mut check = RequestCheck { found: *found };
     check_rows(
         connection,
-        "SELECT command, key_no, state, moment, caller, number FROM request",
+        columns!(request listed "SELECT ", ", caller, number FROM request"),
         &mut check,
     )?;
     Ok(())

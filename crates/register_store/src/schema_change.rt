@@ -1,10 +1,16 @@
-//! A change of a database's schema, made whole or not at all.
-ghost use Rattle.std.specs.Prelude.{◌≡◌, false, Err};
+//! A change of a database's schema, made whole or not at all, and what each such change does with
+//! single tables.
+ghost use Rattle.std.specs.Prelude.{◌≡◌, ◌≤◌, false, Err};
 ghost use Rattle.sqlite.specs.Held.{state};
 ghost use Rattle.sql_steps.specs.Steps.{Steps, Transacts};
-ghost use Rattle.register_store.specs.Creation.{FindsIn, FindsInside, WhereNone};
+ghost use Rattle.register_requests.specs.declared.version.Version.TheVariants.{First};
+ghost use Rattle.register_store.specs.Creation.{Answers, FindsIn, FindsInside, IsThere};
+ghost use Rattle.register_store.specs.Creation.{MakesTable, WhereNone};
+ghost use Rattle.register_store.specs.Migration.{MakesNext};
+ghost use Rattle.register_store.specs.Tables.{place_of, table_count};
 
 use crate::error::CreateError;
+use crate::table::TableName;
 use sqlite::{Alter, Connection, Error, Transaction};
 
 /// A change of a database's schema that makes tables. Where one of them is there already it is not
@@ -36,6 +42,40 @@ pub(crate) trait SchemaChange {
     fn make<S: Alter>(&self, tx: &mut Transaction<'_, S>) -> Result<(), Error>
         ensures same_reference { tx.new.conn.ghost_name ≡ tx.old.conn.ghost_name }
         ensures made { Steps S.Store (λ _. makes) tx.old.conn.now tx.new.conn.now result };
+}
+
+/// Whether the table is there: the count of its rows has a meaning. Where it is not, nothing has
+/// changed.
+pub(crate) fn is_there<S: Alter>(
+    tx: &mut Transaction<'_, S>,
+    table: TableName,
+) -> Result<bool, Error>
+    ensures same_reference { tx.new.conn.ghost_name ≡ tx.old.conn.ghost_name }
+    ensures answer { Steps S.Store (Answers (IsThere table))
+        tx.old.conn.now tx.new.conn.now result }
+{
+    // A view of this name would be in the way too: whether a SELECT has a meaning is asked, and not
+    // what the schema lists.
+    match tx.query_row(table.count_sql(), &[]) {
+        Ok(_) => Ok(true),
+        Err(Error::SqlInputError(_)) => Ok(false),
+        Err(error) => Err(error),
+    }
+}
+
+/// Makes one of the tables, empty, where those before it are made: in an empty database, or beside
+/// those of a register of the first version.
+pub(crate) fn make_table<S: Alter>(
+    tx: &mut Transaction<'_, S>,
+    table: TableName,
+) -> Result<(), Error>
+    ensures same_reference { tx.new.conn.ghost_name ≡ tx.old.conn.ghost_name }
+    ensures made { Steps S.Store (λ _. MakesTable table) tx.old.conn.now tx.new.conn.now result }
+    ensures next { table_count First ≤ place_of table →
+        Steps S.Store (λ _. MakesNext table) tx.old.conn.now tx.new.conn.now result }
+{
+    tx.execute(table.create_sql(), &[])?;
+    Ok(())
 }
 
 /// Makes the change where none of its tables is there.
@@ -74,6 +114,7 @@ pub(crate) fn change_schema<S: Alter, C: SchemaChange>(
         → FindsIn S.Store C.SchemaChange.has_one connection.old connection.new }
 {
     let mut tx = connection.transaction();
+    // Where this fails the transaction is dropped, which rolls it back.
     make_where_none(&mut tx, change)?;
     tx.commit()?;
     Ok(())

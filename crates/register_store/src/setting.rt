@@ -1,6 +1,6 @@
 //! What is set beside the keys themselves: the usage periods of types, and how many approvals the
 //! destruction of a key needs.
-ghost use Rattle.std.specs.Prelude.{◌≡◌, MatchOption};
+ghost use Rattle.std.specs.Prelude.{MatchOption};
 ghost use Rattle.period_core.specs.Period.{Period as UsagePeriod};
 ghost use Rattle.register_store.specs.StepCount.{Writes};
 ghost use Rattle.register_store.specs.TableChanges.{Makes, Always, HasNoNeed};
@@ -11,6 +11,7 @@ ghost use Rattle.register_store.specs.TableReads.{Calls, HasNeed, HasPeriod, Kee
 ghost use Rattle.register_store.specs.TableReads.{ShowsPeriod, seen};
 
 use crate::cell::{months_in, need_in};
+use crate::columns::columns;
 use crate::counted::{Counted, Inside, StepCount};
 use crate::error::StoreError;
 use period_core::{KeyType, Period};
@@ -47,7 +48,7 @@ fn add_period<T: Inside>(
 {
     tx.execute(
         steps,
-        "INSERT INTO period (kind, originator, recipient) VALUES (?1, ?2, ?3)",
+        columns!(period given "INSERT INTO period (kind", ") VALUES (:kind", ")"),
         params![
             u32::from(kind.code()),
             u32::from(period.originator()),
@@ -67,6 +68,7 @@ pub(crate) fn set_period<T: Inside>(
     ensures { Writes T.Inside.sees T.Inside.name 2 (Makes Always (with_period_set kind period))
         tx.old tx.new steps.old steps.new result }
 {
+    // Taken out first, since an INSERT is refused where the type has a row.
     clear_period(tx, steps, kind)?;
     add_period(tx, steps, kind, period)
 }
@@ -93,7 +95,7 @@ fn add_need<T: Inside>(
 {
     tx.execute(
         steps,
-        "INSERT INTO quorum (key_no, need) VALUES (?1, ?2)",
+        columns!(quorum given "INSERT INTO quorum (key_no", ") VALUES (:key_no", ")"),
         params![key, u32::from(need.get())],
     )?;
     Ok(())
@@ -127,7 +129,7 @@ pub fn find_need<S: Alter>(
     ensures reads { Reads S.Store (HasNeed key) connection.old connection.new result }
 {
     connection.find_one(
-        "SELECT need FROM quorum WHERE key_no = ?1",
+        columns!(quorum listed "SELECT ", " FROM quorum WHERE key_no = ?1"),
         params![key],
         |row| need_in(row, 0),
     )
@@ -154,7 +156,7 @@ pub fn find_period<S: Alter>(
     ensures reads { Reads S.Store (HasPeriod kind) connection.old connection.new result }
 {
     connection.find_one(
-        "SELECT originator, recipient FROM period WHERE kind = ?1",
+        columns!(period listed "SELECT ", " FROM period WHERE kind = ?1"),
         params![u32::from(kind.code())],
         period_in,
     )

@@ -3,7 +3,7 @@ ghost use Rattle.std.specs.Prelude.{◌≡◌, ◌↔◌, false, MatchOption, Is
 ghost use Rattle.sqlite.specs.Held.{state};
 ghost use Rattle.sqlite.specs.State.{Survives};
 ghost use Rattle.register_core.specs.Settings.{KeyNeed, TypePeriod};
-ghost use Rattle.register_core.specs.declared.version.Version.TheVariants.{Second};
+ghost use Rattle.register_requests.specs.declared.version.Version.TheVariants.{Second};
 ghost use Rattle.register_store.specs.CheckedTables.{ShowsKeyNeed, ShowsTypePeriod, ChecksTable};
 ghost use Rattle.register_store.specs.CheckedTables.{counts_of, mark_of};
 ghost use Rattle.register_store.specs.Stored.{Stored, mark};
@@ -12,6 +12,7 @@ ghost use Rattle.register_store.specs.OpeningChecks.{IsNeedOf};
 ghost use Rattle.register_store.specs.declared.table.TableName.TheVariants as table;
 
 use crate::cell::{kind_in, months_in, need_in, number_in};
+use crate::columns::columns;
 use crate::error::CheckError;
 use crate::found::Found;
 use period_core::{KeyType, Period};
@@ -42,10 +43,8 @@ fn period_in(row: &Row) -> Option<PeriodRow>
     let kind = kind_in(row, 0)?;
     let originator = months_in(row, 1)?;
     let recipient = months_in(row, 2)?;
-    match Period::new(originator, recipient) {
-        Some(period) => Some(PeriodRow { kind, period }),
-        None => None,
-    }
+    let period = Period::new(originator, recipient)?;
+    Some(PeriodRow { kind, period })
 }
 
 /// The need of a key that the row shows.
@@ -60,7 +59,7 @@ fn need_row_in(row: &Row) -> Option<NeedRow>
 
 /// Each period by itself. Nothing is kept of them.
 #[derive(Drop)]
-struct PeriodCheck {}
+struct PeriodCheck;
 
 impl RowCheck for PeriodCheck {
     ghost use Rattle.register_store.specs.CheckedTables.{ShowsTypePeriod};
@@ -71,10 +70,7 @@ impl RowCheck for PeriodCheck {
     ghost refuses = { λ first check rows. RefusesEach ShowsTypePeriod IsAnyPeriod rows };
 
     fn take(&mut self, row: &Row) -> Result<bool, AllocError> {
-        match period_in(row) {
-            Some(_) => Ok(true),
-            None => Ok(false),
-        }
+        Ok(period_in(row).is_some())
     }
 }
 
@@ -90,10 +86,10 @@ pub(crate) fn check_periods<S: Alter>(connection: &mut Connection<S>) -> Result<
     ensures survives { Survives (state S.Store connection.old)
         (state S.Store connection.new) (λ _. ⊥) }
 {
-    let mut check = PeriodCheck {};
+    let mut check = PeriodCheck;
     check_rows(
         connection,
-        "SELECT kind, originator, recipient FROM period",
+        columns!(period listed "SELECT kind, ", " FROM period"),
         &mut check,
     )?;
     Ok(())
@@ -150,6 +146,10 @@ pub(crate) fn check_needs<S: Alter>(
         (state S.Store connection.new) (λ _. ⊥) }
 {
     let mut check = NeedCheck { found: *found };
-    check_rows(connection, "SELECT key_no, need FROM quorum", &mut check)?;
+    check_rows(
+        connection,
+        columns!(quorum listed "SELECT key_no, ", " FROM quorum"),
+        &mut check,
+    )?;
     Ok(())
 }

@@ -38,6 +38,8 @@ fn take_rows<S: Alter, T: RowCheck>(
     ensures survives { Survives (state S.Store rows.old.conn.now)
         (state S.Store rows.new.conn.now) (λ _. ⊥) }
 {
+    // The loop is to end, and no contract of the database bounds how many rows it hands out. No file
+    // has so many.
     'rows: for _ in 0..u64::MAX {
         let row = match rows.next() {
             Ok(Some(row)) => row,

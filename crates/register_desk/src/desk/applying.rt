@@ -10,11 +10,11 @@ impl<S: Alter> Desk<S> {
     ghost use Rattle.std.specs.Prelude.{false, ◌≡◌, ◌≢◌, List, [], Ok, IfOk, IfErr, true, ◌≤◌, ◌+◌};
     ghost use Rattle.std.specs.Prelude.{◌∷◌, Some, Err, OnOk, OnErr, IfSome};
     ghost use Rattle.register_core.specs.Fold.{history};
-    ghost use Rattle.register_core.specs.declared.request.Request.{Request};
+    ghost use Rattle.register_requests.specs.declared.request.Request.{Request};
     ghost use Rattle.register_store.specs.TableChanges.{Makes};
     ghost use Rattle.register_store.specs.TableReads.{seen};
     ghost use Rattle.register_store.specs.Tables.{Tables};
-    ghost use Rattle.register_core.specs.CommandRule.{looks_at_custody};
+    ghost use Rattle.register_requests.specs.CommandRule.{looks_at_custody};
     ghost use Rattle.register_desk.specs.Desk.{IsBroken, IsClean, IsWhole, keys_of, latest_of};
     ghost use Rattle.register_desk.specs.Desk.{ChangesNothing, Ends, IsOpen, IsOverAfter};
     ghost use Rattle.register_desk.specs.Desk.{KeepsCounts, LeavesEither, LeavesWithRequest};
@@ -24,7 +24,7 @@ impl<S: Alter> Desk<S> {
     ghost use Rattle.sql_steps.specs.Steps.{TransactsBy};
     ghost use Rattle.register_core.specs.Answer.{UnlessAccepted};
     ghost use Rattle.register_core.specs.KeptReply.{kept_with};
-    ghost use Rattle.register_core.specs.Request.{IsRequest, has_text};
+    ghost use Rattle.register_requests.specs.Request.{IsRequest, has_text};
     ghost use Rattle.register_core.specs.Verdict.{answer, max_keys};
     ghost use Rattle.register_core.specs.declared.reply.Reply.{Reply};
     ghost use Rattle.register_store.specs.Change.{made_count};

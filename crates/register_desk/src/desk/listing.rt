@@ -10,7 +10,7 @@ use sqlite::Alter;
 
 impl<S: Alter> Desk<S> {
     ghost use Rattle.std.specs.Prelude.{◌≡◌, List, [], IfOk, IfErr, Some, None};
-    ghost use Rattle.register_core.specs.declared.request.Request.{Request};
+    ghost use Rattle.register_requests.specs.declared.request.Request.{Request};
     ghost use Rattle.register_desk.specs.Desk.{IsBroken, IsClean, IsWhole, ChangesNothing};
     ghost use Rattle.register_desk.specs.Register.{StandsFor, tables};
     ghost use Rattle.std.specs.Borrow.{sem};

@@ -1,7 +1,7 @@
 //! Looking up what a decision rests on.
 ghost use Rattle.std.specs.Prelude.{◌≡◌, unwrap_or};
 ghost use Rattle.period_core.specs.Period.{periods};
-ghost use Rattle.register_core.specs.Quorum.{min_approvals};
+ghost use Rattle.register_requests.specs.Quorum.{min_approvals};
 ghost use Rattle.register_desk.specs.TablesView.{without_custody};
 
 use crate::desk::Desk;
@@ -20,7 +20,7 @@ impl<S: Alter> Desk<S> {
     ghost use Rattle.register_core.specs.History.{period};
     ghost use Rattle.register_store.specs.TableReads.{HasKey, HasRow};
     ghost use Rattle.register_store.specs.Tables.{Tables};
-    ghost use Rattle.register_core.specs.CommandRule.{looks_at_custody};
+    ghost use Rattle.register_requests.specs.CommandRule.{looks_at_custody};
     ghost use Rattle.register_desk.specs.Desk.{IsClean, IsNoKey, IsOpen, IsWhole, NamesNoKey};
     ghost use Rattle.register_desk.specs.DeskCalls.{LooksUp};
     ghost use Rattle.register_desk.specs.Register.{Sees};
@@ -227,18 +227,12 @@ fn without_custody(alloc: Global, key: Key) -> Held
 fn need_of(set: Option<Quorum>) -> u8
     ensures { result ≡ unwrap_or set min_approvals }
 {
-    match set {
-        Some(need) => need.get(),
-        None => MIN_APPROVALS,
-    }
+    set.map_or(MIN_APPROVALS, |need| need.get())
 }
 
 /// The usage period of the type, where this is set for it, if anything is.
 fn held_to(kind: KeyType, set: Option<Period>) -> Period
     ensures { result ≡ unwrap_or set (periods kind) }
 {
-    match set {
-        Some(period) => period,
-        None => period_of(kind),
-    }
+    set.unwrap_or(period_of(kind))
 }

@@ -11,7 +11,7 @@ use sqlite::Alter;
 impl<S: Alter> Desk<S> {
     ghost use Rattle.std.specs.Prelude.{◌≡◌, ◌≢◌, List, Err, IfOk, IfErr, None};
     ghost use Rattle.register_core.specs.History.{period, set_period};
-    ghost use Rattle.register_core.specs.declared.request.Request.{Request};
+    ghost use Rattle.register_requests.specs.declared.request.Request.{Request};
     ghost use Rattle.register_store.specs.Tables.{Tables};
     ghost use Rattle.register_desk.specs.Desk.{IsBroken, IsClean, IsWhole, ChangesNothing, Ends};
     ghost use Rattle.register_desk.specs.Desk.{IsNoKey, keys_of};

@@ -27,8 +27,8 @@ returns-in-Ok-post_of-clause-asks g c = λ h left at known.
     let all = subst (λ lines. AreGathered lines c.gather-fields.result) at.fields c.gather-fields.ensures in
     let post = c.in-Ok-post_of.post in
     let says = c.in-Ok-post_of.ensures.ok _ all in
-    let bytes = c.args.bytes.now in
-    let n = c.args.spans.len in
+    let bytes = c.args.head.now.bytes.now in
+    let n = c.args.head.now.spans.len in
     IfOk-weaker c.ask_post.result.asked _ _ (λ o asks. head_posts h (drop n bytes) left post o is says asks)
     (subst (λ after. IfOk c.ask_post.result.asked
     (λ o. IsSomeAnd o (AsksBody post.length post.sender.caller post.sender.number (after ++ left))))
@@ -38,6 +38,6 @@ pub returns-in-Err-post_of-clause-asks : goal.returns-in-Err-post_of-clause-asks
 returns-in-Err-post_of-clause-asks g c = λ h left at known.
     let is = subst (IsFor h) c.in-Requests.is (c.in-Ok-check_head.ensures.ok h at) in
     let all = subst (λ lines. AreGathered lines c.gather-fields.result) at.fields c.gather-fields.ensures in
-    let rest = drop c.args.spans.len c.args.bytes.now ++ left in
+    let rest = drop c.args.head.now.spans.len c.args.head.now.bytes.now ++ left in
     head_asks h _ _ c.rejected-in-Err-post_of.result c.rejected-in-Err-post_of.ensures
     (rule.post _ is.host is.target is.method (c.in-Err-post_of.ensures.err _ all rest))

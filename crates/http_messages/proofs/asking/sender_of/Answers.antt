@@ -1,19 +1,54 @@
--- The number that the value writes is the only one.
-use Rattle.std.proofs.Common.{◌≡◌, ℕ, ◌<◌, ◌^◌, List, ◌∷◌, [], sym, subst, ◌∙◌, arith}
+-- Who sends is told by the one value of either name.
+use Rattle.std.proofs.Common.{◌≡◌, ℕ, ◌<◌, ◌^◌, List, ◌∷◌, [], rules, ap, sym, subst, ◌∙◌, arith}
 use Rattle.std.specs.Prelude.{decimal}
 use Rattle.std.proofs.lemmas.Fmt.{decimal_injective}
-use Rattle.register_core.specs.Number.{IsNumber}
+use Rattle.register_requests.specs.Name.{IsName}
+use Rattle.register_requests.specs.Number.{IsNumber}
+use Rattle.http_messages.specs.Asked.{IsFrom}
+use Rattle.http_messages.specs.HeaderFields.{Lines}
+use Rattle.http_messages.proofs.InOrder.{if_none}
 use Rattle.http_messages.proofs.asking.sender_of.Goals as goal
 
-one_is : (a b : List ℕ) → a ∷ [] ≡ b ∷ [] → a ≡ b
-one_is a b e = cc
+one_is : (a b : List ℕ) (vs : List (List ℕ)) → vs ≡ a ∷ [] → vs ≡ b ∷ [] → a ≡ b
+one_is a b vs e f = cc
 
-pub returns-in-None-clause-none : goal.returns-in-None-clause-none
-returns-in-None-clause-none c = λ lines all caller n p.
-    let read = c.in-Some-read_decimal.number in
+-- nobody is named
+abbrev AreOfNobody : Lines → Type 0
+AreOfNobody lines = (caller : List ℕ) (number : ℕ) → IsFrom lines caller number → ⊥
+
+pub returns-in_err-one-clause-none : goal.returns-in_err-one-clause-none
+returns-in_err-one-clause-none c = λ lines all. if_none _ (AreOfNobody lines)
+    (λ caller n p. c.in_err-one.ensures.none _ all.caller caller p.caller_is)
+
+pub returns-in_err-caller-clause-none : goal.returns-in_err-caller-clause-none
+returns-in_err-caller-clause-none c = λ lines all. if_none _ (AreOfNobody lines) (λ caller n p.
+    let same = one_is _ caller _ (c.in_ok-one.ensures.found _ all.caller) p.caller_is in
+    absurd (cc (c.in_err-caller.ensures.in_range.1 (subst IsName (sym same) p.name))))
+
+pub returns-in_err-one-2-clause-none : goal.returns-in_err-one-2-clause-none
+returns-in_err-one-2-clause-none c = λ lines all. if_none _ (AreOfNobody lines)
+    (λ caller n p. c.in_err-one-2.ensures.none _ all.request_number (decimal n) p.number_is)
+
+pub returns-in_err-read_decimal-clause-none : goal.returns-in_err-read_decimal-clause-none
+returns-in_err-read_decimal-clause-none c = λ lines all. if_none _ (AreOfNobody lines) (λ caller n p.
+    let fits : n < 2 ^ 64 = omega (arith, p.in_range.1) in
+    let field = one_is _ (decimal n) _ (c.in_ok-one-2.ensures.found _ all.request_number) p.number_is in
+    c.in_err-read_decimal.ensures.none n fits field)
+
+pub returns-in_err-number-clause-none : goal.returns-in_err-number-clause-none
+returns-in_err-number-clause-none c = λ lines all. if_none _ (AreOfNobody lines) (λ caller n p.
+    let read = c.in_ok-read_decimal.field-0 in
     let small : read < 2 ^ 64 = omega arith in
     let fits : n < 2 ^ 64 = omega (arith, p.in_range.1) in
-    let one = rw c.in-One-request_number.is at all.request_number in
-    let field : c.in-One-request_number.field.now ≡ decimal n = one_is _ _ (sym one ∙ p.number_is) in
-    let same : read ≡ n = decimal_injective read n small fits (sym c.in-Some-read_decimal.ensures.found ∙ field) in
-    absurd (cc (c.in-None.ensures.in_range.1 (subst IsNumber (sym same) p.in_range)))
+    let field = one_is _ (decimal n) _ (c.in_ok-one-2.ensures.found _ all.request_number) p.number_is in
+    let same : read ≡ n = decimal_injective read n small fits (sym c.in_ok-read_decimal.ensures.found ∙ field) in
+    absurd (cc (c.in_err-number.ensures.in_range.1 (subst IsNumber (sym same) p.in_range))))
+
+pub returns-clause-found : goal.returns-clause-found
+returns-clause-found c = λ lines all. record {
+  caller_is = c.in_ok-one.ensures.found _ all.caller ∙ ap (λ v. v ∷ []) (sym c.in_ok-caller.ensures.value);
+  name = search rules;
+  number_is = c.in_ok-one-2.ensures.found _ all.request_number
+      ∙ ap (λ v. v ∷ []) (c.in_ok-read_decimal.ensures.found ∙ ap decimal (sym c.in_ok-number.ensures.value));
+  in_range = search rules;
+}

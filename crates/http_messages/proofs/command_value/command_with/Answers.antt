@@ -1,15 +1,15 @@
 use Rattle.std.proofs.Common.{◌≡◌, Option, None, Some, IfSome, IfNone, sym, ap, subst, ◌∙◌}
 use Rattle.serde_json.specs.Data.{Members}
 use Rattle.serde_json.specs.View.{members_view}
-use Rattle.register_core.specs.declared.command_kind.CommandKind.{CommandKind}
-use Rattle.register_core.specs.declared.fields.Fields.{Fields}
-use Rattle.register_core.specs.declared.fields.Shape.{Shape}
-use Rattle.register_core.specs.declared.request.Command.{Command}
-use Rattle.register_core.specs.CommandKind.{command_shape}
-use Rattle.register_core.specs.CommandRule.{kind_of}
-use Rattle.register_core.specs.Fields.{fields_of, command_with}
-use Rattle.register_core.specs.Request.{IsCommand, AreFields}
-use Rattle.register_core.proofs.Commands.{made, has_shape, some_made}
+use Rattle.register_requests.specs.declared.command_kind.CommandKind.{CommandKind}
+use Rattle.register_requests.specs.declared.fields.Fields.{Fields}
+use Rattle.register_requests.specs.declared.fields.Shape.{Shape}
+use Rattle.register_requests.specs.declared.request.Command.{Command}
+use Rattle.register_requests.specs.CommandKind.{command_shape}
+use Rattle.register_requests.specs.CommandRule.{kind_of}
+use Rattle.register_requests.specs.Fields.{fields_of, command_with}
+use Rattle.register_requests.specs.Request.{IsCommand, AreFields}
+use Rattle.register_requests.proofs.Commands.{made, has_shape, some_made}
 use Rattle.http_messages.specs.CommandValue.{HasMembers, IsShaped}
 use Rattle.http_messages.proofs.command_value.command_with.Goals as goal
 

@@ -1,7 +1,7 @@
 use Rattle.std.proofs.Common.{◌≡◌, Some, None, sym, ◌∙◌, true≢false}
 use Rattle.serde_json.specs.View.{view}
-use Rattle.register_core.specs.Request.{IsEdit}
-use Rattle.register_core.specs.declared.request.Edit.TheVariants.{Keep, Clear, Set}
+use Rattle.register_requests.specs.Request.{IsEdit}
+use Rattle.register_requests.specs.declared.request.Edit.TheVariants.{Keep, Clear, Set}
 use Rattle.http_messages.specs.CommandValue.{edit_data}
 use Rattle.http_messages.proofs.members.edit_of.Goals as goal
 

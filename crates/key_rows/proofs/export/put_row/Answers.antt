@@ -1,6 +1,6 @@
 use Rattle.std.proofs.Common.{◌≡◌, [], ◌∷◌, subst, rules, arith, ◌<◌, ◌^◌}
-use Rattle.register_core.specs.Name.{IsName}
-use Rattle.register_core.specs.Purpose.{IsPurpose}
+use Rattle.register_requests.specs.Name.{IsName}
+use Rattle.register_requests.specs.Purpose.{IsPurpose}
 use Rattle.key_rows.specs.Export.{export_fields, export_row}
 use Rattle.key_rows.specs.RowWriter.{HasFields}
 use Rattle.key_rows.proofs.Printable.{fields_printable}

@@ -1,4 +1,4 @@
-use Rattle.register_core.proofs.TextLengths.{text_short}
+use Rattle.register_requests.proofs.TextLengths.{text_short}
 use Rattle.register_core.proofs.laws.command_texts_are_short.Goals as goal
 
 pub returns : goal.returns

@@ -1,4 +1,4 @@
-use Rattle.register_core.specs.declared.version.Version.TheVariants.{First}
+use Rattle.register_requests.specs.declared.version.Version.TheVariants.{First}
 use Rattle.register_core.specs.History.{type}
 use Rattle.register_core.proofs.UnsetPeriods.{unset_fit}
 use Rattle.register_core.proofs.Versions.{lawful_still, no_period}

@@ -5,11 +5,11 @@ use Rattle.register_store.specs.Creation.{HasTable}
 use Rattle.register_desk.proofs.memory.create_in_memory.Goals as goal
 
 -- a new database has no table of a register
-pub returns-in-Err-create-clause-refused : goal.returns-in-Err-create-clause-refused
-returns-in-Err-create-clause-refused c = elim c.in-Err-create.ensures.refused [
+pub returns-in-Err-clause-refused : goal.returns-in-Err-clause-refused
+returns-in-Err-clause-refused c = elim c.in-Err.ensures.refused [
   | inl store ↦ inr store
   | inr taken ↦
-      let found = c.in-Err-create.ensures.there taken in
-      let there = found.there (memory_is_clean c.in-Err-create.unopened.connection) in
+      let found = c.in-Err.ensures.there taken in
+      let there = found.there (memory_is_clean c.in-Err.unopened.connection) in
       absurd (none_there (subst HasTable c.in-Ok.ensures.empty.2 there))
 ]

@@ -1,49 +1,151 @@
-use Rattle.std.proofs.Common.{rules, sym, ap, ◌∙◌}
+use Rattle.std.proofs.Common.{rules, refl, sym, ap, ◌∙◌}
 use Rattle.moment_core.specs.Moment.{IsMoment}
 use Rattle.streams.specs.declared.watched.Watched.{Watched}
 use Rattle.register_http.proofs.ItemLemmas.{leaves_one, was_clean}
-use Rattle.register_http.proofs.ServingLemmas.{read_fault, served_after}
+use Rattle.register_http.proofs.ServingLemmas.{leaves_reader, sent_answer, sent_memory, sent_no_reply}
+use Rattle.register_http.proofs.ServingLemmas.{sent_nothing, served_after}
+use Rattle.register_http.proofs.exchanging.exchange.Goals.{in-Ok-Some, in-Err-Memory}
 use Rattle.register_http.proofs.exchanging.exchange.Goals as goal
+
+-- ---- nothing was asked
+
+pub returns-in-Ok-None-clause-exchanges : goal.returns-in-Ok-None-clause-exchanges
+returns-in-Ok-None-clause-exchanges g c = record {
+  asked = c.ask-asking.result.asked;
+  asks = λ bytes known. c.ask-asking.ensures.asks bytes
+      (ap (λ (r : Watched g.row.R.Denot). g.R.Read.remaining r.inner) c.begin.ensures ∙ known);
+  serves = rw (c.with_read.ensures) (
+      served_after g.S.Store c.args.moment c.args.desk.now c.args.desk.now c.ask-asking.result.asked _
+      (g.W.Write.contents c.args.writer.now.inner) _ _ c.ask-asking.result.read
+      (ap (λ (w : Watched g.row.W.Denot). g.W.Write.contents w.inner) c.begin-2.ensures)
+      (sent_nothing g.S.Store c.args.moment c.args.desk.now c.args.desk.now c.ask-asking.result.asked _ c.of.result
+      (search rules) refl c.of.ensures));
+}
+
+pub returns-in-Ok-None-clause-leaves : goal.returns-in-Ok-None-clause-leaves
+unfolding returns-in-Ok-None-clause-exchanges
+returns-in-Ok-None-clause-leaves g c =
+    let is_moment : IsMoment c.args.moment = search rules in
+    leaves_one g.S.Store c.args.moment c.args.desk.now c.args.desk.now is_moment c.ask-asking.result.asked
+    c.with_read.result _ _ c.ask-asking.ensures.in_range (returns-in-Ok-None-clause-exchanges g c).serves
+
+pub returns-in-Ok-None-clause-clean : goal.returns-in-Ok-None-clause-clean
+unfolding returns-in-Ok-None-clause-exchanges
+returns-in-Ok-None-clause-clean g c =
+    was_clean g.S.Store c.args.moment c.args.desk.now c.args.desk.now c.ask-asking.result.asked
+    c.with_read.result _ _ (returns-in-Ok-None-clause-exchanges g c).serves
+
+pub returns-in-Ok-None-clause-reader : goal.returns-in-Ok-None-clause-reader
+unfolding returns-in-Ok-None-clause-exchanges
+returns-in-Ok-None-clause-reader g c =
+    let read = c.ask-asking.ensures.read in
+    leaves_reader g.S.Store c.args.moment c.args.desk.now c.args.desk.now c.ask-asking.result.asked _ _
+    c.with_read.result (returns-in-Ok-None-clause-exchanges g c).serves g.R.Read.remaining c.args.reader.now c.ask-asking.new.reader
+    (rw (c.with_read.ensures) (
+      read.0,
+      rw (sym (ap (λ (r : Watched g.row.R.Denot). g.R.Read.remaining r.inner) c.begin.ensures)) read.1,
+      sym read.2,
+    ))
+    (c.ask-asking.ensures.tells (ap (λ (r : Watched g.row.R.Denot). r.failed) c.begin.ensures ∙ c.requires.reader))
+    c.ask-asking.ensures.fault (search rules)
+
+pub returns-in-Ok-None-clause-writer : goal.returns-in-Ok-None-clause-writer
+returns-in-Ok-None-clause-writer g c = rw (c.with_read.ensures, c.of.ensures) (search rules)
+
+-- ---- the reader failed
+
+pub returns-in-Err-ReadFault-clause-exchanges : goal.returns-in-Err-ReadFault-clause-exchanges
+returns-in-Err-ReadFault-clause-exchanges g c = record {
+  asked = c.ask-asking.result.asked;
+  asks = λ bytes known. c.ask-asking.ensures.asks bytes
+      (ap (λ (r : Watched g.row.R.Denot). g.R.Read.remaining r.inner) c.begin.ensures ∙ known);
+  serves = rw (c.with_read-in-Err-ReadFault.ensures) (
+      served_after g.S.Store c.args.moment c.args.desk.now c.args.desk.now c.ask-asking.result.asked _
+      (g.W.Write.contents c.args.writer.now.inner) _ _ c.ask-asking.result.read
+      (ap (λ (w : Watched g.row.W.Denot). g.W.Write.contents w.inner) c.begin-2.ensures)
+      (sent_no_reply g.S.Store c.args.moment c.args.desk.now c.args.desk.now c.ask-asking.result.asked _
+      c.of-in-Err-ReadFault.result (search rules) refl
+      c.of-in-Err-ReadFault.ensures));
+}
+
+pub returns-in-Err-ReadFault-clause-leaves : goal.returns-in-Err-ReadFault-clause-leaves
+unfolding returns-in-Err-ReadFault-clause-exchanges
+returns-in-Err-ReadFault-clause-leaves g c =
+    let is_moment : IsMoment c.args.moment = search rules in
+    leaves_one g.S.Store c.args.moment c.args.desk.now c.args.desk.now is_moment c.ask-asking.result.asked
+    c.with_read-in-Err-ReadFault.result _ _ c.ask-asking.ensures.in_range (returns-in-Err-ReadFault-clause-exchanges g c).serves
+
+pub returns-in-Err-ReadFault-clause-clean : goal.returns-in-Err-ReadFault-clause-clean
+unfolding returns-in-Err-ReadFault-clause-exchanges
+returns-in-Err-ReadFault-clause-clean g c =
+    was_clean g.S.Store c.args.moment c.args.desk.now c.args.desk.now c.ask-asking.result.asked
+    c.with_read-in-Err-ReadFault.result _ _ (returns-in-Err-ReadFault-clause-exchanges g c).serves
+
+pub returns-in-Err-ReadFault-clause-reader : goal.returns-in-Err-ReadFault-clause-reader
+unfolding returns-in-Err-ReadFault-clause-exchanges
+returns-in-Err-ReadFault-clause-reader g c =
+    let read = c.ask-asking.ensures.read in
+    leaves_reader g.S.Store c.args.moment c.args.desk.now c.args.desk.now c.ask-asking.result.asked _ _
+    c.with_read-in-Err-ReadFault.result (returns-in-Err-ReadFault-clause-exchanges g c).serves g.R.Read.remaining c.args.reader.now c.ask-asking.new.reader
+    (rw (c.with_read-in-Err-ReadFault.ensures) (
+      read.0,
+      rw (sym (ap (λ (r : Watched g.row.R.Denot). g.R.Read.remaining r.inner) c.begin.ensures)) read.1,
+      sym read.2,
+    ))
+    (c.ask-asking.ensures.tells (ap (λ (r : Watched g.row.R.Denot). r.failed) c.begin.ensures ∙ c.requires.reader))
+    c.ask-asking.ensures.fault (search rules)
+
+pub returns-in-Err-ReadFault-clause-writer : goal.returns-in-Err-ReadFault-clause-writer
+returns-in-Err-ReadFault-clause-writer g c = rw (c.with_read-in-Err-ReadFault.ensures, c.of-in-Err-ReadFault.ensures) (search rules)
+
+-- ---- a reply was sent
 
 pub returns-clause-exchanges : goal.returns-clause-exchanges
 returns-clause-exchanges g c = record {
   asked = c.ask-asking.result.asked;
   asks = λ bytes known. c.ask-asking.ensures.asks bytes
       (ap (λ (r : Watched g.row.R.Denot). g.R.Read.remaining r.inner) c.begin.ensures ∙ known);
-  serves =
-      served_after g.S.Store c.args.moment c.args.desk.now c.send_reply-served.new.desk c.ask-asking.result.asked _
-      (g.W.Write.contents c.args.writer.now.inner) (g.W.Write.contents c.send_reply-served.new.writer.inner)
-      c.send_reply-served.result c.ask-asking.result.read
+  serves = rw (c.with_read-2.ensures) (
+      served_after g.S.Store c.args.moment c.args.desk.now c.match-asking.desk c.ask-asking.result.asked _
+      (g.W.Write.contents c.args.writer.now.inner) _ _ c.ask-asking.result.read
       (ap (λ (w : Watched g.row.W.Denot). g.W.Write.contents w.inner) c.begin-2.ensures)
-      c.send_reply-served.ensures.serves;
+      (elim c.match-asking.branch [
+        | in-Ok-Some w ↦ sent_answer g.S.Store c.args.moment c.args.desk.now c.match-asking.desk
+            c.ask-asking.result.asked _ _ _ c.send.result c.match-asking.answered _ _ w.desk-is w.answered-is
+            w.answer-answered.ensures c.send.ensures.sends c.send.ensures.ends (search rules)
+        | in-Err-Memory w ↦ sent_memory g.S.Store c.args.moment c.args.desk.now c.match-asking.desk
+            c.ask-asking.result.asked _ _ c.send.result c.match-asking.answered
+            (search rules) w.desk-is w.answered-is c.send.ensures.sends
+            c.send.ensures.ends
+      ]));
 }
 
 pub returns-clause-leaves : goal.returns-clause-leaves
+unfolding returns-clause-exchanges
 returns-clause-leaves g c =
     let is_moment : IsMoment c.args.moment = search rules in
-    leaves_one g.S.Store c.args.moment c.args.desk.now c.send_reply-served.new.desk is_moment
-    c.ask-asking.result.asked c.send_reply-served.result _ _ c.ask-asking.ensures.in_range
-    c.send_reply-served.ensures.serves
+    leaves_one g.S.Store c.args.moment c.args.desk.now c.match-asking.desk is_moment c.ask-asking.result.asked
+    c.with_read-2.result _ _ c.ask-asking.ensures.in_range (returns-clause-exchanges g c).serves
 
 pub returns-clause-clean : goal.returns-clause-clean
+unfolding returns-clause-exchanges
 returns-clause-clean g c =
-    was_clean g.S.Store c.args.moment c.args.desk.now c.send_reply-served.new.desk c.ask-asking.result.asked
-    c.send_reply-served.result _ _ c.send_reply-served.ensures.serves
+    was_clean g.S.Store c.args.moment c.args.desk.now c.match-asking.desk c.ask-asking.result.asked
+    c.with_read-2.result _ _ (returns-clause-exchanges g c).serves
 
 pub returns-clause-reader : goal.returns-clause-reader
+unfolding returns-clause-exchanges
 returns-clause-reader g c =
     let read = c.ask-asking.ensures.read in
-    record {
-      took = (
-        read.0,
-        rw (sym (ap (λ (r : Watched g.row.R.Denot). g.R.Read.remaining r.inner) c.begin.ensures)) read.1,
-        sym read.2,
-      );
-      told = λ failed.
-          let asked = c.ask-asking.ensures.tells
-          (ap (λ (r : Watched g.row.R.Denot). r.failed) c.begin.ensures ∙ c.requires.reader) failed in
-          read_fault g.S.Store c.args.moment c.args.desk.now c.send_reply-served.new.desk c.ask-asking.result.asked _ _
-          c.send_reply-served.result asked c.send_reply-served.ensures.serves;
-      fault = search rules;
-      bounded = search rules;
-    }
+    leaves_reader g.S.Store c.args.moment c.args.desk.now c.match-asking.desk c.ask-asking.result.asked _ _
+    c.with_read-2.result (returns-clause-exchanges g c).serves g.R.Read.remaining c.args.reader.now c.ask-asking.new.reader
+    (rw (c.with_read-2.ensures) (
+      read.0,
+      rw (sym (ap (λ (r : Watched g.row.R.Denot). g.R.Read.remaining r.inner) c.begin.ensures)) read.1,
+      sym read.2,
+    ))
+    (c.ask-asking.ensures.tells (ap (λ (r : Watched g.row.R.Denot). r.failed) c.begin.ensures ∙ c.requires.reader))
+    c.ask-asking.ensures.fault (search rules)
+
+pub returns-clause-writer : goal.returns-clause-writer
+returns-clause-writer g c = search rules

@@ -1,7 +1,7 @@
-use Rattle.std.proofs.Common.{◌≡◌, rules, List, [], ℕ, Option, ap, inl, inr, refl, subst, sym}
+use Rattle.std.proofs.Common.{◌≡◌, rules, List, [], ℕ, Option, ap, inl, inr, subst, sym, ◌∙◌}
 use Rattle.register_desk.specs.declared.end.End.{End}
-use Rattle.register_desk.specs.declared.end.End.TheVariants.{ReadFault}
 use Rattle.register_desk.specs.declared.runs.Finish.TheVariants.{Ended}
+use Rattle.register_desk.specs.declared.runs.Outcome.{Outcome}
 use Rattle.register_desk.specs.Run.{RunsOver}
 use Rattle.register_desk.specs.Lives.{LivesSome}
 use Rattle.register_desk.proofs.Found.{leaves_next}
@@ -11,6 +11,9 @@ use Rattle.register_report.proofs.HeaderLemmas.{begins_so, no_header_lives, no_h
 use Rattle.register_report.proofs.HeaderLemmas.{reads_input, rows_after}
 use Rattle.register_report.proofs.ImportLemmas.{broken_so, clean_so, lives_so, over_so, texts_so, uses_so}
 use Rattle.register_report.proofs.importing.import.Goals as goal
+
+ended_is : (one other : End) → Ended one ≡ Ended other → one ≡ other
+ended_is one other same = cc
 
 -- ---- after the header row
 
@@ -85,14 +88,14 @@ returns-in-Ok-clause-cause g c is =
 
 pub returns-clause-cause : goal.returns-clause-cause
 returns-clause-cause g c is =
-    let fault : c.in-Err.end ≡ ReadFault = cc in
+    let fault = ended_is _ _ (sym (ap (λ (o : Outcome). o.end) c.of.ensures) ∙ is) in
     record {
       begun = c.from_reader-reader.result;
       start = c.from_reader-reader.result;
       last = c.skip_header.new.reader;
       given = c.from_reader-reader.ensures.source;
       why = inl (
-        refl,
+        ap (λ (o : Outcome). o.replies) c.of.ensures,
         subst (λ (end : End). ExplainsNoHeader g.R.Read.remaining c.from_reader-reader.result
             c.skip_header.new.reader end) fault c.in-Err.ensures.end,
       );
@@ -132,9 +135,9 @@ returns-clause-agrees g c h bytes items stands clean known has =
     let over = no_header_over reads c.skip_header.new.reader has.rows has.has g.S.Store
     c.args.desk.now items
     (g.W.Write.contents c.args.writer.now.inner) c.in-Err.end c.in-Err.ensures.end h stands clean in
-    subst (λ (new : Option (List ℕ)). RunsOver g.S.Store h items [] (Ended c.in-Err.end) 0
+    rw (c.of.ensures) (subst (λ (new : Option (List ℕ)). RunsOver g.S.Store h items [] (Ended c.in-Err.end) 0
     (g.W.Write.contents c.args.writer.now.inner) new c.args.desk.now)
-    (sym (ap (λ w. g.W.Write.contents w.inner) c.begin.ensures)) over
+    (sym (ap (λ w. g.W.Write.contents w.inner) c.begin.ensures)) over)
 
 pub returns-clause-broken : goal.returns-clause-broken
 returns-clause-broken g c bytes items broken known has =
@@ -143,14 +146,14 @@ returns-clause-broken g c bytes items broken known has =
     let runs = no_header_refused reads c.skip_header.new.reader has.rows has.has g.S.Store
     c.args.desk.now items
     (g.W.Write.contents c.args.writer.now.inner) c.in-Err.end c.in-Err.ensures.end broken in
-    subst (λ (new : Option (List ℕ)). ImportsBroken items (Ended c.in-Err.end) 0
+    rw (c.of.ensures) (subst (λ (new : Option (List ℕ)). ImportsBroken items (Ended c.in-Err.end) 0
     (g.W.Write.contents c.args.writer.now.inner) new)
-    (sym (ap (λ w. g.W.Write.contents w.inner) c.begin.ensures)) runs
+    (sym (ap (λ w. g.W.Write.contents w.inner) c.begin.ensures)) runs)
 
 pub returns-clause-lives : goal.returns-clause-lives
 returns-clause-lives g c h stands clean =
     let old = g.W.Write.contents c.args.writer.now.inner in
     let lives = no_header_lives g.S.Store h c.args.desk.now old stands clean g.R.Read.remaining
     c.from_reader-reader.result c.skip_header.new.reader c.in-Err.end c.in-Err.ensures.end in
-    subst (λ (new : Option (List ℕ)). LivesSome g.S.Store h (Ended c.in-Err.end) 0 old new
-    c.args.desk.now c.args.desk.now) (sym (ap (λ w. g.W.Write.contents w.inner) c.begin.ensures)) lives
+    rw (c.of.ensures) (subst (λ (new : Option (List ℕ)). LivesSome g.S.Store h (Ended c.in-Err.end) 0 old new
+    c.args.desk.now c.args.desk.now) (sym (ap (λ w. g.W.Write.contents w.inner) c.begin.ensures)) lives)

@@ -13,7 +13,7 @@ use Rattle.register_report.proofs.importing.import_rows.Goals as goal
 pub loop-row-init : goal.loop-row-init
 loop-row-init g c = record {
   served =
-      rows_none g.S.Store g.R.Read.remaining c.args.moment c.args.caller c.args.first
+      rows_none g.S.Store g.R.Read.remaining c.args.series.now.moment c.args.series.now.caller c.args.series.now.first
       c.args.reader.now (g.W.Write.contents c.args.writer.now.inner) c.args.desk.now;
   wrote = wrote_begin (g.W.Write.contents c.args.writer.now.inner);
   plain = c.requires.plain;

@@ -12,7 +12,7 @@ use Rattle.register_report.proofs.importing.import_rows.Given as goal
 abbrev pub invariant-loop-row : goal.invariant-loop-row
 invariant-loop-row g l = record {
   served :
-      ServedRows g.S.Store g.R.Read.remaining l.fn.moment l.fn.caller l.fn.first l.fn.reader
+      ServedRows g.S.Store g.R.Read.remaining l.fn.series.moment l.fn.series.caller l.fn.series.first l.fn.reader
       l.reader (g.W.Write.contents l.fn.writer.inner) (g.W.Write.contents l.writer.inner)
       l.fn.desk l.desk l.replies;
   wrote :

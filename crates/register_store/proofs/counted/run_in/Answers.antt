@@ -5,14 +5,8 @@ use Rattle.register_store.proofs.counted.run_in.Goals as goal
 
 -- what is committed is what the work left
 
-pub returns-in-Ok-commit-clause-made : goal.returns-in-Ok-commit-clause-made
-returns-in-Ok-commit-clause-made g c =
-    let left = state g.S.Store c.run-done.new.tx.conn.now in
-    let kept : Survives left _ (λ trees. trees ≡ left.now.trees) = c.commit.ensures.survives in
-    search rules
-
-pub returns-in-Err-commit-clause-made : goal.returns-in-Err-commit-clause-made
-returns-in-Err-commit-clause-made g c =
+pub returns-in-Ok-clause-made : goal.returns-in-Ok-clause-made
+returns-in-Ok-clause-made g c =
     let left = state g.S.Store c.run-done.new.tx.conn.now in
     let kept : Survives left _ (λ trees. trees ≡ left.now.trees) = c.commit.ensures.survives in
     search rules

@@ -1,6 +1,6 @@
 use Rattle.std.proofs.Common.{◌≡◌, length, Err, ap, refl, ◌∙◌, arith}
 use Rattle.sqlite.specs.Held.{state}
-use Rattle.register_core.specs.Version.{custodians_of}
+use Rattle.register_requests.specs.Version.{custodians_of}
 use Rattle.register_store.specs.declared.table.TableName.TheVariants.{Custodian}
 use Rattle.register_store.proofs.Asked.{query_of}
 use Rattle.register_store.proofs.CustodiansChecked.{begin_custodians, custodians_fail, custodians_unread, custodians_read}

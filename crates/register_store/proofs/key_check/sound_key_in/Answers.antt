@@ -1,5 +1,4 @@
 use Rattle.std.proofs.Common.{◌≡◌, sym, subst, ◌∙◌}
-use Rattle.sqlite.specs.Order.{column}
 use Rattle.register_store.specs.OpeningChecks.{IsSoundAt}
 use Rattle.register_store.proofs.Decoding.{one_key, same_number}
 use Rattle.register_store.proofs.key_check.sound_key_in.Goals as goal
@@ -17,7 +16,7 @@ returns-else-shown-from c k shows sound =
           absurd (cc)
       | else-shown-from-via-else-shown-from w ↦
           let same : c.in_ok-shown.shown
-          ≡ c.args.number = same_number (column row 11) c.in_ok-shown.shown c.args.number c.in_ok-shown.ensures
+          ≡ c.args.number = same_number _ c.in_ok-shown.shown c.args.number c.in_ok-shown.ensures
           shows.number in
           w.if-shown-from.false (same ∙ sym c.from.ensures)
     ]

@@ -1,6 +1,6 @@
 use Rattle.std.proofs.Common.{◌≡◌, suc, true, false, length, Some, sym, ap, subst, ◌∙◌, arith}
 use Rattle.register_core.specs.KeyName.{KeyName, key_name}
-use Rattle.register_core.specs.Name.{is_among}
+use Rattle.register_requests.specs.Name.{is_among}
 use Rattle.register_store.specs.CheckedTables.{ShowsName}
 use Rattle.register_store.specs.CheckedRows.{IsListed, list_at}
 use Rattle.register_store.proofs.CustodiansChecked.{list_seen, not_listed, one_name}
@@ -32,8 +32,8 @@ returns-clause-taken c result first rows taken =
     let key = c.in-Some.shown.key in
     let name = c.in-Some.shown.name in
     let seen = list_seen c.args.self.now.custodians.items key c.in-Some-key_index.at c.index.result.now c.in-Some-key_index.ensures (let room = c.if-at-len.false in let len = c.len.ensures in omega (arith, room, len)) c.index.ensures in
-    let passed : c.is_among.result ≡ true = cc in
-    let told : c.is_among.result ≡ is_among name c.deref.result.now = c.is_among.ensures in
+    let passed : c.contains.result ≡ true = cc in
+    let told : c.contains.result ≡ is_among name c.deref.result.now = c.contains.ensures.value in
     let listed : IsListed c.args.self.now.custodians.items (key_name key name) = record {
       names = c.index.result.now;
       there = seen;
@@ -52,6 +52,6 @@ returns-clause-refused c result first rows taken =
     let there : list_at first.custodians.items key ≡ Some c.index.result.now = ap (λ lists. list_at lists key) (sym taken.0) ∙ seen in
     let own : listed.names ≡ c.index.result.now = let e = sym listed.there ∙ there in cc in
     let among : is_among name c.deref.result.now ≡ true = ap (is_among name) (c.deref.ensures.value ∙ ap (λ v. v.items) (sym own)) ∙ listed.among in
-    let off : c.is_among.result ≡ false = cc in
-    let told : c.is_among.result ≡ is_among name c.deref.result.now = c.is_among.ensures in
+    let off : c.contains.result ≡ false = cc in
+    let told : c.contains.result ≡ is_among name c.deref.result.now = c.contains.ensures.value in
     absurd (let e = sym off ∙ told ∙ among in cc))

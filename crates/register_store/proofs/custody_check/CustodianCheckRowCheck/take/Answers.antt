@@ -1,4 +1,5 @@
 use Rattle.std.proofs.Common.{◌≡◌, ◌<◌, suc, length, Some, sym, ap, subst, ◌∙◌, arith}
+use Rattle.std.specs.Cmp.Lexicographic.{bytes_decides}
 use Rattle.register_core.specs.KeyName.{key_name, names_at}
 use Rattle.register_store.specs.OpeningChecks.{MayBeCustodian, owner_at}
 use Rattle.register_store.proofs.CustodiansChecked.{custodians_more, is_full, is_owner, kept_at, not_shown, not_there}
@@ -7,7 +8,7 @@ use Rattle.register_store.proofs.custody_check.CustodianCheckRowCheck.take.Goals
 use Rattle.register_store.proofs.custody_check.CustodianCheckRowCheck.take.Goals.{then-at-len-via-then-at-len}
 use Rattle.register_store.proofs.custody_check.CustodianCheckRowCheck.take.Goals.{then-at-len-via-else-at-len+then-at-len-2}
 use Rattle.register_store.proofs.custody_check.CustodianCheckRowCheck.take.Goals.{then-len-self-via-then-len-self}
-use Rattle.register_store.proofs.custody_check.CustodianCheckRowCheck.take.Goals.{then-len-self-via-else-len-self+then-is_same}
+use Rattle.register_store.proofs.custody_check.CustodianCheckRowCheck.take.Goals.{then-len-self-via-else-len-self+then-eq}
 
 pub returns-in_default-clause-refused : goal.returns-in_default-clause-refused
 returns-in_default-clause-refused c result first rows taken =
@@ -58,12 +59,13 @@ returns-then-len-self-clause-refused c result first rows taken =
           )) taken.2.kept c.index.ensures in
           is_full first.most first.owners.items lists rows c.args.row.now taken.2 key c.in-Some.ensures.key
           (omega (arith, ap length names, len, full, taken.0))
-      | then-len-self-via-else-len-self+then-is_same w ↦
+      | then-len-self-via-else-len-self+then-eq w ↦
           let seen = w.index-else-len-self.result.now in
           let owns = owner_seen c.args.self.now.owners.items key c.in-Some-key_index.at seen at
           (let a = c.if-at-len.false in let b = c.len.ensures in omega (arith, a, b))
           w.index-else-len-self.ensures in
-          let same : seen ≡ c.in-Some.shown.name = w.is_same.ensures.0 w.if-is_same.true in
+          let same : seen ≡ c.in-Some.shown.name = (bytes_decides seen c.in-Some.shown.name).0
+          (sym w.eq.ensures ∙ w.if-eq.true) in
           is_owner first.most first.owners.items lists rows c.args.row.now taken.2 key c.in-Some.ensures.key
           c.in-Some.shown.name c.in-Some.ensures.name
           (subst (λ owners. owner_at owners key ≡ Some c.in-Some.shown.name) taken.1 (owns ∙ ap (λ n. Some n) same))
@@ -91,7 +93,7 @@ returns-clause-taken c result first rows taken =
     let may : MayBeCustodian first.owners.items (key_name key name) = record {
       owner = seen;
       there = subst (λ owners. owner_at owners key ≡ Some seen) taken.1 owns;
-      other = λ e. let same = c.is_same.ensures.1 (sym e) in let off = c.if-is_same.false in absurd (cc);
+      other = λ e. let same = c.eq.ensures ∙ (bytes_decides seen name).1 (sym e) in let off = c.if-eq.false in absurd (cc);
     } in (
       taken.0,
       taken.1,

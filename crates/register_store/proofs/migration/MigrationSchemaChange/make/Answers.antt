@@ -1,4 +1,4 @@
-use Rattle.std.proofs.Common.{Ok}
+use Rattle.std.proofs.Common.{Ok, arith}
 use Rattle.sqlite.specs.Held.{state}
 use Rattle.sql_steps.specs.Steps.{Then}
 use Rattle.sql_steps.proofs.Stepping.{steps_as, steps_then}
@@ -10,13 +10,13 @@ use Rattle.register_store.proofs.migration.MigrationSchemaChange.make.Goals as g
 pub returns-clause-made : goal.returns-clause-made
 returns-clause-made g c =
     let a = state g.S.Store c.args.tx.now.conn.now in
-    let b = state g.S.Store c.make_next.new.tx.conn.now in
-    let d = state g.S.Store c.make_next-2.new.tx.conn.now in
+    let b = state g.S.Store c.make_table.new.tx.conn.now in
+    let d = state g.S.Store c.make_table-2.new.tx.conn.now in
     let e = state g.S.Store c.set_version.new.tx.conn.now in
-    let two = steps_then (λ _. MakesNext Period) (λ _. MakesNext Quorum) a b d c.in_ok-make_next.field-0
-    (Ok c.in_ok-make_next-2.field-0) c.in_ok-make_next.ensures.made c.in_ok-make_next-2.ensures.made in
+    let two = steps_then (λ _. MakesNext Period) (λ _. MakesNext Quorum) a b d c.in_ok-make_table.field-0
+    (Ok c.in_ok-make_table-2.field-0) (c.in_ok-make_table.ensures.next (omega arith)) (c.in_ok-make_table-2.ensures.next (omega arith)) in
     let three = steps_then (λ _. Then (MakesNext Period) (MakesNext Quorum)) (λ _. SetsVersion) a d e
-    c.in_ok-make_next-2.field-0 (Ok c.in_ok-set_version.field-0) two c.in_ok-set_version.ensures.set in
+    c.in_ok-make_table-2.field-0 (Ok c.in_ok-set_version.field-0) two c.in_ok-set_version.ensures.set in
     steps_as (λ _. Then (Then (MakesNext Period) (MakesNext Quorum)) SetsVersion) (λ _. TakesToSecond) a e
     c.in_ok-set_version.field-0 (tt {0})
     (λ old new done t holds. done.2 t (done.1.2 t (done.1.1 t (begins t old holds)))) three

@@ -1,0 +1,8 @@
+pub mod Subjects
+pub mod NameTexts
+pub mod TextLengths
+pub mod FieldReading
+pub mod Commands
+pub mod Readers
+pub mod Lines
+pub mod Ranges

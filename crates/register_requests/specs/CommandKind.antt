@@ -1,0 +1,46 @@
+-- The kinds of commands. Their words, and the versions that know them, are this register's own.
+use Rattle.std.specs.Prelude.{ℕ, List, codes}
+use Rattle.register_requests.specs.declared.command_kind.CommandKind.{CommandKind}
+use Rattle.register_requests.specs.declared.command_kind.CommandKind.TheVariants as kinds
+use Rattle.register_requests.specs.declared.fields.Shape.{Shape}
+use Rattle.register_requests.specs.declared.fields.Shape.TheVariants.{Nothing, Key, KeyAndName, KeyAndOwner, KeyAndNeed}
+use Rattle.register_requests.specs.declared.fields.Shape.TheVariants.{TypeAndPeriod, Registration, DateEdits, Revocation}
+use Rattle.register_requests.specs.declared.version.Version.{Version}
+use Rattle.register_requests.specs.declared.version.Version.TheVariants.{First, Second}
+
+-- what the commands of a kind look like: their word, and the shape of the fields after it; and the first version of the
+-- register that knows them
+pub record Form : Type 0 where
+  pub word : List ℕ
+  pub shape : Shape
+  pub since : Version
+
+abbrev pub form : CommandKind → Form
+-- its life and its dates
+form kinds.Register = record { word = codes "register"; shape = Registration; since = First }
+form kinds.Activate = record { word = codes "activate"; shape = Key; since = First }
+form kinds.SetDates = record { word = codes "set"; shape = DateEdits; since = First }
+form kinds.Revoke = record { word = codes "revoke"; shape = Revocation; since = First }
+-- its custody, up to its destruction
+form kinds.Assign = record { word = codes "assign"; shape = KeyAndOwner; since = First }
+form kinds.AddCustodian = record { word = codes "add-custodian"; shape = KeyAndName; since = First }
+form kinds.RemoveCustodian = record { word = codes "remove-custodian"; shape = KeyAndName; since = First }
+form kinds.Approve = record { word = codes "approve"; shape = Key; since = First }
+form kinds.Withdraw = record { word = codes "withdraw"; shape = Key; since = First }
+form kinds.Destroy = record { word = codes "destroy"; shape = Key; since = First }
+-- time, and what is set
+form kinds.Advance = record { word = codes "advance"; shape = Nothing; since = First }
+form kinds.SetQuorum = record { word = codes "set-quorum"; shape = KeyAndNeed; since = Second }
+form kinds.SetPeriod = record { word = codes "set-period"; shape = TypeAndPeriod; since = Second }
+
+-- the word of a kind
+abbrev pub command_kind_text : CommandKind → List ℕ
+command_kind_text kind = (form kind).word
+
+-- the shape of its commands' fields
+abbrev pub command_shape : CommandKind → Shape
+command_shape kind = (form kind).shape
+
+-- the first version that knows the kind
+abbrev pub first_version : CommandKind → Version
+first_version kind = (form kind).since

@@ -1,0 +1,61 @@
+-- The fields of a command: what stands after its word. A command is its kind and its fields.
+use Rattle.std.specs.Prelude.{Option, None, Some}
+use Rattle.register_requests.specs.declared.command_kind.CommandKind.{CommandKind}
+use Rattle.register_requests.specs.declared.command_kind.CommandKind.TheVariants as kinds
+use Rattle.register_requests.specs.declared.request.Command.{Command}
+use Rattle.register_requests.specs.declared.request.Command.TheVariants.{Register, Activate, SetDates, Revoke, Assign}
+use Rattle.register_requests.specs.declared.request.Command.TheVariants.{AddCustodian, RemoveCustodian, Approve, Withdraw}
+use Rattle.register_requests.specs.declared.request.Command.TheVariants.{Destroy, Advance, SetQuorum, SetPeriod}
+use Rattle.register_requests.specs.declared.fields.Fields.{Fields}
+use Rattle.register_requests.specs.declared.fields.Fields.TheVariants.{Nothing, Key, KeyAndName, KeyAndOwner, KeyAndNeed}
+use Rattle.register_requests.specs.declared.fields.Fields.TheVariants.{TypeAndPeriod, Registration, DateEdits, Revocation}
+use Rattle.register_requests.specs.declared.fields.Shape.{Shape}
+use Rattle.register_requests.specs.declared.fields.Shape.TheVariants as shapes
+
+-- the fields of a command
+abbrev pub fields_of : Command → Fields
+fields_of (Register kind owner activation protect_stop deactivation purpose) =
+    Registration kind owner activation protect_stop deactivation purpose
+fields_of (Activate key) = Key key
+fields_of (SetDates key activation protect_stop deactivation) = DateEdits key activation protect_stop deactivation
+fields_of (Revoke key reason occurrence) = Revocation key reason occurrence
+fields_of (Assign key owner) = KeyAndOwner key owner
+fields_of (AddCustodian key name) = KeyAndName key name
+fields_of (RemoveCustodian key name) = KeyAndName key name
+fields_of (Approve key) = Key key
+fields_of (Withdraw key) = Key key
+fields_of (Destroy key) = Key key
+fields_of Advance = Nothing
+fields_of (SetQuorum key need) = KeyAndNeed key need
+fields_of (SetPeriod kind period) = TypeAndPeriod kind period
+
+-- the command of this kind with these fields, if the kind has such fields
+abbrev pub command_with : CommandKind → Fields → Option Command
+command_with kinds.Register (Registration kind owner activation protect_stop deactivation purpose) =
+    Some (Register kind owner activation protect_stop deactivation purpose)
+command_with kinds.Activate (Key key) = Some (Activate key)
+command_with kinds.SetDates (DateEdits key activation protect_stop deactivation) =
+    Some (SetDates key activation protect_stop deactivation)
+command_with kinds.Revoke (Revocation key reason occurrence) = Some (Revoke key reason occurrence)
+command_with kinds.Assign (KeyAndOwner key owner) = Some (Assign key owner)
+command_with kinds.AddCustodian (KeyAndName key name) = Some (AddCustodian key name)
+command_with kinds.RemoveCustodian (KeyAndName key name) = Some (RemoveCustodian key name)
+command_with kinds.Approve (Key key) = Some (Approve key)
+command_with kinds.Withdraw (Key key) = Some (Withdraw key)
+command_with kinds.Destroy (Key key) = Some (Destroy key)
+command_with kinds.Advance Nothing = Some Advance
+command_with kinds.SetQuorum (KeyAndNeed key need) = Some (SetQuorum key need)
+command_with kinds.SetPeriod (TypeAndPeriod kind period) = Some (SetPeriod kind period)
+command_with kind fields = None
+
+-- the shape of fields
+abbrev pub shape_of : Fields → Shape
+shape_of Nothing = shapes.Nothing
+shape_of (Key key) = shapes.Key
+shape_of (KeyAndName key name) = shapes.KeyAndName
+shape_of (KeyAndOwner key owner) = shapes.KeyAndOwner
+shape_of (KeyAndNeed key need) = shapes.KeyAndNeed
+shape_of (TypeAndPeriod kind period) = shapes.TypeAndPeriod
+shape_of (Registration kind owner activation protect_stop deactivation purpose) = shapes.Registration
+shape_of (DateEdits key activation protect_stop deactivation) = shapes.DateEdits
+shape_of (Revocation key reason occurrence) = shapes.Revocation

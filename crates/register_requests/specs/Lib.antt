@@ -1,0 +1,13 @@
+pub mod Version
+pub mod Text
+pub mod Name
+pub mod Number
+pub mod Purpose
+pub mod Quorum
+pub mod CommandKind
+pub mod Fields
+pub mod Request
+pub mod CommandRule
+pub mod CommandText
+pub mod Subject
+pub mod RequestLine

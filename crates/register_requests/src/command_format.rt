@@ -1,0 +1,211 @@
+//! Writes the text of a command, which is the end of a request's line: the word of its kind, and
+//! after it the kind's fields.
+ghost use Rattle.std.specs.Prelude.{◌≡◌, ◌+◌, ◌≤◌, ◌++◌, codes, decimal, length};
+ghost use Rattle.arrayvec.specs.ArrayString.{array_string_len};
+ghost use Rattle.period_core.specs.KeyType.{key_type_text};
+ghost use Rattle.register_requests.specs.declared.fields.Fields.TheVariants.{DateEdits, TypeAndPeriod};
+ghost use Rattle.register_requests.specs.declared.fields.Fields.TheVariants.{Revocation};
+ghost use Rattle.register_requests.specs.Request.{fields_text, command_text, date_text, edit_text};
+
+use crate::command_kind::MAX_WORD_LENGTH;
+use crate::fields::Fields;
+use crate::name::Name;
+use crate::purpose::Purpose;
+use crate::quorum::Quorum;
+use crate::request::{Command, Edit};
+use crate::short_text::ShortText;
+use arrayvec::ArrayString;
+use itoa::Buffer;
+use lifecycle_core::Reason;
+use moment_core::Moment;
+use period_core::{KeyType, Period};
+
+/// How many bytes the text of a command has at most.
+pub const MAX_COMMAND_LENGTH: usize = 400;
+
+/// The text of a command.
+pub type CommandText = ShortText<MAX_COMMAND_LENGTH>;
+
+/// Appends the number in decimal.
+pub fn put_number<const N: usize>(line: &mut ArrayString<N>, number: u64)
+    requires { array_string_len line.old + 20 ≤ N }
+    ensures bytes { line.new.bytes ≡ line.old.bytes ++ decimal number }
+    ensures short { array_string_len line.new ≤ array_string_len line.old + 20 }
+{
+    let mut digits = Buffer::new();
+    line.push_str(digits.format(number));
+}
+
+/// Appends a space, and after it the date, `-` for none.
+fn put_date<const N: usize>(line: &mut ArrayString<N>, date: Option<Moment>)
+    requires { array_string_len line.old + 21 ≤ N }
+    ensures bytes { line.new.bytes ≡ line.old.bytes ++ codes " " ++ date_text date }
+    ensures short { array_string_len line.new ≤ array_string_len line.old + 21 }
+{
+    line.push_str(" ");
+    match date {
+        Some(moment) => put_number(line, moment.seconds()),
+        None => line.push_str("-"),
+    }
+}
+
+/// Appends a space, and after it what becomes of a date.
+fn put_edit<const N: usize>(line: &mut ArrayString<N>, edit: Edit)
+    requires { array_string_len line.old + 21 ≤ N }
+    ensures bytes { line.new.bytes ≡ line.old.bytes ++ codes " " ++ edit_text edit }
+    ensures short { array_string_len line.new ≤ array_string_len line.old + 21 }
+{
+    line.push_str(" ");
+    match edit {
+        Edit::Keep => line.push_str("="),
+        Edit::Clear => line.push_str("-"),
+        Edit::Set(moment) => put_number(line, moment.seconds()),
+    }
+}
+
+/// Appends a space, and after it the number of a key.
+fn put_key(text: &mut ArrayString<MAX_COMMAND_LENGTH>, key: u32)
+    requires { array_string_len text.old ≤ MAX_WORD_LENGTH }
+    ensures bytes { text.new.bytes ≡ text.old.bytes ++ codes " " ++ decimal key }
+    ensures short { array_string_len text.new ≤ array_string_len text.old + 21 }
+{
+    text.push_str(" ");
+    put_number(text, u64::from(key));
+}
+
+/// The same with a name after the number.
+fn put_key_and_name(text: &mut ArrayString<MAX_COMMAND_LENGTH>, key: u32, name: &Name)
+    requires { array_string_len text.old ≤ MAX_WORD_LENGTH }
+    ensures { text.new.bytes ≡ text.old.bytes ++
+        (codes " " ++ decimal key ++ codes " " ++ name.now) }
+{
+    put_key(text, key);
+    text.push_str(" ");
+    text.push_str(name.text());
+}
+
+/// The same with a number of approvals after it.
+fn put_key_and_need(text: &mut ArrayString<MAX_COMMAND_LENGTH>, key: u32, need: Quorum)
+    requires { array_string_len text.old ≤ MAX_WORD_LENGTH }
+    ensures { text.new.bytes ≡ text.old.bytes ++
+        (codes " " ++ decimal key ++ codes " " ++ decimal need) }
+{
+    put_key(text, key);
+    text.push_str(" ");
+    put_number(text, u64::from(need.get()));
+}
+
+/// Appends a type with its period.
+fn put_type_and_period(text: &mut ArrayString<MAX_COMMAND_LENGTH>, kind: KeyType, period: Period)
+    requires { array_string_len text.old ≤ MAX_WORD_LENGTH }
+    ensures { text.new.bytes ≡ text.old.bytes ++ fields_text (TypeAndPeriod kind period) }
+{
+    text.push_str(" ");
+    text.push_str(kind.text());
+    text.push_str(" ");
+    put_number(text, u64::from(period.originator()));
+    text.push_str(" ");
+    put_number(text, u64::from(period.recipient()));
+}
+
+/// Appends a type with an owner.
+fn put_type_and_owner(text: &mut ArrayString<MAX_COMMAND_LENGTH>, kind: KeyType, owner: &Name)
+    requires { array_string_len text.old ≤ MAX_WORD_LENGTH }
+    ensures bytes { text.new.bytes ≡ text.old.bytes ++
+        (codes " " ++ key_type_text kind ++ codes " " ++ owner.now) }
+    ensures short { array_string_len text.new ≤ array_string_len text.old + 90 }
+{
+    text.push_str(" ");
+    text.push_str(kind.text());
+    text.push_str(" ");
+    text.push_str(owner.text());
+}
+
+/// Appends the fields of a change of dates.
+fn put_edits(
+    text: &mut ArrayString<MAX_COMMAND_LENGTH>,
+    key: u32,
+    activation: Edit,
+    protect_stop: Edit,
+    deactivation: Edit,
+)
+    requires { array_string_len text.old ≤ MAX_WORD_LENGTH }
+    ensures { text.new.bytes ≡ text.old.bytes ++
+        fields_text (DateEdits key activation protect_stop deactivation) }
+{
+    put_key(text, key);
+    put_edit(text, activation);
+    put_edit(text, protect_stop);
+    put_edit(text, deactivation);
+}
+
+/// Appends the fields of a revocation.
+fn put_revocation(
+    text: &mut ArrayString<MAX_COMMAND_LENGTH>,
+    key: u32,
+    reason: Reason,
+    occurrence: Option<Moment>,
+)
+    requires { array_string_len text.old ≤ MAX_WORD_LENGTH }
+    ensures { text.new.bytes ≡ text.old.bytes ++ fields_text (Revocation key reason occurrence) }
+{
+    put_key(text, key);
+    text.push_str(" ");
+    put_number(text, u64::from(reason.code()));
+    put_date(text, occurrence);
+}
+
+/// Appends the fields, each with a space before it.
+fn put_fields(text: &mut ArrayString<MAX_COMMAND_LENGTH>, fields: &Fields)
+    requires { array_string_len text.old ≤ MAX_WORD_LENGTH }
+    ensures { text.new.bytes ≡ text.old.bytes ++ fields_text fields.now }
+{
+    match *fields {
+        Fields::Nothing => {}
+        Fields::Key { key } => put_key(text, key),
+        Fields::KeyAndName { key, ref name }
+        | Fields::KeyAndOwner {
+            key,
+            owner: ref name,
+        } => put_key_and_name(text, key, name),
+        Fields::KeyAndNeed { key, need } => put_key_and_need(text, key, need),
+        Fields::TypeAndPeriod { kind, period } => put_type_and_period(text, kind, period),
+        Fields::Registration {
+            kind,
+            ref owner,
+            activation,
+            protect_stop,
+            deactivation,
+            ref purpose,
+        } => {
+            put_type_and_owner(text, kind, owner);
+            put_date(text, activation);
+            put_date(text, protect_stop);
+            put_date(text, deactivation);
+            text.push_str(" ");
+            text.push_str(purpose.text());
+        }
+        Fields::DateEdits {
+            key,
+            ref activation,
+            ref protect_stop,
+            ref deactivation,
+        } => put_edits(text, key, *activation, *protect_stop, *deactivation),
+        Fields::Revocation {
+            key,
+            reason,
+            occurrence,
+        } => put_revocation(text, key, reason, occurrence),
+    }
+}
+
+/// The text of the command.
+pub fn command_text(command: &Command) -> CommandText
+    ensures text { result ≡ command_text command.now }
+    ensures short { length result ≤ MAX_COMMAND_LENGTH }
+{
+    let mut text = ArrayString::new();
+    text.push_str(command.kind().text());
+    put_fields(&mut text, &command.fields());
+    ShortText::new(text)
+}

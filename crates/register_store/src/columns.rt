@@ -1,0 +1,106 @@
+//! The columns of the tables. No other code names all of a table's: the statements that make a table
+//! or take a whole row are put together from these lists.
+
+/// A text with the columns of a table past its key, which stand here in their order: `listed` has
+/// their names with commas between them, `defined` has their types too, and `given` has a parameter
+/// of each name beside the names. Of the tables of names at keys the key is all that there is.
+macro_rules! columns {
+    (meta $form:ident $($part:literal),+) => {
+        columns!(@$form [$($part),+] version INTEGER, latest INTEGER, key_count INTEGER)
+    };
+    (keys $form:ident $($part:literal),+) => {
+        columns!(
+            @$form [$($part),+]
+            kind INTEGER, owner TEXT, purpose TEXT, state INTEGER, initial INTEGER,
+            activation INTEGER, protect_stop INTEGER, deactivation INTEGER, destroyed INTEGER,
+            compromised INTEGER, occurrence INTEGER
+        )
+    };
+    (names $form:ident $($part:literal),+) => {
+        columns!(@$form [$($part),+] key_no INTEGER, name TEXT)
+    };
+    (request $form:ident $($part:literal),+) => {
+        columns!(@$form [$($part),+] command TEXT, key_no INTEGER, state INTEGER, moment INTEGER)
+    };
+    (period $form:ident $($part:literal),+) => {
+        columns!(@$form [$($part),+] originator INTEGER, recipient INTEGER)
+    };
+    (quorum $form:ident $($part:literal),+) => {
+        columns!(@$form [$($part),+] need INTEGER)
+    };
+    (
+        @listed [$before:literal, $after:literal]
+        $name:ident $kind:ident $(, $more:ident $its:ident)*
+    ) => {
+        concat!($before, stringify!($name) $(, ", ", stringify!($more))*, $after)
+    };
+    (
+        @defined [$before:literal, $after:literal]
+        $name:ident $kind:ident $(, $more:ident $its:ident)*
+    ) => {
+        concat!(
+            $before,
+            stringify!($name), " ", stringify!($kind), " NOT NULL"
+            $(, ", ", stringify!($more), " ", stringify!($its), " NOT NULL")*,
+            $after
+        )
+    };
+    (
+        @given [$before:literal, $between:literal, $after:literal] $($name:ident $kind:ident),+
+    ) => {
+        concat!(
+            $before,
+            $(", ", stringify!($name),)+
+            $between,
+            $(", :", stringify!($name),)+
+            $after
+        )
+    };
+}
+
+pub(crate) use columns;
+
+/// The places of the cells that a search for whole rows of `keys` shows: its columns in their order,
+/// and the number after them.
+#[derive(Clone, Copy, Debug, PartialEq, Eq)]
+pub(crate) enum KeyCell {
+    Kind,
+    Owner,
+    Purpose,
+    State,
+    Initial,
+    Activation,
+    ProtectStop,
+    Deactivation,
+    Destroyed,
+    Compromised,
+    Occurrence,
+    Number,
+}
+
+/// Those of meta.
+#[derive(Clone, Copy, Debug, PartialEq, Eq)]
+pub(crate) enum MetaCell {
+    Id,
+    Version,
+    Latest,
+    KeyCount,
+}
+
+/// Those of the tables of names at keys.
+#[derive(Clone, Copy, Debug, PartialEq, Eq)]
+pub(crate) enum NameCell {
+    Key,
+    Name,
+}
+
+/// Those of requests, with whose it is after what is kept of it.
+#[derive(Clone, Copy, Debug, PartialEq, Eq)]
+pub(crate) enum RequestCell {
+    Command,
+    Key,
+    State,
+    Moment,
+    Caller,
+    Number,
+}

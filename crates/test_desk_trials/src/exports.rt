@@ -1,0 +1,178 @@
+//! Exports and reports, over a register in memory.
+use crate::fresh_run::{desk_of, run_over};
+use register_desk::{Desk, End, Finish, Outcome, Watched};
+use register_report::{export, rotation};
+use sqlite::MemStore;
+use std::alloc::Global;
+use std::test::Fail;
+use test_faulty_devices::{Trouble, Troubled};
+
+/// What a register is written out as after these request lines.
+#[derive(Clone, Copy)]
+struct Written {
+    lines: &'static str,
+    export: &'static str,
+    /// For how many days a report looks ahead, and the report.
+    reports: &'static [(u32, &'static str)],
+}
+
+#[rattlefmt::skip]
+static EMPTY: Written = Written {
+    lines: "",
+    export: "number,type,owner,activation,protect_stop,deactivation,state,initial,destroyed,compromised,occurrence,purpose\n",
+    reports: &[
+        (0, "Keys due for rotation by 1970-01-01T00:00:00Z\ntotal 0\n"),
+        (36_500, "Keys due for rotation by 2069-12-07T00:00:00Z\ntotal 0\n"),
+    ],
+};
+
+/// The worked rows *defaults*, *due in 730 days* and *due in 729 days*.
+#[rattlefmt::skip]
+static DEFAULTS: Written = Written {
+    lines: "100 ann 1 register data-encryption bob 0 - - payroll disks\n",
+    export: "number,type,owner,activation,protect_stop,deactivation,state,initial,destroyed,compromised,occurrence,purpose\n\
+        1,data-encryption,bob,1970-01-01T00:00:00Z,1972-01-01T00:00:00Z,1975-01-01T00:00:00Z,Active,1970-01-01T00:01:40Z,,,,payroll disks\n",
+    reports: &[
+        (730, "Keys due for rotation by 1972-01-01T00:01:40Z\n\
+            \x20     1  1972-01-01T00:00:00Z  due      data-encryption         bob  payroll disks\n\
+            total 1\n"),
+        (729, "Keys due for rotation by 1971-12-31T00:01:40Z\ntotal 0\n"),
+    ],
+};
+
+/// A key with all dates but its destruction's; two with one Protect Stop Date, and one with a later
+/// one.
+#[rattlefmt::skip]
+static SEVERAL: Written = Written {
+    lines: "100 ann 1 register master bob 1000 2000 2000 say \"hi\", twice\n\
+        100 ann 2 register data-encryption eve 0 600 1000 late\n\
+        100 ann 3 register data-encryption bob 0 500 1000 =1+1\n\
+        100 ann 4 register data-encryption bob 0 500 1000 \u{5de}\u{5e4}\u{5ea}\u{5d7}\n\
+        300 zed 1 revoke 1 2 200\n\
+        500 ann 5 advance\n",
+    export: "number,type,owner,activation,protect_stop,deactivation,state,initial,destroyed,compromised,occurrence,purpose\n\
+        1,master,bob,1970-01-01T00:16:40Z,1970-01-01T00:33:20Z,1970-01-01T00:33:20Z,Compromised,1970-01-01T00:01:40Z,,1970-01-01T00:05:00Z,1970-01-01T00:03:20Z,\"say \"\"hi\"\", twice\"\n\
+        2,data-encryption,eve,1970-01-01T00:00:00Z,1970-01-01T00:10:00Z,1970-01-01T00:16:40Z,Active,1970-01-01T00:01:40Z,,,,late\n\
+        3,data-encryption,bob,1970-01-01T00:00:00Z,1970-01-01T00:08:20Z,1970-01-01T00:16:40Z,Active,1970-01-01T00:01:40Z,,,,=1+1\n\
+        4,data-encryption,bob,1970-01-01T00:00:00Z,1970-01-01T00:08:20Z,1970-01-01T00:16:40Z,Active,1970-01-01T00:01:40Z,,,,\u{5de}\u{5e4}\u{5ea}\u{5d7}\n",
+    reports: &[
+        (0, "Keys due for rotation by 1970-01-01T00:08:20Z\n\
+            \x20     3  1970-01-01T00:08:20Z  overdue  data-encryption         bob  =1+1\n\
+            \x20     4  1970-01-01T00:08:20Z  overdue  data-encryption         bob  \u{5de}\u{5e4}\u{5ea}\u{5d7}\n\
+            total 2\n"),
+        (1, "Keys due for rotation by 1970-01-02T00:08:20Z\n\
+            \x20     3  1970-01-01T00:08:20Z  overdue  data-encryption         bob  =1+1\n\
+            \x20     4  1970-01-01T00:08:20Z  overdue  data-encryption         bob  \u{5de}\u{5e4}\u{5ea}\u{5d7}\n\
+            \x20     2  1970-01-01T00:10:00Z  due      data-encryption         eve  late\n\
+            total 3\n"),
+    ],
+};
+
+/// The worked rows *a period set by the office* and *a key longer than a new period*; and a long
+/// key within the horizon.
+#[rattlefmt::skip]
+static LONG: Written = Written {
+    lines: "100 ann 1 register data-encryption bob 0 - - payroll disks\n\
+        200 office 1 set-period data-encryption 12 36\n\
+        300 ann 2 register data-encryption bob 0 - - x\n",
+    export: "number,type,owner,activation,protect_stop,deactivation,state,initial,destroyed,compromised,occurrence,purpose\n\
+        1,data-encryption,bob,1970-01-01T00:00:00Z,1972-01-01T00:00:00Z,1975-01-01T00:00:00Z,Active,1970-01-01T00:01:40Z,,,,payroll disks\n\
+        2,data-encryption,bob,1970-01-01T00:00:00Z,1971-01-01T00:00:00Z,1974-01-01T00:00:00Z,Active,1970-01-01T00:05:00Z,,,,x\n",
+    reports: &[
+        (0, "Keys due for rotation by 1970-01-01T00:05:00Z\n\
+            \x20     1  1972-01-01T00:00:00Z  long     data-encryption         bob  payroll disks\n\
+            total 1\n"),
+        (365, "Keys due for rotation by 1971-01-01T00:05:00Z\n\
+            \x20     2  1971-01-01T00:00:00Z  due      data-encryption         bob  x\n\
+            \x20     1  1972-01-01T00:00:00Z  long     data-encryption         bob  payroll disks\n\
+            total 2\n"),
+        (730, "Keys due for rotation by 1972-01-01T00:05:00Z\n\
+            \x20     2  1971-01-01T00:00:00Z  due      data-encryption         bob  x\n\
+            \x20     1  1972-01-01T00:00:00Z  due      data-encryption         bob  payroll disks\n\
+            total 2\n"),
+    ],
+};
+
+/// Whether a call did this and wrote this text.
+fn is_written(outcome: Outcome, bytes: &[u8], text: &str) -> bool {
+    let expected = Outcome {
+        read: 0,
+        written: text.len() as u64,
+        replies: 0,
+        end: Finish::AtEnd { rest: 0 },
+    };
+    outcome == expected && bytes == text.as_bytes()
+}
+
+fn is_exported(alloc: Global, desk: &mut Desk<MemStore>, text: &str) -> bool {
+    let mut writer = Watched::new(Vec::new(alloc));
+    let outcome = export(alloc, desk, &mut writer);
+    is_written(outcome, writer.into_inner().as_slice(), text)
+}
+
+fn is_reported(alloc: Global, desk: &mut Desk<MemStore>, days: u32, text: &str) -> bool {
+    let mut writer = Watched::new(Vec::new(alloc));
+    let outcome = rotation(alloc, desk, days, &mut writer);
+    is_written(outcome, writer.into_inner().as_slice(), text)
+}
+
+/// Whether the register is written out so.
+fn is_written_out(alloc: Global, written: &Written) -> Result<bool, Fail> {
+    let mut desk = desk_of(alloc, written.lines.as_bytes())?;
+    if !is_exported(alloc, &mut desk, written.export) {
+        return Ok(false);
+    }
+    for (days, report) in written.reports {
+        if !is_reported(alloc, &mut desk, *days, report) {
+            return Ok(false);
+        }
+    }
+    Ok(true)
+}
+
+/// Whether registers are written out as exports and reports.
+pub fn are_registers_written_out(alloc: Global) -> Result<bool, Fail> {
+    Ok(
+        is_written_out(alloc, &EMPTY)?
+            && is_written_out(alloc, &DEFAULTS)?
+            && is_written_out(alloc, &SEVERAL)?
+            && is_written_out(alloc, &LONG)?,
+    )
+}
+
+/// Whether an export with a writer that fails once after these writes and flushes ends so, and has
+/// written this.
+fn is_cut(alloc: Global, desk: &mut Desk<MemStore>, good_turns: usize, text: &str) -> bool {
+    let mut writer = Watched::new(Troubled {
+        inner: Vec::new(alloc),
+        trouble: Trouble::FailsOnce,
+        good_turns,
+    });
+    let outcome = export(alloc, desk, &mut writer);
+    let expected = Outcome {
+        read: 0,
+        written: text.len() as u64,
+        replies: 0,
+        end: Finish::Ended(End::WriteFault),
+    };
+    outcome == expected && writer.into_inner().inner.as_slice() == text.as_bytes()
+}
+
+/// Whether the desk goes on after a writer that failed.
+fn goes_on(alloc: Global, desk: &mut Desk<MemStore>) -> bool {
+    let mut output = Vec::new(alloc);
+    let _ = run_over(desk, b"200 ann 2 advance\n", &mut output);
+    output.as_slice() == b"ok 0 - 200\n".as_slice() && is_exported(alloc, desk, DEFAULTS.export)
+}
+
+/// Whether a writer that fails ends an export, and the desk goes on.
+pub fn is_export_ended_by_writer(alloc: Global) -> Result<bool, Fail> {
+    let mut desk = desk_of(alloc, DEFAULTS.lines.as_bytes())?;
+    // Each line takes a write and a flush.
+    Ok(
+        is_cut(alloc, &mut desk, 0, "")
+            && is_cut(alloc, &mut desk, 2, EMPTY.export)
+            && is_cut(alloc, &mut desk, 3, DEFAULTS.export)
+            && goes_on(alloc, &mut desk),
+    )
+}

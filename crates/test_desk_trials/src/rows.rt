@@ -1,0 +1,190 @@
+//! The worked rows: what a run writes, against the rows, the plain program and what is shown of a
+//! key.
+use crate::cases::first_wrong;
+use crate::fresh_run::{desk_after, fresh_run};
+use lifecycle_core::Dates;
+use register_core::{Name, Refusal, Reply, Request, read_request, reply_line};
+use register_desk::{Finish, Outcome};
+use std::alloc::{AllocError, Global};
+use std::test::Fail;
+use test_faulty_devices::{Interrupted, OneByte, Short};
+use test_worked_rows::{Shown, WorkedRow, first_day, input_of, output_of, tables};
+
+/// What a run over the row does.
+fn outcome_of(row: &WorkedRow, input: &[u8], output: &[u8]) -> Outcome {
+    Outcome {
+        read: input.len() as u64,
+        written: output.len() as u64,
+        replies: row.lines.len() as u64,
+        end: Finish::AtEnd {
+            rest: row.rest.len() as u64,
+        },
+    }
+}
+
+/// The lines of the answers.
+pub fn lines_of(alloc: Global, answers: &[Result<Reply, Refusal>]) -> Result<Vec<u8>, AllocError> {
+    let mut lines = Vec::new(alloc);
+    for answer in answers {
+        lines.extend_from_slice(reply_line(answer).as_bytes())?;
+    }
+    Ok(lines)
+}
+
+/// Whether one of the requests has the caller and the number of this one.
+fn has_number_of(history: &[Request], request: &Request) -> bool {
+    history.iter().any(|other| other.caller == request.caller && other.number == request.number)
+}
+
+/// The requests that were accepted: of each caller and number the first that was answered with a
+/// reply.
+fn history_of(
+    alloc: Global,
+    items: &[Option<Request>],
+    answers: &[Result<Reply, Refusal>],
+) -> Result<Vec<Request>, AllocError> {
+    let mut history = Vec::new(alloc);
+    for (item, answer) in items.iter().zip(answers) {
+        if let (Some(request), Ok(_)) = (item, answer) {
+            if !has_number_of(&history, request) {
+                history.push(*request)?;
+            }
+        }
+    }
+    Ok(history)
+}
+
+/// Whether the plain program answers so, and comes to this moment, in seconds, and number of keys.
+/// It shares with the product the proved functions that read a line and write a reply, find the
+/// first refusal that holds, and give the dates that a command leaves and their state.
+fn is_plain(
+    alloc: Global,
+    row: &WorkedRow,
+    output: &[u8],
+    stands: (u64, u32),
+) -> Result<bool, AllocError> {
+    let items: Vec<Option<Request>> = row
+        .lines
+        .iter()
+        .map(|(request, _)| read_request(request.as_bytes()))
+        .collect(alloc)?;
+    if items.len() > 20 {
+        return Ok(false);
+    }
+    let answers = test_plain_register::answers(alloc, &items)?;
+    let history = history_of(alloc, &items, &answers)?;
+    if history.len() > 20 {
+        return Ok(false);
+    }
+    let came_to = (
+        test_plain_register::latest(&history).seconds(),
+        test_plain_register::count(&history),
+    );
+    Ok(stands == came_to && lines_of(alloc, &answers)?.as_slice() == output)
+}
+
+/// Whether a run over the row does and writes what it should, as does the plain program.
+fn is_run(alloc: Global, row: &WorkedRow) -> Result<bool, Fail> {
+    let input = input_of(alloc, row)?;
+    let output = output_of(alloc, row.lines)?;
+    let ran = fresh_run(alloc, input.as_slice(), Vec::new(alloc))?;
+    Ok(
+        ran.outcome == outcome_of(row, &input, &output)
+            && ran.writer.as_slice() == output.as_slice()
+            && is_plain(alloc, row, &output, ran.stands)?,
+    )
+}
+
+/// The dates after the Initial Date, in seconds.
+fn seconds(dates: &Dates) -> [Option<u64>; 6] {
+    let dates = [
+        dates.activation,
+        dates.protect_stop,
+        dates.deactivation,
+        dates.destroy,
+        dates.compromise,
+        dates.compromise_occurrence,
+    ];
+    dates.map(|date| date.map(|moment| moment.seconds()))
+}
+
+/// The names, each with a space after it.
+fn join(alloc: Global, names: &[Name]) -> Result<String, AllocError> {
+    let mut text = String::new(alloc);
+    for name in names {
+        text.push_str(name.text())?;
+        text.push_str(" ")?;
+    }
+    Ok(text)
+}
+
+/// Whether key 1 is shown so after a run over the row.
+fn is_shown(alloc: Global, row: &WorkedRow, shown: &Shown) -> Result<bool, Fail> {
+    let mut desk = desk_after(alloc, row)?;
+    let Some(record) = desk.show(1)? else {
+        return Ok(false);
+    };
+    Ok(
+        record.key.row.state == shown.state
+            && seconds(&record.key.row.dates) == shown.dates
+            && join(alloc, record.custodians.as_slice())?.as_str() == shown.custodians
+            && join(alloc, record.approvals.as_slice())?.as_str() == shown.approvals,
+    )
+}
+
+/// Whether a run over the row goes as it should, and key 1 is shown as it should be after it.
+fn is_good(alloc: Global, row: &WorkedRow) -> Result<bool, Fail> {
+    match &row.shown {
+        Some(shown) => Ok(is_run(alloc, row)? && is_shown(alloc, row, shown)?),
+        None => is_run(alloc, row),
+    }
+}
+
+/// Which of all worked rows does not go as it should, if one does not.
+pub fn worked_row_at_fault(alloc: Global) -> Result<Option<&'static str>, Fail> {
+    for rows in tables() {
+        if let Some(row) = first_wrong(rows, |row| is_good(alloc, row))? {
+            return Ok(Some(row.name));
+        }
+    }
+    Ok(None)
+}
+
+/// Whether the run over the row did and wrote what it should.
+fn is_served_whole(
+    alloc: Global,
+    row: &WorkedRow,
+    outcome: &Outcome,
+    written: &[u8],
+) -> Result<bool, Fail> {
+    let input = input_of(alloc, row)?;
+    let output = output_of(alloc, row.lines)?;
+    Ok(*outcome == outcome_of(row, &input, &output) && written == output.as_slice())
+}
+
+/// Whether the row is served where each read gives a byte.
+fn is_read_in_bytes(alloc: Global, row: &WorkedRow) -> Result<bool, Fail> {
+    let input = input_of(alloc, row)?;
+    let ran = fresh_run(alloc, OneByte(&input), Vec::new(alloc))?;
+    is_served_whole(alloc, row, &ran.outcome, &ran.writer)
+}
+
+/// Whether the row is served where reads and writes are interrupted, a read gives a byte and a
+/// write takes three.
+fn is_interrupted(alloc: Global, row: &WorkedRow) -> Result<bool, Fail> {
+    let input = input_of(alloc, row)?;
+    let writer = Interrupted::new(Short {
+        inner: Vec::new(alloc),
+        max_bytes: 3,
+    });
+    let ran = fresh_run(alloc, Interrupted::new(OneByte(&input)), writer)?;
+    if ran.read_failed || ran.write_failed {
+        return Ok(false);
+    }
+    is_served_whole(alloc, row, &ran.outcome, &ran.writer.inner.inner)
+}
+
+/// Whether *first day* is served in pieces, and where it is interrupted.
+pub fn is_first_day_served_in_pieces(alloc: Global) -> Result<bool, Fail> {
+    Ok(is_read_in_bytes(alloc, first_day())? && is_interrupted(alloc, first_day())?)
+}

@@ -1,0 +1,350 @@
+//! Registers in files in memory, of which calls fail.
+//!
+//! A function that names the type of the store costs about a minute in a proof, and any other a few
+//! seconds. So it stands in [`Lab::try_out`] alone, which is handed what to do as a [`Task`].
+ghost use Rattle.std.specs.Prelude.{◌≡◌, false, IfOk, IsTrue};
+ghost use Rattle.sqlite_disk.specs.Memory.{memory_is_usable};
+
+use register_desk::{Desk, OpenRefusal};
+use sqlite::{Alter, Connection, FileStore, Files, Options};
+use sqlite_disk::{Disk, Memory};
+use std::alloc::Global;
+use std::test::Fail;
+use test_faulty_devices::{Counter, Plan, Planned};
+
+/// The files of a register that have the calls that fail.
+#[derive(Clone, Copy, Debug, PartialEq, Eq)]
+pub enum Place {
+    Log,
+    Database,
+    /// Both: their calls are counted together, and they stop together.
+    Machine,
+}
+
+/// Which calls of which files fail.
+#[derive(Clone, Copy, Debug, PartialEq, Eq)]
+pub struct Fault {
+    pub place: Place,
+    pub plan: Plan,
+}
+
+/// No call fails.
+pub const HONEST: Fault = Fault {
+    place: Place::Machine,
+    plan: Plan::Honest,
+};
+
+impl Fault {
+    /// The same with this many calls before the first that fails.
+    pub fn at(self, before: u64) -> Fault {
+        Fault {
+            place: self.place,
+            plan: self.plan.at(before),
+        }
+    }
+
+    /// The plan of the log, and that of the database file.
+    fn plans(self) -> (Plan, Plan) {
+        match self.place {
+            Place::Log => (self.plan, Plan::Honest),
+            Place::Database => (Plan::Honest, self.plan),
+            Place::Machine => (self.plan, self.plan),
+        }
+    }
+}
+
+/// What is left of files whose calls failed.
+#[derive(Drop)]
+pub struct Left {
+    pub files: Files<Memory>,
+    /// Whether a call failed.
+    pub has_failed: bool,
+    /// How many calls the fault counted.
+    pub calls: u64,
+}
+
+/// What is done with a connection to files of which calls fail.
+pub trait Task {
+    type Outcome: Drop;
+
+    /// Does it, and gives the connection back, whatever came of it.
+    fn perform<S: Alter + Drop>(
+        &self,
+        alloc: Global,
+        connection: Connection<S>,
+    ) -> Result<(Connection<S>, Self::Outcome), Fail>
+        requires { connection.in_transaction ≡ false };
+}
+
+/// What is done over a register in such files.
+pub trait DeskTask {
+    type Outcome: Drop;
+
+    /// Does it over the register's desk.
+    fn perform<S: Alter>(&self, alloc: Global, desk: &mut Desk<S>) -> Result<Self::Outcome, Fail>;
+}
+
+/// How a desk is come by.
+#[derive(Clone, Copy, Debug, PartialEq, Eq)]
+pub enum Entry {
+    /// A register is made.
+    Creation,
+    /// The register is opened.
+    Opening,
+    /// The register of the first version is opened, and so taken to this program's.
+    Migration,
+}
+
+/// Why there is no desk.
+#[derive(Clone, Copy, Debug, PartialEq, Eq)]
+pub enum NoDesk {
+    /// The files are no database, or a call of theirs failed.
+    NoConnection,
+    /// No register was made or opened.
+    Refused(OpenRefusal),
+}
+
+/// Makes or opens the register and does it over the desk.
+#[derive(Drop)]
+struct OverDesk<'a, T> {
+    entry: Entry,
+    task: &'a T,
+}
+
+impl<T: DeskTask> Task for OverDesk<'_, T> {
+    type Outcome = Result<T::Outcome, OpenRefusal>;
+
+    fn perform<S: Alter + Drop>(
+        &self,
+        alloc: Global,
+        connection: Connection<S>,
+    ) -> Result<(Connection<S>, Result<T::Outcome, OpenRefusal>), Fail> {
+        let entered = match self.entry {
+            Entry::Creation => Desk::create(alloc, connection),
+            Entry::Opening | Entry::Migration => Desk::open(alloc, connection),
+        };
+        match entered {
+            Ok(mut desk) => {
+                let outcome = self.task.perform(alloc, &mut desk)?;
+                Ok((desk.into_connection(), Ok(outcome)))
+            }
+            Err(unopened) => Ok((unopened.connection, Err(unopened.refusal))),
+        }
+    }
+}
+
+/// Nothing is done over the desk.
+pub struct Nothing;
+
+impl DeskTask for Nothing {
+    type Outcome = ();
+
+    fn perform<S: Alter>(&self, _alloc: Global, _desk: &mut Desk<S>) -> Result<(), Fail> {
+        Ok(())
+    }
+}
+
+/// Where tasks are done.
+#[derive(Clone, Copy)]
+pub struct Lab {
+    pub alloc: Global,
+    /// How many written pages are kept in memory before they go to the log.
+    spill_pages: usize,
+}
+
+/// Few pages are kept in memory, so that a look at another one reads a file. Each transaction but
+/// the first copies into the database file what the one before it wrote, so that this file is
+/// written too.
+fn options(spill_pages: usize) -> Options {
+    Options {
+        cache_pages: 4,
+        spill_pages,
+        checkpoint_frames: 1,
+        seed: 7,
+    }
+}
+
+/// A file with these bytes, all synced.
+pub fn file_of(alloc: Global, bytes: &[u8]) -> Result<Memory, Fail>
+    ensures { IfOk result (λ file. IsTrue (memory_is_usable file)) }
+{
+    let mut file = Memory::new(alloc);
+    file.write_at(0, bytes)?;
+    file.sync()?;
+    Ok(file)
+}
+
+/// Files with nothing in them.
+pub fn no_files(alloc: Global) -> Files<Memory> {
+    Files {
+        log: Memory::new(alloc),
+        db: Memory::new(alloc),
+    }
+}
+
+fn left_of(files: Files<Planned<Memory>>) -> Left {
+    let Files { log, db } = files;
+    Left {
+        has_failed: log.has_failed() || db.has_failed(),
+        calls: log.calls(),
+        files: Files {
+            log: log.into_inner(),
+            db: db.into_inner(),
+        },
+    }
+}
+
+impl Lab {
+    /// A lab whose requests keep what they write in memory until they are committed.
+    pub fn new(alloc: Global) -> Lab {
+        Lab {
+            alloc,
+            spill_pages: 2000,
+        }
+    }
+
+    /// A lab whose requests write to the log before they are committed, since they change more
+    /// pages than are kept.
+    pub fn with_small_cache(alloc: Global) -> Lab {
+        Lab {
+            alloc,
+            spill_pages: 2,
+        }
+    }
+
+    /// Does it over copies of the files; `None` where the connection was refused.
+    pub fn try_out<T: Task>(
+        &self,
+        files: &Files<Memory>,
+        fault: Fault,
+        task: &T,
+    ) -> Result<(Option<T::Outcome>, Left), Fail> {
+        let (of_log, of_database) = fault.plans();
+        let counter = Counter::new(self.alloc)?;
+        let log = Planned::new(
+            file_of(self.alloc, files.log.bytes())?,
+            of_log,
+            counter.share()?,
+        );
+        let db = Planned::new(file_of(self.alloc, files.db.bytes())?, of_database, counter);
+        match Connection::open_files(self.alloc, Files { log, db }, options(self.spill_pages)) {
+            Ok(connection) => {
+                let (connection, outcome) = task.perform(self.alloc, connection)?;
+                Ok((Some(outcome), left_of(connection.into_store().close())))
+            }
+            Err((_, left)) => Ok((None, left_of(left.into_files()))),
+        }
+    }
+
+    /// Does it over files of which no call fails. What comes of it, and the files.
+    pub fn carry_out<T: Task>(
+        &self,
+        files: &Files<Memory>,
+        task: &T,
+    ) -> Result<(T::Outcome, Files<Memory>), Fail> {
+        let (outcome, left) = self.try_out(files, HONEST, task)?;
+        match outcome {
+            Some(outcome) => Ok((outcome, left.files)),
+            None => Err(Fail::from("no connection where no call fails")),
+        }
+    }
+
+    /// Does it over the desk of the register in copies of the files.
+    pub fn try_out_at_desk<T: DeskTask>(
+        &self,
+        files: &Files<Memory>,
+        fault: Fault,
+        entry: Entry,
+        task: &T,
+    ) -> Result<(Result<T::Outcome, NoDesk>, Left), Fail> {
+        let (outcome, left) = self.try_out(files, fault, &OverDesk { entry, task })?;
+        let reached = match outcome {
+            Some(Ok(outcome)) => Ok(outcome),
+            Some(Err(refusal)) => Err(NoDesk::Refused(refusal)),
+            None => Err(NoDesk::NoConnection),
+        };
+        Ok((reached, left))
+    }
+
+    /// Does it over the desk of the register in files of which no call fails. What comes of it, and
+    /// the files.
+    pub fn carry_out_at_desk<T: DeskTask>(
+        &self,
+        files: &Files<Memory>,
+        entry: Entry,
+        task: &T,
+    ) -> Result<(T::Outcome, Files<Memory>), Fail> {
+        let (reached, left) = self.try_out_at_desk(files, HONEST, entry, task)?;
+        match reached {
+            Ok(outcome) => Ok((outcome, left.files)),
+            Err(_) => Err(Fail::from("no desk where no call fails")),
+        }
+    }
+}
+
+const SELECTED: [&str; 7] = [
+    "SELECT * FROM meta",
+    "SELECT * FROM keys ORDER BY number",
+    "SELECT * FROM custodian ORDER BY key_no, name",
+    "SELECT * FROM approval ORDER BY key_no, name",
+    "SELECT * FROM request ORDER BY caller, number",
+    "SELECT * FROM period ORDER BY kind",
+    "SELECT * FROM quorum ORDER BY key_no",
+];
+
+/// The rows of a query as text; none where it is refused.
+fn select<S: Alter>(
+    alloc: Global,
+    connection: &mut Connection<S>,
+    sql: &str,
+) -> Result<String, Fail> {
+    match connection.query_all(sql, &[]) {
+        Ok(rows) => Ok(format!(in alloc; "{rows:?}\n")?),
+        Err(_) => Ok(String::new(alloc)),
+    }
+}
+
+/// Runs statements, and gives all rows of the register after them as text, the kept replies among
+/// them; empty where none of its tables is there.
+#[derive(Drop)]
+struct Running<'a> {
+    statements: &'a str,
+}
+
+impl Task for Running<'_> {
+    type Outcome = String;
+
+    fn perform<S: Alter + Drop>(
+        &self,
+        alloc: Global,
+        mut connection: Connection<S>,
+    ) -> Result<(Connection<S>, String), Fail> {
+        connection.execute_batch(self.statements)?;
+        let mut rows = String::new(alloc);
+        for sql in &SELECTED {
+            rows.push_str(select(alloc, &mut connection, sql)?.as_str())?;
+        }
+        Ok((connection, rows))
+    }
+}
+
+impl Lab {
+    /// All rows of the register in the files.
+    pub fn rows_in(&self, files: &Files<Memory>) -> Result<String, Fail> {
+        Ok(self.carry_out(files, &Running { statements: "" })?.0)
+    }
+
+    /// The files of a database that these statements make.
+    pub fn files_by(&self, statements: &str) -> Result<Files<Memory>, Fail> {
+        Ok(
+            self.carry_out(&no_files(self.alloc), &Running { statements })?
+                .1,
+        )
+    }
+
+    /// The files of a new register.
+    pub fn new_files(&self) -> Result<Files<Memory>, Fail> {
+        let (_, files) = self.carry_out_at_desk(&no_files(self.alloc), Entry::Creation, &Nothing)?;
+        Ok(files)
+    }
+}

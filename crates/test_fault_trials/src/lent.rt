@@ -1,0 +1,359 @@
+//! Readers and writers that fail, are interrupted or take nothing, at each turn of a call.
+use crate::calls::{Call, call_over};
+use crate::files::{DeskTask, Entry, Lab};
+use crate::texts::{
+    ADVANCE, EXPORT_HEAD, Exchange, IMPORT_HEAD, IMPORT_ROWS, IMPORTED, IN_USE, KEY, REGISTERED,
+    Text, join,
+};
+use crate::trials::{files_with, rows_by_step};
+use register_desk::{Desk, End, Finish, Outcome, Watched};
+use sqlite::{Alter, Files};
+use sqlite_disk::Memory;
+use std::alloc::Global;
+use std::test::Fail;
+use test_faulty_devices::{Counted, Counter, OneByte, Trouble, Troubled};
+
+/// More turns than any call takes.
+const MAX_TURNS: usize = 5000;
+
+/// What is lent, over the register with one key, and what is to come of it.
+#[derive(Clone, Copy, Debug)]
+struct Lent {
+    call: Call,
+    /// The requests that it sends.
+    sent: &'static [Exchange],
+    input: Text,
+    output: Text,
+}
+
+/// The troubled one of the two.
+#[derive(Clone, Copy, Debug, PartialEq, Eq)]
+enum Stream {
+    Reader,
+    Writer,
+}
+
+/// Which stream has which trouble, and whether it stays.
+#[derive(Clone, Copy, Debug, PartialEq, Eq)]
+pub struct Case {
+    stream: Stream,
+    trouble: Trouble,
+    stays: bool,
+}
+
+/// The interrupted turns in a row after which a writer is given up.
+const MAX_IDLE: usize = 10_000;
+
+/// The reads after which the reader of an exchange is given up.
+const MAX_EXCHANGE_READS: usize = 80_000;
+
+impl Case {
+    /// How many turns of the reader go well, and how many of the writer, where so many of the
+    /// troubled one do.
+    fn good_turns(self, good: usize) -> (usize, usize) {
+        match self.stream {
+            Stream::Reader => (good, usize::MAX),
+            Stream::Writer => (usize::MAX, good),
+        }
+    }
+
+    /// The trouble, with a counter.
+    fn count(self, turns: Counter) -> Counted {
+        Counted {
+            trouble: self.trouble,
+            stays: self.stays,
+            turns,
+        }
+    }
+
+    /// Whether the call ends in this case within reasonable time: the reads of a run have a bound
+    /// of 2000000000.
+    fn is_for(self, call: Call) -> bool {
+        !(self.stays && self.stream == Stream::Reader && call == Call::Run)
+    }
+
+    /// After how many turns the call gives up a stream that is always interrupted after so many
+    /// good ones. An import does so at the first interrupted read.
+    fn turns_at_end(self, call: Call, good: usize) -> usize {
+        match (self.stream, call) {
+            (Stream::Writer, _) => good.saturating_add(MAX_IDLE),
+            (Stream::Reader, Call::Exchange) => MAX_EXCHANGE_READS,
+            (Stream::Reader, _) => good.saturating_add(1),
+        }
+    }
+
+    /// The end that the trouble comes to.
+    fn end(self) -> End {
+        match self.stream {
+            Stream::Reader => End::ReadFault,
+            Stream::Writer => End::WriteFault,
+        }
+    }
+
+    /// Whether the call may go as where no turn is troubled: a flush takes no byte, and an
+    /// interrupted turn is tried again.
+    fn may_be_whole(self) -> bool {
+        self.trouble != Trouble::Fails && !self.stays
+    }
+
+    /// Whether it may end by the trouble: csv need not read again where a read was interrupted.
+    fn may_end(self, call: Call) -> bool {
+        self.trouble != Trouble::IsInterrupted
+            || self.stays
+            || (call == Call::Import && self.stream == Stream::Reader)
+    }
+}
+
+/// A call with its texts, the files that it finds, and the rows after each step.
+#[derive(Drop)]
+struct Given {
+    call: Call,
+    /// How many steps it takes.
+    steps: usize,
+    input: String,
+    output: String,
+    files: Files<Memory>,
+    rows: Vec<String>,
+}
+
+/// What a call did, and how many turns the troubled stream then had had.
+#[derive(Drop)]
+struct Done {
+    outcome: Outcome,
+    output: Vec<u8>,
+    turns: u64,
+}
+
+/// Makes the call over streams of which one has the trouble after so many good turns.
+#[derive(Drop)]
+struct Lending<'a> {
+    given: &'a Given,
+    case: Case,
+    good: usize,
+}
+
+impl DeskTask for Lending<'_> {
+    type Outcome = Done;
+
+    fn perform<S: Alter>(&self, alloc: Global, desk: &mut Desk<S>) -> Result<Done, Fail> {
+        let (good_reads, good_writes) = self.case.good_turns(self.good);
+        let (reads, writes) = (Counter::new(alloc)?, Counter::new(alloc)?);
+        let reader = Troubled {
+            inner: OneByte(self.given.input.as_bytes()),
+            trouble: self.case.count(reads.share()?),
+            good_turns: good_reads,
+        };
+        let mut writer = Watched::new(Troubled {
+            inner: Vec::new(alloc),
+            trouble: self.case.count(writes.share()?),
+            good_turns: good_writes,
+        });
+        let outcome = call_over(alloc, desk, self.given.call, reader, &mut writer)?;
+        Ok(Done {
+            outcome,
+            output: writer.into_inner().inner,
+            turns: match self.case.stream {
+                Stream::Reader => reads.count(),
+                Stream::Writer => writes.count(),
+            },
+        })
+    }
+}
+
+/// The call over the register in the files, and these after it.
+fn lend(
+    lab: Lab,
+    files: &Files<Memory>,
+    given: &Given,
+    case: Case,
+    good: usize,
+) -> Result<(Done, Files<Memory>), Fail> {
+    lab.carry_out_at_desk(files, Entry::Opening, &Lending { given, case, good })
+}
+
+impl Given {
+    fn new(lab: Lab, lent: &Lent) -> Result<Given, Fail> {
+        Ok(Given {
+            call: lent.call,
+            steps: lent.sent.len(),
+            input: join(lab.alloc, lent.input)?,
+            output: join(lab.alloc, lent.output)?,
+            files: files_with(lab, KEY)?,
+            rows: rows_by_step(lab, KEY, lent.sent)?,
+        })
+    }
+
+    /// Whether the call went as where no turn is troubled.
+    fn is_whole(&self, done: &Done) -> bool {
+        done.outcome.end == Finish::AtEnd { rest: 0 }
+            && done.output.as_slice() == self.output.as_bytes()
+            && done.outcome.written == self.output.len() as u64
+    }
+
+    /// Whether it ended so, and what was written is a prefix of what was to be written.
+    fn is_prefix(&self, done: &Done, end: End) -> bool {
+        done.outcome.end == Finish::Ended(end)
+            && self.output.as_bytes().starts_with(&done.output)
+            && done.outcome.written == done.output.len() as u64
+    }
+
+    /// How many requests have acted, if the call ended as it may after so many good turns.
+    fn steps_of(&self, case: Case, done: &Done, good: usize) -> Option<usize> {
+        if case.stays && done.turns != case.turns_at_end(self.call, good) as u64 {
+            return None;
+        }
+        let replies = done.outcome.replies as usize;
+        if case.may_be_whole() && self.is_whole(done) {
+            Some(self.steps)
+        } else if case.may_end(self.call) && self.is_prefix(done, case.end()) {
+            match case.stream {
+                Stream::Reader => Some(replies),
+                Stream::Writer => Some(replies.saturating_add(1).min(self.steps)),
+            }
+        } else {
+            None
+        }
+    }
+
+    /// Whether the files have the register with the rows, and the call over it, with no trouble,
+    /// then ends as it should, with the last rows.
+    fn is_left_so(&self, lab: Lab, files: &Files<Memory>, steps: usize) -> Result<bool, Fail> {
+        if self.rows.get(steps) != Some(&lab.rows_in(files)?) {
+            return Ok(false);
+        }
+        // With so many good turns there is no trouble in any case.
+        let (done, files) = lend(lab, files, self, CASES[0], usize::MAX)?;
+        Ok(self.is_whole(&done) && self.rows.last() == Some(&lab.rows_in(&files)?))
+    }
+}
+
+/// One call: whether its trouble came, or what it did otherwise than it should.
+fn try_turn(
+    lab: Lab,
+    given: &Given,
+    case: Case,
+    good: usize,
+) -> Result<Result<bool, Outcome>, Fail> {
+    let (done, left) = lend(lab, &given.files, given, case, good)?;
+    let has_come = done.turns > good as u64;
+    let steps = if has_come {
+        given.steps_of(case, &done, good)
+    } else if given.is_whole(&done) {
+        Some(given.steps)
+    } else {
+        None
+    };
+    match steps {
+        Some(steps) if given.is_left_so(lab, &left, steps)? => Ok(Ok(has_come)),
+        _ => Ok(Err(done.outcome)),
+    }
+}
+
+/// Lets each turn in turn be troubled, until none is. Gives how many were, or the turn at which the
+/// call did otherwise than it should.
+fn try_turns(lab: Lab, given: &Given, case: Case) -> Result<Result<usize, (usize, Outcome)>, Fail> {
+    for good in 0..MAX_TURNS {
+        match try_turn(lab, given, case, good)? {
+            Ok(true) => {}
+            Ok(false) => return Ok(Ok(good)),
+            Err(outcome) => return Ok(Err((good, outcome))),
+        }
+    }
+    Err(Fail::from("more turns than any call takes"))
+}
+
+#[rattlefmt::skip]
+const CASES: [Case; 7] = [
+    Case { stream: Stream::Reader, trouble: Trouble::Fails, stays: false },
+    Case { stream: Stream::Reader, trouble: Trouble::IsInterrupted, stays: false },
+    Case { stream: Stream::Reader, trouble: Trouble::IsInterrupted, stays: true },
+    Case { stream: Stream::Writer, trouble: Trouble::Fails, stays: false },
+    Case { stream: Stream::Writer, trouble: Trouble::TakesNothing, stays: false },
+    Case { stream: Stream::Writer, trouble: Trouble::IsInterrupted, stays: false },
+    Case { stream: Stream::Writer, trouble: Trouble::IsInterrupted, stays: true },
+];
+
+const LENT: [Lent; 6] = [
+    Lent {
+        call: Call::Run,
+        sent: &[
+            REGISTERED,
+            ("100 ann  2 advance", "refused 1 BadLine"),
+            ("900 ann 2 advance", "ok 0 - 900"),
+        ],
+        input: &["100 ann 1 register master bob - - - x\n100 ann  2 advance\n900 ann 2 advance\n"],
+        output: &["ok 2 Pre-Active 100\nrefused 1 BadLine\nok 0 - 900\n"],
+    },
+    Lent {
+        call: Call::Import,
+        sent: IMPORTED,
+        input: &[IMPORT_HEAD, IMPORT_ROWS],
+        output: &["ok 2 Active 100\nrefused 1 BadLine\nok 3 Pre-Active 100\n"],
+    },
+    Lent {
+        call: Call::Export,
+        sent: &[],
+        input: &[],
+        output: &[
+            EXPORT_HEAD,
+            "1,data-encryption,bob,1970-01-01T00:00:00Z,1970-01-01T00:11:40Z,1970-01-01T00:15:00Z,Active,",
+            "1970-01-01T00:00:50Z,,,,old disks\n",
+        ],
+    },
+    Lent {
+        call: Call::Rotation,
+        sent: &[],
+        input: &[],
+        output: &[
+            "Keys due for rotation by 1970-01-02T00:00:50Z\n",
+            "      1  1970-01-01T00:11:40Z  due      data-encryption         bob  old disks\n",
+            "total 1\n",
+        ],
+    },
+    Lent {
+        call: Call::Exchange,
+        sent: &[("100 ann 1 advance", "ok 0 - 100")],
+        input: &[ADVANCE],
+        output: &[
+            "HTTP/1.1 200 OK\r\nContent-Type: application/json\r\nContent-Length: 35\r\nConnection: close\r\n\r\n",
+            "{\"key\":0,\"moment\":100,\"state\":null}",
+        ],
+    },
+    Lent {
+        call: Call::Exchange,
+        sent: &[],
+        input: &["GET /keys/1/usage HTTP/1.1\r\nHost: localhost\r\n\r\n"],
+        output: &[IN_USE],
+    },
+];
+
+/// Whether the call does as it should in this case, and a turn is troubled of a stream that has
+/// turns.
+fn is_right(lab: Lab, given: &Given, case: Case) -> Result<bool, Fail> {
+    let has_turns = case.stream == Stream::Writer || !given.input.is_empty();
+    match try_turns(lab, given, case)? {
+        Ok(turns) => Ok((turns > 0) == has_turns),
+        Err(_) => Ok(false),
+    }
+}
+
+/// The first case in which the call does otherwise than it should.
+fn wrong_case(lab: Lab, given: &Given) -> Result<Option<Case>, Fail> {
+    for case in &CASES {
+        if case.is_for(given.call) && !is_right(lab, given, *case)? {
+            return Ok(Some(*case));
+        }
+    }
+    Ok(None)
+}
+
+/// The first call that does, with the case.
+pub fn trouble_at_fault(alloc: Global) -> Result<Option<(Call, Case)>, Fail> {
+    let lab = Lab::new(alloc);
+    for lent in &LENT {
+        if let Some(case) = wrong_case(lab, &Given::new(lab, lent)?)? {
+            return Ok(Some((lent.call, case)));
+        }
+    }
+    Ok(None)
+}

@@ -1,0 +1,238 @@
+//! Calls that read a register of twenty keys, of which a look-up fails.
+use crate::files::{DeskTask, Entry, Fault, Lab, Place};
+use crate::keys::{ALL, DUE, export_text, is_answered, report_text, twenty_keys};
+use crate::sending::{Came, is_broken, run_exchange};
+use crate::texts::IN_USE;
+use crate::trials::calls_of_opening;
+use moment_core::Moment;
+use register_desk::{Desk, End, Finish, KeyRows, Outcome, Watched};
+use register_report::{export, rotation};
+use sqlite::{Alter, Files};
+use sqlite_disk::Memory;
+use std::alloc::Global;
+use std::test::Fail;
+use test_faulty_devices::Plan;
+
+/// More reads than any of the calls makes.
+const MAX_READS: u64 = 5000;
+
+/// A call that reads the register.
+#[derive(Clone, Copy, Debug, PartialEq, Eq)]
+pub enum Look {
+    Show,
+    Usage,
+    /// The usage, by an exchange.
+    Get,
+    Keys,
+    /// Up to this moment.
+    Due(Moment),
+    Export,
+    Report,
+}
+
+/// What came of it.
+#[derive(Clone, Copy, Debug, PartialEq, Eq)]
+enum Seen {
+    /// All that is to be seen.
+    Whole,
+    /// A prefix of it, and then the end 31.
+    Refused,
+    /// Anything else.
+    Wrong,
+}
+
+const GET: &str = "GET /keys/7/usage HTTP/1.1\r\nHost: localhost\r\n\r\n";
+
+/// The texts of the register.
+#[derive(Drop)]
+struct Texts {
+    export: String,
+    report: String,
+}
+
+/// Reads the rows, which are to be of the keys with these numbers.
+fn read_rows<S: Alter>(rows: &mut KeyRows<'_, S>, numbers: &[u32]) -> Seen {
+    for number in numbers {
+        match rows.next_key() {
+            Ok(Some(row)) if row.number == *number => {}
+            Err(End::Store) => return Seen::Refused,
+            _ => return Seen::Wrong,
+        }
+    }
+    match rows.next_key() {
+        Ok(None) => Seen::Whole,
+        Err(End::Store) => Seen::Refused,
+        _ => Seen::Wrong,
+    }
+}
+
+/// The same, and that 32 comes after 31, and none after the last.
+fn read_out<S: Alter>(mut rows: KeyRows<'_, S>, numbers: &[u32]) -> Seen {
+    match (read_rows(&mut rows, numbers), rows.next_key()) {
+        (Seen::Whole, Ok(None)) => Seen::Whole,
+        (Seen::Refused, Err(End::Broken)) => Seen::Refused,
+        _ => Seen::Wrong,
+    }
+}
+
+/// What came of a table with this text, by a call with this outcome that wrote these bytes.
+fn of_table(outcome: Outcome, bytes: &[u8], text: &str) -> Seen {
+    let is_counted = outcome.read == 0
+        && outcome.replies == 0
+        && outcome.written == bytes.len() as u64;
+    match outcome.end {
+        Finish::AtEnd { rest: 0 } if is_counted && bytes == text.as_bytes() => Seen::Whole,
+        Finish::Ended(End::Store)
+            if is_counted
+                && bytes.iter().any(|byte| *byte == b'\n')
+                && text.as_bytes().starts_with(bytes) => { Seen::Refused }
+        _ => Seen::Wrong,
+    }
+}
+
+/// What came of a look at one key.
+fn of_key<T>(found: &Result<Option<T>, End>) -> Seen {
+    match found {
+        Ok(Some(_)) => Seen::Whole,
+        Err(End::Store) => Seen::Refused,
+        _ => Seen::Wrong,
+    }
+}
+
+fn get_over<S: Alter>(alloc: Global, desk: &mut Desk<S>) -> Seen {
+    match run_exchange(alloc, desk, 200, GET, IN_USE) {
+        Came::Whole => Seen::Whole,
+        Came::Refused(_) => Seen::Refused,
+        Came::Wrong => Seen::Wrong,
+    }
+}
+
+fn export_over<S: Alter>(alloc: Global, desk: &mut Desk<S>, text: &str) -> Seen {
+    let mut writer = Watched::new(Vec::new(alloc));
+    let outcome = export(alloc, desk, &mut writer);
+    of_table(outcome, writer.into_inner().as_slice(), text)
+}
+
+fn report_over<S: Alter>(alloc: Global, desk: &mut Desk<S>, text: &str) -> Seen {
+    let mut writer = Watched::new(Vec::new(alloc));
+    let outcome = rotation(alloc, desk, 1, &mut writer);
+    of_table(outcome, writer.into_inner().as_slice(), text)
+}
+
+fn look_at<S: Alter>(alloc: Global, desk: &mut Desk<S>, texts: &Texts, look: Look) -> Seen {
+    match look {
+        Look::Show => of_key(&desk.show(7)),
+        Look::Usage => of_key(&desk.usage(7)),
+        Look::Get => get_over(alloc, desk),
+        Look::Keys => match desk.keys() {
+            Ok(rows) => read_out(rows, &ALL),
+            Err(_) => Seen::Wrong,
+        },
+        Look::Due(until) => match desk.due(until) {
+            Ok(rows) => read_out(rows, &DUE),
+            Err(_) => Seen::Wrong,
+        },
+        Look::Export => export_over(alloc, desk, texts.export.as_str()),
+        Look::Report => report_over(alloc, desk, texts.report.as_str()),
+    }
+}
+
+/// Whether a desk of which a look was refused is as it should be: broken by a look at one key, and
+/// else as it was.
+fn goes_on<S: Alter>(alloc: Global, desk: &mut Desk<S>, texts: &Texts, looked: Look) -> bool {
+    match looked {
+        Look::Show | Look::Usage | Look::Get => is_broken(alloc, desk),
+        _ => {
+            look_at(alloc, desk, texts, looked) == Seen::Whole
+                && is_answered(alloc, desk, "200 zed 1 advance\n", "ok 0 - 200\n")
+        }
+    }
+}
+
+/// Looks at the register: what is seen, or that it is wrong what comes after a look that was
+/// refused.
+#[derive(Drop)]
+struct Looking<'a> {
+    texts: &'a Texts,
+    looked: Look,
+}
+
+impl DeskTask for Looking<'_> {
+    type Outcome = Seen;
+
+    fn perform<S: Alter>(&self, alloc: Global, desk: &mut Desk<S>) -> Result<Seen, Fail> {
+        let seen = look_at(alloc, desk, self.texts, self.looked);
+        let is_good = seen != Seen::Refused || goes_on(alloc, desk, self.texts, self.looked);
+        Ok(if is_good { seen } else { Seen::Wrong })
+    }
+}
+
+/// Lets each read after the opening fail in turn. Gives how many the look was refused for, or as an
+/// error how many were before the one at which it went otherwise.
+fn refusals(
+    lab: Lab,
+    files: &Files<Memory>,
+    texts: &Texts,
+    looked: Look,
+    fault: Fault,
+) -> Result<Result<u64, u64>, Fail> {
+    let first = calls_of_opening(lab, files, fault)?;
+    let looking = Looking { texts, looked };
+    for before in first..MAX_READS {
+        let (seen, left) = lab.try_out_at_desk(files, fault.at(before), Entry::Opening, &looking)?;
+        match (seen, left.has_failed) {
+            (Ok(Seen::Whole), false) => return Ok(Ok(before.saturating_sub(first))),
+            (Ok(Seen::Refused), true) => {}
+            _ => return Ok(Err(before)),
+        }
+    }
+    Ok(Err(MAX_READS))
+}
+
+/// The first place of a file of which a read in this look does not fail as it should, or of which
+/// too few are read.
+fn place_not_refused(
+    lab: Lab,
+    files: &Files<Memory>,
+    texts: &Texts,
+    looked: &Look,
+) -> Result<Option<Place>, Fail> {
+    // What was copied into the database file is read there. The log may have nothing that a look at
+    // one key needs.
+    for (place, least) in [(Place::Log, 0), (Place::Database, 1)] {
+        let fault = Fault {
+            place,
+            plan: Plan::FailRead(0),
+        };
+        match refusals(lab, files, texts, *looked, fault)? {
+            Ok(count) if count >= least => {}
+            _ => return Ok(Some(place)),
+        }
+    }
+    Ok(None)
+}
+
+/// The first look of which a read does not fail as it should, with the place of the file.
+pub fn look_at_fault(alloc: Global) -> Result<Option<(Look, Place)>, Fail> {
+    let lab = Lab::new(alloc);
+    let files = twenty_keys(lab)?;
+    let until = Moment::new(600).ok_or("no moment")?;
+    let texts = Texts {
+        export: export_text(lab.alloc)?,
+        report: report_text(lab.alloc)?,
+    };
+    for looked in [
+        Look::Show,
+        Look::Usage,
+        Look::Get,
+        Look::Keys,
+        Look::Due(until),
+        Look::Export,
+        Look::Report,
+    ] {
+        if let Some(place) = place_not_refused(lab, &files, &texts, &looked)? {
+            return Ok(Some((looked, place)));
+        }
+    }
+    Ok(None)
+}

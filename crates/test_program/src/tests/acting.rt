@@ -1,0 +1,112 @@
+//! What the program does, and what is done to a register's file beside it. Nothing else here names
+//! files of the machine.
+ghost use Rattle.std.specs.Prelude.{◌≡◌, false};
+
+use disk_files::DiskFiles;
+use register_desk::Watched;
+use register_files::Files;
+use register_program::{Outputs, act};
+use sqlite::{Start, Wary};
+use std::alloc::Global;
+use std::io::{Read, Write};
+use std::test::Fail;
+
+/// The program's own name, and these words after it.
+fn words_of(alloc: Global, given: &[&str]) -> Result<Vec<String>, Fail> {
+    let mut words = Vec::new(alloc);
+    words.push(format!(in alloc; "keyreg")?)?;
+    for word in given {
+        words.push(format!(in alloc; "{word}")?)?;
+    }
+    Ok(words)
+}
+
+/// The program's exit status over files of which `S` says what they hold at first.
+fn act_from<S: Start, R: Read + Drop, W: Write, E: Write>(
+    rt: &HostRuntime,
+    start: S,
+    words: &[String],
+    input: R,
+    outputs: &mut Outputs<W, E>,
+) -> u8
+    requires { outputs.old.writer.failed ≡ false }
+{
+    act(rt, DiskFiles::new(start), words, input, outputs)
+}
+
+/// The exit status of the program with these words over these streams.
+pub fn act_on<R: Read + Drop, W: Write + Drop, E: Write + Drop>(
+    rt: &HostRuntime,
+    given: &[&str],
+    input: R,
+    output: W,
+    faults: E,
+) -> Result<u8, Fail> {
+    let words = words_of(rt.alloc(), given)?;
+    let mut outputs = Outputs {
+        writer: Watched::new(output),
+        faults,
+    };
+    Ok(act_from(rt, Wary, words.as_slice(), input, &mut outputs))
+}
+
+/// What the program did.
+#[derive(Drop)]
+pub struct Done {
+    pub status: u8,
+    pub output: Vec<u8>,
+    pub faults: Vec<u8>,
+}
+
+/// What the program does with these words over this input.
+pub fn acted(rt: &HostRuntime, given: &[&str], input: &[u8]) -> Result<Done, Fail> {
+    let mut output = Vec::new(rt.alloc());
+    let mut faults = Vec::new(rt.alloc());
+    let status = act_on(rt, given, input, &mut output, &mut faults)?;
+    Ok(Done {
+        status,
+        output,
+        faults,
+    })
+}
+
+/// Whether the program ends with this status, writes these lines, and names this fault, if any.
+pub fn does(
+    rt: &HostRuntime,
+    given: &[&str],
+    input: &[u8],
+    status: u8,
+    output: &[u8],
+    faults: &str,
+) -> Result<bool, Fail> {
+    let done = acted(rt, given, input)?;
+    Ok(
+        done.status == status
+            && done.output.as_slice() == output
+            && done.faults.as_slice() == faults.as_bytes(),
+    )
+}
+
+/// Runs the statement on the register in the file, whoever opens it.
+fn edit_by<F: Files>(rt: &HostRuntime, files: F, file: &str, statement: &str) -> Result<(), Fail> {
+    let Ok(mut connection) = files.connect(rt, file) else {
+        return Err(Fail::from("no connection"));
+    };
+    connection.execute(statement, &[])?;
+    let _ = F::close(connection.into_store());
+    Ok(())
+}
+
+fn edit_from<S: Start>(
+    rt: &HostRuntime,
+    start: S,
+    file: &str,
+    statement: &str,
+) -> Result<(), Fail> {
+    edit_by(rt, DiskFiles::new(start), file, statement)
+}
+
+/// Runs the statement on the register in the file.
+pub fn edit(rt: &HostRuntime, file: &str, statement: &str) -> Result<(), Fail> {
+    edit_from(rt, Wary, file, statement)
+}
