@@ -61,7 +61,9 @@ from registers import INDEXES, PROGRAM, STATES, TABLES, UNSET, VERSION, all_rows
 
 # The columns of keys past its number, and those that an accepted request may change, with their parameters.
 CELLS = columns_of("keys")[1:]
-GIVEN = [f"{name} = ?{at}" for at, name in enumerate((name for name in CELLS if name not in ("kind", "purpose", "initial")), 2)]
+# Those that a command may change.
+CHANGED = [name for name in CELLS if name not in ("kind", "purpose", "initial")]
+GIVEN = [f"{name} = ?{at}" for at, name in enumerate(CHANGED, 2)]
 
 # The statements of an accepted request, between BEGIN and COMMIT but for the four searches.
 STATEMENTS = {

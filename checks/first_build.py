@@ -56,7 +56,7 @@ def tell(told, *words):
 
 
 def hold_folders(crate):
-    """Shuts others out of the folders of a crate and of all that it stands on, as the kit's does, but waits for none."""
+    """Shuts others out of the folders of a crate and of all below it, as the kit's does, but waits for none."""
     held = []
     for name in sorted(crates_below(pathlib.Path("../.."), crate)):
         held.append(os.open(f"../{name}", os.O_RDONLY))

@@ -24,7 +24,8 @@ import tempfile
 import time
 from typing import Any, Iterator
 
-from registers import FIRST_TABLES, INDEXES, PROGRAM, TYPES, all_rows, are_sound, expect, in_memory, keyreg, put_rows, show
+from registers import FIRST_TABLES, INDEXES, PROGRAM, TYPES
+from registers import all_rows, are_sound, expect, in_memory, keyreg, put_rows, show
 from rules import PERIODS, Register, compact, get_reply, line, post_reply, reply_line, request_object
 from rules_shown import DAY, export_text, import_table, report_text, tables
 from serving import Served

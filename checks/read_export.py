@@ -28,8 +28,8 @@ PURPOSES = [
 
 
 def expected():
-    """What the export has of each, by the formats: a master key with an Activation Date of 1970-01-01 has its other dates a
-    year later (12 and 0 months), and was registered at second 100."""
+    """What the export has of each, by the formats: a master key with an Activation Date of 1970-01-01 has its other
+    dates a year later (12 and 0 months), and was registered at second 100."""
     rows = []
     for number, purpose in enumerate(PURPOSES, 1):
         year_later = "1971-01-01T00:00:00Z"

@@ -22,8 +22,8 @@ UNSET = 253402300800
 VERSION = 2
 
 # The columns of an export, and of an import.
-EXPORT_COLUMNS = ("number", "type", "owner", "activation", "protect_stop", "deactivation", "state", "initial", "destroyed",
-                  "compromised", "occurrence", "purpose")
+EXPORT_COLUMNS = ("number", "type", "owner", "activation", "protect_stop", "deactivation", "state", "initial",
+                  "destroyed", "compromised", "occurrence", "purpose")
 IMPORT_COLUMNS = ("type", "owner", "activation", "protect_stop", "deactivation", "purpose")
 
 # The tables that version 1 had, and those that version 2 added.

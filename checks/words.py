@@ -27,7 +27,8 @@ import tempfile
 import time
 from typing import Any, Iterator
 
-from registers import APPROVED_ANEW, APPROVED_ANEW_ROWS, EXPORT_COLUMNS, IMPORT_COLUMNS, PROGRAM, VERSION, all_rows, keyreg
+from registers import APPROVED_ANEW, APPROVED_ANEW_ROWS, EXPORT_COLUMNS, IMPORT_COLUMNS, PROGRAM, VERSION
+from registers import all_rows, keyreg
 from words_of_serve import look_at_serve
 
 TOP = pathlib.Path(__file__).resolve().parent.parent
