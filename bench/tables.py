@@ -53,7 +53,8 @@ sys.path.insert(0, os.path.join(HERE, "..", "checks"))
 import registers  # noqa: E402
 from measuring import built, measured, measured_behind, table  # noqa: E402
 from opened import opened  # noqa: E402
-from registers import EXPORT_COLUMNS, IMPORT_COLUMNS, INDEXES, STATES, TABLES, TYPES, UNSET, VERSION  # noqa: E402
+from registers import EXPORT_COLUMNS, EXPORT_DATES, IMPORT_COLUMNS, INDEXES, STATES, TABLES, TYPES  # noqa: E402
+from registers import UNSET, VERSION  # noqa: E402
 from registers import all_rows, expect, keyreg, show  # noqa: E402
 from rules import PERIODS, is_long  # noqa: E402
 
@@ -168,16 +169,17 @@ def horizon(latest, days):
     return min(latest + days * DAY, UNSET - 1)
 
 
+# What makes the text of a cell; the cells of other columns stand as they are.
+CELL_TEXTS = {"type": TYPES.get, "state": STATES.get, **dict.fromkeys(EXPORT_DATES, date_text)}
+
+
 def write_export(connection, written, is_flushed):
     rows = csv.writer(written, lineterminator="\n")
     rows.writerow(EXPORT_COLUMNS)
     written.flush()
+    texts = [CELL_TEXTS.get(column) for column in EXPORT_COLUMNS]
     for row in connection.execute(SELECTS["export"]):
-        number, kind, owner, activation, stop, deactivation, state, initial, destroyed, compromised, occurrence, text = row
-        rows.writerow((
-            number, TYPES[kind], owner, date_text(activation), date_text(stop), date_text(deactivation), STATES[state],
-            date_text(initial), date_text(destroyed), date_text(compromised), date_text(occurrence), text,
-        ))
+        rows.writerow([text(cell) if text else cell for text, cell in zip(texts, row)])
         if is_flushed:
             written.flush()
 

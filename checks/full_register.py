@@ -12,7 +12,7 @@ import os
 import sqlite3
 import tempfile
 
-from registers import EXPORT_COLUMNS, INDEXES, TABLES, UNSET, VERSION, expect, keyreg, show
+from registers import EXPORT_COLUMNS, INDEXES, TABLES, UNSET, VERSION, expect, export_row, keyreg, show
 
 MAX_KEYS = 1_000_000
 
@@ -47,9 +47,11 @@ def check_export(file, keys):
     lines = keyreg(["export", "--file", file])
     expect(lines[0] == ",".join(EXPORT_COLUMNS), f"header {lines[0]}")
     expect(len(lines) == keys + 1, f"{len(lines)} lines of an export")
-    row = "data-encryption,bob,1970-01-01T00:00:00Z,1970-01-01T01:23:20Z,1970-01-01T01:40:00Z,Active,1970-01-01T00:01:40Z,,,,disks"
+    row = ",".join(export_row(
+        number="{}", type="data-encryption", activation="1970-01-01T00:00:00Z", protect_stop="1970-01-01T01:23:20Z",
+        deactivation="1970-01-01T01:40:00Z", purpose="disks"))
     for number, line in enumerate(lines[1:], 1):
-        expect(line == f"{number},{row}", f"row {line}")
+        expect(line == row.format(number), f"row {line}")
 
 
 def check_report(file, keys):

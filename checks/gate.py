@@ -58,7 +58,7 @@ PARTS = (
     Part("killed_runs.py 20", 90),
     Part("documents.py", 90),
     Part("manual.py", 30),
-    Part("marks.py", 30),
+    Part("unseen.py", 30),
     Part("recipes.py", 30),
 )
 

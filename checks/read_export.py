@@ -12,7 +12,7 @@ import shutil
 import subprocess
 import tempfile
 
-from registers import EXPORT_COLUMNS, IMPORT_COLUMNS, PROGRAM, expect, keyreg
+from registers import EXPORT_COLUMNS, IMPORT_COLUMNS, PROGRAM, expect, export_row, keyreg
 
 PURPOSES = [
     "disks, payroll",
@@ -30,14 +30,9 @@ PURPOSES = [
 def expected():
     """What the export has of each, by the formats: a master key with an Activation Date of 1970-01-01 has its other
     dates a year later (12 and 0 months), and was registered at second 100."""
-    rows = []
-    for number, purpose in enumerate(PURPOSES, 1):
-        year_later = "1971-01-01T00:00:00Z"
-        rows.append([
-            str(number), "master", "bob", "1970-01-01T00:00:00Z", year_later, year_later, "Active", "1970-01-01T00:01:40Z", "", "",
-            "", purpose,
-        ])
-    return rows
+    start, later = "1970-01-01T00:00:00Z", "1971-01-01T00:00:00Z"
+    return [export_row(number=number, activation=start, protect_stop=later, deactivation=later, purpose=purpose)
+            for number, purpose in enumerate(PURPOSES, 1)]
 
 
 def program(words, given):

@@ -51,7 +51,7 @@ KINDS = (
         "a day or a year of an office": "docs/AUDIT.md examples/year.txt checks/version_1.sql",
     }),
     Kind("Add a command", r"\b(Activate|Assign|AddCustodian|Approve)\b", {
-        "they stand for their shapes": "*/Commands.antt */keyed_command/*",
+        "they stand for their shapes": "*/Commands.antt */command_with_key/*",
         "their refusals": "*/CustodyRefusal.antt crates/register_core/src/verdict.rt",
         "any command would do": "crates/test_desk_trials/src/desks.rt docs/COSTS.md",
     }),
@@ -71,7 +71,8 @@ KINDS = (
         "the date, which commands set": "crates/*_core/* crates/test_plain_register/* crates/test_core/*",
         "tables of version 1": "*/migrations.rt",
     }, ("Add a column to the export",)),
-    Kind("Add a column to the export", r"\bexport_fields\b|compromised\W+occurrence\W+purpose|length fields < 1", {}),
+    Kind("Add a column to the export",
+         r"compromised\W+occurrence\W+purpose|\"occurrence\"(, \"\"\)|: (date|moment)_text|\) \(λ d)", {}),
     Kind("Add a command about no key", r"\bSetPeriod\b|set-period|\bset_period\b|\bPeriodSet\b", {
         "a day or a year of an office": "docs/AUDIT.md examples/office.txt examples/year.txt",
         "what a period means for keys": "*/UnsetPeriods.antt */register_core/src/laws.rt */KeyRowsOf.antt */exports.rt "

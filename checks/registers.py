@@ -21,9 +21,13 @@ UNSET = 253402300800
 # The version of the tables.
 VERSION = 2
 
-# The columns of an export, and of an import.
-EXPORT_COLUMNS = ("number", "type", "owner", "activation", "protect_stop", "deactivation", "state", "initial",
-                  "destroyed", "compromised", "occurrence", "purpose")
+# The columns of an export, in their order, each with its cell of a key of which no more is said; those that are dates;
+# and the columns of an import.
+EXPORT_COLUMNS = {
+    "number": "1", "type": "master", "owner": "bob", "activation": "", "protect_stop": "", "deactivation": "",
+    "state": "Active", "initial": "1970-01-01T00:01:40Z", "destroyed": "", "compromised": "", "occurrence": "",
+    "purpose": "spare"}
+EXPORT_DATES = ("activation", "protect_stop", "deactivation", "initial", "destroyed", "compromised", "occurrence")
 IMPORT_COLUMNS = ("type", "owner", "activation", "protect_stop", "deactivation", "purpose")
 
 # The tables that version 1 had, and those that version 2 added.
@@ -95,6 +99,11 @@ APPROVED_ANEW_ROWS = {
 
 # Where files in memory may stand: the folder that whoever runs the checks clears away, or the system's.
 MEMORY_FOLDER = os.environ.get("KEYREG_IN_MEMORY") or "/dev/shm"
+
+
+def export_row(**cells):
+    """The row of a key in an export that has these cells, by the names of their columns, and else the usual ones."""
+    return [str(cell) for cell in {**EXPORT_COLUMNS, **cells}.values()]
 
 
 def in_memory(least):

@@ -72,10 +72,14 @@ def field(text: str) -> str:
 def export_text(register: Register) -> str:
     lines = [",".join(EXPORT_COLUMNS)]
     for number, key in enumerate(register.keys, 1):
-        given = [moment_text(date) for date in (key.activation, key.stop, key.end)]
-        later = [moment_text(date) for date in (key.initial, key.destroyed, key.compromised, key.occurrence)]
-        cells = [str(number), key.kind, key.owner, *given, key.state(register.latest), *later, key.purpose]
-        lines.append(",".join(map(field, cells)))
+        cells = {
+            "number": str(number), "type": key.kind, "owner": key.owner, "activation": moment_text(key.activation),
+            "protect_stop": moment_text(key.stop), "deactivation": moment_text(key.end),
+            "state": key.state(register.latest), "initial": moment_text(key.initial),
+            "destroyed": moment_text(key.destroyed), "compromised": moment_text(key.compromised),
+            "occurrence": moment_text(key.occurrence), "purpose": key.purpose,
+        }
+        lines.append(",".join(field(cells[column]) for column in EXPORT_COLUMNS))
     return "".join(f"{line}\n" for line in lines)
 
 

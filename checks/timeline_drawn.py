@@ -24,7 +24,7 @@ import tempfile
 import time
 from datetime import datetime, timezone
 
-from registers import EXPORT_COLUMNS, expect, keyreg
+from registers import EXPORT_COLUMNS, EXPORT_DATES, expect, export_row, keyreg
 from rules import Key
 
 TIMELINE = pathlib.Path(__file__).resolve().parent.parent / "examples" / "timeline.py"
@@ -48,7 +48,6 @@ LINES = [
     *(f"{NOW - 90 * DAY} ann {20 + place} register master eve - - - {text}" for place, text in enumerate(TEXTS)),
 ]
 STATES = ("Pre-Active", "Active", "Deactivated", "Compromised", "Destroyed", "Destroyed-Compromised")
-DATES = ("activation", "protect_stop", "deactivation", "initial", "destroyed", "compromised", "occurrence")
 # What may load something, or run.
 LOADING = {"src", "href", "xlink:href", "srcset", "action", "formaction", "data", "poster", "background", "style"}
 
@@ -93,7 +92,7 @@ def seconds(text):
 def keys_of(export):
     """The rows of an export, with the state that the rules give each at the moment."""
     for row in csv.DictReader(io.StringIO(export)):
-        dates = {name: seconds(row[name]) for name in DATES}
+        dates = {name: seconds(row[name]) for name in EXPORT_DATES}
         key = Key(row["type"], row["owner"], row["purpose"], dates["initial"],
                   (dates["activation"], dates["protect_stop"], dates["deactivation"]))
         key.destroyed, key.compromised, key.occurrence = dates["destroyed"], dates["compromised"], dates["occurrence"]
@@ -170,9 +169,12 @@ def many(count):
     rows = [",".join(EXPORT_COLUMNS)]
     for number in range(1, count + 1):
         begin = NOW + chance.randrange(-1200, 300) * DAY
-        dates = [datetime.fromtimestamp(begin + DAY * more, timezone.utc).strftime("%Y-%m-%dT%H:%M:%SZ") for more in (0, 700, 1700)]
+        activation, stop, end = (datetime.fromtimestamp(begin + DAY * more, timezone.utc).strftime("%Y-%m-%dT%H:%M:%SZ")
+                                 for more in (0, 700, 1700))
         kind, owner = chance.choice(["master", "data-encryption"]), f"team-{number % 7}"
-        rows.append(f"{number},{kind},{owner},{','.join(dates)},Active,2020-01-01T00:00:00Z,,,,key {number}")
+        rows.append(",".join(export_row(
+            number=number, type=kind, owner=owner, activation=activation, protect_stop=stop, deactivation=end,
+            initial="2020-01-01T00:00:00Z", purpose=f"key {number}")))
     return "\n".join(rows) + "\n"
 
 

@@ -28,7 +28,7 @@ import time
 from typing import Any, Iterator
 
 from registers import APPROVED_ANEW, APPROVED_ANEW_ROWS, EXPORT_COLUMNS, IMPORT_COLUMNS, PROGRAM, VERSION
-from registers import all_rows, keyreg
+from registers import all_rows, export_row, keyreg
 from words_of_serve import look_at_serve
 
 TOP = pathlib.Path(__file__).resolve().parent.parent
@@ -46,8 +46,9 @@ REPLIES = "".join(reply + "\n" for _, reply in APPROVED_ANEW)
 # The same without the one that is refused: a request that comes again has its first reply.
 AGAIN = "".join(line + "\n" for line, reply in APPROVED_ANEW if reply.startswith("ok "))
 FIRST_REPLIES = "".join(reply + "\n" for _, reply in APPROVED_ANEW if reply.startswith("ok "))
-EXPORTED = EXPORT_HEADER + ("1,master,bob,,,,Destroyed-Compromised,1970-01-01T00:01:40Z,1970-01-01T00:01:48Z,"
-                            "1970-01-01T00:01:49Z,1970-01-01T00:01:40Z,spare\n")
+EXPORTED = EXPORT_HEADER + ",".join(export_row(
+    state="Destroyed-Compromised", destroyed="1970-01-01T00:01:48Z", compromised="1970-01-01T00:01:49Z",
+    occurrence="1970-01-01T00:01:40Z")) + "\n"
 REPORTED = "Keys due for rotation by 1970-01-08T00:01:49Z\ntotal 0\n"
 BAD_VALUE, STORE, STRANGER = (1, "keyreg: BadValue\n"), (2, "keyreg: Store\n"), (2, "keyreg: NotARegister\n")
 READ_FAULT, WRITE_FAULT, BAD_HEADER = ((4, f"keyreg: {name}\n") for name in ("ReadFault", "WriteFault", "BadHeader"))

@@ -26,8 +26,9 @@ from datetime import datetime, timedelta, timezone
 from html import escape
 
 EPOCH = datetime(1970, 1, 1, tzinfo=timezone.utc)
-COLUMNS = "number,type,owner,activation,protect_stop,deactivation,state,initial,destroyed,compromised,occurrence,purpose"
+# The columns that are drawn: the dates, and all.
 DATES = ("activation", "protect_stop", "deactivation", "initial", "destroyed", "compromised", "occurrence")
+COLUMNS = ("number", "type", "owner", *DATES, "purpose")
 DAY, YEARS_SHOWN = 86400, 10
 # In units of the picture: its width, where the time begins, a row's height.
 WIDTH, LEFT, ROW, AXIS = 1200, 520, 20, 24
@@ -131,8 +132,9 @@ def state_at(key, moment):
 
 def keys_of(text):
     table = csv.DictReader(io.StringIO(text, newline=""))
-    if ",".join(table.fieldnames or []) != COLUMNS:
-        sys.exit(f"timeline: the input is no export of keyreg: its header row is not {COLUMNS}")
+    missing = [name for name in COLUMNS if name not in (table.fieldnames or [])]
+    if missing:
+        sys.exit(f"timeline: the input is no export of keyreg: it has no column {', '.join(missing)}")
     for row in table:
         yield {**row, **{name: seconds(row[name]) if row[name] else None for name in DATES}}
 

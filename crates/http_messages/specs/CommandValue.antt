@@ -8,7 +8,8 @@ use Rattle.register_requests.specs.declared.command_kind.CommandKind.{CommandKin
 use Rattle.register_requests.specs.declared.request.Command.{Command}
 use Rattle.register_requests.specs.declared.fields.Fields.{Fields}
 use Rattle.register_requests.specs.declared.fields.Fields.TheVariants.{Nothing, Key, KeyAndName}
-use Rattle.register_requests.specs.declared.fields.Fields.TheVariants.{KeyAndOwner, KeyAndNeed, TypeAndPeriod, Registration}
+use Rattle.register_requests.specs.declared.fields.Fields.TheVariants.{KeyAndOwner, KeyAndNeed, TypeAndPeriod}
+use Rattle.register_requests.specs.declared.fields.Fields.TheVariants.{Registration}
 use Rattle.register_requests.specs.declared.fields.Fields.TheVariants.{DateEdits, Revocation}
 use Rattle.register_requests.specs.declared.fields.Shape.{Shape}
 use Rattle.register_requests.specs.Fields.{fields_of, shape_of}

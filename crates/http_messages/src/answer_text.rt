@@ -86,7 +86,7 @@ fn reply_value(alloc: Global, reply: &Reply) -> Result<Value, AllocError>
 }
 
 /// Puts what a refusal tells beside its name and its number among these.
-fn put_details(
+fn put_refusal_details(
     members: &mut Map<String, Value>,
     alloc: Global,
     refusal: &Refusal,
@@ -123,7 +123,7 @@ fn refusal_value(alloc: Global, refusal: &Refusal) -> Result<Value, AllocError>
         "refused",
         Value::from(refusal.number()),
     )?;
-    put_details(&mut members, alloc, refusal)?;
+    put_refusal_details(&mut members, alloc, refusal)?;
     Ok(Value::Object(members))
 }
 
@@ -147,7 +147,7 @@ fn names_value(alloc: Global, names: &[Name]) -> Result<Value, AllocError>
 }
 
 /// Puts a list of names among members.
-fn put_names(
+fn put_names_member(
     members: &mut Map<String, Value>,
     alloc: Global,
     name: &str,
@@ -187,8 +187,8 @@ fn key_value(alloc: Global, shown: &Record) -> Result<Value, AllocError>
 {
     let key = &shown.key;
     let mut members = date_members(alloc, &key.row.dates)?;
-    put_names(&mut members, alloc, "approvals", shown.approvals.as_slice())?;
-    put_names(
+    put_names_member(&mut members, alloc, "approvals", shown.approvals.as_slice())?;
+    put_names_member(
         &mut members,
         alloc,
         "custodians",

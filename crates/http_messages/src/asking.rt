@@ -197,7 +197,7 @@ fn check_host(minor: u8, fields: &HeaderFields<'_>) -> Result<(), Rejection>
 }
 
 /// The route that the head is for, or why it is for none.
-fn check_head(
+fn route_of_head(
     router: &Router<RoutePattern>,
     head: &Head<'_>,
     fields: &HeaderFields<'_>,
@@ -243,7 +243,7 @@ fn ask_head<R: Read>(
         Ok(router) => router,
         Err(fault) => return Asking::unread(Err(fault)),
     };
-    let route = match check_head(router, head, &fields) {
+    let route = match route_of_head(router, head, &fields) {
         Ok(route) => route,
         Err(rejection) => return Asking::rejected(rejection),
     };
@@ -272,7 +272,7 @@ fn ask_after<R: Read>(
         (length prefix.new + result.read) result }
 {
     let mut headers = [EMPTY_HEADER_SPAN; MAX_HEADERS];
-    match prefix.find_head(&mut headers, reader) {
+    match prefix.read_head(&mut headers, reader) {
         Err(ReadFault) => Asking::unread(Err(AskFault::ReadFault)),
         Ok(HeadSearch::Nothing) => Asking::unread(Ok(None)),
         Ok(HeadSearch::Bad) => Asking::rejected(Rejection::BadRequest),

@@ -31,7 +31,7 @@ use serde_json::{Map, Value};
 use std::collections::btree_map::Iter;
 
 /// The value of the next member, if it has this name.
-fn next_named<'v>(members: &mut Iter<'v, String, Value>, name: &str) -> Option<&'v Value>
+fn next_member_named<'v>(members: &mut Iter<'v, String, Value>, name: &str) -> Option<&'v Value>
     ensures found { IfSome result (λ value.
         members_view members.old ≡ member name.now (view value.now) (members_view members.new)) }
     ensures none { IfNone result ((d : Data) (rest : Members) →
@@ -50,13 +50,13 @@ fn next_named<'v>(members: &mut Iter<'v, String, Value>, name: &str) -> Option<&
 }
 
 /// The value of the last member, if there is one member left and it has this name.
-fn last_named<'v>(members: &mut Iter<'v, String, Value>, name: &str) -> Option<&'v Value>
+fn last_member_named<'v>(members: &mut Iter<'v, String, Value>, name: &str) -> Option<&'v Value>
     ensures found { IfSome result (λ value.
         members_view members.old ≡ member name.now (view value.now) no_members) }
     ensures none { IfNone result ((d : Data) →
         members_view members.old ≢ member name.now d no_members) }
 {
-    let value = next_named(members, name)?;
+    let value = next_member_named(members, name)?;
     if members.next().is_none() {
         Some(value)
     } else {
@@ -65,35 +65,35 @@ fn last_named<'v>(members: &mut Iter<'v, String, Value>, name: &str) -> Option<&
 }
 
 /// The value of the key among members that name a key alone.
-fn keyed_value_of(members: &Map<String, Value>) -> Option<&Value>
+fn lone_key_value_of(members: &Map<String, Value>) -> Option<&Value>
     ensures found { IfSome result (λ key. (kind : Data) ×
         (members_view members.now.entries ≡ keyed_members (view key.now) kind)) }
     ensures none { IfNone result ((key kind : Data) →
         members_view members.now.entries ≢ keyed_members key kind) }
 {
     let mut rest = members.iter();
-    let key = next_named(&mut rest, "key")?;
-    let _kind = last_named(&mut rest, "kind")?;
+    let key = next_member_named(&mut rest, "key")?;
+    let _kind = last_member_named(&mut rest, "kind")?;
     Some(key)
 }
 
 /// The key of members that name a key alone.
-fn keyed_of(members: &Map<String, Value>) -> Option<u32>
+fn lone_key_of(members: &Map<String, Value>) -> Option<u32>
     ensures found { IfSome result (λ key. IsKeyNumber key × ((kind : Data) ×
         (members_view members.now.entries ≡ keyed_members (number_data key) kind))) }
     ensures none { IfNone result ((key : ℕ) (kind : Data) → IsKeyNumber key →
         members_view members.now.entries ≢ keyed_members (number_data key) kind) }
 {
-    key_of(keyed_value_of(members)?)
+    key_of(lone_key_value_of(members)?)
 }
 
 /// No fields: there is no member beside the kind.
-fn nothing_of(members: &Map<String, Value>) -> Option<Fields>
+fn no_fields_of(members: &Map<String, Value>) -> Option<Fields>
     ensures found { IfSome result (IsShaped shapes.Nothing (members_view members.now.entries)) }
     ensures none { IfNone result (HasMembers (members_view members.now.entries) Nothing → ⊥) }
 {
     let mut rest = members.iter();
-    let _kind = last_named(&mut rest, "kind")?;
+    let _kind = last_member_named(&mut rest, "kind")?;
     Some(Fields::Nothing)
 }
 
@@ -105,21 +105,21 @@ struct NamedMembers<'v> {
 }
 
 /// The members that name a key, and one more of this name.
-fn named_members_of<'v>(members: &'v Map<String, Value>, field: &str) -> Option<NamedMembers<'v>>
+fn key_and_member_of<'v>(members: &'v Map<String, Value>, field: &str) -> Option<NamedMembers<'v>>
     ensures found { IfSome result (λ m. (kind : Data) × (members_view members.now.entries
         ≡ named_members field.now (view m.key.now) kind (view m.value.now))) }
     ensures none { IfNone result ((key kind value : Data) →
         members_view members.now.entries ≢ named_members field.now key kind value) }
 {
     let mut rest = members.iter();
-    let key = next_named(&mut rest, "key")?;
-    let _kind = next_named(&mut rest, "kind")?;
-    let value = last_named(&mut rest, field)?;
+    let key = next_member_named(&mut rest, "key")?;
+    let _kind = next_member_named(&mut rest, "kind")?;
+    let value = last_member_named(&mut rest, field)?;
     Some(NamedMembers { key, value })
 }
 
 /// The key and the name of members that name a key, and a name in the member of this name.
-fn named_of(members: &Map<String, Value>, field: &str) -> Option<(u32, Name)>
+fn key_and_name_of(members: &Map<String, Value>, field: &str) -> Option<(u32, Name)>
     ensures found { IfSome result (λ x. (IsKeyNumber x.0 × IsName x.1) × ((kind : Data) ×
         (members_view members.now.entries
         ≡ named_members field.now (number_data x.0) kind (string x.1)))) }
@@ -127,14 +127,14 @@ fn named_of(members: &Map<String, Value>, field: &str) -> Option<(u32, Name)>
         IsKeyNumber key × IsName name → members_view members.now.entries
         ≢ named_members field.now (number_data key) kind (string name)) }
 {
-    let values = named_members_of(members, field)?;
+    let values = key_and_member_of(members, field)?;
     let key = key_of(values.key)?;
     let name = name_of(values.value)?;
     Some((key, name))
 }
 
 /// The key and the need of members that name a key, and how many approvals its destruction needs.
-fn needed_of(members: &Map<String, Value>) -> Option<(u32, Quorum)>
+fn key_and_need_of(members: &Map<String, Value>) -> Option<(u32, Quorum)>
     ensures found { IfSome result (λ x. (IsKeyNumber x.0 × IsQuorum x.1) × ((kind : Data) ×
         (members_view members.now.entries
         ≡ named_members (codes "need") (number_data x.0) kind (number_data x.1)))) }
@@ -142,14 +142,14 @@ fn needed_of(members: &Map<String, Value>) -> Option<(u32, Quorum)>
         IsKeyNumber key × IsQuorum need → members_view members.now.entries
         ≢ named_members (codes "need") (number_data key) kind (number_data need)) }
 {
-    let values = named_members_of(members, "need")?;
+    let values = key_and_member_of(members, "need")?;
     let key = key_of(values.key)?;
     let need = quorum_of(values.value)?;
     Some((key, need))
 }
 
 /// The values of the members, if they are four of these names, in this order.
-fn four_of<'v>(
+fn four_members_of<'v>(
     members: &'v Map<String, Value>,
     first: &str,
     second: &str,
@@ -163,22 +163,22 @@ fn four_of<'v>(
         ≢ four_members first.now a second.now b third.now c fourth.now d) }
 {
     let mut rest = members.iter();
-    let first = next_named(&mut rest, first)?;
-    let second = next_named(&mut rest, second)?;
-    let third = next_named(&mut rest, third)?;
-    let fourth = last_named(&mut rest, fourth)?;
+    let first = next_member_named(&mut rest, first)?;
+    let second = next_member_named(&mut rest, second)?;
+    let third = next_member_named(&mut rest, third)?;
+    let fourth = last_member_named(&mut rest, fourth)?;
     Some((first, second, third, fourth))
 }
 
 /// The fields that are a type and its period.
-fn type_and_period_of(members: &Map<String, Value>) -> Option<Fields>
+fn type_and_period_fields_of(members: &Map<String, Value>) -> Option<Fields>
     ensures found { IfSome result
         (IsShaped shapes.TypeAndPeriod (members_view members.now.entries)) }
     ensures none { IfNone result ((type : KeyType) (period : Period) →
         AreFields (TypeAndPeriod type period) →
         HasMembers (members_view members.now.entries) (TypeAndPeriod type period) → ⊥) }
 {
-    let (_kind, originator, recipient, key_type) = four_of(
+    let (_kind, originator, recipient, key_type) = four_members_of(
         members,
         "kind",
         "originator",
@@ -191,14 +191,20 @@ fn type_and_period_of(members: &Map<String, Value>) -> Option<Fields>
 }
 
 /// The fields of a revocation. It has an occurrence only where its reason is a compromise.
-fn revoke_of(members: &Map<String, Value>) -> Option<Fields>
+fn revocation_fields_of(members: &Map<String, Value>) -> Option<Fields>
     ensures found { IfSome result
         (IsShaped shapes.Revocation (members_view members.now.entries)) }
     ensures none { IfNone result ((key : ℕ) (reason : Reason) (occurrence : Option ℕ) →
         AreFields (Revocation key reason occurrence) →
         HasMembers (members_view members.now.entries) (Revocation key reason occurrence) → ⊥) }
 {
-    let (key, _kind, occurrence, reason) = four_of(members, "key", "kind", "occurrence", "reason")?;
+    let (key, _kind, occurrence, reason) = four_members_of(
+        members,
+        "key",
+        "kind",
+        "occurrence",
+        "reason",
+    )?;
     let key = key_of(key)?;
     let occurrence = date_of(occurrence)?;
     let reason = reason_of(reason)?;
@@ -222,7 +228,7 @@ struct SetMembers<'v> {
 }
 
 /// The members that a change of dates has.
-fn set_members_of<'v>(members: &'v Map<String, Value>) -> Option<SetMembers<'v>>
+fn date_edit_members_of<'v>(members: &'v Map<String, Value>) -> Option<SetMembers<'v>>
     ensures found { IfSome result (λ m. (kind : Data) × (members_view members.now.entries
         ≡ set_members (view m.activation.now) (view m.deactivation.now) (view m.key.now) kind
         (view m.protect_stop.now))) }
@@ -231,11 +237,11 @@ fn set_members_of<'v>(members: &'v Map<String, Value>) -> Option<SetMembers<'v>>
         ≢ set_members activation deactivation key kind protect_stop) }
 {
     let mut rest = members.iter();
-    let activation = next_named(&mut rest, "activation")?;
-    let deactivation = next_named(&mut rest, "deactivation")?;
-    let key = next_named(&mut rest, "key")?;
-    let _kind = next_named(&mut rest, "kind")?;
-    let protect_stop = last_named(&mut rest, "protect_stop")?;
+    let activation = next_member_named(&mut rest, "activation")?;
+    let deactivation = next_member_named(&mut rest, "deactivation")?;
+    let key = next_member_named(&mut rest, "key")?;
+    let _kind = next_member_named(&mut rest, "kind")?;
+    let protect_stop = last_member_named(&mut rest, "protect_stop")?;
     Some(SetMembers {
         activation,
         deactivation,
@@ -245,7 +251,7 @@ fn set_members_of<'v>(members: &'v Map<String, Value>) -> Option<SetMembers<'v>>
 }
 
 /// The fields of a change of dates.
-fn edits_of(members: &Map<String, Value>) -> Option<Fields>
+fn date_edit_fields_of(members: &Map<String, Value>) -> Option<Fields>
     ensures found { IfSome result
         (IsShaped shapes.DateEdits (members_view members.now.entries)) }
     ensures none { IfNone result ((key : ℕ) (activation protect_stop deactivation : Edit) →
@@ -253,7 +259,7 @@ fn edits_of(members: &Map<String, Value>) -> Option<Fields>
         HasMembers (members_view members.now.entries)
         (DateEdits key activation protect_stop deactivation) → ⊥) }
 {
-    let values = set_members_of(members)?;
+    let values = date_edit_members_of(members)?;
     Some(Fields::DateEdits {
         key: key_of(values.key)?,
         activation: edit_of(values.activation)?,
@@ -274,7 +280,7 @@ struct RegisterMembers<'v> {
 }
 
 /// The members that a registration has.
-fn register_members_of<'v>(members: &'v Map<String, Value>) -> Option<RegisterMembers<'v>>
+fn registration_members_of<'v>(members: &'v Map<String, Value>) -> Option<RegisterMembers<'v>>
     ensures found { IfSome result (λ m. (kind : Data) × (members_view members.now.entries
         ≡ register_members (view m.activation.now) (view m.deactivation.now) kind
         (view m.owner.now) (view m.protect_stop.now) (view m.purpose.now)
@@ -285,13 +291,13 @@ fn register_members_of<'v>(members: &'v Map<String, Value>) -> Option<RegisterMe
         ≢ register_members activation deactivation kind owner protect_stop purpose type) }
 {
     let mut rest = members.iter();
-    let activation = next_named(&mut rest, "activation")?;
-    let deactivation = next_named(&mut rest, "deactivation")?;
-    let _kind = next_named(&mut rest, "kind")?;
-    let owner = next_named(&mut rest, "owner")?;
-    let protect_stop = next_named(&mut rest, "protect_stop")?;
-    let purpose = next_named(&mut rest, "purpose")?;
-    let key_type = last_named(&mut rest, "type")?;
+    let activation = next_member_named(&mut rest, "activation")?;
+    let deactivation = next_member_named(&mut rest, "deactivation")?;
+    let _kind = next_member_named(&mut rest, "kind")?;
+    let owner = next_member_named(&mut rest, "owner")?;
+    let protect_stop = next_member_named(&mut rest, "protect_stop")?;
+    let purpose = next_member_named(&mut rest, "purpose")?;
+    let key_type = last_member_named(&mut rest, "type")?;
     Some(RegisterMembers {
         activation,
         deactivation,
@@ -303,7 +309,7 @@ fn register_members_of<'v>(members: &'v Map<String, Value>) -> Option<RegisterMe
 }
 
 /// The fields of a registration.
-fn register_of(members: &Map<String, Value>) -> Option<Fields>
+fn registration_fields_of(members: &Map<String, Value>) -> Option<Fields>
     ensures found { IfSome result
         (IsShaped shapes.Registration (members_view members.now.entries)) }
     ensures none { IfNone result ((type : KeyType) (owner : List ℕ)
@@ -312,7 +318,7 @@ fn register_of(members: &Map<String, Value>) -> Option<Fields>
         HasMembers (members_view members.now.entries)
         (Registration type owner activation protect_stop deactivation purpose) → ⊥) }
 {
-    let values = register_members_of(members)?;
+    let values = registration_members_of(members)?;
     Some(Fields::Registration {
         kind: key_type_of(values.key_type)?,
         owner: name_of(values.owner)?,
@@ -324,30 +330,30 @@ fn register_of(members: &Map<String, Value>) -> Option<Fields>
 }
 
 /// The fields of this shape with these members, whatever the value of `kind` among them.
-fn fields_with(shape: Shape, members: &Map<String, Value>) -> Option<Fields>
+fn fields_of_shape(shape: Shape, members: &Map<String, Value>) -> Option<Fields>
     ensures found { IfSome result (IsShaped shape (members_view members.now.entries)) }
     ensures none { IfNone result ((fields : Fields) →
         IsShaped shape (members_view members.now.entries) fields → ⊥) }
 {
     match shape {
-        Shape::Nothing => nothing_of(members),
-        Shape::Key => keyed_of(members).map(|key| Fields::Key { key }),
+        Shape::Nothing => no_fields_of(members),
+        Shape::Key => lone_key_of(members).map(|key| Fields::Key { key }),
         Shape::KeyAndName => {
-            let (key, name) = named_of(members, "name")?;
+            let (key, name) = key_and_name_of(members, "name")?;
             Some(Fields::KeyAndName { key, name })
         }
         Shape::KeyAndOwner => {
-            let (key, owner) = named_of(members, "owner")?;
+            let (key, owner) = key_and_name_of(members, "owner")?;
             Some(Fields::KeyAndOwner { key, owner })
         }
         Shape::KeyAndNeed => {
-            let (key, need) = needed_of(members)?;
+            let (key, need) = key_and_need_of(members)?;
             Some(Fields::KeyAndNeed { key, need })
         }
-        Shape::TypeAndPeriod => type_and_period_of(members),
-        Shape::Registration => register_of(members),
-        Shape::DateEdits => edits_of(members),
-        Shape::Revocation => revoke_of(members),
+        Shape::TypeAndPeriod => type_and_period_fields_of(members),
+        Shape::Registration => registration_fields_of(members),
+        Shape::DateEdits => date_edit_fields_of(members),
+        Shape::Revocation => revocation_fields_of(members),
     }
 }
 
@@ -367,7 +373,7 @@ fn command_with(kind: CommandKind, members: &Map<String, Value>) -> Option<Comma
         HasMembers (members_view members.now.entries) (fields_of c) → ⊥) }
 {
     // By reference: the checker makes no proof of a `?` on fields that are held by value.
-    match &fields_with(kind.shape(), members) {
+    match &fields_of_shape(kind.shape(), members) {
         Some(fields) => Command::with_fields(kind, fields),
         None => None,
     }

@@ -94,7 +94,7 @@ impl Prefix {
     }
 
     /// Reads until a whole head stands here, or until it is clear that none will.
-    pub fn find_head<R: Read>(
+    pub fn read_head<R: Read>(
         &mut self,
         headers: &mut [HeaderSpan; MAX_HEADERS],
         reader: &mut Watched<R>,

@@ -24,7 +24,7 @@ pub(crate) fn reply_text(
 }
 
 /// The text of a reply that names a method.
-pub(crate) fn allow_text(
+pub(crate) fn reply_text_with_allow(
     alloc: Global,
     status: StatusCode,
     method: &str,
@@ -50,7 +50,7 @@ pub fn rejection_text(alloc: Global, rejection: Rejection) -> Result<String, All
             "{\"name\":\"BadLine\",\"refused\":1}",
         ),
         Rejection::NoRoute => reply_text(alloc, StatusCode::NOT_FOUND, "{\"name\":\"NoRoute\"}"),
-        Rejection::MethodNotAllowed(route) => allow_text(
+        Rejection::MethodNotAllowed(route) => reply_text_with_allow(
             alloc,
             StatusCode::METHOD_NOT_ALLOWED,
             route.method(),

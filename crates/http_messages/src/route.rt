@@ -6,7 +6,7 @@ ghost use Rattle.register_requests.specs.Request.{IsKeyNumber};
 
 use crate::asked::AskFault;
 use matchit::{InsertError, Router};
-use register_core::read_decimal;
+use register_core::read_key_number;
 use std::alloc::Global;
 use std::str;
 
@@ -83,19 +83,6 @@ impl Routes {
     }
 }
 
-/// The number of a key that the field writes.
-fn key_number(field: &[u8]) -> Option<u32>
-    ensures found { IfSome result (λ n. (field.now ≡ decimal n) × IsKeyNumber n) }
-    ensures none { IfNone result ((n : ℕ) → IsKeyNumber n → field.now ≢ decimal n) }
-{
-    let number = read_decimal(field)?;
-    if number >= 1 && number <= u64::from(u32::MAX) {
-        Some(number as u32)
-    } else {
-        None
-    }
-}
-
 /// What stands between the prefix and the back.
 fn field_between<'t>(target: &'t [u8], prefix: &[u8], back: &[u8]) -> Option<&'t [u8]>
     ensures found { IfSome result (λ field. target.now ≡ prefix.now ++ (field.now ++ back.now)) }
@@ -114,11 +101,11 @@ fn key_between(target: &[u8], prefix: &[u8], back: &[u8]) -> Option<u32>
         target.now ≢ prefix.now ++ (decimal n ++ back.now)) }
 {
     let field = field_between(target, prefix, back)?;
-    key_number(field)
+    read_key_number(field)
 }
 
 /// The pattern to which the router leads the target.
-fn pattern_at(router: &Router<RoutePattern>, target: &[u8]) -> Option<RoutePattern>
+fn pattern_of_target(router: &Router<RoutePattern>, target: &[u8]) -> Option<RoutePattern>
     requires { router.now ≡ routes }
     ensures { (r : Route) → IsRoute r → target.now ≡ route_text r → result ≡ Some (pattern_of r) }
 {
@@ -132,7 +119,7 @@ fn pattern_at(router: &Router<RoutePattern>, target: &[u8]) -> Option<RoutePatte
 }
 
 /// The route of this pattern that the target spells.
-fn route_at(pattern: RoutePattern, target: &[u8]) -> Option<Route>
+fn route_of_pattern(pattern: RoutePattern, target: &[u8]) -> Option<Route>
     ensures found { IfSome result (λ r. IsRoute r × (target.now ≡ route_text r)) }
     ensures none { IfNone result ((r : Route) → IsRoute r → pattern_of r ≡ pattern →
         target.now ≢ route_text r) }
@@ -162,6 +149,6 @@ pub(crate) fn route_of(router: &Router<RoutePattern>, target: &[u8]) -> Option<R
     ensures { IsRouteOf target.now result }
 {
     // The router takes any segment for a number: the text of the route alone decides.
-    let pattern = pattern_at(router, target)?;
-    route_at(pattern, target)
+    let pattern = pattern_of_target(router, target)?;
+    route_of_pattern(pattern, target)
 }

@@ -1,24 +1,17 @@
 -- The texts in an export and in a report have no control character.
 use Rattle.std.proofs.Common.{◌≡◌, ℕ, ◌+◌, ◌/◌, ◌%◌, ◌^◌, ◌<◌, Bool, true, List, [], ◌∷◌, ◌++◌, refl, ◌∙◌, arith}
 use Rattle.std.specs.Prelude.{nat_le, nat_lt, ◌&&◌, decimal, Option, None, Some}
-use Rattle.std.specs.List.{list_all, AllByRecursion}
+use Rattle.std.specs.List.{list_all}
 use Rattle.std.specs.Str.{IsAscii}
 use Rattle.std.proofs.lemmas.Bool.{and_parts, and_from}
 use Rattle.std.proofs.lemmas.Bool.Decides.{nat_tests}
 use Rattle.std.proofs.lemmas.List.Folds.{list_all-append}
 use Rattle.std.proofs.lemmas.Str.Ascii.{IsAscii-nil, IsAscii-cons}
 use Rattle.std.proofs.lemmas.Fmt.{decimal_by_steps}
-use Rattle.period_core.specs.declared.key_type.KeyType.{KeyType}
-use Rattle.period_core.specs.KeyType.{key_type_text}
-use Rattle.period_core.proofs.Types.{of_each_type}
-use Rattle.lifecycle_core.specs.declared.state.State.{State}
-use Rattle.lifecycle_core.specs.State.{state_text}
-use Rattle.lifecycle_core.proofs.States.{of_each_state}
 use Rattle.moment_core.specs.MomentText.{moment_text}
 use Rattle.register_requests.specs.Name.{IsName, is_name_byte}
 use Rattle.register_requests.specs.Purpose.{IsPurpose, is_purpose_byte}
-use Rattle.key_rows.specs.declared.key_row.KeyRow.{KeyRow}
-use Rattle.key_rows.specs.Export.{IsPrintable, date_text, export_fields}
+use Rattle.key_rows.specs.Export.{IsPrintable, date_text}
 
 -- ---- all bytes of a text
 
@@ -94,47 +87,22 @@ moment_plain m = simp (tens_plain, ones_plain, dash_plain, colon_plain, date_end
 pub moment_ascii : (m : ℕ) → IsAscii (moment_text m)
 moment_ascii m = plain_ascii (moment_text m) (moment_plain m)
 
--- ---- the fields of a key
+-- ---- the texts of cells; those of types and states compute
 
-number_printable : (n : ℕ) → n < 2 ^ 64 → IsPrintable (decimal n)
+pub number_printable : (n : ℕ) → n < 2 ^ 64 → IsPrintable (decimal n)
 number_printable n small = plain_printable (decimal n) (decimal_plain n small)
 
-date_printable : (date : Option ℕ) → IsPrintable (date_text date)
+pub date_printable : (date : Option ℕ) → IsPrintable (date_text date)
 date_printable None = refl
 date_printable (Some date) = plain_printable (moment_text date) (moment_plain date)
-
-kind_printable : (kind : KeyType) → IsPrintable (key_type_text kind)
-kind_printable = of_each_type (λ kind. IsPrintable (key_type_text kind)) refl refl refl refl refl refl refl
-
-state_printable : (state : State) → IsPrintable (state_text state)
-state_printable = of_each_state (λ state. IsPrintable (state_text state)) refl refl refl refl refl refl
 
 name_byte : (b : ℕ) → is_name_byte b ≡ true → nat_le 32 b ≡ true
 name_byte b is = grind (arith, nat_tests)
 
-name_printable : (name : List ℕ) → IsName name → IsPrintable name
+pub name_printable : (name : List ℕ) → IsName name → IsPrintable name
 name_printable name is = all_weaker is_name_byte (nat_le 32) name_byte name is.2
 
-purpose_printable : (purpose : List ℕ) → IsPurpose purpose → IsPrintable purpose
+pub purpose_printable : (purpose : List ℕ) → IsPurpose purpose → IsPrintable purpose
 purpose_printable purpose is =
     all_weaker is_purpose_byte (nat_le 32)
     (λ b h. (and_parts (nat_le 32 b) _ h).0) purpose is.printable
-
-also : {A B : Type 0} → A → B → A × B
-also a b = (a, b)
-
-pub fields_printable : (r : KeyRow) → r.number < 2 ^ 64 → IsName r.owner → IsPurpose r.purpose
-    → AllByRecursion IsPrintable (export_fields r)
-unfolding also
-fields_printable r small name purpose =
-    let dates = r.row.dates in
-    also (number_printable r.number small)
-    (also (kind_printable r.kind)
-    (also (name_printable r.owner name) (also (date_printable dates.activation)
-    (also (date_printable dates.protect_stop)
-    (also (date_printable dates.deactivation)
-    (also (state_printable r.row.state) (also (date_printable (Some dates.initial))
-    (also (date_printable dates.destroy)
-    (also (date_printable dates.compromise)
-    (also (date_printable dates.compromise_occurrence)
-    (also (purpose_printable r.purpose purpose) tt)))))))))))

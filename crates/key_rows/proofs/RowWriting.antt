@@ -13,6 +13,8 @@ use Rattle.csv.specs.declared.writer.QuoteStyle.TheVariants as style
 use Rattle.csv.specs.declared.writer.Writer.{Writer}
 use Rattle.csv.specs.declared.writer.WriterBuilder.{WriterBuilder}
 use Rattle.csv.proofs.WriteFacts.{row-more}
+use Rattle.key_rows.specs.declared.cell.Cell.{Cell}
+use Rattle.key_rows.specs.Cell.{cell_text}
 use Rattle.key_rows.specs.Export.{line_feed, csv_row, IsPrintable}
 use Rattle.key_rows.specs.RowWriter.{HasFields, written}
 use Rattle.key_rows.proofs.CsvRows.{same_row}
@@ -41,6 +43,12 @@ if_ok_mapped Q P (Err e) (Err f) same variant p = tt
 
 -- ---- a writer
 
+-- what holds of all in a list and of one more
+all_append : (P : List ℕ → Type 0) (xs : List (List ℕ)) (x : List ℕ) → AllByRecursion P xs → P x
+    → AllByRecursion P (xs ++ x ∷ [])
+all_append P [] x all one = (one, tt)
+all_append P (y ∷ xs) x all one = (all.0, all_append P xs x all.1 one)
+
 appended : (xs ys : List ℕ) (o : Option (List ℕ)) → Appends (Some xs) o ys → o ≡ Some (xs ++ ys)
 appended xs ys None more = absurd more
 appended xs ys (Some zs) more = ap Some more
@@ -56,8 +64,9 @@ pub has_more : (old new : Writer (Vec ℕ Global)) (field : List ℕ)
     (field_after (writer_setup old) (fields_written old) field))
     → writer_setup new ≡ writer_setup old
     → fields_written new ≡ min (fields_written old + 1) (2 ^ 64 - 1) → (fields : List (List ℕ))
-    → length fields < 12 → HasFields old fields → HasFields new (fields ++ field ∷ [])
-has_more old new field more same count fields small has =
+    → length fields + 1 < 2 ^ 64 → IsPrintable field → HasFields old fields
+    → HasFields new (fields ++ field ∷ [])
+has_more old new field more same count fields small printable has =
     let body = row_body default_writer fields in
     let plain : (writer_setup old).style ≢ style.NonNumeric =
     subst (λ s. s.style ≢ style.NonNumeric) (sym has.setup) (λ e. cc e) in
@@ -72,7 +81,20 @@ has_more old new field more same count fields small has =
       setup = same ∙ has.setup;
       count = omega (arith, count, has.count, length-append fields (field ∷ []));
       text = all ∙ ap Some (sym (row-more default_writer fields field));
+      printable = all_append IsPrintable fields field has.printable printable;
     }
+
+-- a text that was put is the cell that it is the text of
+pub cell_put : {T E : Type 0} (r : Result T E) (old new : Writer (Vec ℕ Global)) (cell value : Cell)
+    → cell ≡ value → (text : List ℕ) → text ≡ cell_text value → IsPrintable (cell_text value)
+    → OnOk r ((fields : List (List ℕ)) → length fields + 1 < 2 ^ 64 → IsPrintable text
+    → HasFields old fields → HasFields new (fields ++ text ∷ []))
+    → OnOk r ((fields : List (List ℕ)) → length fields + 1 < 2 ^ 64 → HasFields old fields
+    → HasFields new (fields ++ cell_text cell ∷ []))
+cell_put (Ok x) old new cell value is text same printable put = λ fields small has.
+    subst (λ t. HasFields new (fields ++ t ∷ [])) (same ∙ ap cell_text (sym is))
+    (put fields small (subst IsPrintable (sym same) printable) has)
+cell_put (Err e) old new cell value is text same printable put = tt
 
 -- what ends a row of several fields
 ends : (wrote : Bool) (n : ℕ) → 1 < n → tail_text default_writer wrote n ≡ line_feed ∷ []
@@ -87,9 +109,9 @@ ends wrote n several = rw (ne_eqb n 0 (λ e. omega arith), ne_eqb n 1 (λ e. ome
 -- a row that is ended
 pub row_ended : (old new : Writer (Vec ℕ Global)) (wrote : Bool)
     → Appends (written old) (written new) (tail_text (writer_setup old) wrote (fields_written old))
-    → (fields : List (List ℕ)) → 1 < length fields → AllByRecursion IsPrintable fields
-    → HasFields old fields → written new ≡ Some (csv_row fields)
-row_ended old new wrote more fields several printable has =
+    → (fields : List (List ℕ)) → 1 < length fields → HasFields old fields
+    → written new ≡ Some (csv_row fields)
+row_ended old new wrote more fields several has =
     let body = row_body default_writer fields in
     let from = subst (λ t. Appends t (written new)
     (tail_text (writer_setup old) wrote (fields_written old))) has.text more in
@@ -99,4 +121,4 @@ row_ended old new wrote more fields several printable has =
     has.count by in
     let all = appended body (tail_text default_writer wrote (length fields)) (written new) at in
     let ended = ap (λ l. Some (body ++ l)) (ends wrote (length fields) several) in
-    all ∙ ended ∙ ap Some (same_row fields several printable)
+    all ∙ ended ∙ ap Some (same_row fields several has.printable)

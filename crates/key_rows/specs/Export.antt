@@ -5,6 +5,7 @@ use Rattle.std.specs.Prelude.{flat_map, codes, decimal, Option, None, Some, IsTr
 use Rattle.std.specs.List.{list_any, list_all, join_with_byte}
 use Rattle.moment_core.specs.MomentText.{moment_text}
 use Rattle.period_core.specs.KeyType.{key_type_text}
+use Rattle.lifecycle_core.specs.declared.dates.Dates.{Dates}
 use Rattle.lifecycle_core.specs.State.{state_text}
 use Rattle.key_rows.specs.declared.key_row.KeyRow.{KeyRow}
 
@@ -44,19 +45,42 @@ abbrev pub date_text : Option ℕ → List ℕ
 date_text None = []
 date_text (Some date) = moment_text date
 
+-- a column: its name in the header, and what stands there of a key
+pub record Column : Type 0 where
+  pub name : List ℕ
+  pub cell : KeyRow → List ℕ
+
+abbrev pub column : List ℕ → (KeyRow → List ℕ) → Column
+column name cell = record { name = name; cell = cell }
+
+-- the column of a date
+abbrev pub dated : List ℕ → (Dates → Option ℕ) → Column
+dated name date = column name (λ r. date_text (date r.row.dates))
+
+-- The columns, in their order. No other definition names all of them: the header and the rows are read off this list.
+abbrev pub export_columns : List Column
+export_columns =
+    column (codes "number") (λ r. decimal r.number)
+    ∷ column (codes "type") (λ r. key_type_text r.kind)
+    ∷ column (codes "owner") (λ r. r.owner)
+    ∷ dated (codes "activation") (λ d. d.activation)
+    ∷ dated (codes "protect_stop") (λ d. d.protect_stop)
+    ∷ dated (codes "deactivation") (λ d. d.deactivation)
+    ∷ column (codes "state") (λ r. state_text r.row.state)
+    ∷ dated (codes "initial") (λ d. Some d.initial)
+    ∷ dated (codes "destroyed") (λ d. d.destroy)
+    ∷ dated (codes "compromised") (λ d. d.compromise)
+    ∷ dated (codes "occurrence") (λ d. d.compromise_occurrence)
+    ∷ column (codes "purpose") (λ r. r.purpose)
+    ∷ []
+
+-- the row of their names
 unfoldable pub export_header : List ℕ
-export_header =
-    codes
-    "number,type,owner,activation,protect_stop,deactivation,state,initial,destroyed,compromised,occurrence,purpose\n"
+export_header = csv_row (map (λ (c : Column). c.name) export_columns)
 
 -- what stands in the columns
 abbrev pub export_fields : KeyRow → List (List ℕ)
-export_fields r =
-    let dates = r.row.dates in
-    decimal r.number ∷ key_type_text r.kind ∷ r.owner ∷
-    date_text dates.activation ∷ date_text dates.protect_stop ∷ date_text dates.deactivation ∷
-    state_text r.row.state ∷ moment_text dates.initial ∷ date_text dates.destroy ∷
-    date_text dates.compromise ∷ date_text dates.compromise_occurrence ∷ r.purpose ∷ []
+export_fields r = map (λ (c : Column). c.cell r) export_columns
 
 unfoldable pub export_row : KeyRow → List ℕ
 export_row r = csv_row (export_fields r)

@@ -9,6 +9,7 @@
 //! ```
 #![tactic(auto)]
 
+mod cell;
 mod date_text;
 mod export;
 mod key_row;
@@ -19,4 +20,4 @@ mod report;
 pub use export::{export_header, export_row};
 pub use key_row::KeyRow;
 pub use record::Record;
-pub use report::{horizon, is_listed, last_moment, report_head, report_line, report_total};
+pub use report::{horizon, is_due_or_long, last_moment, report_head, report_line, report_total};

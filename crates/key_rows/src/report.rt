@@ -39,7 +39,7 @@ pub fn report_head(alloc: Global, until: Moment) -> Result<String, AllocError>
 
 /// Whether the key is in a report up to this horizon: it is Active, and its Protect Stop Date is up
 /// to the horizon or it is used for longer than the period of its type.
-pub fn is_listed(until: Moment, periods: &OfficePeriods, row: &KeyRow) -> bool
+pub fn is_due_or_long(until: Moment, periods: &OfficePeriods, row: &KeyRow) -> bool
     ensures { result ≡ is_listed until (period_in periods.now) row.now }
 {
     let dates = &row.row.dates;

@@ -5,6 +5,6 @@ ghost use Rattle.lifecycle_core.specs.State.{state_at};
 ghost use Rattle.lifecycle_core.specs.Transition.{Leads};
 
 /// While a key's dates stay, time takes it along the standard's transitions only.
-pub fn time_passes()
+pub fn time_follows_transitions()
     ensures { (d : Dates) (t u : ℕ) → t ≤ u → Leads (Some (state_at d t)) (Some (state_at d u)) }
 {}

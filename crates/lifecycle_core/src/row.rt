@@ -18,7 +18,7 @@ impl Row {
     ghost use Rattle.std.specs.Prelude.{◌↔◌, IsTrue};
 
     /// Whether the kept state is the one that the dates give at a moment.
-    pub fn is_right_at(&self, at: Moment) -> bool
+    pub fn has_right_state_at(&self, at: Moment) -> bool
         ensures { IsTrue result ↔ IsRightAt self.now at }
     {
         self.state == state_of(&self.dates, at)

@@ -30,14 +30,14 @@ impl State {
     pub fn text(self) -> &'static str
         ensures { result.now ≡ state_text self }
     {
-        self.row().1
+        self.code_and_text().1
     }
 
     /// The state's value in the State Enumeration of KMIP 1.2, from 1 to 6.
     pub fn code(self) -> u8
         ensures { result ≡ state_code self }
     {
-        self.row().0
+        self.code_and_text().0
     }
 
     /// The state with this value, or `None` below 1 and above 6.
@@ -49,7 +49,7 @@ impl State {
     }
 
     /// The state's value and its name.
-    fn row(self) -> (u8, &'static str)
+    fn code_and_text(self) -> (u8, &'static str)
         ensures code { result.0 ≡ state_code self }
         ensures text { result.1.now ≡ state_text self }
     {

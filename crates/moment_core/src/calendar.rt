@@ -33,7 +33,7 @@ pub(crate) fn year_of(date: &Date) -> u32
 }
 
 /// The day of a year, month and day, or `None` where the calendar has no such day from 1970 on.
-pub(crate) fn day_of(year: u32, month: u8, day: u8) -> Option<u64>
+pub(crate) fn day_number_of(year: u32, month: u8, day: u8) -> Option<u64>
     requires year_in { year ≤ 9999 }
     requires month_in { month < 100 }
     requires day_in { day < 100 }

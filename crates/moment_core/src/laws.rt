@@ -5,17 +5,17 @@ ghost use Rattle.moment_core.specs.Moment.{IsMoment};
 ghost use Rattle.moment_core.specs.MomentText.{moment_text};
 
 /// Moments with one text are one moment, so that what is written is read again.
-pub fn one_text()
+pub fn texts_are_of_one_moment()
     ensures { (m n : ℕ) → IsMoment m → IsMoment n → moment_text m ≡ moment_text n → m ≡ n }
 {}
 
 /// The number of a day's date is the day.
-pub fn day_numbers()
+pub fn day_numbers_invert_dates()
     ensures { (n : ℕ) → day_number (civil n) ≡ n }
 {}
 
 /// The date of a date's number is that date.
-pub fn dates_of_numbers()
+pub fn dates_invert_day_numbers()
     ensures { (c : Civil) → IsCivil c → civil (day_number c) ≡ c }
 {}
 

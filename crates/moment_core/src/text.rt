@@ -64,7 +64,7 @@ fn read_two_digits(digits: &[u8]) -> Option<u8>
 
 /// The moment whose text this is, if it is a moment's. Of another text it is some moment, or
 /// `None`.
-fn parse_fixed(text: &[u8]) -> Option<Moment>
+fn moment_of_digits(text: &[u8]) -> Option<Moment>
     ensures { (m : ℕ) → IsMoment m → text.now ≡ moment_text m → result ≡ Some m }
 {
     if text.len() != 20 {
@@ -72,7 +72,7 @@ fn parse_fixed(text: &[u8]) -> Option<Moment>
     }
     let year = u32::from(read_two_digits(&text[0..2])?) * 100
         + u32::from(read_two_digits(&text[2..4])?);
-    let day = calendar::day_of(
+    let day = calendar::day_number_of(
         year,
         read_two_digits(&text[5..7])?,
         read_two_digits(&text[8..10])?,
@@ -95,7 +95,7 @@ impl Moment {
         ensures found { IfSome result (λ m. text.now ≡ moment_text m) }
         ensures none { IfNone result ((m : ℕ) → IsMoment m → text.now ≢ moment_text m) }
     {
-        let moment = parse_fixed(text)?;
+        let moment = moment_of_digits(text)?;
         if &moment.write()[..] == text {
             Some(moment)
         } else {

@@ -189,7 +189,7 @@ fn check_order(dates: &Dates) -> Result<(), DateRefusal>
 }
 
 /// The date is not past its limit.
-fn check_length(date: Option<Moment>, limit: Option<Moment>) -> Result<(), DateRefusal>
+fn check_within_limit(date: Option<Moment>, limit: Option<Moment>) -> Result<(), DateRefusal>
     ensures { Checks (length_refusal date limit) result }
 {
     let (Some(date), Some(limit)) = (date, limit) else {
@@ -203,7 +203,7 @@ fn check_length(date: Option<Moment>, limit: Option<Moment>) -> Result<(), DateR
 }
 
 /// Where Activation is set the other two are: no default was past the last moment.
-fn check_range(dates: &Dates) -> Result<(), DateRefusal>
+fn check_defaults_are_set(dates: &Dates) -> Result<(), DateRefusal>
     ensures { Checks (range_refusal dates.now) result }
 {
     if dates.activation.is_some()
@@ -232,9 +232,9 @@ pub fn fill(period: Period, dates: &mut Dates) -> Result<(), DateRefusal>
         recipient,
     } = with_limits(period, dates);
     check_order(&full)?;
-    check_length(full.protect_stop, originator)?;
-    check_length(full.deactivation, recipient)?;
-    check_range(&full)?;
+    check_within_limit(full.protect_stop, originator)?;
+    check_within_limit(full.deactivation, recipient)?;
+    check_defaults_are_set(&full)?;
     *dates = full;
     Ok(())
 }
@@ -253,7 +253,7 @@ pub fn trim(period: Period, dates: &mut Dates) -> Result<(), DateRefusal>
 {
     let full = within_limits(period, *dates);
     check_order(&full)?;
-    check_range(&full)?;
+    check_defaults_are_set(&full)?;
     *dates = full;
     Ok(())
 }

@@ -34,7 +34,7 @@ impl OfficePeriods {
     };
 
     /// What the office set for the type.
-    pub fn set_for(&self, kind: KeyType) -> Option<Period>
+    pub fn period_set_for(&self, kind: KeyType) -> Option<Period>
         ensures { result ≡ set_in self.now kind }
     {
         match kind {
@@ -49,17 +49,17 @@ impl OfficePeriods {
     }
 
     /// Whether the office set none of any type.
-    pub fn are_none(&self) -> bool
+    pub fn are_none_set(&self) -> bool
         ensures { IsTrue result ↔ ((kind : KeyType) → set_in self.now kind ≡ None) }
     {
-        self.are_none_of(&KeyType::ALL)
+        self.are_none_set_of(&KeyType::ALL)
     }
 
     /// The period that keys of the type are held to: the one that was set, or the type's own.
     pub fn period(&self, kind: KeyType) -> Period
         ensures { result ≡ period_in self.now kind }
     {
-        self.set_for(kind).unwrap_or(period_of(kind))
+        self.period_set_for(kind).unwrap_or(period_of(kind))
     }
 
     /// Takes this in the place of what was set for the type.
@@ -78,9 +78,11 @@ impl OfficePeriods {
     }
 
     /// Whether the office set none of these types.
-    fn are_none_of(&self, types: &[KeyType]) -> bool
+    fn are_none_set_of(&self, types: &[KeyType]) -> bool
         ensures { result ≡ list_all (λ kind. is_none (set_in self.now kind)) types.now }
     {
-        types.iter().all(|kind| self.set_for(*kind).is_none())
+        types
+            .iter()
+            .all(|kind| self.period_set_for(*kind).is_none())
     }
 }

@@ -1,5 +1,6 @@
 -- What an accepted request makes of the custody of its key is what the history with it at its end says.
-use Rattle.std.proofs.Common.{◌≡◌, ℕ, Bool, true, false, not, ◌&&◌, ◌||◌, cond, List, [], ◌∷◌, ◌++◌, filter, map, Option, None, Some, refl, sym, ap, subst, ◌∙◌, is_gt}
+use Rattle.std.proofs.Common.{◌≡◌, ℕ, Bool, true, false, not, ◌&&◌, ◌||◌, cond, List, [], ◌∷◌, ◌++◌, filter, map}
+use Rattle.std.proofs.Common.{Option, None, Some, refl, sym, ap, subst, ◌∙◌, is_gt}
 use Rattle.std.specs.Prelude.{is_none}
 use Rattle.std.specs.List.{list_any}
 use Rattle.std.specs.Str.{bytes_eq}
@@ -9,7 +10,8 @@ use Rattle.std.proofs.lemmas.List.{append-nil}
 use Rattle.lifecycle_core.specs.Reason.{is_compromise}
 use Rattle.register_requests.specs.declared.request.Request.{Request}
 use Rattle.register_requests.specs.declared.request.Command.{Command}
-use Rattle.register_requests.specs.declared.request.Command.TheVariants.{Revoke, AddCustodian, RemoveCustodian, Approve, Withdraw, Advance, SetPeriod, SetQuorum}
+use Rattle.register_requests.specs.declared.request.Command.TheVariants.{Revoke, AddCustodian, RemoveCustodian, Approve}
+use Rattle.register_requests.specs.declared.request.Command.TheVariants.{Withdraw, Advance, SetPeriod, SetQuorum}
 use Rattle.register_core.specs.declared.reply.Refusal.{Refusal}
 use Rattle.register_core.specs.declared.change.CustodyChange.{CustodyChange}
 use Rattle.register_core.specs.declared.change.CustodyChange.TheVariants.{Kept, ApprovalsEnded}
@@ -17,7 +19,8 @@ use Rattle.register_core.specs.KeyName.{KeyName, key_name, is_key_name, is_at, n
 use Rattle.register_core.specs.Names.{with_name, sorted_names}
 use Rattle.register_requests.specs.Name.{is_among}
 use Rattle.register_core.specs.History.{dates}
-use Rattle.register_core.specs.Custody.{added_by, is_about, all_custodians, approved_by, ends_by, all_approvals, custodians, approvals}
+use Rattle.register_core.specs.Custody.{added_by, is_about, all_custodians, approved_by, ends_by, all_approvals}
+use Rattle.register_core.specs.Custody.{custodians, approvals}
 use Rattle.register_requests.specs.Subject.{named}
 use Rattle.register_core.specs.Decision.{custodians_by, approvals_by, needs_by, CustodyLead}
 use Rattle.register_core.specs.Settings.{KeyNeed, needs_after, all_needs}

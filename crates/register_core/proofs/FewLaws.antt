@@ -1,5 +1,6 @@
 -- A lawful history has no more keys than the register takes, and no key of it more custodians than its version allows.
-use Rattle.std.proofs.Common.{◌≡◌, ℕ, ◌+◌, ◌≤◌, suc, Bool, true, false, not, ◌&&◌, cond, List, [], ◌∷◌, ◌++◌, length, filter, map, Option, None, Some, refl, sym, ap, subst, ◌∙◌, arith, inl, inr, is_gt}
+use Rattle.std.proofs.Common.{◌≡◌, ℕ, ◌+◌, ◌≤◌, suc, Bool, true, false, not, ◌&&◌, cond, List, [], ◌∷◌, ◌++◌, length}
+use Rattle.std.proofs.Common.{filter, map, Option, None, Some, refl, sym, ap, subst, ◌∙◌, arith, inl, inr, is_gt}
 use Rattle.std.specs.Prelude.{is_none}
 use Rattle.std.specs.Option.{option_and_then}
 use Rattle.std.specs.Ordering.{nat_cmp}
@@ -10,14 +11,16 @@ use Rattle.lifecycle_core.specs.Reason.{is_compromise}
 use Rattle.register_requests.specs.declared.request.Request.{Request}
 use Rattle.register_requests.specs.declared.version.Version.{Version}
 use Rattle.register_requests.specs.declared.request.Command.{Command}
-use Rattle.register_requests.specs.declared.request.Command.TheVariants.{Register as Registers, Revoke, AddCustodian, RemoveCustodian}
+use Rattle.register_requests.specs.declared.request.Command.TheVariants.{Register as Registers, Revoke, AddCustodian}
+use Rattle.register_requests.specs.declared.request.Command.TheVariants.{RemoveCustodian}
 use Rattle.register_core.specs.KeyName.{KeyName, key_name, is_key_name, is_at, names_at}
 use Rattle.register_core.specs.Names.{with_name, sorted_names}
 use Rattle.register_core.specs.History.{latest, count, period, dates}
 use Rattle.register_requests.specs.Subject.{made_by}
 use Rattle.register_core.specs.Effect.{custody_change}
 use Rattle.register_core.specs.Custody.{all_custodians, custodians, held}
-use Rattle.register_core.specs.Verdict.{Accepts, max_keys, limit_refusal, named_key, judgement, judgement_in, verdict_in}
+use Rattle.register_core.specs.Verdict.{Accepts, max_keys, limit_refusal, named_key, judgement, judgement_in}
+use Rattle.register_core.specs.Verdict.{verdict_in}
 use Rattle.register_core.specs.CustodyRefusal.{too_many_custodians}
 use Rattle.register_requests.specs.Version.{current, custodians_of}
 use Rattle.register_core.specs.Decision.{custodians_by}

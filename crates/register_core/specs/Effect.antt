@@ -11,11 +11,14 @@ use Rattle.period_core.specs.Period.{Period}
 use Rattle.period_core.specs.declared.fitting.DateRefusal.{DateRefusal}
 use Rattle.period_core.specs.Fitting.{with_defaults, within_limits, fill_of, trim_of}
 use Rattle.register_requests.specs.declared.request.Command.{Command}
-use Rattle.register_requests.specs.declared.request.Command.TheVariants.{Register, Activate, SetDates, Revoke, Assign, AddCustodian, RemoveCustodian, Approve, Withdraw, Destroy, SetQuorum, SetPeriod}
+use Rattle.register_requests.specs.declared.request.Command.TheVariants.{Register, Activate, SetDates, Revoke, Assign}
+use Rattle.register_requests.specs.declared.request.Command.TheVariants.{AddCustodian, RemoveCustodian, Approve}
+use Rattle.register_requests.specs.declared.request.Command.TheVariants.{Withdraw, Destroy, SetQuorum, SetPeriod}
 use Rattle.register_requests.specs.declared.request.Edit.{Edit}
 use Rattle.register_requests.specs.declared.request.Edit.TheVariants.{Keep, Clear, Set}
 use Rattle.register_core.specs.declared.change.CustodyChange.{CustodyChange}
-use Rattle.register_core.specs.declared.change.CustodyChange.TheVariants.{Kept, CustodianAdded, CustodianRemoved, Approved, Withdrawn, ApprovalsEnded, NeedSet}
+use Rattle.register_core.specs.declared.change.CustodyChange.TheVariants.{Kept, CustodianAdded, CustodianRemoved}
+use Rattle.register_core.specs.declared.change.CustodyChange.TheVariants.{Approved, Withdrawn, ApprovalsEnded, NeedSet}
 use Rattle.register_requests.specs.Subject.{Subject, Makes, Names, NoKey, subject}
 
 abbrev pub kind_by : KeyType → Subject → KeyType

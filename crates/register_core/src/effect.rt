@@ -106,7 +106,7 @@ fn dates_before(key: &Option<Held>) -> Dates
 }
 
 /// What Fill makes of the dates, by this period.
-fn filled(period: Period, mut dates: Dates) -> Result<Dates, DateRefusal>
+fn filled_dates(period: Period, mut dates: Dates) -> Result<Dates, DateRefusal>
     ensures { result ≡ fill_of period dates }
 {
     fill(period, &mut dates)?;
@@ -114,7 +114,7 @@ fn filled(period: Period, mut dates: Dates) -> Result<Dates, DateRefusal>
 }
 
 /// What Trim makes of the dates, by this period.
-fn trimmed(period: Period, mut dates: Dates) -> Result<Dates, DateRefusal>
+fn trimmed_dates(period: Period, mut dates: Dates) -> Result<Dates, DateRefusal>
     requires { IsSome dates.activation }
     ensures { result ≡ trim_of period dates }
 {
@@ -140,11 +140,11 @@ fn dates_after(
             protect_stop,
             deactivation,
             ..
-        } => filled(
+        } => filled_dates(
             period,
             given_dates(at, activation, protect_stop, deactivation),
         ),
-        Command::Activate { .. } => trimmed(
+        Command::Activate { .. } => trimmed_dates(
             period,
             Dates {
                 activation: Some(at),
@@ -156,7 +156,7 @@ fn dates_after(
             protect_stop,
             deactivation,
             ..
-        } => filled(
+        } => filled_dates(
             period,
             edited_dates(activation, protect_stop, deactivation, dates),
         ),

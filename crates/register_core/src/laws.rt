@@ -31,12 +31,12 @@ ghost use Rattle.register_requests.specs.Version.{custodians_of, knows};
 ghost use Rattle.register_requests.specs.CommandText.{IsCommandText, max_command_length};
 
 /// No bytes are the line of two requests.
-pub fn one_request()
+pub fn lines_are_of_one_request()
     ensures { (line : List ℕ) (p q : Request) → IsLineOf line p → IsLineOf line q → p ≡ q }
 {}
 
 /// No bytes are the text of two commands.
-pub fn one_command()
+pub fn texts_are_of_one_command()
     ensures { (bytes : List ℕ) (c d : Command) →
         IsCommandText bytes c → IsCommandText bytes d → c ≡ d }
 {}
@@ -79,14 +79,14 @@ pub fn kept_replies_are_in_range()
 
 /// The dates of each key fit the period that they were held to when a command gave it dates last,
 /// after each request that is accepted.
-pub fn dates_fit()
+pub fn dates_fit_their_period()
     ensures { (h : List Request) (q : Request) → IsAccepted h q → (k : ℕ) → HasKey (h ++ q ∷ []) k →
         Fits (dated_by (h ++ q ∷ []) k) (dates (h ++ q ∷ []) k) }
 {}
 
 /// Where the office set no period of a key's type, the key is not used for longer than the period
 /// allows.
-pub fn no_key_is_long_by_its_type()
+pub fn no_key_is_long_without_office_period()
     ensures { (h : List Request) → IsLawful h → (k : ℕ) → HasKey h k
         → set_period h (type h k) ≡ None
         → is_long (period h (type h k)) (dates h k) ≡ false }
@@ -111,7 +111,7 @@ pub fn dates_freeze()
 {}
 
 /// A key that is destroyed has the approvals of two at least, and these stay.
-pub fn destruction_is_approved()
+pub fn destroyed_keys_have_two_approvals()
     ensures enough { (h : List Request) (q : Request) → IsAccepted h q →
         (k : ℕ) → HasKey (h ++ q ∷ []) k → IsSome (dates (h ++ q ∷ []) k).destroy →
         2 ≤ length (approvals (h ++ q ∷ []) k) }
@@ -120,31 +120,31 @@ pub fn destruction_is_approved()
 {}
 
 /// A key that is not made yet has no custodian, and nobody approves of its destruction.
-pub fn new_keys_have_nobody()
+pub fn unmade_keys_have_nobody()
     ensures { (h : List Request) → IsLawful h → (k : ℕ) → count h < k →
         (custodians h k ≡ []) × (approvals h k ≡ []) }
 {}
 
 /// No name is the custodian of a key twice, or approves twice of its destruction.
-pub fn names_are_different()
+pub fn no_name_is_twice_at_a_key()
     ensures { (h : List Request) (k : ℕ) →
         AreDifferent (custodians h k) × AreDifferent (approvals h k) }
 {}
 
 /// Who approves of a key's destruction is one of its custodians.
-pub fn custodians_approve()
+pub fn approvers_are_custodians()
     ensures { (h : List Request) → IsLawful h → (k : ℕ) (name : List ℕ) →
         is_among name (approvals h k) ≡ true → is_among name (custodians h k) ≡ true }
 {}
 
 /// A key has no more custodians than it may have in its version.
-pub fn custodians_are_few()
+pub fn custodians_are_within_limit()
     ensures { (version : Version) (h : List Request) → IsLawfulIn version h → (k : ℕ) →
         length (custodians h k) ≤ custodians_of version }
 {}
 
 /// No more approve of a key's destruction than it may have custodians.
-pub fn approvals_are_few()
+pub fn approvals_are_within_limit()
     ensures { (version : Version) (h : List Request) → IsLawfulIn version h → (k : ℕ) →
         length (approvals h k) ≤ custodians_of version }
 {}
@@ -161,7 +161,7 @@ pub fn keys_are_limited()
 {}
 
 /// What was done to a key was done at the latest moment or before.
-pub fn done_is_past()
+pub fn done_dates_are_not_after_latest()
     ensures initial { (h : List Request) → IsLawful h → (k : ℕ) → HasKey h k →
         (dates h k).initial ≤ latest h }
     ensures destroy { (h : List Request) → IsLawful h → (k : ℕ) → HasKey h k →
@@ -171,7 +171,7 @@ pub fn done_is_past()
 {}
 
 /// A key with an Activation Date has a Protect Stop and a Deactivation Date.
-pub fn periods_are_whole()
+pub fn activation_comes_with_stop_and_deactivation()
     ensures protect_stop { (h : List Request) → IsLawful h → (k : ℕ) → HasKey h k →
         IsSome (dates h k).activation → IsSome (dates h k).protect_stop }
     ensures deactivation { (h : List Request) → IsLawful h → (k : ℕ) → HasKey h k →
@@ -195,7 +195,7 @@ pub fn lawful_histories_stay_lawful()
 
 /// Items that were answered in a version, and then others in this program's, come to a lawful
 /// history.
-pub fn versions_follow()
+pub fn histories_across_versions_are_lawful()
     ensures { (version : Version) (old new : List (Option Request)) →
         AllByRecursion (λ item. IfSome item IsRequest) old →
         AllByRecursion (λ item. IfSome item IsRequest) new →
@@ -203,7 +203,7 @@ pub fn versions_follow()
 {}
 
 /// A version knows the commands of its lawful histories.
-pub fn commands_are_known()
+pub fn versions_know_their_commands()
     ensures { (version : Version) (h : List Request) → IsLawfulIn version h →
         AllByRecursion (λ q. knows version q.command ≡ true) h }
 {}

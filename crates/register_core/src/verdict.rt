@@ -34,7 +34,7 @@ fn check_moment(latest: Moment, at: Moment) -> Result<(), Refusal>
 }
 
 /// A key that the command names is there.
-fn check_key(key: &Option<Held>, command: &Command) -> Result<(), Refusal>
+fn check_key_exists(key: &Option<Held>, command: &Command) -> Result<(), Refusal>
     ensures { Checks (key_refusal key.now command.now) result }
 {
     match (key, command.key()) {
@@ -49,9 +49,7 @@ fn check_giver(giver: Giver, key: &Option<Held>, caller: &Name) -> Result<(), Re
         → Checks (giver_refusal key.now caller.now command) result }
 {
     match (giver, key) {
-        (Giver::Owner, Some(held)) if caller.text().as_bytes() != held.owner.text().as_bytes() => {
-            Err(Refusal::NotOwner)
-        }
+        (Giver::Owner, Some(held)) if *caller != held.owner => Err(Refusal::NotOwner),
         (Giver::Custodian, Some(held)) if !held.custodians.contains(caller) => {
             Err(Refusal::NotCustodian)
         }
@@ -122,7 +120,7 @@ fn check_new_custodian(key: &Option<Held>, command: &Command) -> Result<(), Refu
 }
 
 /// The name to remove is a custodian.
-fn check_old_custodian(key: &Option<Held>, command: &Command) -> Result<(), Refusal>
+fn check_removed_custodian(key: &Option<Held>, command: &Command) -> Result<(), Refusal>
     ensures { Checks (no_such_custodian key.now command.now) result }
 {
     match (key, command) {
@@ -134,7 +132,7 @@ fn check_old_custodian(key: &Option<Held>, command: &Command) -> Result<(), Refu
 }
 
 /// A custodian is added only where there are fewer than a key may have.
-fn check_room(key: &Option<Held>, command: &Command) -> Result<(), Refusal>
+fn check_room_for_custodian(key: &Option<Held>, command: &Command) -> Result<(), Refusal>
     ensures { Checks (too_many_custodians current key.now command.now) result }
 {
     match (key, command) {
@@ -147,13 +145,11 @@ fn check_room(key: &Option<Held>, command: &Command) -> Result<(), Refusal>
 }
 
 /// No custodian becomes the owner, and no owner a custodian.
-fn check_apart(key: &Option<Held>, command: &Command) -> Result<(), Refusal>
+fn check_owner_is_no_custodian(key: &Option<Held>, command: &Command) -> Result<(), Refusal>
     ensures { Checks (owner_custodian key.now command.now) result }
 {
     let is_both = match (key, command) {
-        (Some(held), Command::AddCustodian { name, .. }) => {
-            name.text().as_bytes() == held.owner.text().as_bytes()
-        }
+        (Some(held), Command::AddCustodian { name, .. }) => *name == held.owner,
         (Some(held), Command::Assign { owner, .. }) => held.custodians.contains(owner),
         _ => false,
     };
@@ -177,7 +173,11 @@ fn check_new_approval(key: &Option<Held>, caller: &Name, command: &Command) -> R
 }
 
 /// The caller withdraws only where its approval stands.
-fn check_old_approval(key: &Option<Held>, caller: &Name, command: &Command) -> Result<(), Refusal>
+fn check_withdrawn_approval(
+    key: &Option<Held>,
+    caller: &Name,
+    command: &Command,
+) -> Result<(), Refusal>
     ensures { Checks (no_approval key.now caller.now command.now) result }
 {
     match (key, command) {
@@ -209,11 +209,11 @@ fn check_custody(key: &Option<Held>, caller: &Name, command: &Command) -> Result
     ensures { Checks (custody_refusal key.now caller.now command.now) result }
 {
     check_new_custodian(key, command)?;
-    check_old_custodian(key, command)?;
-    check_room(key, command)?;
-    check_apart(key, command)?;
+    check_removed_custodian(key, command)?;
+    check_room_for_custodian(key, command)?;
+    check_owner_is_no_custodian(key, command)?;
     check_new_approval(key, caller, command)?;
-    check_old_approval(key, caller, command)?;
+    check_withdrawn_approval(key, caller, command)?;
     check_approvals(key, command)
 }
 
@@ -231,7 +231,7 @@ fn check_occurrence(at: Moment, command: &Command) -> Result<(), Refusal>
 }
 
 /// A key is made only where there are fewer than the register takes.
-fn check_limit(keys: u32, command: &Command) -> Result<(), Refusal>
+fn check_key_limit(keys: u32, command: &Command) -> Result<(), Refusal>
     ensures { Checks (limit_refusal keys command.now) result }
 {
     match command {
@@ -247,7 +247,7 @@ fn check_entry(view: &View, request: &Request) -> Result<(), Refusal>
     let at = request.moment;
     let command = &request.command;
     check_moment(view.latest, at)?;
-    check_key(&view.key, command)?;
+    check_key_exists(&view.key, command)?;
     let rule = command.rule();
     check_giver(rule.giver, &view.key, &request.caller)?;
     check_state(rule.states, &view.key, at)
@@ -269,7 +269,7 @@ pub(crate) fn accepted_dates(view: &View, request: &Request) -> Result<Dates, Re
     let dates = dates_by(view.period, &view.key, at, command)?;
     check_custody(&view.key, &request.caller, command)?;
     check_occurrence(at, command)?;
-    check_limit(view.keys, command)?;
+    check_key_limit(view.keys, command)?;
     Ok(dates)
 }
 

@@ -1,6 +1,7 @@
 -- Calls of a desk that only read, and calls that do nothing.
 use Rattle.std.proofs.Common.{◌≡◌, ℕ, ◌≢◌, ◌≤◌, false, cond, List, [], ◌∷◌, ◌++◌, Some, Result, Ok, Err}
 use Rattle.std.proofs.Common.{inl, inr, refl, sym, ap, subst, ◌∙◌}
+use Rattle.std.specs.Prelude.{IfErr, IfOk}
 use Rattle.sqlite_trees.specs.declared.store.Store as store
 use Rattle.sqlite.specs.State.{State, HasCleanDisk, IsUnchanged, Survives}
 use Rattle.sqlite.proofs.StateLemmas.{survives_then}
@@ -264,3 +265,14 @@ module _ {S T R : Type 0} (g : store.Ghosts S) (Found : Tables → T → Type 0)
         (calls h stands (subst (λ k. HasCleanDisk (seen g k)) same.connection clean));
     opened = tt;
   }
+
+  -- what the store gives is handed on where it may be so, and else breaks the desk
+  pub looks_where : (value : T) (new : Desk S g) (given : Result R End) → IsWhole old
+      → ReadsBy Found (seen g old.connection) (seen g after) (Ok value)
+      → ((h : List Request) → StandsFor g old h → HasCleanDisk (seen g after) → Calls most old.connection after)
+      → KeepsAll (called old after within) new → IfOk given (λ x. new ≡ called old after within)
+      → IfErr given (λ end. (end ≡ ends.Store) × IsBroken new) → LooksUp g most old new given
+  looks_where value new (Ok x) whole reads calls same as_it_was broken =
+      subst (λ (desk : Desk S g). LooksUp g most old desk (Ok x)) (sym as_it_was) (looks_well value x whole reads calls)
+  looks_where value new (Err end) whole reads calls same as_it_was broken =
+      looks_refused value new end whole reads calls same broken

@@ -1,4 +1,3 @@
-pub mod Decimals
 mod OfBoth
 mod Living
 mod Refusing

@@ -17,7 +17,7 @@ use Rattle.register_desk.specs.KeyRows.{all_rows}
 use Rattle.register_files.specs.declared.files.Closed.{Closed}
 use Rattle.register_files.specs.declared.register_file.Life.{Life}
 use Rattle.register_files.specs.declared.register_file.Refused.{Refused}
-use Rattle.register_files.specs.declared.values.Terms.{Terms}
+use Rattle.register_words.specs.declared.values.Terms.{Terms}
 use Rattle.register_files.specs.Closing.{OfClosed}
 use Rattle.register_files.specs.Life.{EndsUnbegun, FindsNoTable, LeadsOnServed, LeadsOnTo, LeavesInFiles, LivesOver}
 use Rattle.register_files.specs.Life.{LivesSome, Refuses, RefusesMaking, ServesInFiles, WritesOut}

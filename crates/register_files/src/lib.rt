@@ -1,12 +1,10 @@
-//! The register in a file, whoever opens it: its lives, the serving of connections, and the values
-//! that a command is given.
+//! The register in a file, whoever opens it: its lives, and the serving of connections.
 #![tactic(auto)]
 
 mod files;
 pub mod laws;
 mod register_file;
 mod serving;
-mod values;
 
 pub use files::{Closed, Files, LogCopy};
 pub use register_file::{
@@ -14,4 +12,3 @@ pub use register_file::{
     serve_file,
 };
 pub use serving::{Clocks, MachineClock, Now, listen, serve_at, serve_on};
-pub use values::{Bounds, GivenBounds, GivenTerms, MAX_DAYS, MAX_EXCHANGES, Terms, read_days};

@@ -13,9 +13,9 @@ ghost use Rattle.register_files.specs.Life.{ClosesAs, Refuses};
 
 use crate::files::{Closed, Files};
 use crate::serving::serve_at;
-use crate::values::{Bounds, Terms};
 use register_desk::{Desk, OpenRefusal, Outcome, Unopened, Watched, run};
 use register_report::{export, import, rotation};
+use register_words::{Bounds, Terms};
 use sqlite::{Alter, Connection};
 use std::io::{Read, Write};
 
@@ -61,13 +61,13 @@ impl<S: Alter + Drop> From<Unopened<S>> for Refused<S> {
         } = unopened;
         Refused {
             refusal,
-            store: Some(close(connection)),
+            store: Some(close_connection(connection)),
         }
     }
 }
 
 /// The files of a connection that nobody uses any more.
-fn close<S: Alter + Drop>(connection: Connection<S>) -> S
+fn close_connection<S: Alter + Drop>(connection: Connection<S>) -> S
     ensures { ClosesAs S.Store connection result }
 {
     connection.into_store()
@@ -82,7 +82,7 @@ fn into_files<F: Files>(desk: Desk<F::Opened>) -> Closed<F::Opened>
     ensures closes { IsCleanStore (F.Opened.Store.view result.store)
         → ClosesDesk F.Opened.Store F.may_leave desk result }
 {
-    F::close(close(desk.into_connection()))
+    F::close(close_connection(desk.into_connection()))
 }
 
 /// Makes an empty register in the file, which is made where there is none. Gives the files as it

@@ -134,7 +134,7 @@ fn drain(stream: &TcpStream) {
 }
 
 /// Serves one connection: one exchange at this moment.
-fn serve_one<S: Alter, C: Clock>(
+fn serve_connection<S: Alter, C: Clock>(
     alloc: Global,
     routes: &mut Routes,
     desk: &mut Desk<S>,
@@ -198,7 +198,7 @@ pub fn serve_on<S: Alter, C: Clock, N: Now>(
             stream: &stream,
             timer: clocks.timer,
         };
-        let finish = serve_one(alloc, &mut routes, desk, &client, moment);
+        let finish = serve_connection(alloc, &mut routes, desk, &client, moment);
         if !goes_on(finish) {
             return finish;
         }

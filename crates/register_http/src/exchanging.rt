@@ -51,7 +51,7 @@ fn text_or_end(text: Result<String, AllocError>) -> Result<String, End>
 }
 
 /// The reply where there is no such key.
-fn unknown_text(alloc: Global) -> Result<String, AllocError>
+fn unknown_key_text(alloc: Global) -> Result<String, AllocError>
     ensures { IfOk result (IsTextOf (outcome_reply (Err UnknownKey))) }
 {
     outcome_text(alloc, &Err(Refusal::UnknownKey))
@@ -63,7 +63,7 @@ fn show_reply<S: Alter>(alloc: Global, desk: &mut Desk<S>, key: u32) -> Result<S
 {
     match desk.show(key)? {
         Some(shown) => text_or_end(key_text(alloc, &shown)),
-        None => text_or_end(unknown_text(alloc)),
+        None => text_or_end(unknown_key_text(alloc)),
     }
 }
 
@@ -73,7 +73,7 @@ fn usage_reply<S: Alter>(alloc: Global, desk: &mut Desk<S>, key: u32) -> Result<
 {
     match desk.usage(key)? {
         Some(usage) => text_or_end(usage_text(alloc, &usage)),
-        None => text_or_end(unknown_text(alloc)),
+        None => text_or_end(unknown_key_text(alloc)),
     }
 }
 
@@ -138,7 +138,7 @@ fn reply_bytes(answered: &Result<String, End>) -> &[u8]
 }
 
 /// The end that was answered, or this one where a text was.
-fn end_or(answered: &Result<String, End>, finish: Finish) -> Finish
+fn finish_or_end(answered: &Result<String, End>, finish: Finish) -> Finish
     ensures ok { OnOk answered.now (result ≡ finish) }
     ensures err { IfErr answered.now (λ end. result ≡ Finish.Ended end) }
 {
@@ -148,24 +148,24 @@ fn end_or(answered: &Result<String, End>, finish: Finish) -> Finish
     }
 }
 
-/// Writes the reply to what was answered.
-fn send<W: Write>(writer: &mut Watched<W>, answered: &Result<String, End>) -> Outcome
+/// Writes the reply to what was answered, after so many bytes were read.
+fn send<W: Write>(writer: &mut Watched<W>, answered: &Result<String, End>, read: u64) -> Outcome
     ensures sends { Sends (reply_text answered.now) (W.contents writer.old.inner)
         (W.contents writer.new.inner) result.written result.replies }
     ensures ends { EndsAs answered.now result.end result.replies }
     ensures keeps { KeepsWriter writer.old writer.new result.replies }
-    ensures unread { result.read ≡ 0 }
+    ensures read { result.read ≡ read }
 {
     let reply = reply_bytes(answered);
-    match writer.write_flushed(MAX_IDLE_TURNS, reply) {
-        Ok(()) => Outcome::of(end_or(answered, Finish::AtEnd { rest: 0 })).with_written(
-            reply.len() as u64,
-            1,
-        ),
-        Err(fault) => Outcome::of(end_or(answered, Finish::Ended(End::WriteFault))).with_written(
-            fault.written as u64,
-            0,
-        ),
+    let (written, replies, finish) = match writer.write_flushed(MAX_IDLE_TURNS, reply) {
+        Ok(()) => (reply.len(), 1, Finish::AtEnd { rest: 0 }),
+        Err(fault) => (fault.written, 0, Finish::Ended(End::WriteFault)),
+    };
+    Outcome {
+        read,
+        written: written as u64,
+        replies,
+        end: finish_or_end(answered, finish),
     }
 }
 
@@ -208,5 +208,5 @@ pub fn exchange<R: Read, W: Write, S: Alter>(
             return Outcome::of(Finish::Ended(End::ReadFault)).with_read(read);
         }
     };
-    send(writer, &answered).with_read(read)
+    send(writer, &answered, read)
 }

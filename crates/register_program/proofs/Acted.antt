@@ -9,8 +9,8 @@ use Rattle.register_desk.specs.declared.runs.Finish.{Finish}
 use Rattle.register_desk.specs.Input.{HasItems}
 use Rattle.register_program.specs.declared.acting.Done.{Done}
 use Rattle.register_program.specs.declared.acting.Done.TheVariants.{RanInMemory}
-use Rattle.register_program.specs.declared.words.Task.{Task}
-use Rattle.register_program.specs.declared.words.Task.TheVariants.{RunInMemory}
+use Rattle.register_words.specs.declared.words.Task.{Task}
+use Rattle.register_words.specs.declared.words.Task.TheVariants.{RunInMemory}
 use Rattle.register_program.specs.Act.{Acts}
 use Rattle.register_program.specs.Task.{Performs, RunsInMemory, status_after}
 

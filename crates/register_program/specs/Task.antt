@@ -11,12 +11,12 @@ use Rattle.register_desk.specs.Input.{HasItems}
 use Rattle.register_files.specs.declared.register_file.Life.{Life}
 use Rattle.register_files.specs.declared.register_file.Refused.{Refused}
 use Rattle.register_files.specs.FileCalls.{Exports, ImportsRows, MakesRegister, Reports, RunsLines, ServesExchanges}
-use Rattle.register_files.specs.Values.{AreBounds, AreTerms, IsDays}
+use Rattle.register_words.specs.Values.{AreBounds, AreTerms, IsDays}
 use Rattle.register_program.specs.declared.acting.Done.{Done}
 use Rattle.register_program.specs.declared.acting.Done.TheVariants.{RanInMemory, Made, Lived, BadValue}
-use Rattle.register_program.specs.declared.words.Task.{Task}
-use Rattle.register_program.specs.declared.words.Task.TheVariants.{RunInMemory, Init, Run, Import, Export, Report}
-use Rattle.register_program.specs.declared.words.Task.TheVariants.{Serve}
+use Rattle.register_words.specs.declared.words.Task.{Task}
+use Rattle.register_words.specs.declared.words.Task.TheVariants.{RunInMemory, Init, Run, Import, Export, Report}
+use Rattle.register_words.specs.declared.words.Task.TheVariants.{Serve}
 use Rattle.register_program.specs.Act.{EndsBy, unopened_status, usage_status, status_of}
 
 -- request lines over a register in memory, whose bytes the reader tells

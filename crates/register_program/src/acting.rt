@@ -1,18 +1,17 @@
 //! What the program does, over the streams that it is given.
-ghost use Rattle.std.specs.Prelude.{◌≡◌, ◌≤◌, ℕ, List, Option, Some, false, length};
-ghost use Rattle.register_requests.specs.declared.request.Request.{Request};
-ghost use Rattle.register_desk.specs.Input.{HasItems};
+ghost use Rattle.std.specs.Prelude.{◌≡◌, false, length};
 ghost use Rattle.register_desk.specs.End.{exit_status};
-ghost use Rattle.register_program.specs.Act.{unopened_status, usage_status, status_of, Acts};
+ghost use Rattle.register_program.specs.Act.{unopened_status, usage_status, status_of};
+ghost use Rattle.register_program.specs.Act.{ActsWithoutWords};
 ghost use Rattle.register_program.specs.Task.{status_after, ActsBy, IsWordsStatus, Performs, RunsInMemory};
 
-use crate::words::{Task, read_words};
 use clap::error::ErrorKind;
 use register_desk::{End, Finish, OpenRefusal, Watched, create_in_memory, run};
 use register_files::{
-    Closed, Files, Life, Refused, export_file, import_file, init_file, read_days, report_file,
-    run_file, serve_file,
+    Closed, Files, Life, Refused, export_file, import_file, init_file, report_file, run_file,
+    serve_file,
 };
+use register_words::{Task, read_days, read_words};
 use std::alloc::Global;
 use std::io::{Read, Write};
 
@@ -32,7 +31,7 @@ pub fn report_bad_value(faults: &mut impl Write) -> u8
 }
 
 /// Writes `clap`'s account of the words to `faults`, and gives its exit status.
-fn report_words(error: &clap::Error, faults: &mut impl Write) -> u8
+fn report_words_error(error: &clap::Error, faults: &mut impl Write) -> u8
     ensures { IsWordsStatus result }
 {
     if error.kind() == ErrorKind::OutOfMemory {
@@ -139,7 +138,7 @@ pub fn perform<F: Files + Drop, R: Read + Drop, W: Write>(
 }
 
 /// Names on `faults` what kept the task from its end, and gives the exit status.
-fn conclude<S: Drop>(done: Done<S>, faults: &mut impl Write) -> u8
+fn report_done<S: Drop>(done: Done<S>, faults: &mut impl Write) -> u8
     ensures { result ≡ status_after done }
 {
     match done {
@@ -173,15 +172,13 @@ pub fn act<F: Files + Drop, R: Read + Drop, W: Write, E: Write>(
     ensures does { ActsBy F.Opened.Store F.may_leave F.start (R.remaining reader)
         (W.contents outputs.old.writer.inner) (W.contents outputs.new.writer.inner) result }
     // With no words but its name, what is written and the status are those of a run from the empty
-    // history, where the reader's bytes are known.
-    ensures acts { (bytes : List ℕ) (items : List (Option Request)) (rest : List ℕ) →
-        length words.now ≤ 1 → R.remaining reader ≡ Some bytes → HasItems bytes items rest →
-        Acts items rest result
+    // history.
+    ensures acts { ActsWithoutWords (length words.now) (R.remaining reader) result
         (W.contents outputs.old.writer.inner) (W.contents outputs.new.writer.inner) }
 {
     let Outputs { writer, faults } = outputs;
     match read_words(rt.alloc(), words) {
-        Ok(task) => conclude(perform(rt, files, &task, reader, writer), faults),
-        Err(error) => report_words(&error, faults),
+        Ok(task) => report_done(perform(rt, files, &task, reader, writer), faults),
+        Err(error) => report_words_error(&error, faults),
     }
 }

@@ -3,7 +3,5 @@
 #![tactic(auto)]
 
 mod acting;
-mod words;
 
 pub use acting::{Done, Outputs, act, perform, report_bad_value, report_end, report_refusal};
-pub use words::Task;

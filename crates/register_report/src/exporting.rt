@@ -34,7 +34,7 @@ fn outcome(written: u64, done: Result<(), End>) -> Outcome
 }
 
 /// Writes the export of all keys.
-fn put_all_keys<W: Write, S: Alter>(
+fn put_export<W: Write, S: Alter>(
     alloc: Global,
     desk: &mut Desk<S>,
     writer: &mut Watched<W>,
@@ -52,7 +52,7 @@ fn put_all_keys<W: Write, S: Alter>(
 /// Writes the report on the keys that are due in so many days, or are long. Where the office set no
 /// period, no key is long, and the rows that are due are all; where it set one, the rows go on to
 /// the last moment, since a long key may have any Protect Stop Date.
-fn put_listed_keys<W: Write, S: Alter>(
+fn put_rotation_report<W: Write, S: Alter>(
     alloc: Global,
     desk: &mut Desk<S>,
     days: u32,
@@ -67,7 +67,7 @@ fn put_listed_keys<W: Write, S: Alter>(
     let latest = desk.latest();
     let until = horizon(latest, days);
     let periods = desk.office_periods()?;
-    let last = if periods.are_none() {
+    let last = if periods.are_none_set() {
         until
     } else {
         last_moment()
@@ -77,10 +77,10 @@ fn put_listed_keys<W: Write, S: Alter>(
     put_table(alloc, &report, &mut rows, writer, written)
 }
 
-/// Writes all keys as CSV (RFC 4180), as of the latest accepted moment: the header row
-/// `number,type,owner,activation,protect_stop,deactivation,state,initial,destroyed,compromised,occurrence,purpose`,
-/// then one row for each key, by number. A moment stands as `YYYY-MM-DDTHH:MM:SSZ`, a date that is
-/// not set as an empty field. It changes nothing, and holds one row at a time.
+/// Writes all keys as CSV (RFC 4180), as of the latest accepted moment: the row with the names of
+/// the columns (`key_rows::export_header`), then one row for each key, by number. A moment stands as
+/// `YYYY-MM-DDTHH:MM:SSZ`, a date that is not set as an empty field. It changes nothing, and holds
+/// one row at a time.
 ///
 /// # Errors
 /// The outcome's end is [`End::Store`] where the database refused, or a row is one that no register
@@ -103,7 +103,7 @@ pub fn export<W: Write, S: Alter>(
 {
     writer.begin();
     let mut written: u64 = 0;
-    let done = put_all_keys(alloc, desk, writer, &mut written);
+    let done = put_export(alloc, desk, writer, &mut written);
     outcome(written, done)
 }
 
@@ -134,6 +134,6 @@ pub fn rotation<W: Write, S: Alter>(
 {
     writer.begin();
     let mut written: u64 = 0;
-    let done = put_listed_keys(alloc, desk, days, writer, &mut written);
+    let done = put_rotation_report(alloc, desk, days, writer, &mut written);
     outcome(written, done)
 }

@@ -63,7 +63,7 @@ fn next_row<R: Read>(reader: &mut Reader<R>, row: &mut StringRecord) -> Result<b
 }
 
 /// Reads the first record, which has to be the header row.
-fn skip_header<R: Read>(reader: &mut Reader<R>, row: &mut StringRecord) -> Result<(), End>
+fn read_header<R: Read>(reader: &mut Reader<R>, row: &mut StringRecord) -> Result<(), End>
     requires plain { reader_trim reader.old ≡ trim.None }
     requires flexible { is_flexible reader.old ≡ true }
     requires ready { Ready reader.old }
@@ -234,7 +234,7 @@ pub fn import<R: Read + Drop, W: Write, S: Alter>(
         caller: *caller,
         first,
     };
-    match skip_header(&mut reader, &mut row) {
+    match read_header(&mut reader, &mut row) {
         Ok(()) => import_rows(&mut reader, &mut row, &series, writer, desk),
         Err(end) => Outcome::of(Finish::Ended(end)),
     }

@@ -3,7 +3,7 @@ ghost use Rattle.std.specs.Prelude.{◌≡◌, IfOk};
 ghost use Rattle.register_report.specs.Table.{foot_text, head_text, line_text, lists};
 
 use key_rows::{
-    KeyRow, export_header, export_row, is_listed, report_head, report_line, report_total,
+    KeyRow, export_header, export_row, is_due_or_long, report_head, report_line, report_total,
 };
 use moment_core::Moment;
 use period_core::OfficePeriods;
@@ -26,7 +26,7 @@ impl Table {
     {
         match self {
             Table::Export => true,
-            Table::Report(_, until, periods) => is_listed(*until, periods, row),
+            Table::Report(_, until, periods) => is_due_or_long(*until, periods, row),
         }
     }
 

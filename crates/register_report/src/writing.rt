@@ -12,7 +12,7 @@ use std::alloc::{AllocError, Global};
 use std::io::Write;
 
 /// The text, where there was memory for it.
-fn formed(text: Result<Vec<u8>, AllocError>) -> Result<Vec<u8>, End>
+fn text_or_end(text: Result<Vec<u8>, AllocError>) -> Result<Vec<u8>, End>
     ensures text { IfOk result (λ formed. text ≡ Ok formed) }
     ensures end { IfErr result (λ end. end ≡ End.Memory) }
 {
@@ -59,7 +59,7 @@ fn put_row<W: Write>(
     if !table.lists(row) {
         return Ok(false);
     }
-    let line = formed(table.line(alloc, row))?;
+    let line = text_or_end(table.line(alloc, row))?;
     put_text(writer, written, &line)?;
     Ok(true)
 }
@@ -101,9 +101,9 @@ pub(crate) fn put_table<W: Write, S: Alter>(
     ensures table { PutsTable W.contents S.Store writer.old writer.new written.old written.new
         rows.old rows.new table.now result }
 {
-    let head = formed(table.head(alloc))?;
+    let head = text_or_end(table.head(alloc))?;
     put_text(writer, written, &head)?;
     let count = put_rows(alloc, table, rows, writer, written)?;
-    let foot = formed(table.foot(alloc, count))?;
+    let foot = text_or_end(table.foot(alloc, count))?;
     put_text(writer, written, &foot)
 }

@@ -15,8 +15,10 @@ use Rattle.period_core.specs.declared.key_type.KeyType.{KeyType}
 use Rattle.register_requests.specs.declared.request.Request.{Request}
 use Rattle.register_requests.specs.declared.request.Command.{Command}
 use Rattle.register_requests.specs.declared.fields.Fields.{Fields}
-use Rattle.register_requests.specs.declared.fields.Fields.TheVariants.{Nothing, Key, KeyAndName, KeyAndOwner, KeyAndNeed}
-use Rattle.register_requests.specs.declared.fields.Fields.TheVariants.{TypeAndPeriod, Registration, DateEdits, Revocation}
+use Rattle.register_requests.specs.declared.fields.Fields.TheVariants.{Nothing, Key, KeyAndName, KeyAndOwner}
+use Rattle.register_requests.specs.declared.fields.Fields.TheVariants.{KeyAndNeed}
+use Rattle.register_requests.specs.declared.fields.Fields.TheVariants.{TypeAndPeriod, Registration, DateEdits}
+use Rattle.register_requests.specs.declared.fields.Fields.TheVariants.{Revocation}
 use Rattle.register_requests.specs.declared.fields.Shape.{Shape}
 use Rattle.register_requests.specs.declared.fields.Shape.TheVariants as shapes
 use Rattle.register_requests.specs.Fields.{fields_of, command_with, shape_of}
@@ -34,8 +36,10 @@ use Rattle.period_core.proofs.Types.{of_each_type}
 use Rattle.period_core.specs.Period.{Period}
 use Rattle.register_requests.specs.CommandKind.{command_kind_text, command_shape}
 use Rattle.register_requests.specs.CommandRule.{kind_of}
-use Rattle.register_requests.specs.Request.{max_line_length, AreFields, IsCommand, IsDate, IsEdit, IsKeyNumber, IsRequest}
-use Rattle.register_requests.specs.Request.{IsLineOf, StandsFor, IsItem, date_text, edit_text, fields_text, command_text}
+use Rattle.register_requests.specs.Request.{max_line_length, AreFields, IsCommand, IsDate, IsEdit, IsKeyNumber}
+use Rattle.register_requests.specs.Request.{IsRequest}
+use Rattle.register_requests.specs.Request.{IsLineOf, StandsFor, IsItem, date_text, edit_text, fields_text}
+use Rattle.register_requests.specs.Request.{command_text}
 use Rattle.register_requests.specs.Request.{request_text}
 use Rattle.register_requests.specs.CommandText.{IsCommandText, IsCommandItem}
 use Rattle.register_requests.specs.RequestLine.{◌>>=◌, is_space, field_at, field_then, moment_at, date_at, edit_at}
@@ -49,7 +53,8 @@ use Rattle.register_requests.proofs.Commands.{made, made_again, has_shape}
 use Rattle.register_requests.proofs.FieldReading.{bind_some, some_is, none_from, IsReader, HasNoSpace, field_takes}
 use Rattle.register_requests.proofs.FieldReading.{field_again, then_reader}
 use Rattle.register_requests.proofs.Readers.{moment_reader, date_reader, edit_reader, moment_small, key_number_reader}
-use Rattle.register_requests.proofs.Readers.{key_number_small, request_number_reader, request_number_small, quorum_reader}
+use Rattle.register_requests.proofs.Readers.{key_number_small, request_number_reader, request_number_small}
+use Rattle.register_requests.proofs.Readers.{quorum_reader}
 use Rattle.register_requests.proofs.Readers.{originator_reader, recipient_reader, IsMonths, months_small, name_reader}
 use Rattle.register_requests.proofs.Readers.{purpose_reader, key_type_reader, kind_reader, reason_reader, reason_text}
 use Rattle.register_requests.proofs.Readers.{reason_small, IsOccurrence, occurrence_reader, not_space}

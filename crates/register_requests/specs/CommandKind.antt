@@ -4,7 +4,8 @@ use Rattle.register_requests.specs.declared.command_kind.CommandKind.{CommandKin
 use Rattle.register_requests.specs.declared.command_kind.CommandKind.TheVariants as kinds
 use Rattle.register_requests.specs.declared.fields.Shape.{Shape}
 use Rattle.register_requests.specs.declared.fields.Shape.TheVariants.{Nothing, Key, KeyAndName, KeyAndOwner, KeyAndNeed}
-use Rattle.register_requests.specs.declared.fields.Shape.TheVariants.{TypeAndPeriod, Registration, DateEdits, Revocation}
+use Rattle.register_requests.specs.declared.fields.Shape.TheVariants.{TypeAndPeriod, Registration, DateEdits}
+use Rattle.register_requests.specs.declared.fields.Shape.TheVariants.{Revocation}
 use Rattle.register_requests.specs.declared.version.Version.{Version}
 use Rattle.register_requests.specs.declared.version.Version.TheVariants.{First, Second}
 

@@ -14,7 +14,8 @@ use Rattle.register_requests.specs.declared.command_rule.Giver.{Giver}
 use Rattle.register_requests.specs.declared.command_rule.Giver.TheVariants.{Anybody, Owner, Custodian, Office}
 use Rattle.register_requests.specs.declared.request.Command.{Command}
 use Rattle.register_requests.specs.declared.request.Command.TheVariants.{Register, Activate, SetDates, Revoke, Assign}
-use Rattle.register_requests.specs.declared.request.Command.TheVariants.{AddCustodian, RemoveCustodian, Approve, Withdraw}
+use Rattle.register_requests.specs.declared.request.Command.TheVariants.{AddCustodian, RemoveCustodian, Approve}
+use Rattle.register_requests.specs.declared.request.Command.TheVariants.{Withdraw}
 use Rattle.register_requests.specs.declared.request.Command.TheVariants.{Destroy, Advance, SetQuorum, SetPeriod}
 
 pub record Rule : Type 0 where

@@ -4,11 +4,14 @@ use Rattle.register_requests.specs.declared.command_kind.CommandKind.{CommandKin
 use Rattle.register_requests.specs.declared.command_kind.CommandKind.TheVariants as kinds
 use Rattle.register_requests.specs.declared.request.Command.{Command}
 use Rattle.register_requests.specs.declared.request.Command.TheVariants.{Register, Activate, SetDates, Revoke, Assign}
-use Rattle.register_requests.specs.declared.request.Command.TheVariants.{AddCustodian, RemoveCustodian, Approve, Withdraw}
+use Rattle.register_requests.specs.declared.request.Command.TheVariants.{AddCustodian, RemoveCustodian, Approve}
+use Rattle.register_requests.specs.declared.request.Command.TheVariants.{Withdraw}
 use Rattle.register_requests.specs.declared.request.Command.TheVariants.{Destroy, Advance, SetQuorum, SetPeriod}
 use Rattle.register_requests.specs.declared.fields.Fields.{Fields}
-use Rattle.register_requests.specs.declared.fields.Fields.TheVariants.{Nothing, Key, KeyAndName, KeyAndOwner, KeyAndNeed}
-use Rattle.register_requests.specs.declared.fields.Fields.TheVariants.{TypeAndPeriod, Registration, DateEdits, Revocation}
+use Rattle.register_requests.specs.declared.fields.Fields.TheVariants.{Nothing, Key, KeyAndName, KeyAndOwner}
+use Rattle.register_requests.specs.declared.fields.Fields.TheVariants.{KeyAndNeed}
+use Rattle.register_requests.specs.declared.fields.Fields.TheVariants.{TypeAndPeriod, Registration, DateEdits}
+use Rattle.register_requests.specs.declared.fields.Fields.TheVariants.{Revocation}
 use Rattle.register_requests.specs.declared.fields.Shape.{Shape}
 use Rattle.register_requests.specs.declared.fields.Shape.TheVariants as shapes
 

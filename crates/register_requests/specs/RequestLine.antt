@@ -1,18 +1,24 @@
 -- Reading a request line from left to right, each step a function on lists.
-use Rattle.std.specs.Prelude.{◌≡◌, ℕ, ◌+◌, ◌-◌, ◌==◌, nat_le, nat_lt, Bool, ◌&&◌, not, List, [], ◌∷◌, length, take, drop, codes, decimal, Option, None, Some, slice_index, if◌then◌else◌, find}
+use Rattle.std.specs.Prelude.{◌≡◌, ℕ, ◌+◌, ◌-◌, ◌==◌, nat_le, nat_lt, Bool, ◌&&◌, not, List, [], ◌∷◌, length, take}
+use Rattle.std.specs.Prelude.{drop, codes, decimal, Option, None, Some, slice_index, if◌then◌else◌, find}
 use Rattle.std.specs.List.{list_all, position}
 use Rattle.std.specs.Str.{bytes_eq, is_utf8}
 use Rattle.std.specs.Str.Parse.{digits_value}
 use Rattle.lifecycle_core.specs.declared.reason.Reason.{Reason}
-use Rattle.lifecycle_core.specs.declared.reason.Reason.TheVariants.{Unspecified, KeyCompromise, CaCompromise, AffiliationChanged, Superseded, CessationOfOperation, PrivilegeWithdrawn}
+use Rattle.lifecycle_core.specs.declared.reason.Reason.TheVariants.{Unspecified, KeyCompromise, CaCompromise}
+use Rattle.lifecycle_core.specs.declared.reason.Reason.TheVariants.{AffiliationChanged, Superseded}
+use Rattle.lifecycle_core.specs.declared.reason.Reason.TheVariants.{CessationOfOperation, PrivilegeWithdrawn}
 use Rattle.lifecycle_core.specs.Reason.{reason_code, is_compromise}
 use Rattle.period_core.specs.declared.key_type.KeyType.{KeyType}
-use Rattle.period_core.specs.declared.key_type.KeyType.TheVariants.{DataEncryption, Authentication, KeyWrapping, PrivateSignature, PrivateAuthentication, PrivateTransport, Master}
+use Rattle.period_core.specs.declared.key_type.KeyType.TheVariants.{DataEncryption, Authentication, KeyWrapping}
+use Rattle.period_core.specs.declared.key_type.KeyType.TheVariants.{PrivateSignature, PrivateAuthentication}
+use Rattle.period_core.specs.declared.key_type.KeyType.TheVariants.{PrivateTransport, Master}
 use Rattle.register_requests.specs.declared.request.Request.{Request}
 use Rattle.register_requests.specs.declared.request.Command.{Command}
 use Rattle.register_requests.specs.declared.fields.Fields.{Fields}
 use Rattle.register_requests.specs.declared.fields.Fields.TheVariants.{Nothing, Key, KeyAndName, KeyAndOwner}
-use Rattle.register_requests.specs.declared.fields.Fields.TheVariants.{KeyAndNeed, TypeAndPeriod, Registration, DateEdits, Revocation}
+use Rattle.register_requests.specs.declared.fields.Fields.TheVariants.{KeyAndNeed, TypeAndPeriod, Registration}
+use Rattle.register_requests.specs.declared.fields.Fields.TheVariants.{DateEdits, Revocation}
 use Rattle.register_requests.specs.declared.fields.Shape.{Shape}
 use Rattle.register_requests.specs.declared.fields.Shape.TheVariants as shapes
 use Rattle.register_requests.specs.Fields.{command_with}

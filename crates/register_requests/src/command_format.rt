@@ -122,7 +122,7 @@ fn put_type_and_owner(text: &mut ArrayString<MAX_COMMAND_LENGTH>, kind: KeyType,
 }
 
 /// Appends the fields of a change of dates.
-fn put_edits(
+fn put_date_edits(
     text: &mut ArrayString<MAX_COMMAND_LENGTH>,
     key: u32,
     activation: Edit,
@@ -190,7 +190,7 @@ fn put_fields(text: &mut ArrayString<MAX_COMMAND_LENGTH>, fields: &Fields)
             ref activation,
             ref protect_stop,
             ref deactivation,
-        } => put_edits(text, key, *activation, *protect_stop, *deactivation),
+        } => put_date_edits(text, key, *activation, *protect_stop, *deactivation),
         Fields::Revocation {
             key,
             reason,

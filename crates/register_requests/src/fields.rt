@@ -119,7 +119,7 @@ impl Fields {
 }
 
 /// The command of this kind, whose word stands alone.
-fn bare_command(kind: CommandKind) -> Option<Command>
+fn command_without_fields(kind: CommandKind) -> Option<Command>
     ensures { result ≡ command_with kind Nothing }
 {
     match kind {
@@ -129,7 +129,7 @@ fn bare_command(kind: CommandKind) -> Option<Command>
 }
 
 /// The command of this kind on a key alone.
-fn keyed_command(kind: CommandKind, key: u32) -> Option<Command>
+fn command_with_key(kind: CommandKind, key: u32) -> Option<Command>
     ensures { result ≡ command_with kind (Key key) }
 {
     match kind {
@@ -142,7 +142,7 @@ fn keyed_command(kind: CommandKind, key: u32) -> Option<Command>
 }
 
 /// The command of this kind on a key and a name.
-fn named_command(kind: CommandKind, key: u32, name: Name) -> Option<Command>
+fn command_with_key_and_name(kind: CommandKind, key: u32, name: Name) -> Option<Command>
     ensures { result ≡ command_with kind (KeyAndName key name) }
 {
     match kind {
@@ -210,9 +210,9 @@ impl Command {
     {
         use CommandKind as Kind;
         match *fields {
-            Fields::Nothing => bare_command(kind),
-            Fields::Key { key } => keyed_command(kind, key),
-            Fields::KeyAndName { key, name } => named_command(kind, key, name),
+            Fields::Nothing => command_without_fields(kind),
+            Fields::Key { key } => command_with_key(kind, key),
+            Fields::KeyAndName { key, name } => command_with_key_and_name(kind, key, name),
             Fields::KeyAndOwner { key, owner } => match kind {
                 Kind::Assign => Some(Command::Assign { key, owner }),
                 _ => None,

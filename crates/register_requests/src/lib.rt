@@ -31,7 +31,7 @@ pub use name::{MAX_NAME_LENGTH, Name};
 pub use number::{MAX_REQUEST_NUMBER, RequestNumber};
 pub use purpose::{MAX_PURPOSE_LENGTH, Purpose};
 pub use quorum::{MAX_APPROVALS, MIN_APPROVALS, Quorum};
-pub use reading::{read_command, read_decimal};
+pub use reading::{read_command, read_decimal, read_key_number};
 pub use request::{Command, Edit, Request};
 pub use short_text::ShortText;
 pub use version::Version;

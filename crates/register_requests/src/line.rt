@@ -17,12 +17,12 @@ fn request_of(line: &[u8]) -> Option<Request>
     if line.len() > MAX_LINE_LENGTH {
         return None;
     }
-    fields_of(line)
+    request_of_any_length(line)
 }
 
 /// The request of a line's fields, whatever the line's length.
 #[tactic(auto, unfolding(crate::specs::RequestLine::fields_at))]
-fn fields_of(line: &[u8]) -> Option<Request>
+fn request_of_any_length(line: &[u8]) -> Option<Request>
     ensures { result ≡ fields_at line.now }
 {
     let mut rest = line;

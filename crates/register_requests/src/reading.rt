@@ -133,7 +133,7 @@ fn next_edit(rest: &mut &[u8]) -> Option<Edit>
 }
 
 /// The number as that of a key, or `None` out of the range.
-fn key_number(number: u64) -> Option<u32>
+fn key_number_in_range(number: u64) -> Option<u32>
     ensures in_range { IsSome result ↔ IsKeyNumber number }
     ensures value { IfSome result (λ n. n ≡ number) }
 {
@@ -143,22 +143,23 @@ fn key_number(number: u64) -> Option<u32>
     u32::try_from(number).ok()
 }
 
-/// The key's number that the field writes.
-fn key_number_of(field: &[u8]) -> Option<u32>
+/// The number of a key that the field writes in decimal, from 1 to 2^32 - 1, or `None` where it
+/// writes none.
+pub fn read_key_number(field: &[u8]) -> Option<u32>
     ensures { result ≡ key_number_at field.now }
 {
-    key_number(read_decimal(field)?)
+    key_number_in_range(read_decimal(field)?)
 }
 
 /// Takes the key's number before the first space, and leaves what stands after that space.
 fn next_key_number(rest: &mut &[u8]) -> Option<u32>
     ensures { Gives (λ key. (key, rest.new.now)) result (field_as key_number_at rest.old.now) }
 {
-    key_number_of(next_field(rest)?)
+    read_key_number(next_field(rest)?)
 }
 
 /// The reason with this code, or `None` where no reason has it.
-fn reason_with(number: u64) -> Option<Reason>
+fn reason_with_code(number: u64) -> Option<Reason>
     ensures found { IfSome result (λ reason. reason_code reason ≡ number) }
     ensures none { IfNone result ((number < 1) ⊎ (7 < number)) }
 {
@@ -170,7 +171,7 @@ fn reason_with(number: u64) -> Option<Reason>
 fn reason_of(field: &[u8]) -> Option<Reason>
     ensures { result ≡ reason_at field.now }
 {
-    reason_with(read_decimal(field)?)
+    reason_with_code(read_decimal(field)?)
 }
 
 /// Takes the code of a reason before the first space, and leaves what stands after that space.
@@ -211,7 +212,7 @@ pub(crate) fn next_request_number(rest: &mut &[u8]) -> Option<RequestNumber>
 }
 
 /// So many approvals, or `None` out of the range.
-fn quorum(number: u64) -> Option<Quorum>
+fn quorum_in_range(number: u64) -> Option<Quorum>
     ensures in_range { IsSome result ↔ IsQuorum number }
     ensures value { IfSome result (λ n. n ≡ number) }
 {
@@ -222,11 +223,11 @@ fn quorum(number: u64) -> Option<Quorum>
 fn quorum_of(field: &[u8]) -> Option<Quorum>
     ensures { result ≡ quorum_at field.now }
 {
-    quorum(read_decimal(field)?)
+    quorum_in_range(read_decimal(field)?)
 }
 
 /// The number as one of months from the least on, or `None` out of the range.
-fn months(least: u16, number: u64) -> Option<u16>
+fn months_in_range(least: u16, number: u64) -> Option<u16>
     ensures in_range { IsSome result ↔ (least ≤ number) × (number ≤ max_months) }
     ensures value { IfSome result (λ n. n ≡ number) }
 {
@@ -235,26 +236,26 @@ fn months(least: u16, number: u64) -> Option<u16>
 }
 
 /// How many months of originator use the field writes.
-fn originator_of(field: &[u8]) -> Option<u16>
+fn originator_months_of(field: &[u8]) -> Option<u16>
     ensures { result ≡ originator_at field.now }
 {
-    months(1, read_decimal(field)?)
+    months_in_range(1, read_decimal(field)?)
 }
 
 /// Takes the months of originator use before the first space, and leaves what stands after that
 /// space.
-fn next_originator(rest: &mut &[u8]) -> Option<u16>
+fn next_originator_months(rest: &mut &[u8]) -> Option<u16>
     ensures { Gives (λ months. (months, rest.new.now)) result
         (field_as originator_at rest.old.now) }
 {
-    originator_of(next_field(rest)?)
+    originator_months_of(next_field(rest)?)
 }
 
 /// How many months of recipient use the field writes.
-fn recipient_of(field: &[u8]) -> Option<u16>
+fn recipient_months_of(field: &[u8]) -> Option<u16>
     ensures { result ≡ recipient_at field.now }
 {
-    months(0, read_decimal(field)?)
+    months_in_range(0, read_decimal(field)?)
 }
 
 /// The name that the field is.
@@ -301,7 +302,7 @@ fn purpose_of(bytes: &[u8]) -> Option<Purpose>
 
 /// The fields of a registration.
 #[tactic(auto, unfolding(crate::specs::RequestLine::register_at))]
-fn register_of(bytes: &[u8]) -> Option<Fields>
+fn registration_fields_of(bytes: &[u8]) -> Option<Fields>
     ensures { result ≡ register_at bytes.now }
 {
     let mut rest = bytes;
@@ -328,7 +329,7 @@ fn key_and_name_of(bytes: &[u8]) -> Option<(u32, Name)>
 
 /// The number of a key, and after it how many approvals its destruction needs.
 #[tactic(auto, unfolding(crate::specs::RequestLine::key_and_need_at))]
-fn key_and_need_of(bytes: &[u8]) -> Option<Fields>
+fn key_and_need_fields_of(bytes: &[u8]) -> Option<Fields>
     ensures { result ≡ key_and_need_at bytes.now }
 {
     let mut rest = bytes;
@@ -339,20 +340,20 @@ fn key_and_need_of(bytes: &[u8]) -> Option<Fields>
 
 /// A type, and after it the months of its period.
 #[tactic(auto, unfolding(crate::specs::RequestLine::type_and_period_at))]
-fn type_and_period_of(bytes: &[u8]) -> Option<Fields>
+fn type_and_period_fields_of(bytes: &[u8]) -> Option<Fields>
     ensures { result ≡ type_and_period_at bytes.now }
 {
     let mut rest = bytes;
     let kind = next_key_type(&mut rest)?;
-    let originator = next_originator(&mut rest)?;
-    let recipient = recipient_of(rest)?;
+    let originator = next_originator_months(&mut rest)?;
+    let recipient = recipient_months_of(rest)?;
     let period = Period::new(originator, recipient)?;
     Some(Fields::TypeAndPeriod { kind, period })
 }
 
 /// The fields of a change of dates.
 #[tactic(auto, unfolding(crate::specs::RequestLine::edits_at))]
-fn edits_of(bytes: &[u8]) -> Option<Fields>
+fn date_edit_fields_of(bytes: &[u8]) -> Option<Fields>
     ensures { result ≡ edits_at bytes.now }
 {
     let mut rest = bytes;
@@ -366,7 +367,7 @@ fn edits_of(bytes: &[u8]) -> Option<Fields>
 
 /// The fields of a revocation.
 #[tactic(auto, unfolding(crate::specs::RequestLine::revoke_at))]
-fn revoke_of(bytes: &[u8]) -> Option<Fields>
+fn revocation_fields_of(bytes: &[u8]) -> Option<Fields>
     ensures { result ≡ revoke_at bytes.now }
 {
     let mut rest = bytes;
@@ -382,12 +383,12 @@ fn revoke_of(bytes: &[u8]) -> Option<Fields>
 
 /// The fields of this shape, which stand after the space after a word.
 #[tactic(auto, unfolding(crate::specs::RequestLine::keyed_at, crate::specs::RequestLine::named_at))]
-fn shaped_fields(shape: Shape, bytes: &[u8]) -> Option<Fields>
+fn fields_of_shape(shape: Shape, bytes: &[u8]) -> Option<Fields>
     ensures { result ≡ shaped_at shape bytes.now }
 {
     match shape {
         Shape::Nothing => None,
-        Shape::Key => key_number_of(bytes).map(|key| Fields::Key { key }),
+        Shape::Key => read_key_number(bytes).map(|key| Fields::Key { key }),
         Shape::KeyAndName => {
             let (key, name) = key_and_name_of(bytes)?;
             Some(Fields::KeyAndName { key, name })
@@ -396,20 +397,20 @@ fn shaped_fields(shape: Shape, bytes: &[u8]) -> Option<Fields>
             let (key, owner) = key_and_name_of(bytes)?;
             Some(Fields::KeyAndOwner { key, owner })
         }
-        Shape::KeyAndNeed => key_and_need_of(bytes),
-        Shape::TypeAndPeriod => type_and_period_of(bytes),
-        Shape::Registration => register_of(bytes),
-        Shape::DateEdits => edits_of(bytes),
-        Shape::Revocation => revoke_of(bytes),
+        Shape::KeyAndNeed => key_and_need_fields_of(bytes),
+        Shape::TypeAndPeriod => type_and_period_fields_of(bytes),
+        Shape::Registration => registration_fields_of(bytes),
+        Shape::DateEdits => date_edit_fields_of(bytes),
+        Shape::Revocation => revocation_fields_of(bytes),
     }
 }
 
 /// The fields of this shape after a word, which has a space after it or stands alone.
-fn fields_after(shape: Shape, after: Option<&[u8]>) -> Option<Fields>
+fn fields_after_word(shape: Shape, after: Option<&[u8]>) -> Option<Fields>
     ensures { result ≡ after_at shape (option_map (λ bytes. bytes.now) after.entry) }
 {
     match (after, shape) {
-        (Some(bytes), _) => shaped_fields(shape, bytes),
+        (Some(bytes), _) => fields_of_shape(shape, bytes),
         (None, Shape::Nothing) => Some(Fields::Nothing),
         (None, _) => None,
     }
@@ -435,7 +436,7 @@ pub(crate) fn command_of(bytes: &[u8]) -> Option<Command>
     let (word, after) = split_word(bytes);
     let kind = command_kind_of(word)?;
     // By reference: the checker makes no proof of a `?` on fields that are held by value.
-    match &fields_after(kind.shape(), after) {
+    match &fields_after_word(kind.shape(), after) {
         Some(fields) => Command::with_fields(kind, fields),
         None => None,
     }

@@ -1,7 +1,7 @@
 -- The check of the table of keys.
-use Rattle.std.proofs.Common.{◌≡◌, ◌≢◌, ◌==◌, ◌≤◌, ◌<◌, ◌+◌, Bool, true, false, inl, inr, ℕ, suc, pos, Result, Ok, Err}
+use Rattle.std.proofs.Common.{◌≡◌, ◌≢◌, ◌==◌, ◌≤◌, ◌<◌, ◌+◌, Bool, true, false, inr, ℕ, suc, pos, Result, Ok, Err}
 use Rattle.std.proofs.Common.{List, [], ◌∷◌, ◌++◌, length, length-append, map, sym, ap, subst, ◌∙◌, refl, arith}
-use Rattle.std.proofs.lemmas.Bool.{cases_Bool, eq-eqb, eqb-true}
+use Rattle.std.proofs.lemmas.Bool.{eq-eqb, eqb-true}
 use Rattle.std.proofs.lemmas.List.{map-append}
 use Rattle.std.specs.List.{AllByRecursion, enumerate_from}
 use Rattle.std.specs.Global.{Vec}
@@ -26,6 +26,9 @@ use Rattle.register_requests.specs.declared.version.Version.{Version}
 use Rattle.register_store.specs.CheckedTables.{IsOdd, IsReasonAt, ShowsNumbered, ShowsRows, ChecksTable, check_error}
 use Rattle.register_store.specs.CheckedTables.{check_text, mark_of}
 use Rattle.register_store.specs.Schema.{rows_of}
+use Rattle.std.specs.Bool.{then_some}
+use Rattle.std.specs.Option.{ok_or}
+use Rattle.std.proofs.Common.{Option}
 use Rattle.register_store.specs.Stored.{HoldsStored, Stored, mark}
 use Rattle.register_store.specs.Tables.{Counts, IsKey, key_row, numbered}
 use Rattle.register_store.specs.CheckedRows.{AreCounted, AreOwners, HasKeys, RefusesKeys, owners_where}
@@ -288,12 +291,8 @@ module _ (t : Stored) (found : Found) (told : mark_of found ≡ mark t) (old new
 
 -- ---- whether there are as many as are counted
 
-pub all_where : (count many : ℕ) (owners : Vec (List ℕ)) → count ≡ many → Ok owners ≡ owners_where (count == many) owners
-all_where count many owners same = ap (λ all. owners_where all owners) (sym (eq-eqb count many same))
-
-pub none_where : (count many : ℕ) (owners : Vec (List ℕ)) → (count ≡ many → ⊥)
-    → Err NotARegister ≡ owners_where (count == many) owners
-none_where count many owners apart = elim (cases_Bool (count == many)) [
-  | inl same ↦ absurd (apart (eqb-true count many same))
-  | inr other ↦ ap (λ all. owners_where all owners) (sym other)
-]
+pub given_where : (all : Bool) (owners : Vec (List ℕ)) (found : Option (Vec (List ℕ)))
+    (q : Result (Vec (List ℕ)) CheckError) → found ≡ then_some all owners → q ≡ ok_or found NotARegister
+    → q ≡ owners_where all owners
+given_where true owners found q found_is is = is ∙ ap (λ o. ok_or o NotARegister) found_is
+given_where false owners found q found_is is = is ∙ ap (λ o. ok_or o NotARegister) found_is

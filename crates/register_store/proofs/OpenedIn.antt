@@ -17,7 +17,8 @@ use Rattle.register_store.specs.declared.found.Found.{Found}
 use Rattle.register_store.specs.CheckedTables.{BlamesNone, ChecksBy, IsReason, Passes}
 use Rattle.register_store.specs.Creation.{FindsBy}
 use Rattle.register_store.specs.Migration.{HasNewTable, Migrates}
-use Rattle.register_store.specs.OpenedTables.{ChangesNothing, HasCommittedIn, IsRefusal, MigratesTo, OpensBy, migration_error}
+use Rattle.register_store.specs.OpenedTables.{ChangesNothing, HasCommittedIn, IsRefusal, MigratesTo, OpensBy}
+use Rattle.register_store.specs.OpenedTables.{migration_error}
 use Rattle.register_store.specs.Schema.{HoldsIn}
 use Rattle.register_store.specs.Stored.{HoldsStored, Stored}
 use Rattle.register_store.specs.Tables.{Tables}

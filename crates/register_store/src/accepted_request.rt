@@ -49,7 +49,7 @@ impl DueDate {
 }
 
 /// Moves the keys on that are due by this date.
-fn move_due<T: Inside>(
+fn advance_keys_by_date<T: Inside>(
     tx: &mut T,
     steps: &mut StepCount,
     date: DueDate,
@@ -67,7 +67,7 @@ fn move_due<T: Inside>(
 ///
 /// # Errors
 /// [`StoreError::Database`] where the database refused.
-fn advance_due<T: Inside>(
+fn advance_keys_to_moment<T: Inside>(
     tx: &mut T,
     steps: &mut StepCount,
     latest: Moment,
@@ -83,8 +83,8 @@ fn advance_due<T: Inside>(
         return Ok(());
     }
     // In this order, since a key may pass both dates at once: the second takes the Active keys on.
-    move_due(tx, steps, DueDate::Activation, at)?;
-    move_due(tx, steps, DueDate::Deactivation, at)
+    advance_keys_by_date(tx, steps, DueDate::Activation, at)?;
+    advance_keys_by_date(tx, steps, DueDate::Deactivation, at)
 }
 
 /// Writes what becomes of the custody of the key with this number.
@@ -174,7 +174,7 @@ impl Work for AcceptedRequest<'_> {
     /// Each key that is due moves on, the change is written, and the request, the latest moment and
     /// the number of keys are kept.
     fn run<T: Inside>(&self, tx: &mut T, steps: &mut StepCount) -> Result<(), StoreError> {
-        advance_due(tx, steps, self.latest, self.kept.reply.moment)?;
+        advance_keys_to_moment(tx, steps, self.latest, self.kept.reply.moment)?;
         write_change(tx, steps, self.keys, self.change)?;
         let keys = keys_after(self.keys, self.change);
         record_request(tx, steps, self.kept, keys)

@@ -37,7 +37,7 @@ fn name_at_key_in(row: &Row) -> Option<NameAtKey>
 }
 
 /// The index of the key with this number, of those that are numbered from 1.
-fn key_index(key: u64) -> Option<usize>
+fn index_of_key_number(key: u64) -> Option<usize>
     ensures { MatchOption result (key ≡ 0) (λ at. key ≡ suc at) }
 {
     usize::try_from(key.checked_sub(1)?).ok()
@@ -92,7 +92,7 @@ impl RowCheck for CustodianCheck {
         let Some(shown) = name_at_key_in(row) else {
             return Ok(false);
         };
-        let Some(at) = key_index(shown.key) else {
+        let Some(at) = index_of_key_number(shown.key) else {
             return Ok(false);
         };
         // The lists are equally long in each check that began so; of any other this is safe too.
@@ -163,7 +163,7 @@ impl RowCheck for ApprovalCheck {
         let Some(shown) = name_at_key_in(row) else {
             return Ok(false);
         };
-        let Some(at) = key_index(shown.key) else {
+        let Some(at) = index_of_key_number(shown.key) else {
             return Ok(false);
         };
         if at >= self.custodians.len() {

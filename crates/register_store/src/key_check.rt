@@ -1,8 +1,8 @@
 //! The check of the table of keys.
 ghost use Rattle.std.specs.Prelude.{◌≡◌, ◌↔◌, false, MatchOption, IsTrue};
+ghost use Rattle.register_core.specs.declared.key.Key.{Key};
 ghost use Rattle.sqlite.specs.Held.{state};
 ghost use Rattle.sqlite.specs.State.{Survives};
-ghost use Rattle.register_core.specs.declared.key.Key.{Key};
 ghost use Rattle.register_store.specs.declared.table.TableName.TheVariants.{Keys};
 ghost use Rattle.register_store.specs.Stored.{Stored, mark};
 ghost use Rattle.register_store.specs.OpeningChecks.{ArePast, DatesFit, IsSoundAt};
@@ -34,7 +34,7 @@ fn are_past(dates: &Dates, latest: Moment) -> bool
 }
 
 /// Whether the dates are those of a key of this type, as the version has it.
-fn dates_fit(version: Version, kind: KeyType, dates: &Dates) -> bool
+fn are_dates_of_version(version: Version, kind: KeyType, dates: &Dates) -> bool
     ensures { IsTrue result ↔ DatesFit version kind dates.now }
 {
     match version {
@@ -48,11 +48,11 @@ fn is_sound(version: Version, key: &Key, latest: Moment) -> bool
     ensures { IsTrue result ↔ IsSoundAt version latest key.now }
 {
     let dates = &key.row.dates;
-    dates_fit(version, key.kind, dates)
+    are_dates_of_version(version, key.kind, dates)
         && (dates.activation.is_none() || dates.protect_stop.is_some())
         && (dates.activation.is_none() || dates.deactivation.is_some())
         && are_past(dates, latest)
-        && key.row.is_right_at(latest)
+        && key.row.has_right_state_at(latest)
 }
 
 /// The key with this number that the row shows, where a register with these counts may hold it.
@@ -129,9 +129,7 @@ pub(crate) fn check_keys<S: Alter>(
         columns!(keys listed "SELECT ", ", number FROM keys ORDER BY number"),
         &mut check,
     )?;
-    if check.count == check.found.keys {
-        Ok(check.owners)
-    } else {
-        Err(CheckError::NotARegister)
-    }
+    (check.count == check.found.keys)
+        .then_some(check.owners)
+        .ok_or(CheckError::NotARegister)
 }

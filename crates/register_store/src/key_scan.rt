@@ -13,7 +13,7 @@ use crate::cell::{MomentCell, number_in};
 use crate::columns::{KeyCell, columns};
 use crate::counted::Counted;
 use crate::error::StoreError;
-use crate::key_row::{find_row, key_in};
+use crate::key_row::{find_key_row, key_in};
 use moment_core::Moment;
 use register_core::Key;
 use sqlite::{Alter, Row, params};
@@ -114,7 +114,7 @@ fn find_first_due<S: Alter>(
 }
 
 /// The first of the keys that are due with a later Protect Stop Date than this.
-fn find_later_stop<S: Alter>(
+fn find_due_with_later_stop<S: Alter>(
     connection: &mut Counted<S>,
     until: Moment,
     stop: Moment,
@@ -149,7 +149,7 @@ fn find_within_run<S: Alter>(
     if found.is_some() {
         return Ok(found);
     }
-    find_later_stop(connection, until, stop)
+    find_due_with_later_stop(connection, until, stop)
 }
 
 /// The key after the one with this number, in the order of numbers, or `None` after the last. It
@@ -158,13 +158,16 @@ fn find_within_run<S: Alter>(
 /// # Errors
 /// [`StoreError::Database`] where the database refused, and [`StoreError::NoRegister`] where the
 /// row is one that no register holds.
-pub fn each_key<S: Alter>(connection: &mut Counted<S>, last: u32) -> Result<Option<Key>, StoreError>
+pub fn find_next_key<S: Alter>(
+    connection: &mut Counted<S>,
+    last: u32,
+) -> Result<Option<Key>, StoreError>
     requires { last ≤ max_keys }
     ensures counted { Calls 2 connection.old connection.new }
     ensures sight { KeepsSight (seen S.Store connection.old) (seen S.Store connection.new) }
     ensures reads { Reads S.Store (HasRow (last + 1)) connection.old connection.new result }
 {
-    find_row(connection, last + 1)
+    find_key_row(connection, last + 1)
 }
 
 /// The first key after this cursor that is Active with a Protect Stop Date up to `until`, in the
@@ -172,8 +175,8 @@ pub fn each_key<S: Alter>(connection: &mut Counted<S>, last: u32) -> Result<Opti
 /// nothing. After a cursor that is [`DateRun::First`] it asks the database once.
 ///
 /// # Errors
-/// As [`each_key`].
-pub fn each_due<S: Alter>(
+/// As [`find_next_key`].
+pub fn find_next_due_key<S: Alter>(
     connection: &mut Counted<S>,
     until: Moment,
     last: DueCursor,

@@ -5,7 +5,7 @@ ghost use Rattle.register_store.specs.Migration.{FindsNew};
 ghost use Rattle.register_store.specs.Migration.{Migrates, SetsVersion};
 
 use crate::error::CreateError;
-use crate::schema_change::{SchemaChange, change_schema, is_there, make_table};
+use crate::schema_change::{SchemaChange, change_schema, is_table_there, make_table};
 use crate::table::TableName;
 use register_core::Version;
 use sqlite::{Alter, Connection, Error, Transaction, params};
@@ -34,10 +34,10 @@ impl SchemaChange for Migration {
 
     /// Whether one of the new tables is there.
     fn finds_one<S: Alter>(&self, tx: &mut Transaction<'_, S>) -> Result<bool, Error> {
-        if is_there(tx, TableName::Period)? {
+        if is_table_there(tx, TableName::Period)? {
             return Ok(true);
         }
-        is_there(tx, TableName::Quorum)
+        is_table_there(tx, TableName::Quorum)
     }
 
     fn make<S: Alter>(&self, tx: &mut Transaction<'_, S>) -> Result<(), Error> {

@@ -13,7 +13,7 @@ use crate::cell::name_in;
 use crate::columns::{RequestCell, columns};
 use crate::error::CheckError;
 use crate::found::Found;
-use crate::request_row::{request_in, request_number_in};
+use crate::request_row::{kept_reply_in, request_number_in};
 use register_core::KeptReply;
 use row_checks::{RowCheck, check_rows};
 use sqlite::{Alter, Connection, Row};
@@ -26,14 +26,14 @@ fn kept_in(row: &Row) -> Option<KeptReply>
 {
     let caller = name_in(row, RequestCell::Caller as usize)?;
     let number = request_number_in(row, RequestCell::Number as usize)?;
-    request_in(row, &caller, number)
+    kept_reply_in(row, &caller, number)
 }
 
 /// Whether a register of this version, with these counts, may have given the reply.
-fn is_reply_of(kept: &KeptReply, found: Found) -> bool
+fn is_possible_reply(kept: &KeptReply, found: Found) -> bool
     ensures { IsTrue result ↔ IsReplyOf (mark_of found) kept.now }
 {
-    kept.reply.is_within(found.latest, found.keys) && found.version.knows(&kept.command)
+    kept.reply.is_within_counts(found.latest, found.keys) && found.version.knows(&kept.command)
 }
 
 /// Each request by itself.
@@ -58,7 +58,7 @@ impl RowCheck for RequestCheck {
         let Some(kept) = kept_in(row) else {
             return Ok(false);
         };
-        Ok(is_reply_of(&kept, self.found))
+        Ok(is_possible_reply(&kept, self.found))
     }
 }
 

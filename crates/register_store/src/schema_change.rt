@@ -46,7 +46,7 @@ pub(crate) trait SchemaChange {
 
 /// Whether the table is there: the count of its rows has a meaning. Where it is not, nothing has
 /// changed.
-pub(crate) fn is_there<S: Alter>(
+pub(crate) fn is_table_there<S: Alter>(
     tx: &mut Transaction<'_, S>,
     table: TableName,
 ) -> Result<bool, Error>

@@ -36,7 +36,7 @@ struct NeedRow {
 }
 
 /// The period of a type that the row shows.
-fn period_in(row: &Row) -> Option<PeriodRow>
+fn period_row_in(row: &Row) -> Option<PeriodRow>
     ensures { MatchOption result ((set : TypePeriod) → ¬ ShowsTypePeriod row.now set)
         (λ shown. ShowsTypePeriod row.now (type_period shown.kind shown.period)) }
 {
@@ -70,7 +70,7 @@ impl RowCheck for PeriodCheck {
     ghost refuses = { λ first check rows. RefusesEach ShowsTypePeriod IsAnyPeriod rows };
 
     fn take(&mut self, row: &Row) -> Result<bool, AllocError> {
-        Ok(period_in(row).is_some())
+        Ok(period_row_in(row).is_some())
     }
 }
 
@@ -96,7 +96,7 @@ pub(crate) fn check_periods<S: Alter>(connection: &mut Connection<S>) -> Result<
 }
 
 /// Whether a register with these counts may have the need.
-fn is_need_of(shown: NeedRow, found: Found) -> bool
+fn is_need_of_counted_key(shown: NeedRow, found: Found) -> bool
     ensures { IsTrue result ↔ IsNeedOf (counts_of found) (key_need shown.key shown.need) }
 {
     shown.key > 0 && shown.key <= u64::from(found.keys)
@@ -124,7 +124,7 @@ impl RowCheck for NeedCheck {
         let Some(shown) = need_row_in(row) else {
             return Ok(false);
         };
-        Ok(is_need_of(shown, self.found))
+        Ok(is_need_of_counted_key(shown, self.found))
     }
 }
 

@@ -10,7 +10,7 @@ use crate::row_check::RowCheck;
 use sqlite::{Alter, Connection, Error, ErrorCode, Rows};
 
 /// Puts each row that is to come to the check.
-fn take_rows<S: Alter, T: RowCheck>(
+fn check_rows_left<S: Alter, T: RowCheck>(
     rows: &mut Rows<'_, S>,
     check: &mut T,
     sql: &str,
@@ -92,7 +92,7 @@ pub fn check_rows<S: Alter, T: RowCheck>(
         (state S.Store connection.new) (λ _. ⊥) }
 {
     match connection.query(sql, &[]) {
-        Ok(mut rows) => take_rows(&mut rows, check, sql),
+        Ok(mut rows) => check_rows_left(&mut rows, check, sql),
         Err(Error::SqlInputError(_)) => Err(RowsError::NoMeaning),
         Err(error) => Err(RowsError::Database(error)),
     }

@@ -1,5 +1,6 @@
 -- What a DELETE does where one other table refers to the rows with ON DELETE CASCADE, and none to its rows.
-use Rattle.std.proofs.Common.{◌≡◌, inl, inr, ◌≢◌, ◌&&◌, ℕ, zero, suc, ℤ, List, [], ◌∷◌, ◌++◌, length, Bool, true, false, cond, Ok, refl, sym, ap, subst, arith, length-append}
+use Rattle.std.proofs.Common.{◌≡◌, inl, inr, ◌≢◌, ◌&&◌, ℕ, zero, suc, ℤ, List, [], ◌∷◌, ◌++◌, length, Bool, true, false}
+use Rattle.std.proofs.Common.{cond, Ok, refl, sym, ap, subst, arith, length-append}
 use Rattle.std.specs.List.{AllByRecursion, list_any}
 use Rattle.sqlite.specs.Edit.{edit_of, taken_by, without_all, Applies}
 use Rattle.sqlite.specs.Order.{Row}
@@ -8,7 +9,8 @@ use Rattle.sqlite.specs.Schema.{Schema}
 use Rattle.sqlite.specs.Table.{Table}
 use Rattle.sqlite.specs.Tree.{Trees}
 use Rattle.sqlite_rules.proofs.ListLemmas.{all_from, some_from, some_has}
-use Rattle.sqlite_rules.specs.Action.{Work, works, pairs, loses, is_child_of, Writes, Leads, Acts, ActsOn, AreChildren, action_edit}
+use Rattle.sqlite_rules.specs.Action.{Work, works, pairs, loses, is_child_of, Writes, Leads, Acts, ActsOn, AreChildren}
+use Rattle.sqlite_rules.specs.Action.{action_edit}
 use Rattle.sqlite_rules.specs.declared.action.Deed.TheVariants.{Delete}
 use Rattle.sqlite_schema.specs.declared.schema.Keys.TheVariants.{Enforced}
 use Rattle.sqlite_schema.specs.declared.schema.Reference.{Reference}

@@ -1,11 +1,13 @@
 -- From a statement inside a transaction to the words for a step, and from the steps to the whole.
-use Rattle.std.proofs.Common.{◌≡◌, inl, inr, ℕ, List, [], Ok, Err, Result, IsErr, IsTrue, IfOk, IfErr, OnOk, false, true, refl, sym, ap, subst, ◌∙◌, arith}
+use Rattle.std.proofs.Common.{◌≡◌, inl, inr, ℕ, List, [], Ok, Err, Result, IsErr, IsTrue, IfOk, IfErr, OnOk, false}
+use Rattle.std.proofs.Common.{true, refl, sym, ap, subst, ◌∙◌, arith}
 use Rattle.sqlite.specs.declared.error.Error.{Error}
 use Rattle.sqlite.specs.Order.{Row}
 use Rattle.sqlite.specs.Tree.{Trees}
 use Rattle.sqlite.specs.Effect.{Database}
 use Rattle.sqlite.specs.Steps.{FailsToCommit}
-use Rattle.sqlite.specs.State.{State, HasCleanDisk, Executes, ExecutesInside, Shows, KeepsCounts, IsRolledBack, Survives}
+use Rattle.sqlite.specs.State.{State, HasCleanDisk, Executes, ExecutesInside, Shows, KeepsCounts, IsRolledBack}
+use Rattle.sqlite.specs.State.{Survives}
 use Rattle.sqlite.proofs.InsideLemmas.{inside_keeps, keeps_then}
 use Rattle.sqlite.proofs.StateLemmas.{survives_then, survives_weaker}
 use Rattle.sqlite_trees.specs.declared.store.Store as store

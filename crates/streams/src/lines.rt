@@ -155,7 +155,7 @@ impl<const MAX_LENGTH: usize> Lines<MAX_LENGTH> {
     }
 
     // Moves this many unread bytes to the line.
-    fn take_part(&mut self, count: usize)
+    fn take_bytes(&mut self, count: usize)
         requires { count ≤ length self.old.unread }
         ensures unread { self.new.unread ≡ drop count self.old.unread }
         ensures line { Extends MAX_LENGTH self.old self.new (take count self.old.unread) }
@@ -175,7 +175,7 @@ impl<const MAX_LENGTH: usize> Lines<MAX_LENGTH> {
     }
 
     // Drops an unread byte.
-    fn skip_one(&mut self)
+    fn skip_byte(&mut self)
         requires { 0 < length self.old.unread }
         ensures { self.new ≡ record self.old { unread = drop 1 self.old.unread } }
     {
@@ -220,13 +220,13 @@ impl<const MAX_LENGTH: usize> Lines<MAX_LENGTH> {
     {
         match find_line_feed(self.unread_bytes()) {
             Some(at) => {
-                self.take_part(at);
-                self.skip_one();
+                self.take_bytes(at);
+                self.skip_byte();
                 true
             }
             None => {
                 let all = self.unread_bytes().len();
-                self.take_part(all);
+                self.take_bytes(all);
                 false
             }
         }

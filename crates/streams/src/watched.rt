@@ -159,7 +159,7 @@ impl<W: Write> Watched<W> {
         ensures failed { self.old.failed ≡ true → self.new.failed ≡ true }
     {
         self.write_whole(max_idle, bytes)?;
-        if self.flush_once(max_idle) {
+        if self.flush_until_done(max_idle) {
             Ok(())
         } else {
             Err(WriteFault {
@@ -196,7 +196,7 @@ impl<W: Write> Watched<W> {
     }
 
     // Flushes, and returns whether that was done.
-    fn flush_once(&mut self, max_idle: u64) -> bool
+    fn flush_until_done(&mut self, max_idle: u64) -> bool
         ensures bytes { Keeps (W.contents self.old.inner) (W.contents self.new.inner) }
         ensures sound { OnTrue result (self.new.failed ≡ self.old.failed) }
         ensures flushed { OnTrue result (self.new.unflushed ≡ false) }

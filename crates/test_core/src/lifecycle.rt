@@ -1,5 +1,5 @@
 //! Usages, transitions and reasons, compared with the rules of the specification.
-use lifecycle_core::{Dates, Process, Reason, Row, State, Usage, may, usage};
+use lifecycle_core::{Dates, Process, Reason, Row, State, Usage, is_transition, usage};
 use moment_core::Moment;
 
 /// Dates of a key that is active from 0 on, protects up to 500 and is deactivated at 1000.
@@ -50,7 +50,7 @@ fn usages(rt: HostRuntime) {
 /// Whether a row with this state is right at the moment.
 fn is_right(dates: Option<Dates>, state: State, seconds: u64) -> bool {
     match (dates, Moment::new(seconds)) {
-        (Some(dates), Some(at)) => Row { dates, state }.is_right_at(at),
+        (Some(dates), Some(at)) => Row { dates, state }.has_right_state_at(at),
         _ => false,
     }
 }
@@ -78,7 +78,7 @@ fn may_enter(from: State, allowed: &[bool; 6]) -> bool {
     State::ALL
         .iter()
         .zip(allowed)
-        .all(|(to, expected)| may(from, *to) == *expected)
+        .all(|(to, expected)| is_transition(from, *to) == *expected)
 }
 
 #[test]

@@ -6,12 +6,14 @@ use sqlite::MemStore;
 use std::alloc::Global;
 use std::test::Fail;
 use test_faulty_devices::{Trouble, Troubled};
+use test_worked_rows::{Cells, export_header, export_of};
 
 /// What a register is written out as after these request lines.
 #[derive(Clone, Copy)]
 struct Written {
     lines: &'static str,
-    export: &'static str,
+    /// The cells of each key in an export, where they are others than those of *defaults*.
+    export: &'static [Cells<'static>],
     /// For how many days a report looks ahead, and the report.
     reports: &'static [(u32, &'static str)],
 }
@@ -19,7 +21,7 @@ struct Written {
 #[rattlefmt::skip]
 static EMPTY: Written = Written {
     lines: "",
-    export: "number,type,owner,activation,protect_stop,deactivation,state,initial,destroyed,compromised,occurrence,purpose\n",
+    export: &[],
     reports: &[
         (0, "Keys due for rotation by 1970-01-01T00:00:00Z\ntotal 0\n"),
         (36_500, "Keys due for rotation by 2069-12-07T00:00:00Z\ntotal 0\n"),
@@ -30,8 +32,7 @@ static EMPTY: Written = Written {
 #[rattlefmt::skip]
 static DEFAULTS: Written = Written {
     lines: "100 ann 1 register data-encryption bob 0 - - payroll disks\n",
-    export: "number,type,owner,activation,protect_stop,deactivation,state,initial,destroyed,compromised,occurrence,purpose\n\
-        1,data-encryption,bob,1970-01-01T00:00:00Z,1972-01-01T00:00:00Z,1975-01-01T00:00:00Z,Active,1970-01-01T00:01:40Z,,,,payroll disks\n",
+    export: &[&[]],
     reports: &[
         (730, "Keys due for rotation by 1972-01-01T00:01:40Z\n\
             \x20     1  1972-01-01T00:00:00Z  due      data-encryption         bob  payroll disks\n\
@@ -50,11 +51,18 @@ static SEVERAL: Written = Written {
         100 ann 4 register data-encryption bob 0 500 1000 \u{5de}\u{5e4}\u{5ea}\u{5d7}\n\
         300 zed 1 revoke 1 2 200\n\
         500 ann 5 advance\n",
-    export: "number,type,owner,activation,protect_stop,deactivation,state,initial,destroyed,compromised,occurrence,purpose\n\
-        1,master,bob,1970-01-01T00:16:40Z,1970-01-01T00:33:20Z,1970-01-01T00:33:20Z,Compromised,1970-01-01T00:01:40Z,,1970-01-01T00:05:00Z,1970-01-01T00:03:20Z,\"say \"\"hi\"\", twice\"\n\
-        2,data-encryption,eve,1970-01-01T00:00:00Z,1970-01-01T00:10:00Z,1970-01-01T00:16:40Z,Active,1970-01-01T00:01:40Z,,,,late\n\
-        3,data-encryption,bob,1970-01-01T00:00:00Z,1970-01-01T00:08:20Z,1970-01-01T00:16:40Z,Active,1970-01-01T00:01:40Z,,,,=1+1\n\
-        4,data-encryption,bob,1970-01-01T00:00:00Z,1970-01-01T00:08:20Z,1970-01-01T00:16:40Z,Active,1970-01-01T00:01:40Z,,,,\u{5de}\u{5e4}\u{5ea}\u{5d7}\n",
+    export: &[
+        &[("type", "master"), ("activation", "1970-01-01T00:16:40Z"), ("protect_stop", "1970-01-01T00:33:20Z"),
+          ("deactivation", "1970-01-01T00:33:20Z"), ("state", "Compromised"),
+          ("compromised", "1970-01-01T00:05:00Z"), ("occurrence", "1970-01-01T00:03:20Z"),
+          ("purpose", "\"say \"\"hi\"\", twice\"")],
+        &[("owner", "eve"), ("protect_stop", "1970-01-01T00:10:00Z"),
+          ("deactivation", "1970-01-01T00:16:40Z"), ("purpose", "late")],
+        &[("protect_stop", "1970-01-01T00:08:20Z"), ("deactivation", "1970-01-01T00:16:40Z"),
+          ("purpose", "=1+1")],
+        &[("protect_stop", "1970-01-01T00:08:20Z"), ("deactivation", "1970-01-01T00:16:40Z"),
+          ("purpose", "\u{5de}\u{5e4}\u{5ea}\u{5d7}")],
+    ],
     reports: &[
         (0, "Keys due for rotation by 1970-01-01T00:08:20Z\n\
             \x20     3  1970-01-01T00:08:20Z  overdue  data-encryption         bob  =1+1\n\
@@ -75,9 +83,11 @@ static LONG: Written = Written {
     lines: "100 ann 1 register data-encryption bob 0 - - payroll disks\n\
         200 office 1 set-period data-encryption 12 36\n\
         300 ann 2 register data-encryption bob 0 - - x\n",
-    export: "number,type,owner,activation,protect_stop,deactivation,state,initial,destroyed,compromised,occurrence,purpose\n\
-        1,data-encryption,bob,1970-01-01T00:00:00Z,1972-01-01T00:00:00Z,1975-01-01T00:00:00Z,Active,1970-01-01T00:01:40Z,,,,payroll disks\n\
-        2,data-encryption,bob,1970-01-01T00:00:00Z,1971-01-01T00:00:00Z,1974-01-01T00:00:00Z,Active,1970-01-01T00:05:00Z,,,,x\n",
+    export: &[
+        &[],
+        &[("protect_stop", "1971-01-01T00:00:00Z"), ("deactivation", "1974-01-01T00:00:00Z"),
+          ("initial", "1970-01-01T00:05:00Z"), ("purpose", "x")],
+    ],
     reports: &[
         (0, "Keys due for rotation by 1970-01-01T00:05:00Z\n\
             \x20     1  1972-01-01T00:00:00Z  long     data-encryption         bob  payroll disks\n\
@@ -119,7 +129,8 @@ fn is_reported(alloc: Global, desk: &mut Desk<MemStore>, days: u32, text: &str) 
 /// Whether the register is written out so.
 fn is_written_out(alloc: Global, written: &Written) -> Result<bool, Fail> {
     let mut desk = desk_of(alloc, written.lines.as_bytes())?;
-    if !is_exported(alloc, &mut desk, written.export) {
+    let text = export_of(alloc, written.export)?;
+    if !is_exported(alloc, &mut desk, text.as_str()) {
         return Ok(false);
     }
     for (days, report) in written.reports {
@@ -158,21 +169,23 @@ fn is_cut(alloc: Global, desk: &mut Desk<MemStore>, good_turns: usize, text: &st
     outcome == expected && writer.into_inner().inner.as_slice() == text.as_bytes()
 }
 
-/// Whether the desk goes on after a writer that failed.
-fn goes_on(alloc: Global, desk: &mut Desk<MemStore>) -> bool {
+/// Whether the desk goes on after a writer that failed, and is exported so.
+fn goes_on(alloc: Global, desk: &mut Desk<MemStore>, text: &str) -> bool {
     let mut output = Vec::new(alloc);
     let _ = run_over(desk, b"200 ann 2 advance\n", &mut output);
-    output.as_slice() == b"ok 0 - 200\n".as_slice() && is_exported(alloc, desk, DEFAULTS.export)
+    output.as_slice() == b"ok 0 - 200\n".as_slice() && is_exported(alloc, desk, text)
 }
 
 /// Whether a writer that fails ends an export, and the desk goes on.
 pub fn is_export_ended_by_writer(alloc: Global) -> Result<bool, Fail> {
     let mut desk = desk_of(alloc, DEFAULTS.lines.as_bytes())?;
+    let header = export_header(alloc)?;
+    let text = export_of(alloc, DEFAULTS.export)?;
     // Each line takes a write and a flush.
     Ok(
         is_cut(alloc, &mut desk, 0, "")
-            && is_cut(alloc, &mut desk, 2, EMPTY.export)
-            && is_cut(alloc, &mut desk, 3, DEFAULTS.export)
-            && goes_on(alloc, &mut desk),
+            && is_cut(alloc, &mut desk, 2, header.as_str())
+            && is_cut(alloc, &mut desk, 3, text.as_str())
+            && goes_on(alloc, &mut desk, text.as_str()),
     )
 }

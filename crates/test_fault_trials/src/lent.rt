@@ -2,19 +2,36 @@
 use crate::calls::{Call, call_over};
 use crate::files::{DeskTask, Entry, Lab};
 use crate::texts::{
-    ADVANCE, EXPORT_HEAD, Exchange, IMPORT_HEAD, IMPORT_ROWS, IMPORTED, IN_USE, KEY, REGISTERED,
-    Text, join,
+    ADVANCE, Exchange, IMPORT_HEAD, IMPORT_ROWS, IMPORTED, IN_USE, KEY, REGISTERED, Text, join,
 };
 use crate::trials::{files_with, rows_by_step};
 use register_desk::{Desk, End, Finish, Outcome, Watched};
 use sqlite::{Alter, Files};
 use sqlite_disk::Memory;
-use std::alloc::Global;
+use std::alloc::{AllocError, Global};
 use std::test::Fail;
 use test_faulty_devices::{Counted, Counter, OneByte, Trouble, Troubled};
+use test_worked_rows::{Cells, export_of};
 
 /// More turns than any call takes.
 const MAX_TURNS: usize = 5000;
+
+/// What a call is to write.
+#[derive(Clone, Copy, Debug)]
+enum Output {
+    Pieces(Text),
+    /// The export of one key with these cells.
+    Export(Cells<'static>),
+}
+
+impl Output {
+    fn text(self, alloc: Global) -> Result<String, AllocError> {
+        match self {
+            Output::Pieces(pieces) => join(alloc, pieces),
+            Output::Export(cells) => export_of(alloc, &[cells]),
+        }
+    }
+}
 
 /// What is lent, over the register with one key, and what is to come of it.
 #[derive(Clone, Copy, Debug)]
@@ -23,7 +40,7 @@ struct Lent {
     /// The requests that it sends.
     sent: &'static [Exchange],
     input: Text,
-    output: Text,
+    output: Output,
 }
 
 /// The troubled one of the two.
@@ -177,7 +194,7 @@ impl Given {
             call: lent.call,
             steps: lent.sent.len(),
             input: join(lab.alloc, lent.input)?,
-            output: join(lab.alloc, lent.output)?,
+            output: lent.output.text(lab.alloc)?,
             files: files_with(lab, KEY)?,
             rows: rows_by_step(lab, KEY, lent.sent)?,
         })
@@ -282,48 +299,49 @@ const LENT: [Lent; 6] = [
             ("900 ann 2 advance", "ok 0 - 900"),
         ],
         input: &["100 ann 1 register master bob - - - x\n100 ann  2 advance\n900 ann 2 advance\n"],
-        output: &["ok 2 Pre-Active 100\nrefused 1 BadLine\nok 0 - 900\n"],
+        output: Output::Pieces(&["ok 2 Pre-Active 100\nrefused 1 BadLine\nok 0 - 900\n"]),
     },
     Lent {
         call: Call::Import,
         sent: IMPORTED,
         input: &[IMPORT_HEAD, IMPORT_ROWS],
-        output: &["ok 2 Active 100\nrefused 1 BadLine\nok 3 Pre-Active 100\n"],
+        output: Output::Pieces(&["ok 2 Active 100\nrefused 1 BadLine\nok 3 Pre-Active 100\n"]),
     },
     Lent {
         call: Call::Export,
         sent: &[],
         input: &[],
-        output: &[
-            EXPORT_HEAD,
-            "1,data-encryption,bob,1970-01-01T00:00:00Z,1970-01-01T00:11:40Z,1970-01-01T00:15:00Z,Active,",
-            "1970-01-01T00:00:50Z,,,,old disks\n",
-        ],
+        output: Output::Export(&[
+            ("protect_stop", "1970-01-01T00:11:40Z"),
+            ("deactivation", "1970-01-01T00:15:00Z"),
+            ("initial", "1970-01-01T00:00:50Z"),
+            ("purpose", "old disks"),
+        ]),
     },
     Lent {
         call: Call::Rotation,
         sent: &[],
         input: &[],
-        output: &[
+        output: Output::Pieces(&[
             "Keys due for rotation by 1970-01-02T00:00:50Z\n",
             "      1  1970-01-01T00:11:40Z  due      data-encryption         bob  old disks\n",
             "total 1\n",
-        ],
+        ]),
     },
     Lent {
         call: Call::Exchange,
         sent: &[("100 ann 1 advance", "ok 0 - 100")],
         input: &[ADVANCE],
-        output: &[
+        output: Output::Pieces(&[
             "HTTP/1.1 200 OK\r\nContent-Type: application/json\r\nContent-Length: 35\r\nConnection: close\r\n\r\n",
             "{\"key\":0,\"moment\":100,\"state\":null}",
-        ],
+        ]),
     },
     Lent {
         call: Call::Exchange,
         sent: &[],
         input: &["GET /keys/1/usage HTTP/1.1\r\nHost: localhost\r\n\r\n"],
-        output: &[IN_USE],
+        output: Output::Pieces(&[IN_USE]),
     },
 ];
 

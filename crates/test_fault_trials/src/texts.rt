@@ -50,11 +50,6 @@ pub const IMPORTED: &[Exchange] = &[
     ),
 ];
 
-/// The header row of an export.
-pub const EXPORT_HEAD: &str =
-    "number,type,owner,activation,protect_stop,deactivation,state,initial,destroyed,\
-    compromised,occurrence,purpose\n";
-
 /// The request of the worked row *advanced*.
 pub const ADVANCE: &str =
     "POST /requests HTTP/1.1\r\nHost: localhost\r\nCaller: ann\r\nRequest-Number: 1\r\n\

@@ -1,15 +1,17 @@
-//! The worked rows of docs/WORKED.md, as data: runs over an empty register, and HTTP
-//! exchanges.
+//! The worked rows of docs/WORKED.md, as data: runs over an empty register, HTTP exchanges, and the
+//! rows of exports.
 //!
 //! They stand in tables of six, since each function that names a table writes it out.
 #![tactic(auto)]
 
 mod dates;
 mod exchanges;
+mod exports;
 mod keys;
 mod row;
 
 pub use exchanges::{ADVANCE, ADVANCED, BAD_REQUEST, DEFAULTS_LINE, Step, WorkedExchange};
+pub use exports::{Cells, export_header, export_of, export_row};
 pub use row::{Exchange, Shown, WorkedRow, input_of, output_of};
 
 /// Rows on lines, moments and the order of dates.

@@ -3,7 +3,7 @@
 use crate::desk::Desk;
 use crate::end::End;
 use register_core::{Accept, Answer, KeptReply, Name, Refusal, Request, RequestNumber, decide};
-use register_store::{StoreError, commit_request, find_request};
+use register_store::{StoreError, commit_request, find_kept_reply};
 use sqlite::Alter;
 
 impl<S: Alter> Desk<S> {
@@ -91,7 +91,7 @@ impl<S: Alter> Desk<S> {
         if !request.command.has_text() {
             return Ok(Answer::Refused(Refusal::BadLine));
         }
-        match self.find_kept(&request.caller, request.number)? {
+        match self.look_up_kept_reply(&request.caller, request.number)? {
             Some(before) => Ok(before.answer_again(&request.command)),
             None => self.apply_new(request),
         }
@@ -125,7 +125,7 @@ impl<S: Alter> Desk<S> {
         ensures steps { (h : List Request) → StandsFor S.Store self.old h
             → IsClean S.Store self.new → TakesSteps 49 self.old self.new }
     {
-        let view = self.view_for(request)?;
+        let view = self.look_up_view(request)?;
         match decide(&view, request) {
             Err(refusal) => Ok(Answer::Refused(refusal)),
             Ok(accept) => {
@@ -168,7 +168,11 @@ impl<S: Alter> Desk<S> {
     }
 
     /// What is kept under the caller and the number, if anything is.
-    fn find_kept(&mut self, caller: &Name, number: RequestNumber) -> Result<Option<KeptReply>, End>
+    fn look_up_kept_reply(
+        &mut self,
+        caller: &Name,
+        number: RequestNumber,
+    ) -> Result<Option<KeptReply>, End>
         requires { IsWhole self.old }
         ensures looks { LooksUp S.Store 2 self.old self.new result }
         ensures no_memory { result ≢ Err End.Memory }
@@ -177,8 +181,8 @@ impl<S: Alter> Desk<S> {
         ensures within { IfOk result (λ found. IfSome found (λ kept.
             (kept.reply.moment ≤ latest_of self.old) × (kept.reply.key ≤ keys_of self.old))) }
     {
-        match find_request(&mut self.connection, caller, number) {
-            Ok(Some(kept)) if !kept.reply.is_within(self.latest, self.keys) => {
+        match find_kept_reply(&mut self.connection, caller, number) {
+            Ok(Some(kept)) if !kept.reply.is_within_counts(self.latest, self.keys) => {
                 Err(self.end_by(StoreError::NoRegister))
             }
             Ok(found) => Ok(found),

@@ -10,19 +10,20 @@ use period_core::{KeyType, Period, period_of};
 use register_core::{
     Command, Held, Key, MIN_APPROVALS, Names, Purpose, Quorum, Request, View, needed_type,
 };
-use register_store::{StoreError, find_need, find_period, find_row, load_key};
+use register_store::{StoreError, find_key_row, find_need, find_period, load_key};
 use sqlite::Alter;
 use std::alloc::Global;
 
 impl<S: Alter> Desk<S> {
-    ghost use Rattle.std.specs.Prelude.{◌≡◌, ◌≢◌, ◌⊎◌, ◌<◌, Err, IfOk, IfSome, None, false, length};
-    ghost use Rattle.std.specs.Prelude.{true};
+    ghost use Rattle.std.specs.Prelude.{◌≡◌, ◌≢◌, ◌⊎◌, ◌<◌, Err, IfErr, IfOk, IfSome, None, false};
+    ghost use Rattle.std.specs.Prelude.{length, true};
     ghost use Rattle.register_core.specs.History.{period};
     ghost use Rattle.register_store.specs.TableReads.{HasKey, HasRow};
     ghost use Rattle.register_store.specs.Tables.{Tables};
     ghost use Rattle.register_requests.specs.CommandRule.{looks_at_custody};
-    ghost use Rattle.register_desk.specs.Desk.{IsClean, IsNoKey, IsOpen, IsWhole, NamesNoKey};
-    ghost use Rattle.register_desk.specs.DeskCalls.{LooksUp};
+    ghost use Rattle.register_desk.specs.Desk.{IsBroken, IsClean, IsNoKey, IsOpen, IsWhole};
+    ghost use Rattle.register_desk.specs.Desk.{NamesNoKey};
+    ghost use Rattle.register_desk.specs.DeskCalls.{KeepsAll, LooksUp};
     ghost use Rattle.register_desk.specs.Register.{Sees};
     ghost use Rattle.register_core.specs.Decision.{IsRightKey};
     ghost use Rattle.register_core.specs.Need.{needed_type};
@@ -30,7 +31,7 @@ impl<S: Alter> Desk<S> {
     ghost use Rattle.register_desk.specs.TablesView.{need_over, period_over};
 
     /// What the decision on the request rests on.
-    pub(super) fn view_for(&mut self, request: &Request) -> Result<View, End>
+    pub(super) fn look_up_view(&mut self, request: &Request) -> Result<View, End>
         requires whole { IsWhole self.old }
         requires opened { IsOpen S.Store self.old }
         ensures looks { LooksUp S.Store 40 self.old self.new result }
@@ -45,8 +46,8 @@ impl<S: Alter> Desk<S> {
             → self.old.keys ≡ length t.keys → IsClean S.Store self.new
             → IfOk result (IsViewOver t request.now) }
     {
-        let key = self.needed_key(request)?;
-        let period = self.period_for(&key, &request.command)?;
+        let key = self.look_up_needed_key(request)?;
+        let period = self.look_up_needed_period(&key, &request.command)?;
         Ok(View {
             latest: self.latest,
             keys: self.keys,
@@ -57,7 +58,11 @@ impl<S: Alter> Desk<S> {
 
     /// The usage period of the type that the dates are held to which the command gives; where it
     /// gives none, any.
-    fn period_for(&mut self, key: &Option<Held>, command: &Command) -> Result<Period, End>
+    fn look_up_needed_period(
+        &mut self,
+        key: &Option<Held>,
+        command: &Command,
+    ) -> Result<Period, End>
         requires whole { IsWhole self.old }
         requires opened { IsOpen S.Store self.old }
         ensures looks { LooksUp S.Store 2 self.old self.new result }
@@ -68,6 +73,7 @@ impl<S: Alter> Desk<S> {
     {
         match needed_type(key, command) {
             Some(kind) => self.look_up_period(kind),
+            // A decision that gives no dates looks at no period.
             None => Ok(period_of(KeyType::DataEncryption)),
         }
     }
@@ -81,14 +87,14 @@ impl<S: Alter> Desk<S> {
             → IfOk result (λ period. period ≡ period_over t kind) }
     {
         match find_period(&mut self.connection, kind) {
-            Ok(found) => Ok(held_to(kind, found)),
+            Ok(found) => Ok(period_or_default(kind, found)),
             Err(_) => Err(self.end_by(StoreError::NoRegister)),
         }
     }
 
     /// What the decision on the request needs of the key that it names, as that stands at the
     /// latest moment.
-    fn needed_key(&mut self, request: &Request) -> Result<Option<Held>, End>
+    fn look_up_needed_key(&mut self, request: &Request) -> Result<Option<Held>, End>
         requires whole { IsWhole self.old }
         requires opened { IsOpen S.Store self.old }
         ensures looks { LooksUp S.Store 38 self.old self.new result }
@@ -106,16 +112,32 @@ impl<S: Alter> Desk<S> {
         let Some(number) = request.command.key() else {
             return Ok(None);
         };
-        match self.load_for(&request.command, number)? {
-            Some(held) if held.row.is_right_at(self.latest) => Ok(Some(held)),
-            Some(_) => Err(self.end_by(StoreError::NoRegister)),
-            None => Ok(None),
+        let found = self.look_up_held_for(&request.command, number)?;
+        self.right_or_broken(found)
+    }
+
+    /// The key that was found, if one was, whose state is to be the one that its dates have at the
+    /// latest moment. Another breaks the desk.
+    fn right_or_broken(&mut self, found: Option<Held>) -> Result<Option<Held>, End>
+        requires { IsWhole self.old }
+        ensures same { KeepsAll self.old self.new }
+        ensures unchanged { IfOk result (λ key. self.new ≡ self.old) }
+        ensures given { IfOk result (λ key. key ≡ found) }
+        ensures right { IfOk result (λ key. IsRightKey key self.old.latest) }
+        ensures wrong { IfErr result (λ end. IsRightKey found self.old.latest → ⊥) }
+        ensures broken { IfErr result (λ end. (end ≡ End.Store) × IsBroken self.new) }
+    {
+        match found {
+            Some(held) if !held.row.has_right_state_at(self.latest) => {
+                Err(self.end_by(StoreError::NoRegister))
+            }
+            found => Ok(found),
         }
     }
 
     /// The key with this number as it stands in the tables, with its custody where a decision on
     /// the command looks at it.
-    fn load_for(&mut self, command: &Command, number: u32) -> Result<Option<Held>, End>
+    fn look_up_held_for(&mut self, command: &Command, number: u32) -> Result<Option<Held>, End>
         requires whole { IsWhole self.old }
         requires opened { IsOpen S.Store self.old }
         ensures looks { LooksUp S.Store 38 self.old self.new result }
@@ -125,28 +147,46 @@ impl<S: Alter> Desk<S> {
             → IfOk result (λ key. key ≡ key_for t command.now number) }
     {
         if command.looks_at_custody() {
-            let need = self.need_for(command, number)?;
-            return match self.load(number, need)? {
+            let need = self.look_up_need_for(command, number)?;
+            return match self.look_up_held(number, need)? {
                 Some((held, _)) => Ok(Some(held)),
                 None => Ok(None),
             };
         }
-        match self.find(number)? {
+        match self.look_up_row(number)? {
             Some(key) => Ok(Some(without_custody(self.alloc, key))),
             None => Ok(None),
         }
     }
 
     /// Whether a key with this number is counted.
-    fn is_counted(&self, number: u32) -> bool
-        ensures { result ≡ false → IsNoKey self.now.keys number }
+    fn has_key(&self, number: u32) -> bool
+        ensures none { result ≡ false → IsNoKey self.now.keys number }
+        ensures one { result ≡ true → IsNoKey self.now.keys number → ⊥ }
     {
         1 <= number && number <= self.keys
     }
 
-    /// The row of the key with this number as it stands in the tables. That of a key that is counted
-    /// is there.
-    pub(super) fn find(&mut self, number: u32) -> Result<Option<Key>, End>
+    /// What was found of the key with this number. That of a key that is counted is to be there; its
+    /// want breaks the desk.
+    fn found_or_broken<T: Drop>(&mut self, number: u32, found: Option<T>) -> Result<Option<T>, End>
+        requires { IsWhole self.old }
+        ensures same { KeepsAll self.old self.new }
+        ensures unchanged { IfOk result (λ key. self.new ≡ self.old) }
+        ensures given { IfOk result (λ key. key ≡ found) }
+        ensures there { IfOk result (λ key. key ≡ None → IsNoKey self.old.keys number) }
+        ensures gone { IfErr result (λ end.
+            (found ≡ None) × (IsNoKey self.old.keys number → ⊥)) }
+        ensures broken { IfErr result (λ end. (end ≡ End.Store) × IsBroken self.new) }
+    {
+        if found.is_none() && self.has_key(number) {
+            return Err(self.end_by(StoreError::NoRegister));
+        }
+        Ok(found)
+    }
+
+    /// The row of the key with this number as it stands in the tables.
+    pub(super) fn look_up_row(&mut self, number: u32) -> Result<Option<Key>, End>
         requires { IsWhole self.old }
         ensures looks { LooksUp S.Store 2 self.old self.new result }
         ensures no_memory { result ≢ Err End.Memory }
@@ -154,15 +194,14 @@ impl<S: Alter> Desk<S> {
         ensures found { (t : Tables) → Sees S.Store t self.old → IsClean S.Store self.new
             → IfOk result (HasRow number t) }
     {
-        match find_row(&mut self.connection, number) {
-            Ok(None) if self.is_counted(number) => Err(self.end_by(StoreError::NoRegister)),
-            Ok(found) => Ok(found),
+        match find_key_row(&mut self.connection, number) {
+            Ok(found) => self.found_or_broken(number, found),
             Err(_) => Err(self.end_by(StoreError::NoRegister)),
         }
     }
 
     /// How many approvals the destruction of the key with this number needs, by the tables.
-    pub(super) fn need(&mut self, number: u32) -> Result<u8, End>
+    pub(super) fn look_up_need(&mut self, number: u32) -> Result<u8, End>
         requires { IsWhole self.old }
         ensures looks { LooksUp S.Store 2 self.old self.new result }
         ensures no_memory { result ≢ Err End.Memory }
@@ -170,13 +209,13 @@ impl<S: Alter> Desk<S> {
             → IfOk result (λ need. need ≡ need_over t number) }
     {
         match find_need(&mut self.connection, number) {
-            Ok(found) => Ok(need_of(found)),
+            Ok(found) => Ok(need_or_default(found)),
             Err(_) => Err(self.end_by(StoreError::NoRegister)),
         }
     }
 
     /// The same where a decision on the command looks at it, and else the least.
-    fn need_for(&mut self, command: &Command, number: u32) -> Result<u8, End>
+    fn look_up_need_for(&mut self, command: &Command, number: u32) -> Result<u8, End>
         requires opened { IsOpen S.Store self.old }
         requires whole { IsWhole self.old }
         ensures looks { LooksUp S.Store 2 self.old self.new result }
@@ -184,7 +223,7 @@ impl<S: Alter> Desk<S> {
             → IfOk result (λ need. need ≡ need_for t command.now number) }
     {
         if command.needs_approvals() {
-            self.need(number)
+            self.look_up_need(number)
         } else {
             Ok(MIN_APPROVALS)
         }
@@ -192,7 +231,11 @@ impl<S: Alter> Desk<S> {
 
     /// The key with this number as it stands in the tables where its destruction needs so many
     /// approvals, with its purpose.
-    pub(super) fn load(&mut self, number: u32, need: u8) -> Result<Option<(Held, Purpose)>, End>
+    pub(super) fn look_up_held(
+        &mut self,
+        number: u32,
+        need: u8,
+    ) -> Result<Option<(Held, Purpose)>, End>
         ensures looks { LooksUp S.Store 36 self.old self.new result }
         ensures there { IfOk result (λ key. key ≡ None → IsNoKey self.old.keys number) }
         ensures found { (t : Tables) → Sees S.Store t self.old → IsClean S.Store self.new
@@ -202,8 +245,7 @@ impl<S: Alter> Desk<S> {
             return Err(End::Broken);
         }
         match load_key(self.alloc, &mut self.connection, number, need) {
-            Ok(None) if self.is_counted(number) => Err(self.end_by(StoreError::NoRegister)),
-            Ok(found) => Ok(found),
+            Ok(found) => self.found_or_broken(number, found),
             Err(error) => Err(self.end_by(error)),
         }
     }
@@ -224,14 +266,14 @@ fn without_custody(alloc: Global, key: Key) -> Held
 }
 
 /// How many approvals a destruction needs where this is set for its key, if anything is.
-fn need_of(set: Option<Quorum>) -> u8
+fn need_or_default(set: Option<Quorum>) -> u8
     ensures { result ≡ unwrap_or set min_approvals }
 {
     set.map_or(MIN_APPROVALS, |need| need.get())
 }
 
 /// The usage period of the type, where this is set for it, if anything is.
-fn held_to(kind: KeyType, set: Option<Period>) -> Period
+fn period_or_default(kind: KeyType, set: Option<Period>) -> Period
     ensures { result ≡ unwrap_or set (periods kind) }
 {
     set.unwrap_or(period_of(kind))

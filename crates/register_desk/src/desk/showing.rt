@@ -39,8 +39,8 @@ impl<S: Alter> Desk<S> {
         if self.is_broken {
             return Err(End::Broken);
         }
-        let need = self.need(number)?;
-        match self.load(number, need)? {
+        let need = self.look_up_need(number)?;
+        match self.look_up_held(number, need)? {
             Some((held, purpose)) => Ok(Some(Record::new(number, held, purpose))),
             None => Ok(None),
         }
@@ -80,14 +80,14 @@ impl<S: Alter> Desk<S> {
         if self.is_broken {
             return Err(End::Broken);
         }
-        match self.find_sets() {
+        match self.look_up_office_periods() {
             Ok(periods) => Ok(periods),
             Err(_) => Err(End::Store),
         }
     }
 
     /// What the office set for each type, by the tables.
-    fn find_sets(&mut self) -> Result<OfficePeriods, StoreError>
+    fn look_up_office_periods(&mut self) -> Result<OfficePeriods, StoreError>
         ensures reads { ChangesNothing S.Store self.old self.new }
         ensures mark { self.new.is_broken ≡ self.old.is_broken }
         ensures found { (t : Tables) → Sees S.Store t self.old → IsWhole self.old
@@ -96,13 +96,13 @@ impl<S: Alter> Desk<S> {
     {
         let mut periods = OfficePeriods::NONE;
         'kinds: for kind in KeyType::ALL {
-            periods.set(kind, self.find_set(kind)?);
+            periods.set(kind, self.look_up_office_period(kind)?);
         }
         Ok(periods)
     }
 
     /// What the office set for the type, by the tables.
-    fn find_set(&mut self, kind: KeyType) -> Result<Option<Period>, StoreError>
+    fn look_up_office_period(&mut self, kind: KeyType) -> Result<Option<Period>, StoreError>
         ensures reads { ChangesNothing S.Store self.old self.new }
         ensures mark { self.new.is_broken ≡ self.old.is_broken }
         ensures found { (t : Tables) → Sees S.Store t self.old → IsWhole self.old
@@ -127,7 +127,7 @@ impl<S: Alter> Desk<S> {
         if self.is_broken {
             return Err(End::Broken);
         }
-        match self.find(number)? {
+        match self.look_up_row(number)? {
             Some(key) => Ok(Some(usage(&key.row.dates, self.latest))),
             None => Ok(None),
         }

@@ -1,6 +1,5 @@
 //! What the program does, and what is done to a register's file beside it. Nothing else here names
 //! files of the machine.
-ghost use Rattle.std.specs.Prelude.{◌≡◌, false};
 
 use disk_files::DiskFiles;
 use register_desk::Watched;
@@ -21,33 +20,27 @@ fn words_of(alloc: Global, given: &[&str]) -> Result<Vec<String>, Fail> {
     Ok(words)
 }
 
-/// The program's exit status over files of which `S` says what they hold at first.
-fn act_from<S: Start, R: Read + Drop, W: Write, E: Write>(
+/// The exit status of the program with these words over these streams, and over files of which `S`
+/// says what they hold at first: the checker finds `Files` at no type of the machine by itself.
+pub fn act_on<S: Start, R: Read + Drop, W: Write + Drop, E: Write + Drop>(
     rt: &HostRuntime,
     start: S,
-    words: &[String],
-    input: R,
-    outputs: &mut Outputs<W, E>,
-) -> u8
-    requires { outputs.old.writer.failed ≡ false }
-{
-    act(rt, DiskFiles::new(start), words, input, outputs)
-}
-
-/// The exit status of the program with these words over these streams.
-pub fn act_on<R: Read + Drop, W: Write + Drop, E: Write + Drop>(
-    rt: &HostRuntime,
     given: &[&str],
     input: R,
-    output: W,
-    faults: E,
+    (output, faults): (W, E),
 ) -> Result<u8, Fail> {
     let words = words_of(rt.alloc(), given)?;
     let mut outputs = Outputs {
         writer: Watched::new(output),
         faults,
     };
-    Ok(act_from(rt, Wary, words.as_slice(), input, &mut outputs))
+    Ok(act(
+        rt,
+        DiskFiles::new(start),
+        words.as_slice(),
+        input,
+        &mut outputs,
+    ))
 }
 
 /// What the program did.
@@ -62,7 +55,7 @@ pub struct Done {
 pub fn acted(rt: &HostRuntime, given: &[&str], input: &[u8]) -> Result<Done, Fail> {
     let mut output = Vec::new(rt.alloc());
     let mut faults = Vec::new(rt.alloc());
-    let status = act_on(rt, given, input, &mut output, &mut faults)?;
+    let status = act_on(rt, Wary, given, input, (&mut output, &mut faults))?;
     Ok(Done {
         status,
         output,

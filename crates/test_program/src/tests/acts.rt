@@ -2,6 +2,7 @@
 use super::acting::{act_on, acted, does};
 use register_desk::{End, MAX_IDLE_TURNS, MAX_READS, OpenRefusal};
 use register_program::{report_bad_value, report_end, report_refusal};
+use sqlite::Wary;
 use std::alloc::Global;
 use std::test::Fail;
 use test_desk_trials::first_wrong;
@@ -178,7 +179,7 @@ fn is_failed_read_told(rt: &HostRuntime) -> Result<bool, Fail> {
     let input = BrokenAfter(
         b"100 ann 1 register data-encryption bob 0 500 1000 payroll disks\n999 ann 2 advance\n",
     );
-    let status = act_on(rt, &[], input, &mut output, &mut faults)?;
+    let status = act_on(rt, Wary, &[], input, (&mut output, &mut faults))?;
     Ok(
         status == 4
             && output.as_slice() == b"ok 1 Active 100\nok 0 - 999\n".as_slice()
@@ -202,7 +203,7 @@ fn is_faulted(rt: &HostRuntime, trouble: Trouble) -> Result<bool, Fail> {
         trouble,
         good_turns: 2,
     };
-    let status = act_on(rt, &[], input.as_slice(), writer, &mut faults)?;
+    let status = act_on(rt, Wary, &[], input.as_slice(), (writer, &mut faults))?;
     Ok(
         status == 4
             && output.as_slice() == b"ok 1 Active 100\n".as_slice()
@@ -226,7 +227,7 @@ fn is_ended_unnamed(rt: &HostRuntime) -> Result<bool, Fail> {
         trouble: Trouble::Fails,
         good_turns: 0,
     };
-    let status = act_on(rt, &[], BrokenAfter(b""), &mut output, &mut faults)?;
+    let status = act_on(rt, Wary, &[], BrokenAfter(b""), (&mut output, &mut faults))?;
     Ok(status == 4 && output.is_empty() && faults.inner.is_empty())
 }
 

@@ -5,7 +5,7 @@ use std::test::Fail;
 use test_desk_trials::{
     first_version, first_wrong, hundred_lines, wrong_edits, wrong_of_first_version,
 };
-use test_worked_rows::{defaults, input_of, output_of};
+use test_worked_rows::{defaults, export_of, input_of, output_of};
 
 /// Takes the file and its log away, where they are there.
 pub fn remove(rt: &HostRuntime, file: &str) -> Result<(), Fail> {
@@ -236,8 +236,7 @@ fn is_lived(rt: &HostRuntime, file: &str) -> Result<bool, Fail> {
     let run = ["run", "--file", file];
     let after = b"refused 3 MomentBehind latest=400\n";
     let export = ["export", "--file", file];
-    let key =
-        b"number,type,owner,activation,protect_stop,deactivation,state,initial,destroyed,compromised,occurrence,purpose\n1,data-encryption,bob,1970-01-01T00:00:00Z,1972-01-01T00:00:00Z,1975-01-01T00:00:00Z,Active,1970-01-01T00:01:40Z,,,,payroll disks\n";
+    let key = export_of(rt.alloc(), &[&[]])?;
     Ok(
         does(rt, &run, b"399 zed 9 advance\n", 0, after.as_slice(), "")?
             && does(
@@ -248,7 +247,7 @@ fn is_lived(rt: &HostRuntime, file: &str) -> Result<bool, Fail> {
                 b"refused 5 NotOwner\n",
                 "",
             )?
-            && does(rt, &export, b"", 0, key.as_slice(), "")?,
+            && does(rt, &export, b"", 0, key.as_bytes(), "")?,
     )
 }
 

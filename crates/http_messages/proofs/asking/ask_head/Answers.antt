@@ -11,19 +11,19 @@ use Rattle.http_messages.proofs.asking.ask_head.Goals as goal
 
 pub returns-in-Show-clause-asks : goal.returns-in-Show-clause-asks
 returns-in-Show-clause-asks g c = λ h left at known.
-    let is = subst (IsFor h) c.in-Show.is (c.in-Ok-check_head.ensures.ok h at) in
+    let is = subst (IsFor h) c.in-Show.is (c.in-Ok-route_of_head.ensures.ok h at) in
     head_asks h _ _ c.unread-in-Show.result c.unread-in-Show.ensures
     (rule.show c.in-Show.key is.host is.target is.method)
 
 pub returns-in-Usage-clause-asks : goal.returns-in-Usage-clause-asks
 returns-in-Usage-clause-asks g c = λ h left at known.
-    let is = subst (IsFor h) c.in-Usage.is (c.in-Ok-check_head.ensures.ok h at) in
+    let is = subst (IsFor h) c.in-Usage.is (c.in-Ok-route_of_head.ensures.ok h at) in
     head_asks h _ _ c.unread-in-Usage.result c.unread-in-Usage.ensures
     (rule.usage c.in-Usage.key is.host is.target is.method)
 
 pub returns-in-Ok-post_of-clause-asks : goal.returns-in-Ok-post_of-clause-asks
 returns-in-Ok-post_of-clause-asks g c = λ h left at known.
-    let is = subst (IsFor h) c.in-Requests.is (c.in-Ok-check_head.ensures.ok h at) in
+    let is = subst (IsFor h) c.in-Requests.is (c.in-Ok-route_of_head.ensures.ok h at) in
     let all = subst (λ lines. AreGathered lines c.gather-fields.result) at.fields c.gather-fields.ensures in
     let post = c.in-Ok-post_of.post in
     let says = c.in-Ok-post_of.ensures.ok _ all in
@@ -36,7 +36,7 @@ returns-in-Ok-post_of-clause-asks g c = λ h left at known.
 
 pub returns-in-Err-post_of-clause-asks : goal.returns-in-Err-post_of-clause-asks
 returns-in-Err-post_of-clause-asks g c = λ h left at known.
-    let is = subst (IsFor h) c.in-Requests.is (c.in-Ok-check_head.ensures.ok h at) in
+    let is = subst (IsFor h) c.in-Requests.is (c.in-Ok-route_of_head.ensures.ok h at) in
     let all = subst (λ lines. AreGathered lines c.gather-fields.result) at.fields c.gather-fields.ensures in
     let rest = drop c.args.head.now.spans.len c.args.head.now.bytes.now ++ left in
     head_asks h _ _ c.rejected-in-Err-post_of.result c.rejected-in-Err-post_of.ensures

@@ -55,14 +55,14 @@ module _ (kind : CommandKind) (ms : Members) (shape : Shape) (is_shape : shape â
 pub returns-in-Some-clause-found : goal.returns-in-Some-clause-found
 returns-in-Some-clause-found c =
     (made_of c.args.kind (members_view c.args.members.now.entries) _ c.shape.ensures c.in-Some.is
-    c.fields_with.ensures.found c.with_fields.ensures).0
+    c.fields_of_shape.ensures.found c.with_fields.ensures).0
 
 pub returns-in-Some-clause-none : goal.returns-in-Some-clause-none
 returns-in-Some-clause-none c =
     (made_of c.args.kind (members_view c.args.members.now.entries) _ c.shape.ensures c.in-Some.is
-    c.fields_with.ensures.found c.with_fields.ensures).1
+    c.fields_of_shape.ensures.found c.with_fields.ensures).1
 
 pub returns-in-None-clause-none : goal.returns-in-None-clause-none
 returns-in-None-clause-none c =
     no_command c.args.kind (members_view c.args.members.now.entries) c.shape.result c.shape.ensures
-    c.fields_with.result c.in-None.is c.fields_with.ensures.none
+    c.fields_of_shape.result c.in-None.is c.fields_of_shape.ensures.none

@@ -18,6 +18,6 @@ returns-in-TooLarge c = subst (λ r. IfOk c.reply_text-in-TooLarge.result (λ s.
 
 pub returns-in-MethodNotAllowed : goal.returns-in-MethodNotAllowed
 returns-in-MethodNotAllowed c =
-    let named = subst (λ m. IfOk c.allow_text.result (λ s. string_bytes s ≡ reply_bytes (not_allowed m)))
-    c.method.ensures c.allow_text.ensures in
-    subst (λ r. IfOk c.allow_text.result (λ s. string_bytes s ≡ reply_bytes (reply_of r))) (sym c.in-MethodNotAllowed.is) named
+    let named = subst (λ m. IfOk c.reply_text_with_allow.result (λ s. string_bytes s ≡ reply_bytes (not_allowed m)))
+    c.method.ensures c.reply_text_with_allow.ensures in
+    subst (λ r. IfOk c.reply_text_with_allow.result (λ s. string_bytes s ≡ reply_bytes (reply_of r))) (sym c.in-MethodNotAllowed.is) named

@@ -13,6 +13,7 @@ returns c =
       setup = from.cfg ∙ c.new.ensures;
       count = from.fields;
       text = rw (from.wtr, c.new-2.ensures.items, from.empty) refl;
+      printable = tt;
     } in
     let row = c.in_ok-put_row.ensures empty in
     if_ok_mapped _ _ c.into_inner.result _ c.map_err.ensures.cases c.map_err.ensures.variant

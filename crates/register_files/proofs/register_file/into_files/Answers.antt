@@ -32,18 +32,18 @@ as_desk g desk connection store same closes may opens = record {
 pub returns-clause-clean : goal.returns-clause-clean
 returns-clause-clean g c clean =
     subst (λ (k : Held _). HasCleanDisk (state g.F.Opened.Store k)) c.into_connection.ensures.same
-    (c.close.ensures.clean (c.close-2.ensures.clean clean))
+    (c.close_connection.ensures.clean (c.close.ensures.clean clean))
 
 pub returns-clause-closes : goal.returns-clause-closes
 returns-clause-closes g c clean =
-    let closes = c.close.ensures in
-    let store = c.close.result in
-    let sound = c.close-2.ensures.clean clean in
+    let closes = c.close_connection.ensures in
+    let store = c.close_connection.result in
+    let sound = c.close.ensures.clean clean in
     let same = sym c.into_connection.ensures.same in
     let left_by = as_desk g.F.Opened.Store c.args.desk c.into_connection.result store same closes in
     record {
       before = store;
-      closes = c.close-2.ensures;
+      closes = c.close.ensures;
       up_to = left_by _ (g.met.F.Files.opens_again store (closes.numbered sound) (closes.sound sound));
-      from = left_by _ (c.close-2.ensures.leaves clean (closes.numbered sound) (closes.sound sound));
+      from = left_by _ (c.close.ensures.leaves clean (closes.numbered sound) (closes.sound sound));
     }

@@ -1,4 +1,4 @@
-use Rattle.std.proofs.Common.{rules, refl, sym, ap, ◌∙◌}
+use Rattle.std.proofs.Common.{rules, refl, sym, ap, ◌∙◌, ℕ}
 use Rattle.moment_core.specs.Moment.{IsMoment}
 use Rattle.streams.specs.declared.watched.Watched.{Watched}
 use Rattle.register_http.proofs.ItemLemmas.{leaves_one, was_clean}
@@ -105,7 +105,7 @@ returns-clause-exchanges g c = record {
   asked = c.ask-asking.result.asked;
   asks = λ bytes known. c.ask-asking.ensures.asks bytes
       (ap (λ (r : Watched g.row.R.Denot). g.R.Read.remaining r.inner) c.begin.ensures ∙ known);
-  serves = rw (c.with_read-2.ensures) (
+  serves = rw (ap (λ (n : ℕ). record c.send.result { read = n }) c.send.ensures.read) (
       served_after g.S.Store c.args.moment c.args.desk.now c.match-asking.desk c.ask-asking.result.asked _
       (g.W.Write.contents c.args.writer.now.inner) _ _ c.ask-asking.result.read
       (ap (λ (w : Watched g.row.W.Denot). g.W.Write.contents w.inner) c.begin-2.ensures)
@@ -125,21 +125,21 @@ unfolding returns-clause-exchanges
 returns-clause-leaves g c =
     let is_moment : IsMoment c.args.moment = search rules in
     leaves_one g.S.Store c.args.moment c.args.desk.now c.match-asking.desk is_moment c.ask-asking.result.asked
-    c.with_read-2.result _ _ c.ask-asking.ensures.in_range (returns-clause-exchanges g c).serves
+    c.send.result _ _ c.ask-asking.ensures.in_range (returns-clause-exchanges g c).serves
 
 pub returns-clause-clean : goal.returns-clause-clean
 unfolding returns-clause-exchanges
 returns-clause-clean g c =
     was_clean g.S.Store c.args.moment c.args.desk.now c.match-asking.desk c.ask-asking.result.asked
-    c.with_read-2.result _ _ (returns-clause-exchanges g c).serves
+    c.send.result _ _ (returns-clause-exchanges g c).serves
 
 pub returns-clause-reader : goal.returns-clause-reader
 unfolding returns-clause-exchanges
 returns-clause-reader g c =
     let read = c.ask-asking.ensures.read in
     leaves_reader g.S.Store c.args.moment c.args.desk.now c.match-asking.desk c.ask-asking.result.asked _ _
-    c.with_read-2.result (returns-clause-exchanges g c).serves g.R.Read.remaining c.args.reader.now c.ask-asking.new.reader
-    (rw (c.with_read-2.ensures) (
+    c.send.result (returns-clause-exchanges g c).serves g.R.Read.remaining c.args.reader.now c.ask-asking.new.reader
+    (rw (c.send.ensures.read) (
       read.0,
       rw (sym (ap (λ (r : Watched g.row.R.Denot). g.R.Read.remaining r.inner) c.begin.ensures)) read.1,
       sym read.2,

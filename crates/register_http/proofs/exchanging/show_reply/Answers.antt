@@ -17,13 +17,13 @@ returns-in-Some g c = λ moment.
 
 pub returns-in-None : goal.returns-in-None
 returns-in-None g c = λ moment.
-    acts_text _ moment _ _ _ c.unknown_text.result c.text_or_end-in-None.result
+    acts_text _ moment _ _ _ c.unknown_key_text.result c.text_or_end-in-None.result
     (went_reading _ moment _ _ _ (record { same = λ h. refl; uses = refl; asks = λ rejection is. absurd (cc) })
     c.in_ok-shown.ensures.ends c.in_ok-shown.ensures.reads)
     (inl c.in_ok-shown.ensures.reads)
     (λ rejection is. absurd (cc))
-    (λ h stands clean. found_text key_reply (None) _ c.unknown_text.result (sym c.in-None.is
-    ∙ c.in_ok-shown.ensures.shown h stands clean) c.unknown_text.ensures)
+    (λ h stands clean. found_text key_reply (None) _ c.unknown_key_text.result (sym c.in-None.is
+    ∙ c.in_ok-shown.ensures.shown h stands clean) c.unknown_key_text.ensures)
     c.text_or_end-in-None.ensures.ok c.text_or_end-in-None.ensures.err
 
 pub returns-in_err-shown : goal.returns-in_err-shown

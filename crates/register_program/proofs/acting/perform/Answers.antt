@@ -1,6 +1,6 @@
 use Rattle.std.proofs.Common.{refl, inl, inr}
-use Rattle.register_program.specs.declared.words.Task.TheVariants.{RunInMemory, Init, Run, Import, Export, Report}
-use Rattle.register_program.specs.declared.words.Task.TheVariants.{Serve}
+use Rattle.register_words.specs.declared.words.Task.TheVariants.{RunInMemory, Init, Run, Import, Export, Report}
+use Rattle.register_words.specs.declared.words.Task.TheVariants.{Serve}
 use Rattle.register_program.proofs.Acted.{performs_as, untouched}
 use Rattle.register_program.proofs.acting.perform.Goals as goal
 

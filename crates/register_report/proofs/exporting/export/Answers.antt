@@ -10,4 +10,4 @@ pub returns-clause-agrees : goal.returns-clause-agrees
 returns-clause-agrees g c h stands clean =
     let inner = ap (λ (w : Watched _). w.inner) c.begin.ensures in
     let end = ap (λ (o : Outcome). o.end) c.outcome.ensures in
-    agrees c.put_all_keys-done.ensures.puts inner end (export_text (all_rows h)) stands clean refl
+    agrees c.put_export-done.ensures.puts inner end (export_text (all_rows h)) stands clean refl

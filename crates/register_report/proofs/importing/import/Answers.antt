@@ -21,9 +21,9 @@ pub returns-in-Ok-clause-agrees : goal.returns-in-Ok-clause-agrees
 returns-in-Ok-clause-agrees g c h bytes items stands clean known has =
     let reads = reads_input g.R.Read.remaining c.from_reader-reader.result c.args.reader bytes (search rules)
     c.from_reader-reader.ensures.state c.from_reader-reader.ensures.source known in
-    let after = rows_after reads c.skip_header.new.reader has.rows c.in-Ok.ensures.reads has.has in
+    let after = rows_after reads c.read_header.new.reader has.rows c.in-Ok.ensures.reads has.has in
     let over = over_so g.S.Store g.R.Read.remaining c.args.moment c.args.caller.now c.args.first
-    c.skip_header.new.reader (g.W.Write.contents c.begin.new.self.inner) _ c.args.desk.now
+    c.read_header.new.reader (g.W.Write.contents c.begin.new.self.inner) _ c.args.desk.now
     c.import_rows.new.desk c.import_rows.result.replies after items has.each h stands clean
     c.import_rows.result.end c.import_rows.ensures.serves in
     subst (λ (old : Option (List ℕ)). RunsOver g.S.Store h items [] c.import_rows.result.end
@@ -41,7 +41,7 @@ pub returns-in-Ok-clause-lives : goal.returns-in-Ok-clause-lives
 returns-in-Ok-clause-lives g c h stands clean =
     let new = g.W.Write.contents c.import_rows.new.writer.inner in
     let lives = lives_so g.S.Store g.R.Read.remaining c.args.moment c.args.caller.now c.args.first
-    c.skip_header.new.reader (g.W.Write.contents c.begin.new.self.inner) new c.args.desk.now
+    c.read_header.new.reader (g.W.Write.contents c.begin.new.self.inner) new c.args.desk.now
     c.import_rows.new.desk c.import_rows.result.replies h stands clean c.import_rows.result.end
     c.import_rows.ensures.desk c.import_rows.ensures.serves in
     subst (λ (old : Option (List ℕ)). LivesSome g.S.Store h c.import_rows.result.end
@@ -52,9 +52,9 @@ pub returns-in-Ok-clause-uses : goal.returns-in-Ok-clause-uses
 returns-in-Ok-clause-uses g c bytes items known has is =
     let reads = reads_input g.R.Read.remaining c.from_reader-reader.result c.args.reader bytes (search rules)
     c.from_reader-reader.ensures.state c.from_reader-reader.ensures.source known in
-    let after = rows_after reads c.skip_header.new.reader has.rows c.in-Ok.ensures.reads has.has in
+    let after = rows_after reads c.read_header.new.reader has.rows c.in-Ok.ensures.reads has.has in
     uses_so g.S.Store g.R.Read.remaining c.args.moment c.args.caller.now c.args.first
-    c.skip_header.new.reader (g.W.Write.contents c.begin.new.self.inner) _ c.args.desk.now
+    c.read_header.new.reader (g.W.Write.contents c.begin.new.self.inner) _ c.args.desk.now
     c.import_rows.new.desk c.import_rows.result.replies after items has.each
     c.import_rows.result.end c.import_rows.ensures.serves is
 
@@ -62,9 +62,9 @@ pub returns-in-Ok-clause-broken : goal.returns-in-Ok-clause-broken
 returns-in-Ok-clause-broken g c bytes items broken known has =
     let reads = reads_input g.R.Read.remaining c.from_reader-reader.result c.args.reader bytes (search rules)
     c.from_reader-reader.ensures.state c.from_reader-reader.ensures.source known in
-    let after = rows_after reads c.skip_header.new.reader has.rows c.in-Ok.ensures.reads has.has in
+    let after = rows_after reads c.read_header.new.reader has.rows c.in-Ok.ensures.reads has.has in
     let runs = broken_so g.S.Store g.R.Read.remaining c.args.moment c.args.caller.now c.args.first
-    c.skip_header.new.reader (g.W.Write.contents c.begin.new.self.inner) _ c.args.desk.now
+    c.read_header.new.reader (g.W.Write.contents c.begin.new.self.inner) _ c.args.desk.now
     c.import_rows.new.desk c.import_rows.result.replies after items has.each broken
     c.import_rows.result.end c.import_rows.ensures.desk c.import_rows.ensures.serves in
     subst (λ (old : Option (List ℕ)). ImportsBroken items c.import_rows.result.end
@@ -75,12 +75,12 @@ pub returns-in-Ok-clause-cause : goal.returns-in-Ok-clause-cause
 returns-in-Ok-clause-cause g c is =
     let early = c.import_rows.ensures.cause is in
     let started = subst (λ (old : Option (List ℕ)). EndsEarly g.S.Store g.R.Read.remaining c.args.moment
-    c.args.caller.now c.args.first c.skip_header.new.reader c.import_rows.new.reader old
+    c.args.caller.now c.args.first c.read_header.new.reader c.import_rows.new.reader old
     (g.W.Write.contents c.import_rows.new.writer.inner) c.args.desk.now c.import_rows.new.desk
     c.import_rows.result.replies) (ap (λ w. g.W.Write.contents w.inner) c.begin.ensures) early in
     record {
       begun = c.from_reader-reader.result;
-      start = c.skip_header.new.reader;
+      start = c.read_header.new.reader;
       last = c.import_rows.new.reader;
       given = c.from_reader-reader.ensures.source;
       why = inr (c.in-Ok.ensures.reads, started);
@@ -92,12 +92,12 @@ returns-clause-cause g c is =
     record {
       begun = c.from_reader-reader.result;
       start = c.from_reader-reader.result;
-      last = c.skip_header.new.reader;
+      last = c.read_header.new.reader;
       given = c.from_reader-reader.ensures.source;
       why = inl (
         ap (λ (o : Outcome). o.replies) c.of.ensures,
         subst (λ (end : End). ExplainsNoHeader g.R.Read.remaining c.from_reader-reader.result
-            c.skip_header.new.reader end) fault c.in-Err.ensures.end,
+            c.read_header.new.reader end) fault c.in-Err.ensures.end,
       );
     }
 
@@ -105,16 +105,16 @@ pub returns-in-Ok-clause-texts : goal.returns-in-Ok-clause-texts
 returns-in-Ok-clause-texts g c bytes rows known has =
     let reads = reads_input g.R.Read.remaining c.from_reader-reader.result c.args.reader bytes (search rules)
     c.from_reader-reader.ensures.state c.from_reader-reader.ensures.source known in
-    let after = rows_after reads c.skip_header.new.reader rows c.in-Ok.ensures.reads has in
+    let after = rows_after reads c.read_header.new.reader rows c.in-Ok.ensures.reads has in
     texts_so g.S.Store g.R.Read.remaining c.args.moment c.args.caller.now c.args.first
-    c.skip_header.new.reader _ _ c.args.desk.now c.import_rows.new.desk
+    c.read_header.new.reader _ _ c.args.desk.now c.import_rows.new.desk
     c.import_rows.result.replies after c.import_rows.result.end c.import_rows.ensures.serves
 
 pub returns-in-Ok-clause-without : goal.returns-in-Ok-clause-without
 returns-in-Ok-clause-without g c bytes known without =
     let reads = reads_input g.R.Read.remaining c.from_reader-reader.result c.args.reader bytes (search rules)
     c.from_reader-reader.ensures.state c.from_reader-reader.ensures.source known in
-    absurd (without (begins_so reads c.skip_header.new.reader c.in-Ok.ensures.reads))
+    absurd (without (begins_so reads c.read_header.new.reader c.in-Ok.ensures.reads))
 
 pub returns-in-Ok-clause-uncounted : goal.returns-in-Ok-clause-uncounted
 returns-in-Ok-clause-uncounted g c = c.import_rows.ensures.uncounted
@@ -122,7 +122,7 @@ returns-in-Ok-clause-uncounted g c = c.import_rows.ensures.uncounted
 pub returns-in-Ok-clause-clean : goal.returns-in-Ok-clause-clean
 returns-in-Ok-clause-clean g c clean =
     clean_so g.S.Store g.R.Read.remaining c.args.moment c.args.caller.now c.args.first
-    c.skip_header.new.reader _ _ c.args.desk.now c.import_rows.new.desk
+    c.read_header.new.reader _ _ c.args.desk.now c.import_rows.new.desk
     c.import_rows.result.replies c.import_rows.result.end
     c.import_rows.ensures.serves clean
 
@@ -132,7 +132,7 @@ pub returns-clause-agrees : goal.returns-clause-agrees
 returns-clause-agrees g c h bytes items stands clean known has =
     let reads = reads_input g.R.Read.remaining c.from_reader-reader.result c.args.reader bytes (search rules)
     c.from_reader-reader.ensures.state c.from_reader-reader.ensures.source known in
-    let over = no_header_over reads c.skip_header.new.reader has.rows has.has g.S.Store
+    let over = no_header_over reads c.read_header.new.reader has.rows has.has g.S.Store
     c.args.desk.now items
     (g.W.Write.contents c.args.writer.now.inner) c.in-Err.end c.in-Err.ensures.end h stands clean in
     rw (c.of.ensures) (subst (λ (new : Option (List ℕ)). RunsOver g.S.Store h items [] (Ended c.in-Err.end) 0
@@ -143,7 +143,7 @@ pub returns-clause-broken : goal.returns-clause-broken
 returns-clause-broken g c bytes items broken known has =
     let reads = reads_input g.R.Read.remaining c.from_reader-reader.result c.args.reader bytes (search rules)
     c.from_reader-reader.ensures.state c.from_reader-reader.ensures.source known in
-    let runs = no_header_refused reads c.skip_header.new.reader has.rows has.has g.S.Store
+    let runs = no_header_refused reads c.read_header.new.reader has.rows has.has g.S.Store
     c.args.desk.now items
     (g.W.Write.contents c.args.writer.now.inner) c.in-Err.end c.in-Err.ensures.end broken in
     rw (c.of.ensures) (subst (λ (new : Option (List ℕ)). ImportsBroken items (Ended c.in-Err.end) 0
@@ -154,6 +154,6 @@ pub returns-clause-lives : goal.returns-clause-lives
 returns-clause-lives g c h stands clean =
     let old = g.W.Write.contents c.args.writer.now.inner in
     let lives = no_header_lives g.S.Store h c.args.desk.now old stands clean g.R.Read.remaining
-    c.from_reader-reader.result c.skip_header.new.reader c.in-Err.end c.in-Err.ensures.end in
+    c.from_reader-reader.result c.read_header.new.reader c.in-Err.end c.in-Err.ensures.end in
     rw (c.of.ensures) (subst (λ (new : Option (List ℕ)). LivesSome g.S.Store h (Ended c.in-Err.end) 0 old new
     c.args.desk.now c.args.desk.now) (sym (ap (λ w. g.W.Write.contents w.inner) c.begin.ensures)) lives)

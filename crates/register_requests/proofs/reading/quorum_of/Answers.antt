@@ -8,5 +8,5 @@ returns-in_err-read_decimal c =
 
 pub returns : goal.returns
 returns c =
-    made_of_number quorum_reader quorum_small c.args.field.now c.quorum.result c.in_ok-read_decimal.field-0
-    (omega arith) c.in_ok-read_decimal.ensures.found c.quorum.ensures.in_range c.quorum.ensures.value
+    made_of_number quorum_reader quorum_small c.args.field.now c.quorum_in_range.result c.in_ok-read_decimal.field-0
+    (omega arith) c.in_ok-read_decimal.ensures.found c.quorum_in_range.ensures.in_range c.quorum_in_range.ensures.value

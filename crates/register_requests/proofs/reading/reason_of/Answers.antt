@@ -7,5 +7,5 @@ returns-in_err-read_decimal c = c.from_residual.ensures ∙ no_code c.args.field
 
 pub returns : goal.returns
 returns c =
-    made_of_code c.args.field.now c.reason_with.result c.in_ok-read_decimal.field-0 (omega arith)
-    c.in_ok-read_decimal.ensures.found c.reason_with.ensures.found c.reason_with.ensures.none
+    made_of_code c.args.field.now c.reason_with_code.result c.in_ok-read_decimal.field-0 (omega arith)
+    c.in_ok-read_decimal.ensures.found c.reason_with_code.ensures.found c.reason_with_code.ensures.none

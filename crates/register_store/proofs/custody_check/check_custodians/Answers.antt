@@ -3,7 +3,8 @@ use Rattle.sqlite.specs.Held.{state}
 use Rattle.register_requests.specs.Version.{custodians_of}
 use Rattle.register_store.specs.declared.table.TableName.TheVariants.{Custodian}
 use Rattle.register_store.proofs.Asked.{query_of}
-use Rattle.register_store.proofs.CustodiansChecked.{begin_custodians, custodians_fail, custodians_unread, custodians_read}
+use Rattle.register_store.proofs.CustodiansChecked.{begin_custodians, custodians_fail, custodians_unread}
+use Rattle.register_store.proofs.CustodiansChecked.{custodians_read}
 use Rattle.register_store.proofs.custody_check.check_custodians.Goals as goal
 
 pub check_rows-requires-clause-query : goal.check_rows-requires-clause-query

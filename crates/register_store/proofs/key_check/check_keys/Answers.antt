@@ -1,32 +1,22 @@
-use Rattle.std.proofs.Common.{Err, ap, refl}
+use Rattle.std.proofs.Common.{◌==◌, Err, ap, refl}
 use Rattle.sqlite.specs.Held.{state}
 use Rattle.register_store.specs.declared.table.TableName.TheVariants.{Keys}
 use Rattle.register_store.proofs.Asked.{query_of}
-use Rattle.register_store.proofs.KeysChecked.{all_where, keys_begin, keys_fail, keys_given, none_where}
+use Rattle.register_store.proofs.KeysChecked.{given_where, keys_begin, keys_fail, keys_given}
 use Rattle.register_store.proofs.key_check.check_keys.Goals as goal
 
 pub check_rows-requires-clause-query : goal.check_rows-requires-clause-query
 check_rows-requires-clause-query g c = query_of Keys
 
-pub returns-then-check-clause-checks : goal.returns-then-check-clause-checks
-returns-then-check-clause-checks g c t told =
+pub returns-clause-checks : goal.returns-clause-checks
+returns-clause-checks g c t told =
     let check = c.check_rows.new.check in
-    let begun = keys_begin c.args.found.now c.new.result.items c.new.ensures.items in
     keys_given t c.args.found.now told
     (state g.S.Store c.args.connection.now) (state g.S.Store c.check_rows.new.connection) c.check_rows.ensures.survives
-    check.found check.count check.owners
-    (λ clean. c.in_ok-check_rows.ensures.met clean (refl, begun)) _
-    (all_where check.count check.found.keys check.owners c.if-check.true)
-
-pub returns-else-check-clause-checks : goal.returns-else-check-clause-checks
-returns-else-check-clause-checks g c t told =
-    let check = c.check_rows.new.check in
-    let begun = keys_begin c.args.found.now c.new.result.items c.new.ensures.items in
-    keys_given t c.args.found.now told
-    (state g.S.Store c.args.connection.now) (state g.S.Store c.check_rows.new.connection) c.check_rows.ensures.survives
-    check.found check.count check.owners
-    (λ clean. c.in_ok-check_rows.ensures.met clean (refl, begun)) _
-    (none_where check.count check.found.keys check.owners c.if-check.false)
+    check.found check.count check.owners (λ clean. c.in_ok-check_rows.ensures.met clean
+    (refl, keys_begin c.args.found.now c.new.result.items c.new.ensures.items)) _
+    (given_where (check.count == check.found.keys) check.owners c.then_some.result _ c.then_some.ensures
+    c.ok_or.ensures.value)
 
 pub returns-in_err-check_rows-clause-checks : goal.returns-in_err-check_rows-clause-checks
 returns-in_err-check_rows-clause-checks g c t told =

@@ -30,13 +30,13 @@ returns-clause-reads g c =
     let one = c.in_ok-found.found in
     let a = seen g.S.Store c.args.connection.now in
     let b = seen g.S.Store c.find_first_due.new.connection in
-    let d = seen g.S.Store c.find_later_stop.new.connection in
+    let d = seen g.S.Store c.find_due_with_later_stop.new.connection in
     reads_weaker (λ t found. HasFirst (is_same until last) t one × HasFirst (is_later until last.stop) t found)
-    (HasNextDue until last) a d c.find_later_stop.result
+    (HasNextDue until last) a d c.find_due_with_later_stop.result
     (λ t found both. found_later until c.in_ok-found.ensures.moment last t one found
     (sym c.is_some.ensures ∙ c.if-is_some.false) both.0 both.1)
     (reads_then (HasFirst (is_same until last)) (HasFirst (is_later until last.stop)) a b d one
-    c.find_later_stop.result c.in_ok-found.ensures.reads c.find_later_stop.ensures.reads)
+    c.find_due_with_later_stop.result c.in_ok-found.ensures.reads c.find_due_with_later_stop.ensures.reads)
 
 pub returns-clause-sight : goal.returns-clause-sight
 returns-clause-sight g c =
@@ -44,6 +44,6 @@ returns-clause-sight g c =
     let last = c.args.last in
     sight_then (HasFirst (is_same until last)) (HasFirst (is_later until last.stop))
     (seen g.S.Store c.args.connection.now) (seen g.S.Store c.find_first_due.new.connection)
-    (seen g.S.Store c.find_later_stop.new.connection) c.in_ok-found.found c.find_later_stop.result
-    c.in_ok-found.ensures.reads c.find_later_stop.ensures.reads c.in_ok-found.ensures.sight
-    c.find_later_stop.ensures.sight
+    (seen g.S.Store c.find_due_with_later_stop.new.connection) c.in_ok-found.found c.find_due_with_later_stop.result
+    c.in_ok-found.ensures.reads c.find_due_with_later_stop.ensures.reads c.in_ok-found.ensures.sight
+    c.find_due_with_later_stop.ensures.sight

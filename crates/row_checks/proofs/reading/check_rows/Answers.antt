@@ -13,16 +13,16 @@ returns-in-Ok-clause-met g c =
     let sql = c.args.sql.now in
     let first = state g.S.Store c.args.connection.now in
     let begun = c.in-Ok.ensures in
-    let last = c.take_rows.new.rows.conn.now in
+    let last = c.check_rows_left.new.rows.conn.now in
     let P : Held g.row.S.Denot → Type 0 = λ h. HasCleanDisk (state g.S.Store h)
     → g.T.RowCheck.has_taken c.args.check.now c.args.check.now []
-    → OnOk c.take_rows.result
-    (ShowsAll sql (g.T.RowCheck.has_taken c.args.check.now c.take_rows.new.check) first (state g.S.Store h)) in
-    let it : P last = λ clean taken. met_from c.take_rows.result sql
-    (g.T.RowCheck.has_taken c.args.check.now c.take_rows.new.check) first (state g.S.Store c.in-Ok.rows.conn.now)
+    → OnOk c.check_rows_left.result
+    (ShowsAll sql (g.T.RowCheck.has_taken c.args.check.now c.check_rows_left.new.check) first (state g.S.Store h)) in
+    let it : P last = λ clean taken. met_from c.check_rows_left.result sql
+    (g.T.RowCheck.has_taken c.args.check.now c.check_rows_left.new.check) first (state g.S.Store c.in-Ok.rows.conn.now)
     (state g.S.Store last) c.requires.query
     (at_start g.S.Store sql c.args.connection.now c.in-Ok.rows.conn.now last c.requires.query begun.begun
-    c.take_rows.ensures.survives clean) (λ given. c.take_rows.ensures.met clean given taken) in
+    c.check_rows_left.ensures.survives clean) (λ given. c.check_rows_left.ensures.met clean given taken) in
     let eq : c.connection-1.given.0 ≡ last = search rules in carry P c.connection-1.given.0 last eq it
 
 pub returns-in-Err-SqlInputError-clause-meaning : goal.returns-in-Err-SqlInputError-clause-meaning
@@ -51,26 +51,26 @@ pub returns-in-Ok-clause-survives : goal.returns-in-Ok-clause-survives
 returns-in-Ok-clause-survives g c =
     let first = state g.S.Store c.args.connection.now in
     let mid = state g.S.Store c.in-Ok.rows.conn.now in
-    let last = c.take_rows.new.rows.conn.now in
+    let last = c.check_rows_left.new.rows.conn.now in
     let eq : c.connection-1.given.0 ≡ last = search rules in
     let P : Held g.row.S.Denot → Type 0 = λ h. Survives first (state g.S.Store h) (λ _. ⊥) in
     carry P c.connection-1.given.0 last eq
     (survives_then first mid (state g.S.Store last) (λ _. ⊥) (λ _. ⊥) (λ _. ⊥) (λ _ _ none. none) (λ _ _ none. none)
-    (commits_none c.args.sql.now [] first mid c.requires.query c.in-Ok.ensures.survives) c.take_rows.ensures.survives)
+    (commits_none c.args.sql.now [] first mid c.requires.query c.in-Ok.ensures.survives) c.check_rows_left.ensures.survives)
 
 pub returns-in-Ok-clause-memory : goal.returns-in-Ok-clause-memory
 returns-in-Ok-clause-memory g c =
     let first = state g.S.Store c.args.connection.now in
     let mid = c.in-Ok.rows.conn.now in
-    let last = c.take_rows.new.rows.conn.now in
+    let last = c.check_rows_left.new.rows.conn.now in
     let eq : c.connection-1.given.0 ≡ last = search rules in
-    let P : Held g.row.S.Denot → Type 0 = λ h. HasCleanDisk (state g.S.Store h) → c.take_rows.result ≡ Err Memory
+    let P : Held g.row.S.Denot → Type 0 = λ h. HasCleanDisk (state g.S.Store h) → c.check_rows_left.result ≡ Err Memory
     → IsUnchanged first (state g.S.Store h) in
     let it : P last = λ clean is.
     let start = at_start g.S.Store c.args.sql.now c.args.connection.now mid last c.requires.query
-    c.in-Ok.ensures.begun c.take_rows.ensures.survives clean in
+    c.in-Ok.ensures.begun c.check_rows_left.ensures.survives clean in
     unchanged_then first (state g.S.Store mid) (state g.S.Store last) start.1
-    (c.take_rows.ensures.memory clean start.0 is) in
+    (c.check_rows_left.ensures.memory clean start.0 is) in
     carry P c.connection-1.given.0 last eq it
 
 pub returns-in-Ok-clause-refused : goal.returns-in-Ok-clause-refused
@@ -78,15 +78,15 @@ returns-in-Ok-clause-refused g c =
     let sql = c.args.sql.now in
     let first = state g.S.Store c.args.connection.now in
     let mid = c.in-Ok.rows.conn.now in
-    let last = c.take_rows.new.rows.conn.now in
-    let refuses = g.T.RowCheck.refuses c.args.check.now c.take_rows.new.check in
+    let last = c.check_rows_left.new.rows.conn.now in
+    let refuses = g.T.RowCheck.refuses c.args.check.now c.check_rows_left.new.check in
     let eq : c.connection-1.given.0 ≡ last = search rules in
     let P : Held g.row.S.Denot → Type 0 = λ h. HasCleanDisk (state g.S.Store h)
-    → g.T.RowCheck.has_taken c.args.check.now c.args.check.now [] → c.take_rows.result ≡ Err Refused
+    → g.T.RowCheck.has_taken c.args.check.now c.args.check.now [] → c.check_rows_left.result ≡ Err Refused
     → ShowsFirst sql refuses first (state g.S.Store h) in
     let it : P last = λ clean taken is.
     let start = at_start g.S.Store sql c.args.connection.now mid last c.requires.query c.in-Ok.ensures.begun
-    c.take_rows.ensures.survives clean in
+    c.check_rows_left.ensures.survives clean in
     first_from sql refuses first (state g.S.Store mid) (state g.S.Store last) start.1
-    (c.take_rows.ensures.refused clean start.0 taken is) in
+    (c.check_rows_left.ensures.refused clean start.0 taken is) in
     carry P c.connection-1.given.0 last eq it

@@ -10,10 +10,10 @@ use Rattle.register_store.proofs.custody_check.ApprovalCheckRowCheck.take.Goals 
 pub returns-in_default-clause-refused : goal.returns-in_default-clause-refused
 returns-in_default-clause-refused c result first rows taken = one_odd ShowsName (IsListed first.custodians.items) rows c.args.row.now (λ entry shows is. c.in_default.ensures entry shows)
 
-pub returns-in_default-key_index-clause-refused : goal.returns-in_default-key_index-clause-refused
-returns-in_default-key_index-clause-refused c result first rows taken =
+pub returns-in_default-index_of_key_number-clause-refused : goal.returns-in_default-index_of_key_number-clause-refused
+returns-in_default-index_of_key_number-clause-refused c result first rows taken =
     let key = c.in-Some.shown.key in
-    let none : key ≡ 0 = c.in_default-key_index.ensures in
+    let none : key ≡ 0 = c.in_default-index_of_key_number.ensures in
     one_odd ShowsName (IsListed first.custodians.items) rows c.args.row.now (λ entry shows.
     let same = ap (λ (e : KeyName). e.key) (one_name c.args.row.now entry (key_name key c.in-Some.shown.name) shows c.in-Some.ensures) in
     not_listed first.custodians.items entry (λ within. let low = within.0 in omega (arith, low, same, none)))
@@ -21,7 +21,7 @@ returns-in_default-key_index-clause-refused c result first rows taken =
 pub returns-then-at-len-clause-refused : goal.returns-then-at-len-clause-refused
 returns-then-at-len-clause-refused c result first rows taken =
     let key = c.in-Some.shown.key in
-    let at : key ≡ suc c.in-Some-key_index.at = c.in-Some-key_index.ensures in
+    let at : key ≡ suc c.in-Some-index_of_key_number.at = c.in-Some-index_of_key_number.ensures in
     let lists = ap length taken.0 in
     one_odd ShowsName (IsListed first.custodians.items) rows c.args.row.now (λ entry shows.
     let same = ap (λ (e : KeyName). e.key) (one_name c.args.row.now entry (key_name key c.in-Some.shown.name) shows c.in-Some.ensures) in
@@ -31,7 +31,7 @@ pub returns-clause-taken : goal.returns-clause-taken
 returns-clause-taken c result first rows taken =
     let key = c.in-Some.shown.key in
     let name = c.in-Some.shown.name in
-    let seen = list_seen c.args.self.now.custodians.items key c.in-Some-key_index.at c.index.result.now c.in-Some-key_index.ensures (let room = c.if-at-len.false in let len = c.len.ensures in omega (arith, room, len)) c.index.ensures in
+    let seen = list_seen c.args.self.now.custodians.items key c.in-Some-index_of_key_number.at c.index.result.now c.in-Some-index_of_key_number.ensures (let room = c.if-at-len.false in let len = c.len.ensures in omega (arith, room, len)) c.index.ensures in
     let passed : c.contains.result ≡ true = cc in
     let told : c.contains.result ≡ is_among name c.deref.result.now = c.contains.ensures.value in
     let listed : IsListed c.args.self.now.custodians.items (key_name key name) = record {
@@ -45,7 +45,7 @@ pub returns-clause-refused : goal.returns-clause-refused
 returns-clause-refused c result first rows taken =
     let key = c.in-Some.shown.key in
     let name = c.in-Some.shown.name in
-    let seen = list_seen c.args.self.now.custodians.items key c.in-Some-key_index.at c.index.result.now c.in-Some-key_index.ensures (let room = c.if-at-len.false in let len = c.len.ensures in omega (arith, room, len)) c.index.ensures in
+    let seen = list_seen c.args.self.now.custodians.items key c.in-Some-index_of_key_number.at c.index.result.now c.in-Some-index_of_key_number.ensures (let room = c.if-at-len.false in let len = c.len.ensures in omega (arith, room, len)) c.index.ensures in
     one_odd ShowsName (IsListed first.custodians.items) rows c.args.row.now (λ entry shows is.
     let same = one_name c.args.row.now entry (key_name key name) shows c.in-Some.ensures in
     let listed = subst (IsListed first.custodians.items) same is in

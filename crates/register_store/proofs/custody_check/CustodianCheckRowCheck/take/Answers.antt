@@ -15,16 +15,16 @@ returns-in_default-clause-refused c result first rows taken =
     not_shown first.most first.owners.items c.args.self.now.custodians.items rows c.args.row.now taken.2
     c.in_default.ensures
 
-pub returns-in_default-key_index-clause-refused : goal.returns-in_default-key_index-clause-refused
-returns-in_default-key_index-clause-refused c result first rows taken =
-    let none : c.in-Some.shown.key ≡ 0 = c.in_default-key_index.ensures in
+pub returns-in_default-index_of_key_number-clause-refused : goal.returns-in_default-index_of_key_number-clause-refused
+returns-in_default-index_of_key_number-clause-refused c result first rows taken =
+    let none : c.in-Some.shown.key ≡ 0 = c.in_default-index_of_key_number.ensures in
     not_there first.most first.owners.items c.args.self.now.custodians.items rows c.args.row.now taken.2
     c.in-Some.shown.key c.in-Some.ensures.key (λ within. let low = within.0 in omega (arith, low, none))
 
 pub returns-then-at-len-clause-refused : goal.returns-then-at-len-clause-refused
 returns-then-at-len-clause-refused c result first rows taken =
     let key = c.in-Some.shown.key in
-    let at : key ≡ suc c.in-Some-key_index.at = c.in-Some-key_index.ensures in
+    let at : key ≡ suc c.in-Some-index_of_key_number.at = c.in-Some-index_of_key_number.ensures in
     let owners = ap length taken.1 in
     let lists = taken.2.counted in
     not_there first.most first.owners.items c.args.self.now.custodians.items rows c.args.row.now taken.2 key
@@ -45,13 +45,13 @@ returns-then-at-len-clause-refused c result first rows taken =
 pub returns-then-len-self-clause-refused : goal.returns-then-len-self-clause-refused
 returns-then-len-self-clause-refused c result first rows taken =
     let key = c.in-Some.shown.key in
-    let at : key ≡ suc c.in-Some-key_index.at = c.in-Some-key_index.ensures in
+    let at : key ≡ suc c.in-Some-index_of_key_number.at = c.in-Some-index_of_key_number.ensures in
     let lists = c.args.self.now.custodians.items in
     elim c.then-len-self.branch [
       | then-len-self-via-then-len-self w ↦
           let full = w.if-len-self.true in
           let len = c.len-2.ensures in
-          let names = kept_at taken.2.entries lists key c.in-Some-key_index.at
+          let names = kept_at taken.2.entries lists key c.in-Some-index_of_key_number.at
           c.index.result.now at (let a = c.if-at-len-2.false in let b = c.len-else-at-len.ensures in omega (
             arith,
             a,
@@ -61,7 +61,7 @@ returns-then-len-self-clause-refused c result first rows taken =
           (omega (arith, ap length names, len, full, taken.0))
       | then-len-self-via-else-len-self+then-eq w ↦
           let seen = w.index-else-len-self.result.now in
-          let owns = owner_seen c.args.self.now.owners.items key c.in-Some-key_index.at seen at
+          let owns = owner_seen c.args.self.now.owners.items key c.in-Some-index_of_key_number.at seen at
           (let a = c.if-at-len.false in let b = c.len.ensures in omega (arith, a, b))
           w.index-else-len-self.ensures in
           let same : seen ≡ c.in-Some.shown.name = (bytes_decides seen c.in-Some.shown.name).0
@@ -76,13 +76,13 @@ returns-clause-taken c result first rows taken =
     let key = c.in-Some.shown.key in
     let name = c.in-Some.shown.name in
     let entries = taken.2.entries in
-    let at : key ≡ suc c.in-Some-key_index.at = c.in-Some-key_index.ensures in
+    let at : key ≡ suc c.in-Some-index_of_key_number.at = c.in-Some-index_of_key_number.ensures in
     let lists = c.args.self.now.custodians.items in
     let seen = c.index-else-len-self.result.now in
-    let owns = owner_seen c.args.self.now.owners.items key c.in-Some-key_index.at seen at
+    let owns = owner_seen c.args.self.now.owners.items key c.in-Some-index_of_key_number.at seen at
     (let a = c.if-at-len.false in let b = c.len.ensures in omega (arith, a, b))
     c.index-else-len-self.ensures in
-    let names = kept_at entries lists key c.in-Some-key_index.at
+    let names = kept_at entries lists key c.in-Some-index_of_key_number.at
     c.index.result.now at (let a = c.if-at-len-2.false in let b = c.len-else-at-len.ensures in omega (
       arith,
       a,
@@ -98,7 +98,7 @@ returns-clause-taken c result first rows taken =
       taken.0,
       taken.1,
       custodians_more first.most first.owners.items lists rows c.args.row.now taken.2 (key_name key name)
-          c.in-Some.ensures may room c.in-Some-key_index.at at c.add_name.new.lists.items c.in_ok-add_name.ensures.counted
+          c.in-Some.ensures may room c.in-Some-index_of_key_number.at at c.add_name.new.lists.items c.in_ok-add_name.ensures.counted
           c.in_ok-add_name.ensures.added
           c.in_ok-add_name.ensures.others,
     )

@@ -18,8 +18,8 @@ returns-in_default-clause-taken c result first rows taken = absurd (cc)
 pub returns-clause-taken : goal.returns-clause-taken
 returns-clause-taken c result first rows taken =
     let set = key_need c.in-Some.shown.key c.in-Some.shown.need in
-    let passed : c.is_need_of.result ≡ true = cc in
-    let own = c.is_need_of.ensures.0 passed in (
+    let passed : c.is_need_of_counted_key.result ≡ true = cc in
+    let own = c.is_need_of_counted_key.ensures.0 passed in (
       taken.0,
       one_more ShowsKeyNeed (IsNeedOf (counts_of first.found)) rows c.args.row.now set taken.1 c.in-Some.ensures
           (subst (λ (f : Found). IsNeedOf (counts_of f) set) taken.0 own),
@@ -32,6 +32,6 @@ returns-clause-refused c result first rows taken =
     let same = one_need c.args.row.now other set shows c.in-Some.ensures in
     let own = subst (λ (f : Found). IsNeedOf (counts_of f) set) (sym taken.0)
     (subst (IsNeedOf (counts_of first.found)) same is) in
-    let passed = c.is_need_of.ensures.1 own in
-    let off : c.is_need_of.result ≡ false = cc in
+    let passed = c.is_need_of_counted_key.ensures.1 own in
+    let off : c.is_need_of_counted_key.result ≡ false = cc in
     absurd (cc))

@@ -1,0 +1,130 @@
+#!/usr/bin/env python3
+"""What no contract can see stands in few places of the sources, and nowhere else.
+
+    checks/unseen.py
+
+- What a read, a write or a flush answered: the marks that a stream failed or has something
+  unflushed are set by the turns of crates/streams, each a function of a few lines, and begin in
+  `Watched::new`.
+- Whether memory gave out: the end 30 is told in the places of TOLD, each behind a call that asks
+  for memory.
+- How often a connection was called: each function of `Counted` makes the calls of CALLS, once.
+"""
+import collections
+import pathlib
+import re
+import sys
+
+CRATES = pathlib.Path(__file__).resolve().parent.parent / "crates"
+STREAMS = CRATES / "streams" / "src"
+TURNS = STREAMS / "watched" / "turns.rt"
+COUNTED = CRATES / "register_store" / "src" / "counted.rt"
+MARKS = ("failed", "unflushed")
+# The most lines of the body of a turn, and of what it calls.
+MOST_LINES = 14
+
+# In how many places a file makes an end, an error or a refusal that says that memory gave out. One
+# that is handed on under another name counts, one that is looked at does not.
+TOLD = {
+    "disk_files/src/disk_files.rt": 1,
+    "http_messages/src/content.rt": 3,
+    "http_messages/src/route.rt": 2,
+    "keyreg/src/main.rt": 1,
+    "register_desk/src/desk.rt": 1,
+    "register_desk/src/end.rt": 1,
+    "register_desk/src/memory.rt": 1,
+    "register_desk/src/opening.rt": 1,
+    "register_http/src/exchanging.rt": 1,
+    "register_program/src/acting.rt": 1,
+    "register_report/src/importing.rt": 1,
+    "register_report/src/writing.rt": 1,
+    "register_store/src/error.rt": 3,
+    "row_checks/src/reading.rt": 1,
+}
+# A value, and no pattern of a match, nor of an `if let`.
+MEMORY = re.compile(r"\b(?:End|OpenRefusal|AskFault|StoreError|CheckError|RowsError)::Memory\b"
+                    r"(?!\)*\s*(?:=>|=[^=]|\|)|\.fmt)")
+
+# What each function of counted.rt that calls a connection, or one of these, calls.
+CALLS = {
+    "execute": {"execute": 1},
+    "find_one": {"query_row": 1},
+    "query_all": {"query_all": 1},
+    "transact": {"run_in_transaction": 1},
+    "run_in_transaction": {"transaction": 1, "run": 1, "commit": 1, "rollback": 1},
+}
+CALL = re.compile(r"(?:\.|::|(?<!fn )\b)"
+                  r"(execute|query|query_row|query_all|transaction|run|run_in_transaction|commit|rollback)\(")
+
+
+def code(path: pathlib.Path) -> list[str]:
+    """The lines of a file, without what stands behind //."""
+    return [line.split("//")[0].rstrip() for line in path.read_text(encoding="utf-8").split("\n")]
+
+
+def bodies(path: pathlib.Path) -> dict[str, list[str]]:
+    """The lines of the body of each function, as `rt fmt` sets them."""
+    found: dict[str, list[str]] = {}
+    name, indent, begun = "", "", False
+    for line in code(path):
+        head = re.match(r"( *)(?:pub(?:\(\w+\))? )?fn (\w+)", line)
+        if head:
+            indent, name, begun = head[1], head[2], line.endswith("{")
+            if begun:
+                found[name] = []
+        elif name and not begun and re.fullmatch(re.escape(indent) + r"(\).*)?\{", line):
+            found[name], begun = [], True
+        elif name and line == indent + "}":
+            name, begun = "", False
+        elif begun:
+            found[name].append(line)
+    return found
+
+
+def mark_faults() -> list[str]:
+    """Where a mark of a stream is set that should not be."""
+    mark = re.compile(rf"\.({'|'.join(MARKS)})\s*(=(?!=)|\|=|&=)|&mut [\w.]*\.({'|'.join(MARKS)})\b")
+    lines = [(path, line.strip()) for path in sorted(STREAMS.rglob("*.rt")) for line in code(path)]
+    places = [(path, line) for path, line in lines if mark.search(line)]
+    faults = [f"{path.name} sets a mark: {line}" for path, line in places if path != TURNS]
+    here = len(places) - len(faults)
+    faults += [] if here == 3 else [f"turns.rt sets a mark in {here} places, and not in three"]
+    lengths = {name: len(body) for name, body in bodies(TURNS).items()}
+    return faults + [f"turns.rt: {name} has {lines} lines" for name, lines in lengths.items() if lines > MOST_LINES]
+
+
+def told_faults() -> list[str]:
+    """Where want of memory is told in more places than it should be, or in fewer."""
+    told = {}
+    for path in CRATES.glob("*/src/**/*.rt"):
+        name = str(path.relative_to(CRATES))
+        if not name.startswith("test_"):
+            lines = [line for line in code(path) if "use " not in line and "ensures" not in line]
+            told[name] = sum(len(MEMORY.findall(line)) for line in lines)
+    return [f"{name} tells want of memory in {told.get(name, 0)} places, and not in {TOLD.get(name, 0)}"
+            for name in sorted(told.keys() | TOLD.keys()) if told.get(name, 0) != TOLD.get(name, 0)]
+
+
+def call_faults() -> list[str]:
+    """Which functions of a counted connection call it otherwise, or in a loop."""
+    found = bodies(COUNTED)
+    faults = [f"counted.rt: no {name}" for name in CALLS if name not in found]
+    for name, body in found.items():
+        calls = dict(collections.Counter(CALL.findall("\n".join(body))))
+        if calls != CALLS.get(name, {}):
+            faults.append(f"counted.rt: {name} calls {calls}, and not {CALLS.get(name, {})}")
+        if re.search(r"\b(for|while|loop)\b", "\n".join(body)):
+            faults.append(f"counted.rt: {name} has a loop")
+    return faults
+
+
+def main() -> int:
+    faults = mark_faults() + told_faults() + call_faults()
+    print(*faults, sep="\n", end="\n" if faults else "")
+    print(f"marks of streams, {sum(TOLD.values())} places that tell want of memory, "
+          f"{len(CALLS)} functions that call a connection: {len(faults)} faults")
+    return 1 if faults else 0
+
+
+if __name__ == "__main__":
+    sys.exit(main())

@@ -1,0 +1,58 @@
+use Rattle.std.proofs.Common.{◌≡◌, ℕ, List, Option}
+use Rattle.serde_json.specs.Data.{Members}
+use Rattle.period_core.specs.declared.key_type.KeyType.{KeyType}
+use Rattle.period_core.specs.Period.{Period}
+use Rattle.lifecycle_core.specs.declared.reason.Reason.{Reason}
+use Rattle.register_requests.specs.declared.fields.Fields.{Fields}
+use Rattle.register_requests.specs.declared.fields.Fields.TheVariants.{TypeAndPeriod, Registration, DateEdits}
+use Rattle.register_requests.specs.declared.fields.Fields.TheVariants.{Revocation}
+use Rattle.register_requests.specs.declared.fields.Shape.{Shape}
+use Rattle.register_requests.specs.declared.fields.Shape.TheVariants as shapes
+use Rattle.register_requests.specs.declared.request.Edit.{Edit}
+use Rattle.register_requests.specs.Request.{AreFields}
+use Rattle.http_messages.specs.CommandValue.{HasMembers, IsShaped}
+use Rattle.http_messages.proofs.InOrder.{none_then}
+use Rattle.http_messages.proofs.command_value.fields_of_shape.Goals as goal
+
+-- no fields of the shape have these members
+abbrev NoneHas : Shape → Members → Type 0
+NoneHas shape ms = (f : Fields) → IsShaped shape ms f → ⊥
+
+module _ {shape : Shape} {ms : Members} where
+  no_period : shape ≡ shapes.TypeAndPeriod
+      → ((t : KeyType) (p : Period) → AreFields (TypeAndPeriod t p) → HasMembers ms (TypeAndPeriod t p) → ⊥)
+      → NoneHas shape ms
+  no_period is none (TypeAndPeriod t p) has = none t p has.0 has.2
+  no_period is none f has = absurd (let same = has.1 in cc (is, same))
+
+  no_registration : shape ≡ shapes.Registration
+      → ((t : KeyType) (n : List ℕ) (a p d : Option ℕ) (u : List ℕ) → AreFields (Registration t n a p d u)
+      → HasMembers ms (Registration t n a p d u) → ⊥) → NoneHas shape ms
+  no_registration is none (Registration t n a p d u) has = none t n a p d u has.0 has.2
+  no_registration is none f has = absurd (let same = has.1 in cc (is, same))
+
+  no_edits : shape ≡ shapes.DateEdits
+      → ((key : ℕ) (a p d : Edit) → AreFields (DateEdits key a p d) → HasMembers ms (DateEdits key a p d) → ⊥)
+      → NoneHas shape ms
+  no_edits is none (DateEdits key a p d) has = none key a p d has.0 has.2
+  no_edits is none f has = absurd (let same = has.1 in cc (is, same))
+
+  no_revocation : shape ≡ shapes.Revocation
+      → ((key : ℕ) (r : Reason) (d : Option ℕ) → AreFields (Revocation key r d)
+      → HasMembers ms (Revocation key r d) → ⊥) → NoneHas shape ms
+  no_revocation is none (Revocation key r d) has = none key r d has.0 has.2
+  no_revocation is none f has = absurd (let same = has.1 in cc (is, same))
+
+pub returns-in-TypeAndPeriod-clause-none : goal.returns-in-TypeAndPeriod-clause-none
+returns-in-TypeAndPeriod-clause-none c =
+    none_then _ _ _ (no_period c.in-TypeAndPeriod.is) c.type_and_period_fields_of.ensures.none
+
+pub returns-in-Registration-clause-none : goal.returns-in-Registration-clause-none
+returns-in-Registration-clause-none c =
+    none_then _ _ _ (no_registration c.in-Registration.is) c.registration_fields_of.ensures.none
+
+pub returns-in-DateEdits-clause-none : goal.returns-in-DateEdits-clause-none
+returns-in-DateEdits-clause-none c = none_then _ _ _ (no_edits c.in-DateEdits.is) c.date_edit_fields_of.ensures.none
+
+pub returns-in-Revocation-clause-none : goal.returns-in-Revocation-clause-none
+returns-in-Revocation-clause-none c = none_then _ _ _ (no_revocation c.in-Revocation.is) c.revocation_fields_of.ensures.none

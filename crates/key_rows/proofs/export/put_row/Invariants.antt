@@ -1,0 +1,8 @@
+use Rattle.std.proofs.Common.{[], map, take}
+use Rattle.key_rows.specs.Cell.{cell_text}
+use Rattle.key_rows.specs.RowWriter.{HasFields}
+use Rattle.key_rows.proofs.export.put_row.Given as goal
+
+abbrev pub invariant-loop-cell : goal.invariant-loop-cell
+invariant-loop-cell l =
+    HasFields l.fn.row [] → HasFields l.row (map cell_text (take l.cell-index l.cell-items))

@@ -1,5 +1,0 @@
-use Rattle.lifecycle_core.proofs.Transitions.{time_leads}
-use Rattle.lifecycle_core.proofs.laws.time_passes.Goals as goal
-
-pub returns : goal.returns
-returns c = time_leads

@@ -1,5 +1,0 @@
-use Rattle.std.proofs.Common.{rules}
-use Rattle.lifecycle_core.proofs.row.Row.is_right_at.Goals as goal
-
-pub returns : goal.returns
-returns c = search rules

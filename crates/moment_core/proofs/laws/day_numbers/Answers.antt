@@ -1,5 +1,0 @@
-use Rattle.moment_core.proofs.Civils.{civil_is}
-use Rattle.moment_core.proofs.laws.day_numbers.Goals as goal
-
-pub returns : goal.returns
-returns c n = (civil_is n).number

@@ -1,5 +1,0 @@
-use Rattle.register_desk.proofs.Readings.{sees_nothing}
-use Rattle.register_desk.proofs.desk.Desk.find_set.Goals as goal
-
-pub returns-clause-reads : goal.returns-clause-reads
-returns-clause-reads g c = sees_nothing g.S.Store _ _ _ _ _ c.find_period.ensures.reads c.find_period.ensures.sight

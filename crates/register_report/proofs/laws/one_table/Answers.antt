@@ -1,8 +1,0 @@
-use Rattle.register_report.proofs.TableRead.{same_rows, same_table}
-use Rattle.register_report.proofs.laws.one_table.Goals as goal
-
-pub returns-clause-rows : goal.returns-clause-rows
-returns-clause-rows c = same_rows
-
-pub returns-clause-items : goal.returns-clause-items
-returns-clause-items c = same_table

@@ -1,0 +1,22 @@
+use Rattle.std.proofs.Common.{rules}
+use Rattle.sql_steps.proofs.Stepping.{runs}
+use Rattle.register_store.specs.TableChanges.{Makes, Always}
+use Rattle.register_store.specs.Due.{moved_on, update_text, with_each}
+use Rattle.register_store.proofs.DueChange.{params, moves}
+use Rattle.register_store.proofs.Wrote.{wrote}
+use Rattle.register_store.proofs.accepted_request.advance_keys_by_date.Goals as goal
+
+pub returns : goal.returns
+returns g c =
+    let at = c.args.at in
+    let date = c.args.date in
+    let moment = c.params-to_sql.ensures.in_range in
+    let old = g.T.Inside.sees c.args.tx.now in
+    let new = g.T.Inside.sees c.execute.new.self in
+    wrote (search rules) (search rules) (
+    runs (Makes Always (with_each (moved_on date at))) (update_text date) (params at moment) old new
+    c.in_ok-execute.field-0 (moves at moment date old new)
+    (λ clean inside. rw (
+      c.update_sql.ensures,
+      c.params-to_sql.ensures.value,
+    ) at (c.in_ok-execute.ensures.runs clean inside)) c.in_ok-execute.ensures.survives)

@@ -1,0 +1,12 @@
+use Rattle.std.proofs.Common.{◌≡◌, rules}
+use Rattle.sqlite.specs.Held.{state}
+use Rattle.sqlite.specs.State.{Survives}
+use Rattle.register_store.proofs.counted.run_in_transaction.Goals as goal
+
+-- what is committed is what the work left
+
+pub returns-in-Ok-clause-made : goal.returns-in-Ok-clause-made
+returns-in-Ok-clause-made g c =
+    let left = state g.S.Store c.run-done.new.tx.conn.now in
+    let kept : Survives left _ (λ trees. trees ≡ left.now.trees) = c.commit.ensures.survives in
+    search rules

@@ -1,0 +1,4 @@
+use Rattle.register_words.proofs.values.read_days.Goals as goal
+
+pub returns : goal.returns
+returns c = c.read_number_between.ensures
