@@ -6,8 +6,8 @@
 - What a read, a write or a flush answered: the marks that a stream failed or has something
   unflushed are set by the turns of crates/streams, each a function of a few lines, and begin in
   `Watched::new`.
-- Whether memory gave out: the end 30 is told in the places of TOLD, each behind a call that asks
-  for memory.
+- Whether memory gave out: the end 30 is told in the places of TOLD, behind a call that asks for
+  memory, or where a count of bytes would pass 2^64.
 - How often a connection was called: each function of `Counted` makes the calls of CALLS, once.
 """
 import collections
