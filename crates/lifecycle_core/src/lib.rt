@@ -22,6 +22,6 @@ pub use dates::Dates;
 pub use reason::Reason;
 pub use row::{Row, advance, state_of};
 pub use state::State;
-pub use transition::is_transition;
+pub use transition::may;
 pub use usage_rule::usage;
 pub use usage_types::{Process, Usage};

@@ -6,7 +6,7 @@ use crate::state::State;
 
 /// Whether a key may go from one state to another in one step: the transitions 2 to 10 of KMIP
 /// 1.2's State. (By transition 1 a key is created, and has no state before it.)
-pub fn is_transition(from: State, to: State) -> bool
+pub fn may(from: State, to: State) -> bool
     ensures { IsTrue result ↔ IsTransition (Some from) to }
 {
     match from {

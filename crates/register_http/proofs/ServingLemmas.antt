@@ -105,7 +105,8 @@ module _ {S : Type 0} (g : Ghosts S) (moment : ℕ) (kept now : Desk S g) where
   sent_memory asked old new o answered is same memory sends ends =
       subst (λ (a : Result (Option Asked) AskFault). ServesAsked g moment a kept now old new o) (sym is) (record {
         same = same;
-        sends = subst (λ (r : Result (String Global) End). Sends (reply_text r) old new o.written o.replies) memory sends;
+        sends = subst (λ (r : Result (String Global) End). Sends (reply_text r) old new o.written o.replies) memory
+            sends;
         ends = subst (λ (r : Result (String Global) End). EndsAs r o.end o.replies) memory ends;
       })
 

@@ -32,7 +32,9 @@ unfolding everything first
 takes_need l = record { p = _; name = _; check = _; d = _; parsed = refl; untimed = refl; is = refl; named = refl; there = refl; drafted = refl; same = refl; from = refl; accepted = refl }
 
 abbrev pub need_text : List ℕ
-need_text = codes "INSERT INTO quorum (key_no, " ++ listed need_columns ++ codes ") VALUES (:key_no" ++ given need_columns ++ codes ")"
+need_text =
+    codes "INSERT INTO quorum (key_no, " ++ listed need_columns
+    ++ codes ") VALUES (:key_no" ++ given need_columns ++ codes ")"
 
 abbrev need_terms : List Term
 need_terms = col 0 0 ∷ lit Null ∷ given_from 1 need_columns

@@ -33,7 +33,9 @@ unfolding everything first
 takes_period l = record { p = _; name = _; check = _; d = _; parsed = refl; untimed = refl; is = refl; named = refl; there = refl; drafted = refl; same = refl; from = refl; accepted = refl }
 
 abbrev pub period_text : List ℕ
-period_text = codes "INSERT INTO period (kind, " ++ listed period_columns ++ codes ") VALUES (:kind" ++ given period_columns ++ codes ")"
+period_text =
+    codes "INSERT INTO period (kind, " ++ listed period_columns
+    ++ codes ") VALUES (:kind" ++ given period_columns ++ codes ")"
 
 abbrev period_terms : List Term
 period_terms = col 0 0 ∷ lit Null ∷ given_from 1 period_columns

@@ -67,7 +67,7 @@ fn advance_keys_by_date<T: Inside>(
 ///
 /// # Errors
 /// [`StoreError::Database`] where the database refused.
-fn advance_keys_to_moment<T: Inside>(
+fn advance_due<T: Inside>(
     tx: &mut T,
     steps: &mut StepCount,
     latest: Moment,
@@ -174,7 +174,7 @@ impl Work for AcceptedRequest<'_> {
     /// Each key that is due moves on, the change is written, and the request, the latest moment and
     /// the number of keys are kept.
     fn run<T: Inside>(&self, tx: &mut T, steps: &mut StepCount) -> Result<(), StoreError> {
-        advance_keys_to_moment(tx, steps, self.latest, self.kept.reply.moment)?;
+        advance_due(tx, steps, self.latest, self.kept.reply.moment)?;
         write_change(tx, steps, self.keys, self.change)?;
         let keys = keys_after(self.keys, self.change);
         record_request(tx, steps, self.kept, keys)

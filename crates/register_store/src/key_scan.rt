@@ -158,10 +158,7 @@ fn find_within_run<S: Alter>(
 /// # Errors
 /// [`StoreError::Database`] where the database refused, and [`StoreError::NoRegister`] where the
 /// row is one that no register holds.
-pub fn find_next_key<S: Alter>(
-    connection: &mut Counted<S>,
-    last: u32,
-) -> Result<Option<Key>, StoreError>
+pub fn each_key<S: Alter>(connection: &mut Counted<S>, last: u32) -> Result<Option<Key>, StoreError>
     requires { last ≤ max_keys }
     ensures counted { Calls 2 connection.old connection.new }
     ensures sight { KeepsSight (seen S.Store connection.old) (seen S.Store connection.new) }
@@ -175,8 +172,8 @@ pub fn find_next_key<S: Alter>(
 /// nothing. After a cursor that is [`DateRun::First`] it asks the database once.
 ///
 /// # Errors
-/// As [`find_next_key`].
-pub fn find_next_due_key<S: Alter>(
+/// As [`each_key`].
+pub fn each_due<S: Alter>(
     connection: &mut Counted<S>,
     until: Moment,
     last: DueCursor,

@@ -1,5 +1,5 @@
 //! Usages, transitions and reasons, compared with the rules of the specification.
-use lifecycle_core::{Dates, Process, Reason, Row, State, Usage, is_transition, usage};
+use lifecycle_core::{Dates, Process, Reason, Row, State, Usage, may, usage};
 use moment_core::Moment;
 
 /// Dates of a key that is active from 0 on, protects up to 500 and is deactivated at 1000.
@@ -78,7 +78,7 @@ fn may_enter(from: State, allowed: &[bool; 6]) -> bool {
     State::ALL
         .iter()
         .zip(allowed)
-        .all(|(to, expected)| is_transition(from, *to) == *expected)
+        .all(|(to, expected)| may(from, *to) == *expected)
 }
 
 #[test]

@@ -3,7 +3,7 @@
 use crate::desk::Desk;
 use crate::end::End;
 use register_core::{Accept, Answer, KeptReply, Name, Refusal, Request, RequestNumber, decide};
-use register_store::{StoreError, commit_request, find_kept_reply};
+use register_store::{StoreError, commit_request, find_request};
 use sqlite::Alter;
 
 impl<S: Alter> Desk<S> {
@@ -181,7 +181,7 @@ impl<S: Alter> Desk<S> {
         ensures within { IfOk result (λ found. IfSome found (λ kept.
             (kept.reply.moment ≤ latest_of self.old) × (kept.reply.key ≤ keys_of self.old))) }
     {
-        match find_kept_reply(&mut self.connection, caller, number) {
+        match find_request(&mut self.connection, caller, number) {
             Ok(Some(kept)) if !kept.reply.is_within_counts(self.latest, self.keys) => {
                 Err(self.end_by(StoreError::NoRegister))
             }

@@ -5,7 +5,7 @@ use crate::end::End;
 use crate::rows::{KeyRows, Progress, Scan, key_row};
 use key_rows::KeyRow;
 use moment_core::Moment;
-use register_store::{DateRun, DueCursor, StoreError, find_next_due_key, find_next_key};
+use register_store::{DateRun, DueCursor, StoreError, each_due, each_key};
 use sqlite::Alter;
 
 impl<S: Alter> Desk<S> {
@@ -103,7 +103,7 @@ impl<S: Alter> Desk<S> {
         if last >= self.keys {
             return Ok(None);
         }
-        match find_next_key(&mut self.connection, last)? {
+        match each_key(&mut self.connection, last)? {
             Some(key) => Ok(Some(key_row(last + 1, key))),
             None => Err(StoreError::NoRegister),
         }
@@ -122,7 +122,7 @@ impl<S: Alter> Desk<S> {
             → IsClean S.Store self.new
             → IfOk result (HasNextRow (Scan.ByStop until last run) (tables h)) }
     {
-        match find_next_due_key(&mut self.connection, until, last, run)? {
+        match each_due(&mut self.connection, until, last, run)? {
             Some((number, key)) => match u32::try_from(number) {
                 Ok(number) => Ok(Some(key_row(number, key))),
                 Err(_) => Err(StoreError::NoRegister),

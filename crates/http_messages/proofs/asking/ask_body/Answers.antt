@@ -16,5 +16,6 @@ pub returns-clause-asks : goal.returns-clause-asks
 returns-clause-asks c = λ after n within e.
     let found = rw c.in-Some.is at c.in_ok-value.ensures.found in
     let is = c.in-Some-command_of.ensures.found in
-    command_handed n c.args.post.sender.caller c.args.post.sender.number after c.args.body.now c.in-Some-command_of.command _
+    command_handed n c.args.post.sender.caller c.args.post.sender.number after c.args.body.now
+    c.in-Some-command_of.command _
     within e found.0 found.1 is.0 is.1

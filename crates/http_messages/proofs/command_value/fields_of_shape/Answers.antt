@@ -55,4 +55,5 @@ pub returns-in-DateEdits-clause-none : goal.returns-in-DateEdits-clause-none
 returns-in-DateEdits-clause-none c = none_then _ _ _ (no_edits c.in-DateEdits.is) c.date_edit_fields_of.ensures.none
 
 pub returns-in-Revocation-clause-none : goal.returns-in-Revocation-clause-none
-returns-in-Revocation-clause-none c = none_then _ _ _ (no_revocation c.in-Revocation.is) c.revocation_fields_of.ensures.none
+returns-in-Revocation-clause-none c =
+    none_then _ _ _ (no_revocation c.in-Revocation.is) c.revocation_fields_of.ensures.none

@@ -20,4 +20,5 @@ pub returns-in-MethodNotAllowed : goal.returns-in-MethodNotAllowed
 returns-in-MethodNotAllowed c =
     let named = subst (λ m. IfOk c.reply_text_with_allow.result (λ s. string_bytes s ≡ reply_bytes (not_allowed m)))
     c.method.ensures c.reply_text_with_allow.ensures in
-    subst (λ r. IfOk c.reply_text_with_allow.result (λ s. string_bytes s ≡ reply_bytes (reply_of r))) (sym c.in-MethodNotAllowed.is) named
+    subst (λ r. IfOk c.reply_text_with_allow.result (λ s. string_bytes s ≡ reply_bytes (reply_of r))) (sym
+    c.in-MethodNotAllowed.is) named

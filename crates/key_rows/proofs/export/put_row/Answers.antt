@@ -11,6 +11,7 @@ unfolding export_row
 returns c =
     let row = c.loop-cell.row in
     on_ok_of c.end_record.result _ c.map_err.ensures.variant (λ ended new.
-    let has = subst (λ cells. HasFields row (map cell_text cells)) (take_all _ _ (omega arith)) (c.loop-cell.invariant new) in
+    let has = subst (λ cells. HasFields row (map cell_text cells)) (take_all _ _ (omega arith))
+    (c.loop-cell.invariant new) in
     row_ended row c.end_record.new.self row.wrote ended (export_fields c.args.key.now) (omega arith) has)
     c.end_record.ensures.bytes

@@ -16,7 +16,8 @@ returns g c =
     (went_applied _ c.args.moment _ _ _ (λ h. history h (Some request ∷ []))
     (λ h. ap (λ q. history h (Some q ∷ [])) (sym is)) c.in_ok-answer.ensures.clean c.in_ok-answer.ensures.ends
     (λ h stands clean. c.in_ok-answer.ensures.stands h stands in_range clean))
-    (changes_answered _ _ _ c.in_ok-answer.answer c.outcome_text.result c.text_or_end.result c.in_ok-answer.ensures.nothing
+    (changes_answered _ _ _ c.in_ok-answer.answer c.outcome_text.result c.text_or_end.result
+    c.in_ok-answer.ensures.nothing
     (outcome_told c.outcome.result _ c.outcome_text.result c.outcome.ensures c.outcome_text.ensures)
     c.text_or_end.ensures.ok c.text_or_end.ensures.err)
     (λ rejection same. absurd (cc))
@@ -31,8 +32,10 @@ returns-in_err-answer g c =
     let is = c.request_at-request.ensures.is in
     let in_range = subst IsRequest (sym is) (c.request_at-request.ensures.in_range c.requires) in
     let ended = err_from_is_err_and c.from_residual.result c.from_residual.ensures.1 in
-    applied_ends _ c.args.moment _ _ _ c.in_err-answer.field-0.0 _ refl (λ rejection same. absurd (cc)) c.in_err-answer.ensures.clean
+    applied_ends _ c.args.moment _ _ _ c.in_err-answer.field-0.0 _ refl (λ rejection same. absurd (cc))
+    c.in_err-answer.ensures.clean
     c.in_err-answer.ensures.ends c.in_err-answer.ensures.err
     (λ h. history h (Some request ∷ [])) (λ h. ap (λ q. history h (Some q ∷ [])) (sym is))
-    (λ h stands clean store. c.in_err-answer.ensures.store h stands in_range clean store) c.in_err-answer.ensures.unchanged
+    (λ h stands clean store. c.in_err-answer.ensures.store h stands in_range clean store)
+    c.in_err-answer.ensures.unchanged
     (inl refl) (ended.1 ∙ ap Err ended.2)

@@ -40,7 +40,8 @@ unfolding returns-in-Ok-None-clause-exchanges
 returns-in-Ok-None-clause-reader g c =
     let read = c.ask-asking.ensures.read in
     leaves_reader g.S.Store c.args.moment c.args.desk.now c.args.desk.now c.ask-asking.result.asked _ _
-    c.with_read.result (returns-in-Ok-None-clause-exchanges g c).serves g.R.Read.remaining c.args.reader.now c.ask-asking.new.reader
+    c.with_read.result (returns-in-Ok-None-clause-exchanges g c).serves g.R.Read.remaining c.args.reader.now
+    c.ask-asking.new.reader
     (rw (c.with_read.ensures) (
       read.0,
       rw (sym (ap (λ (r : Watched g.row.R.Denot). g.R.Read.remaining r.inner) c.begin.ensures)) read.1,
@@ -73,7 +74,8 @@ unfolding returns-in-Err-ReadFault-clause-exchanges
 returns-in-Err-ReadFault-clause-leaves g c =
     let is_moment : IsMoment c.args.moment = search rules in
     leaves_one g.S.Store c.args.moment c.args.desk.now c.args.desk.now is_moment c.ask-asking.result.asked
-    c.with_read-in-Err-ReadFault.result _ _ c.ask-asking.ensures.in_range (returns-in-Err-ReadFault-clause-exchanges g c).serves
+    c.with_read-in-Err-ReadFault.result _ _ c.ask-asking.ensures.in_range (returns-in-Err-ReadFault-clause-exchanges
+    g c).serves
 
 pub returns-in-Err-ReadFault-clause-clean : goal.returns-in-Err-ReadFault-clause-clean
 unfolding returns-in-Err-ReadFault-clause-exchanges
@@ -86,7 +88,8 @@ unfolding returns-in-Err-ReadFault-clause-exchanges
 returns-in-Err-ReadFault-clause-reader g c =
     let read = c.ask-asking.ensures.read in
     leaves_reader g.S.Store c.args.moment c.args.desk.now c.args.desk.now c.ask-asking.result.asked _ _
-    c.with_read-in-Err-ReadFault.result (returns-in-Err-ReadFault-clause-exchanges g c).serves g.R.Read.remaining c.args.reader.now c.ask-asking.new.reader
+    c.with_read-in-Err-ReadFault.result (returns-in-Err-ReadFault-clause-exchanges g c).serves g.R.Read.remaining
+    c.args.reader.now c.ask-asking.new.reader
     (rw (c.with_read-in-Err-ReadFault.ensures) (
       read.0,
       rw (sym (ap (λ (r : Watched g.row.R.Denot). g.R.Read.remaining r.inner) c.begin.ensures)) read.1,
@@ -96,7 +99,8 @@ returns-in-Err-ReadFault-clause-reader g c =
     c.ask-asking.ensures.fault (search rules)
 
 pub returns-in-Err-ReadFault-clause-writer : goal.returns-in-Err-ReadFault-clause-writer
-returns-in-Err-ReadFault-clause-writer g c = rw (c.with_read-in-Err-ReadFault.ensures, c.of-in-Err-ReadFault.ensures) (search rules)
+returns-in-Err-ReadFault-clause-writer g c =
+    rw (c.with_read-in-Err-ReadFault.ensures, c.of-in-Err-ReadFault.ensures) (search rules)
 
 -- ---- a reply was sent
 

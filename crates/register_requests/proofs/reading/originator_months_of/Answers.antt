@@ -7,4 +7,6 @@ returns-in_err-read_decimal c = c.from_residual.ensures ∙ no_number originator
 
 pub returns : goal.returns
 returns c =
-    made_of_number originator_reader (months_small 1) c.args.field.now c.months_in_range.result c.in_ok-read_decimal.field-0 (omega arith) c.in_ok-read_decimal.ensures.found c.months_in_range.ensures.in_range c.months_in_range.ensures.value
+    made_of_number originator_reader (months_small 1) c.args.field.now c.months_in_range.result
+    c.in_ok-read_decimal.field-0 (omega arith) c.in_ok-read_decimal.ensures.found c.months_in_range.ensures.in_range
+    c.months_in_range.ensures.value

@@ -7,4 +7,6 @@ returns-in_err-read_decimal c = c.from_residual.ensures ∙ no_number key_number
 
 pub returns : goal.returns
 returns c =
-    made_of_number key_number_reader key_number_small c.args.field.now c.key_number_in_range.result c.in_ok-read_decimal.field-0 (omega arith) c.in_ok-read_decimal.ensures.found c.key_number_in_range.ensures.in_range c.key_number_in_range.ensures.value
+    made_of_number key_number_reader key_number_small c.args.field.now c.key_number_in_range.result
+    c.in_ok-read_decimal.field-0 (omega arith) c.in_ok-read_decimal.ensures.found
+    c.key_number_in_range.ensures.in_range c.key_number_in_range.ensures.value

@@ -8,11 +8,11 @@ use Rattle.register_desk.proofs.desk.Desk.look_up_kept_reply.Goals as goal
 pub returns-in-Ok-clause-looks : goal.returns-in-Ok-clause-looks
 returns-in-Ok-clause-looks g c =
     looks_well g.S.Store _ 2 _ _ _ _ _ c.requires c.in-Ok.ensures.reads
-    (λ h stands clean. c.find_kept_reply.ensures.counted)
+    (λ h stands clean. c.find_request.ensures.counted)
 
 pub returns-in-Ok-clause-kept : goal.returns-in-Ok-clause-kept
 returns-in-Ok-clause-kept g c h stands clean =
-    let found = found_in g.S.Store _ c.args.self.now c.find_kept_reply.new.connection _ c.requires
+    let found = found_in g.S.Store _ c.args.self.now c.find_request.new.connection _ c.requires
     c.in-Ok.ensures.reads (tables h) stands.sees clean in
     let kept : IsKeptUnder h c.args.caller.now c.args.number c.in-Ok.found =
     kept_is h stands.lawful c.args.caller.now c.args.number c.in-Ok.found found in

@@ -2,4 +2,10 @@ use Rattle.std.proofs.Common.{refl}
 use Rattle.register_files.proofs.register_file.RefusedFromUnopened.from.Goals as goal
 
 pub returns : goal.returns
-returns g c = record { same = refl; store = c.close_connection.result; back = refl; closes = c.close_connection.ensures }
+returns g c = record {
+  same = refl;
+  store = c.close_connection.result;
+  back = refl;
+  closes =
+      c.close_connection.ensures;
+}

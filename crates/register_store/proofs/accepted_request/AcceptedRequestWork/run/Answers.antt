@@ -13,14 +13,14 @@ returns-clause-made g c =
     let work = c.args.self.now in
     let kept = work.kept.now in
     let a = g.T.Inside.sees c.args.tx.now in
-    let b = g.T.Inside.sees c.advance_keys_to_moment.new.tx in
+    let b = g.T.Inside.sees c.advance_due.new.tx in
     let d = g.T.Inside.sees c.write_change.new.tx in
     let e = g.T.Inside.sees c.record_request.new.tx in
     let Moves = Makes (AreRightAt work.latest) (with_keys_advanced kept.reply.moment) in
     let Changes = Makes (HasKeys work.keys) (with_change work.change.now) in
     let Records = Makes (λ _. IsKeptReply kept) (with_recorded kept c.keys_after-keys.result) in
-    let two = steps_then (λ _. Moves) (λ _. Changes) a b d c.in_ok-advance_keys_to_moment.field-0 (Ok c.in_ok-write_change.field-0)
-    c.in_ok-advance_keys_to_moment.ensures.made c.in_ok-write_change.ensures.made in
+    let two = steps_then (λ _. Moves) (λ _. Changes) a b d c.in_ok-advance_due.field-0 (Ok c.in_ok-write_change.field-0)
+    c.in_ok-advance_due.ensures.made c.in_ok-write_change.ensures.made in
     let all = steps_then (λ _. Then Moves Changes) (λ _. Records) a d e c.in_ok-write_change.field-0
     c.record_request.result two c.record_request.ensures.made in
     steps_weaker (λ _. Then (Then Moves Changes) Records)

@@ -93,12 +93,14 @@ returns-clause-taken c result first rows taken =
     let may : MayBeCustodian first.owners.items (key_name key name) = record {
       owner = seen;
       there = subst (λ owners. owner_at owners key ≡ Some seen) taken.1 owns;
-      other = λ e. let same = c.eq.ensures ∙ (bytes_decides seen name).1 (sym e) in let off = c.if-eq.false in absurd (cc);
+      other = λ e. let same = c.eq.ensures ∙ (bytes_decides seen name).1 (sym e) in let off = c.if-eq.false in absurd
+          (cc);
     } in (
       taken.0,
       taken.1,
       custodians_more first.most first.owners.items lists rows c.args.row.now taken.2 (key_name key name)
-          c.in-Some.ensures may room c.in-Some-index_of_key_number.at at c.add_name.new.lists.items c.in_ok-add_name.ensures.counted
+          c.in-Some.ensures may room c.in-Some-index_of_key_number.at at c.add_name.new.lists.items
+          c.in_ok-add_name.ensures.counted
           c.in_ok-add_name.ensures.added
           c.in_ok-add_name.ensures.others,
     )

@@ -14,7 +14,8 @@ returns-clause-made g c =
     let d = state g.S.Store c.make_table-2.new.tx.conn.now in
     let e = state g.S.Store c.set_version.new.tx.conn.now in
     let two = steps_then (λ _. MakesNext Period) (λ _. MakesNext Quorum) a b d c.in_ok-make_table.field-0
-    (Ok c.in_ok-make_table-2.field-0) (c.in_ok-make_table.ensures.next (omega arith)) (c.in_ok-make_table-2.ensures.next (omega arith)) in
+    (Ok c.in_ok-make_table-2.field-0) (c.in_ok-make_table.ensures.next (omega arith))
+    (c.in_ok-make_table-2.ensures.next (omega arith)) in
     let three = steps_then (λ _. Then (MakesNext Period) (MakesNext Quorum)) (λ _. SetsVersion) a d e
     c.in_ok-make_table-2.field-0 (Ok c.in_ok-set_version.field-0) two c.in_ok-set_version.ensures.set in
     steps_as (λ _. Then (Then (MakesNext Period) (MakesNext Quorum)) SetsVersion) (λ _. TakesToSecond) a e

@@ -3,7 +3,7 @@ use Rattle.register_store.specs.TableReads.{seen}
 use Rattle.register_store.specs.DueSearch.{HasFirst, is_past}
 use Rattle.register_store.proofs.NextDue.{past_next}
 use Rattle.register_store.proofs.Readings.{reads_weaker}
-use Rattle.register_store.proofs.key_scan.find_next_due_key.Goals as goal
+use Rattle.register_store.proofs.key_scan.each_due.Goals as goal
 
 pub returns-in-First-clause-reads : goal.returns-in-First-clause-reads
 returns-in-First-clause-reads g c =

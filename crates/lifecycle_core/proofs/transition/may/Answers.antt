@@ -2,7 +2,7 @@ use Rattle.std.specs.Prelude.{Some, refl}
 use Rattle.std.proofs.Common.{arith}
 use Rattle.std.proofs.lemmas.Grind.{common_steps}
 use Rattle.lifecycle_core.proofs.Transitions.{listed}
-use Rattle.lifecycle_core.proofs.transition.is_transition.Goals as goal
+use Rattle.lifecycle_core.proofs.transition.may.Goals as goal
 
 pub returns-in-Destroyed : goal.returns-in-Destroyed
 returns-in-Destroyed c = (λ h. listed (Some c.args.from) c.args.to (grind (arith, common_steps)), λ h. refl)

@@ -7,7 +7,7 @@ use Rattle.register_store.specs.TableChanges.{Makes, Always, AreRightAt, with_ke
 use Rattle.register_store.specs.Due.{moved_on, with_each}
 use Rattle.register_store.proofs.DueStates.{moves_all, none_moves}
 use Rattle.register_store.proofs.Wrote.{wrote}
-use Rattle.register_store.proofs.accepted_request.advance_keys_to_moment.Goals as goal
+use Rattle.register_store.proofs.accepted_request.advance_due.Goals as goal
 
 pub returns : goal.returns
 returns g c =
