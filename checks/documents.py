@@ -315,7 +315,7 @@ def call_faults():
 
 def counts_of_code():
     tables = re.search(r"TABLES: \[TableName; (\d+)\]", read("crates/register_store/src/table.rt"))
-    kind = read("crates/register_requests/src/command_kind.rt")
+    kind = read("crates/register_requests/src/command_fields.rt")
     kinds = re.search(r"ALL: \[CommandKind; (\d+)\]", kind)
     steps = re.search(r"StandsFor[^}]*TakesSteps (\d+)", read("crates/register_desk/src/desk/applying.rt"))
     return int(tables.group(1)), int(kinds.group(1)), int(steps.group(1))

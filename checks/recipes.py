@@ -47,16 +47,16 @@ ALWAYS = {
 }
 KINDS = (
     Kind("Add a command", r"\b[Ww]ithdraw\b", {
-        "its refusal NoApproval": "*/CustodyRefusal.antt crates/register_core/src/verdict.rt",
+        "its refusal NoApproval": "*/CustodyRefusal.antt crates/register_core/src/decision.rt",
         "a day or a year of an office": "docs/AUDIT.md examples/year.txt checks/version_1.sql",
     }),
     Kind("Add a command", r"\b(Activate|Assign|AddCustodian|Approve)\b", {
         "they stand for their shapes": "*/Commands.antt */command_with_key/*",
-        "their refusals": "*/CustodyRefusal.antt crates/register_core/src/verdict.rt",
+        "their refusals": "*/CustodyRefusal.antt crates/register_core/src/decision.rt",
         "any command would do": "crates/test_desk_trials/src/desks.rt docs/COSTS.md",
     }),
     Kind("Add a shape of fields", r"\bTypeAndPeriod\b|type_and_period|\bDateEdits\b", {
-        "the kinds that have it": "*/CommandKind.antt */command_kind.rt",
+        "the kinds that have it": "*/CommandKind.antt */command_fields.rt",
     }),
     Kind("Add a refusal", r"\bNoApproval\b|\bno_approval key\b|Refusal::ApprovalsMissing|\(ApprovalsMissing ", {}),
     Kind("Add a route", r"ShowUsage|Route(Pattern)?::Usage|Show, Usage|/usage\b|\busage_(text|reply|data|value|row)", {

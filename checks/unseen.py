@@ -27,7 +27,7 @@ MOST_LINES = 14
 # that is handed on under another name counts, one that is looked at does not.
 TOLD = {
     "disk_files/src/disk_files.rt": 1,
-    "http_messages/src/content.rt": 3,
+    "http_messages/src/asking.rt": 3,
     "http_messages/src/route.rt": 2,
     "keyreg/src/main.rt": 1,
     "register_desk/src/desk.rt": 1,
@@ -37,7 +37,7 @@ TOLD = {
     "register_http/src/exchanging.rt": 1,
     "register_program/src/acting.rt": 1,
     "register_report/src/importing.rt": 1,
-    "register_report/src/writing.rt": 1,
+    "register_report/src/table_writing.rt": 1,
     "register_store/src/error.rt": 3,
     "row_checks/src/reading.rt": 1,
 }
@@ -48,7 +48,7 @@ MEMORY = re.compile(r"\b(?:End|OpenRefusal|AskFault|StoreError|CheckError|RowsEr
 # What each function of counted.rt that calls a connection, or one of these, calls.
 CALLS = {
     "execute": {"execute": 1},
-    "find_one": {"query_row": 1},
+    "find_one_row": {"query_row": 1},
     "query_all": {"query_all": 1},
     "transact": {"run_in_transaction": 1},
     "run_in_transaction": {"transaction": 1, "run": 1, "commit": 1, "rollback": 1},

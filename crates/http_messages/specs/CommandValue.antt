@@ -4,14 +4,14 @@ use Rattle.lifecycle_core.specs.Reason.{reason_code}
 use Rattle.period_core.specs.KeyType.{key_type_text}
 use Rattle.register_requests.specs.CommandKind.{command_kind_text}
 use Rattle.register_requests.specs.CommandRule.{kind_of}
-use Rattle.register_requests.specs.declared.command_kind.CommandKind.{CommandKind}
+use Rattle.register_requests.specs.declared.command_fields.CommandKind.{CommandKind}
 use Rattle.register_requests.specs.declared.request.Command.{Command}
-use Rattle.register_requests.specs.declared.fields.Fields.{Fields}
-use Rattle.register_requests.specs.declared.fields.Fields.TheVariants.{Nothing, Key, KeyAndName}
-use Rattle.register_requests.specs.declared.fields.Fields.TheVariants.{KeyAndOwner, KeyAndNeed, TypeAndPeriod}
-use Rattle.register_requests.specs.declared.fields.Fields.TheVariants.{Registration}
-use Rattle.register_requests.specs.declared.fields.Fields.TheVariants.{DateEdits, Revocation}
-use Rattle.register_requests.specs.declared.fields.Shape.{Shape}
+use Rattle.register_requests.specs.declared.command_fields.Fields.{Fields}
+use Rattle.register_requests.specs.declared.command_fields.Fields.TheVariants.{Nothing, Key, KeyAndName}
+use Rattle.register_requests.specs.declared.command_fields.Fields.TheVariants.{KeyAndOwner, KeyAndNeed, TypeAndPeriod}
+use Rattle.register_requests.specs.declared.command_fields.Fields.TheVariants.{Registration}
+use Rattle.register_requests.specs.declared.command_fields.Fields.TheVariants.{DateEdits, Revocation}
+use Rattle.register_requests.specs.declared.command_fields.Shape.{Shape}
 use Rattle.register_requests.specs.Fields.{fields_of, shape_of}
 use Rattle.register_requests.specs.Request.{AreFields}
 use Rattle.register_requests.specs.declared.request.Edit.{Edit}

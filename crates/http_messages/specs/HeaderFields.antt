@@ -5,9 +5,9 @@ use Rattle.std.specs.Str.Parse.{digits_value}
 use Rattle.std.specs.Char.{to_ascii_lowercase, is_ascii_digit}
 use Rattle.httparse.specs.Grammar.{RequestHead, AllPass}
 use Rattle.httparse.specs.Spans.{name_and_value}
-use Rattle.http_messages.specs.declared.fields.HeaderFields.{HeaderFields}
-use Rattle.http_messages.specs.declared.fields.Values.{Values}
-use Rattle.http_messages.specs.declared.fields.Values.TheVariants as found
+use Rattle.http_messages.specs.declared.header_fields.HeaderFields.{HeaderFields}
+use Rattle.http_messages.specs.declared.header_fields.Values.{Values}
+use Rattle.http_messages.specs.declared.header_fields.Values.TheVariants as found
 
 -- the names and the values of header lines
 abbrev pub Lines : Type 0

@@ -1,12 +1,17 @@
-//! Reads what an input asks for. The register is not asked here.
-ghost use Rattle.std.specs.Prelude.{◌≡◌, ◌↔◌, ◌+◌, ◌≤◌, ◌++◌, ℕ, List, [], length, map, min, take};
-ghost use Rattle.std.specs.Prelude.{drop, Some, Ok, Err, IfOk, IfErr, IfSome, IfNone, IsSomeAnd};
-ghost use Rattle.std.specs.Prelude.{OnOk};
+//! Reads what an input asks for, its body included. The register is not asked here.
+ghost use Rattle.std.specs.Prelude.{◌≡◌, ◌≢◌, ◌<◌, ◌≤◌, ◌++◌, ℕ, List, length, Some, IsUtf8, IfOk};
+ghost use Rattle.std.specs.Prelude.{IfErr, OnOk, IfSome, IfNone, ◌↔◌, ◌+◌, [], map, min, take};
+ghost use Rattle.std.specs.Prelude.{drop, Ok, Err, IsSomeAnd};
+ghost use Rattle.std.specs.Io.KnownBytes.{Consumes, IsAtEnd};
+ghost use Rattle.serde_json.specs.Data.{Data};
+ghost use Rattle.serde_json.specs.Read.{read};
+ghost use Rattle.serde_json.specs.View.{view};
+ghost use Rattle.streams.specs.Watched.{IsFaulted};
+ghost use Rattle.http_messages.specs.Content.{GetsBody, HasRead, TellsFault, ReadsInput};
+ghost use Rattle.http_messages.specs.declared.head.TheConstants.{MAX_EXCHANGE_READS};
 ghost use Rattle.httparse.specs.Grammar.{RequestHead};
 ghost use Rattle.httparse.specs.Spans.{IsRequestAt, IsRequestWithin, header_bytes};
-ghost use Rattle.streams.specs.Watched.{IsFaulted};
 ghost use Rattle.http_messages.specs.CommandBody.{IsInRange};
-ghost use Rattle.http_messages.specs.Content.{HasRead, ReadsInput, TellsFault};
 ghost use Rattle.http_messages.specs.Asked.{AsksFor, AsksBody, AsksAfter, AsksPost, HasHost};
 ghost use Rattle.http_messages.specs.Asked.{IsFrom, max_body_length};
 ghost use Rattle.http_messages.specs.HeaderFields.{AreGathered, IsLength, Lines};
@@ -16,16 +21,142 @@ ghost use Rattle.http_messages.specs.Route.{routes};
 
 use crate::asked::{AskFault, Asked, Rejection, Sent};
 use crate::command_value::command_of;
-use crate::content::{BodyRead, read_body, value_of};
-use crate::fields::{HeaderFields, Values};
 use crate::head::{HeadSearch, MAX_EXCHANGE_READS, MAX_HEADERS, Prefix};
+use crate::header_fields::{HeaderFields, Values};
 use crate::route::{Route, RoutePattern, Routes, route_of};
 use httparse::spans::{EMPTY_HEADER_SPAN, HeaderSpan, RequestSpans};
 use matchit::Router;
 use register_core::{Name, RequestNumber, read_decimal};
+use serde_json::{Category, Value};
 use std::alloc::Global;
 use std::io::Read;
 use streams::{ReadFault, Watched};
+
+/// The most bytes that one read takes.
+const MAX_PIECE_LENGTH: usize = 4096;
+
+/// What came of one read.
+#[derive(Clone, Copy)]
+struct Piece {
+    /// How many bytes were read.
+    count: usize,
+    kept: Result<(), AskFault>,
+}
+
+/// Reads once, at most so many bytes, and puts them after the others.
+fn read_body_piece<R: Read>(most: usize, body: &mut Vec<u8>, reader: &mut Watched<R>) -> Piece
+    requires { 0 < most }
+    ensures bytes { (more : List ℕ) × (length more ≡ result.count)
+        × Consumes (R.remaining reader.old.inner) (R.remaining reader.new.inner) more
+        × OnOk result.kept (body.new.items ≡ body.old.items ++ more) }
+    ensures few { result.count ≤ most }
+    ensures end { OnOk result.kept (result.count ≡ 0 → IsAtEnd (R.remaining reader.new.inner)) }
+    ensures sound { OnOk result.kept (reader.new.failed ≡ reader.old.failed) }
+    ensures tells { TellsFault reader.old.failed reader.new.failed result.kept }
+    ensures fault { IfErr result.kept (λ fault. fault ≡ AskFault.ReadFault
+        → IsFaulted reader.new.failed MAX_EXCHANGE_READS reader.new.turns) }
+    ensures bounded { reader.old.turns ≤ MAX_EXCHANGE_READS
+        → reader.new.turns ≤ MAX_EXCHANGE_READS }
+{
+    let mut piece = [0; MAX_PIECE_LENGTH];
+    let room = most.min(MAX_PIECE_LENGTH);
+    let Ok(count) = reader.read_piece(MAX_EXCHANGE_READS, &mut piece[..room]) else {
+        return Piece {
+            count: 0,
+            kept: Err(AskFault::ReadFault),
+        };
+    };
+    match body.extend_from_slice(&piece[..count]) {
+        Ok(()) => Piece {
+            count,
+            kept: Ok(()),
+        },
+        Err(_) => Piece {
+            count,
+            kept: Err(AskFault::Memory),
+        },
+    }
+}
+
+/// What came of reading a body.
+#[derive(Drop)]
+pub(crate) struct BodyRead {
+    /// How many bytes were read.
+    pub read: usize,
+    /// The body, or `None` where the input ends before it does.
+    pub body: Result<Option<Vec<u8>>, AskFault>,
+}
+
+impl BodyRead {
+    /// A body that was not read whole.
+    fn unfinished(read: usize, body: Result<Option<Vec<u8>>, AskFault>) -> Self
+        ensures { result ≡ record { read = read; body = body } }
+    {
+        BodyRead { read, body }
+    }
+}
+
+/// Reads the body that has this length, of which what stands here after the head is the prefix.
+pub(crate) fn read_body<R: Read>(
+    alloc: Global,
+    after: &[u8],
+    length: usize,
+    reader: &mut Watched<R>,
+) -> BodyRead
+    ensures gets { IfOk result.body (GetsBody after.now length (R.remaining reader.old.inner)
+        (R.remaining reader.new.inner)) }
+    ensures read { HasRead (R.remaining reader.old.inner) (R.remaining reader.new.inner)
+        result.read }
+    ensures few { result.read ≤ length }
+    ensures tells { TellsFault reader.old.failed reader.new.failed result.body }
+    ensures fault { IfErr result.body (λ fault. fault ≡ AskFault.ReadFault
+        → IsFaulted reader.new.failed MAX_EXCHANGE_READS reader.new.turns) }
+    ensures bounded { reader.old.turns ≤ MAX_EXCHANGE_READS
+        → reader.new.turns ≤ MAX_EXCHANGE_READS }
+{
+    let mut body = Vec::new(alloc);
+    let held = length.min(after.len());
+    let mut read = 0;
+    match body.extend_from_slice(&after[..held]) {
+        Ok(()) => {}
+        Err(_) => return BodyRead::unfinished(read, Err(AskFault::Memory)),
+    }
+    'reads: while body.len() < length {
+        let piece = read_body_piece(length - body.len(), &mut body, reader);
+        read += piece.count;
+        match piece.kept {
+            Ok(()) => {}
+            Err(fault) => return BodyRead::unfinished(read, Err(fault)),
+        }
+        if piece.count == 0 {
+            return BodyRead::unfinished(read, Ok(None));
+        }
+    }
+    BodyRead {
+        read,
+        body: Ok(Some(body)),
+    }
+}
+
+/// The JSON value of the body, if it is one.
+pub(crate) fn json_value_of(alloc: Global, body: &[u8]) -> Result<Option<Value>, AskFault>
+    ensures found { IfOk result (λ o.
+        IfSome o (λ v. IsUtf8 body.now × (read body.now ≡ Some (view v)))) }
+    ensures none { IfOk result (λ o.
+        IfNone o ((d : Data) → IsUtf8 body.now → read body.now ≢ Some d)) }
+    ensures err { IfErr result (λ fault. fault ≡ AskFault.Memory) }
+{
+    match Value::from_slice(alloc, body) {
+        Ok(value) => Ok(Some(value)),
+        Err(error) => {
+            if error.classify() == Category::Memory {
+                Err(AskFault::Memory)
+            } else {
+                Ok(None)
+            }
+        }
+    }
+}
 
 /// What came of reading an input.
 #[derive(Clone, Copy, Debug, PartialEq, Eq)]
@@ -71,7 +202,7 @@ struct Post {
 }
 
 /// The number that the digits write, or one past the limit where it is greater.
-fn length_of(text: &[u8]) -> Option<u32>
+fn content_length_of(text: &[u8]) -> Option<u32>
     ensures found { IfSome result (λ n. (m : ℕ) × IsLength text.now m
         × (n ≡ min m (max_body_length + 1))) }
     ensures none { IfNone result ((m : ℕ) → IsLength text.now m → ⊥) }
@@ -97,8 +228,8 @@ fn sender_of(fields: &HeaderFields<'_>) -> Option<Sender>
     ensures none { (lines : Lines) → AreGathered lines fields.now → IfNone result
         ((caller : List ℕ) (number : ℕ) → IsFrom lines caller number → ⊥) }
 {
-    let caller = Name::new(fields.caller.one()?)?;
-    let number = RequestNumber::new(read_decimal(fields.request_number.one()?)?)?;
+    let caller = Name::new(fields.caller.only_value()?)?;
+    let number = RequestNumber::new(read_decimal(fields.request_number.only_value()?)?)?;
     Some(Sender { caller, number })
 }
 
@@ -116,7 +247,7 @@ fn post_of(fields: &HeaderFields<'_>) -> Result<Post, Rejection>
         Values::One(text) => text,
         Values::Several => return Err(Rejection::BadRequest),
     };
-    let Some(length) = length_of(text) else {
+    let Some(length) = content_length_of(text) else {
         return Err(Rejection::BadRequest);
     };
     if length > MAX_BODY_LENGTH {
@@ -135,7 +266,7 @@ fn ask_body(alloc: Global, post: Post, body: &[u8]) -> Result<Option<Asked>, Ask
     ensures in_range { IfOk result (λ o. IfSome o IsInRange) }
     ensures err { IfErr result (λ fault. fault ≡ AskFault.Memory) }
 {
-    let Some(value) = value_of(alloc, body)? else {
+    let Some(value) = json_value_of(alloc, body)? else {
         return Ok(Some(Asked::Reject(Rejection::BadRequest)));
     };
     let Some(command) = command_of(&value) else {
@@ -238,7 +369,7 @@ fn ask_head<R: Read>(
         (AsksAfter h (drop head.now.spans.len head.now.bytes.now ++ left))) }
     ensures reads { ReadsInput R.remaining reader.old reader.new result.read result }
 {
-    let fields = HeaderFields::gather(head.bytes, &head.headers[..head.spans.headers]);
+    let fields = HeaderFields::gather_lines(head.bytes, &head.headers[..head.spans.headers]);
     let router = match routes.router(alloc) {
         Ok(router) => router,
         Err(fault) => return Asking::unread(Err(fault)),
@@ -259,7 +390,7 @@ fn ask_head<R: Read>(
 
 /// Looks for a head with this prefix, and reads what is asked for. What is counted as read is what
 /// was read beside the prefix.
-fn ask_after<R: Read>(
+fn ask_after_prefix<R: Read>(
     alloc: Global,
     routes: &mut Routes,
     prefix: &mut Prefix,
@@ -303,7 +434,7 @@ pub fn ask<R: Read>(alloc: Global, routes: &mut Routes, reader: &mut Watched<R>)
         → reader.new.turns ≤ MAX_EXCHANGE_READS }
 {
     let mut prefix = Prefix::new();
-    let after = ask_after(alloc, routes, &mut prefix, reader);
+    let after = ask_after_prefix(alloc, routes, &mut prefix, reader);
     Asking {
         read: prefix.bytes().len() + after.read,
         asked: after.asked,

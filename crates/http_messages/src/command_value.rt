@@ -7,12 +7,15 @@ ghost use Rattle.period_core.specs.declared.key_type.KeyType.{KeyType};
 ghost use Rattle.period_core.specs.Period.{Period};
 ghost use Rattle.lifecycle_core.specs.declared.reason.Reason.{Reason};
 ghost use Rattle.register_requests.specs.declared.request.Edit.{Edit};
-ghost use Rattle.register_requests.specs.declared.command_kind.CommandKind.{CommandKind};
+ghost use Rattle.register_requests.specs.declared.command_fields.CommandKind.{CommandKind};
 ghost use Rattle.register_requests.specs.declared.request.Command.{Command};
-ghost use Rattle.register_requests.specs.declared.fields.Fields.{Fields};
-ghost use Rattle.register_requests.specs.declared.fields.Fields.TheVariants.{Nothing, Registration};
-ghost use Rattle.register_requests.specs.declared.fields.Fields.TheVariants.{DateEdits, Revocation, TypeAndPeriod};
-ghost use Rattle.register_requests.specs.declared.fields.Shape.TheVariants as shapes;
+ghost use Rattle.register_requests.specs.declared.command_fields.Fields.{Fields};
+ghost use Rattle.register_requests.specs.declared.command_fields.Fields.TheVariants.{Nothing};
+ghost use Rattle.register_requests.specs.declared.command_fields.Fields.TheVariants.{Registration};
+ghost use Rattle.register_requests.specs.declared.command_fields.Fields.TheVariants.{DateEdits};
+ghost use Rattle.register_requests.specs.declared.command_fields.Fields.TheVariants.{Revocation};
+ghost use Rattle.register_requests.specs.declared.command_fields.Fields.TheVariants.{TypeAndPeriod};
+ghost use Rattle.register_requests.specs.declared.command_fields.Shape.TheVariants as shapes;
 ghost use Rattle.register_requests.specs.Fields.{fields_of};
 ghost use Rattle.register_requests.specs.Name.{IsName};
 ghost use Rattle.register_requests.specs.Quorum.{IsQuorum};
@@ -23,8 +26,9 @@ ghost use Rattle.http_messages.specs.CommandValue.{HasMembers, IsShaped};
 ghost use Rattle.http_messages.specs.CommandValue.{keyed_members, named_members, four_members};
 ghost use Rattle.http_messages.specs.CommandValue.{set_members, register_members};
 
-use crate::members::{
-    date_of, edit_of, key_of, key_type_of, name_of, period_of, purpose_of, quorum_of, reason_of,
+use crate::member_values::{
+    date_of, edit_of, key_number_of, key_type_of, name_of, period_of, purpose_of, quorum_of,
+    reason_of,
 };
 use register_core::{Command, CommandKind, Fields, Name, Quorum, Shape};
 use serde_json::{Map, Value};
@@ -50,7 +54,10 @@ fn next_member_named<'v>(members: &mut Iter<'v, String, Value>, name: &str) -> O
 }
 
 /// The value of the last member, if there is one member left and it has this name.
-fn last_member_named<'v>(members: &mut Iter<'v, String, Value>, name: &str) -> Option<&'v Value>
+fn only_member_left_named<'v>(
+    members: &mut Iter<'v, String, Value>,
+    name: &str,
+) -> Option<&'v Value>
     ensures found { IfSome result (λ value.
         members_view members.old ≡ member name.now (view value.now) no_members) }
     ensures none { IfNone result ((d : Data) →
@@ -65,7 +72,7 @@ fn last_member_named<'v>(members: &mut Iter<'v, String, Value>, name: &str) -> O
 }
 
 /// The value of the key among members that name a key alone.
-fn lone_key_value_of(members: &Map<String, Value>) -> Option<&Value>
+fn lone_key_member_of(members: &Map<String, Value>) -> Option<&Value>
     ensures found { IfSome result (λ key. (kind : Data) ×
         (members_view members.now.entries ≡ keyed_members (view key.now) kind)) }
     ensures none { IfNone result ((key kind : Data) →
@@ -73,18 +80,18 @@ fn lone_key_value_of(members: &Map<String, Value>) -> Option<&Value>
 {
     let mut rest = members.iter();
     let key = next_member_named(&mut rest, "key")?;
-    let _kind = last_member_named(&mut rest, "kind")?;
+    let _kind = only_member_left_named(&mut rest, "kind")?;
     Some(key)
 }
 
 /// The key of members that name a key alone.
-fn lone_key_of(members: &Map<String, Value>) -> Option<u32>
+fn lone_key_number_of(members: &Map<String, Value>) -> Option<u32>
     ensures found { IfSome result (λ key. IsKeyNumber key × ((kind : Data) ×
         (members_view members.now.entries ≡ keyed_members (number_data key) kind))) }
     ensures none { IfNone result ((key : ℕ) (kind : Data) → IsKeyNumber key →
         members_view members.now.entries ≢ keyed_members (number_data key) kind) }
 {
-    key_of(lone_key_value_of(members)?)
+    key_number_of(lone_key_member_of(members)?)
 }
 
 /// No fields: there is no member beside the kind.
@@ -93,7 +100,7 @@ fn no_fields_of(members: &Map<String, Value>) -> Option<Fields>
     ensures none { IfNone result (HasMembers (members_view members.now.entries) Nothing → ⊥) }
 {
     let mut rest = members.iter();
-    let _kind = last_member_named(&mut rest, "kind")?;
+    let _kind = only_member_left_named(&mut rest, "kind")?;
     Some(Fields::Nothing)
 }
 
@@ -114,7 +121,7 @@ fn key_and_member_of<'v>(members: &'v Map<String, Value>, field: &str) -> Option
     let mut rest = members.iter();
     let key = next_member_named(&mut rest, "key")?;
     let _kind = next_member_named(&mut rest, "kind")?;
-    let value = last_member_named(&mut rest, field)?;
+    let value = only_member_left_named(&mut rest, field)?;
     Some(NamedMembers { key, value })
 }
 
@@ -128,7 +135,7 @@ fn key_and_name_of(members: &Map<String, Value>, field: &str) -> Option<(u32, Na
         ≢ named_members field.now (number_data key) kind (string name)) }
 {
     let values = key_and_member_of(members, field)?;
-    let key = key_of(values.key)?;
+    let key = key_number_of(values.key)?;
     let name = name_of(values.value)?;
     Some((key, name))
 }
@@ -143,7 +150,7 @@ fn key_and_need_of(members: &Map<String, Value>) -> Option<(u32, Quorum)>
         ≢ named_members (codes "need") (number_data key) kind (number_data need)) }
 {
     let values = key_and_member_of(members, "need")?;
-    let key = key_of(values.key)?;
+    let key = key_number_of(values.key)?;
     let need = quorum_of(values.value)?;
     Some((key, need))
 }
@@ -166,7 +173,7 @@ fn four_members_of<'v>(
     let first = next_member_named(&mut rest, first)?;
     let second = next_member_named(&mut rest, second)?;
     let third = next_member_named(&mut rest, third)?;
-    let fourth = last_member_named(&mut rest, fourth)?;
+    let fourth = only_member_left_named(&mut rest, fourth)?;
     Some((first, second, third, fourth))
 }
 
@@ -205,7 +212,7 @@ fn revocation_fields_of(members: &Map<String, Value>) -> Option<Fields>
         "occurrence",
         "reason",
     )?;
-    let key = key_of(key)?;
+    let key = key_number_of(key)?;
     let occurrence = date_of(occurrence)?;
     let reason = reason_of(reason)?;
     if occurrence.is_some() && !reason.is_compromise() {
@@ -241,7 +248,7 @@ fn date_edit_members_of<'v>(members: &'v Map<String, Value>) -> Option<SetMember
     let deactivation = next_member_named(&mut rest, "deactivation")?;
     let key = next_member_named(&mut rest, "key")?;
     let _kind = next_member_named(&mut rest, "kind")?;
-    let protect_stop = last_member_named(&mut rest, "protect_stop")?;
+    let protect_stop = only_member_left_named(&mut rest, "protect_stop")?;
     Some(SetMembers {
         activation,
         deactivation,
@@ -261,7 +268,7 @@ fn date_edit_fields_of(members: &Map<String, Value>) -> Option<Fields>
 {
     let values = date_edit_members_of(members)?;
     Some(Fields::DateEdits {
-        key: key_of(values.key)?,
+        key: key_number_of(values.key)?,
         activation: edit_of(values.activation)?,
         protect_stop: edit_of(values.protect_stop)?,
         deactivation: edit_of(values.deactivation)?,
@@ -297,7 +304,7 @@ fn registration_members_of<'v>(members: &'v Map<String, Value>) -> Option<Regist
     let owner = next_member_named(&mut rest, "owner")?;
     let protect_stop = next_member_named(&mut rest, "protect_stop")?;
     let purpose = next_member_named(&mut rest, "purpose")?;
-    let key_type = last_member_named(&mut rest, "type")?;
+    let key_type = only_member_left_named(&mut rest, "type")?;
     Some(RegisterMembers {
         activation,
         deactivation,
@@ -337,7 +344,7 @@ fn fields_of_shape(shape: Shape, members: &Map<String, Value>) -> Option<Fields>
 {
     match shape {
         Shape::Nothing => no_fields_of(members),
-        Shape::Key => lone_key_of(members).map(|key| Fields::Key { key }),
+        Shape::Key => lone_key_number_of(members).map(|key| Fields::Key { key }),
         Shape::KeyAndName => {
             let (key, name) = key_and_name_of(members, "name")?;
             Some(Fields::KeyAndName { key, name })
@@ -366,7 +373,7 @@ fn command_kind_of(value: &Value) -> Option<CommandKind>
 }
 
 /// The command of this kind with these members, whatever the value of `kind` among them.
-fn command_with(kind: CommandKind, members: &Map<String, Value>) -> Option<Command>
+fn command_with_members(kind: CommandKind, members: &Map<String, Value>) -> Option<Command>
     ensures found { IfSome result (λ c. IsCommand c × (kind_of c ≡ kind) ×
         HasMembers (members_view members.now.entries) (fields_of c)) }
     ensures none { IfNone result ((c : Command) → IsCommand c → kind_of c ≡ kind →
@@ -386,5 +393,5 @@ pub(crate) fn command_of(value: &Value) -> Option<Command>
         view value.now ≢ command_data c) }
 {
     let kind = command_kind_of(value.get("kind")?)?;
-    command_with(kind, value.as_object()?)
+    command_with_members(kind, value.as_object()?)
 }

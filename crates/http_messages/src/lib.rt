@@ -4,25 +4,22 @@
 //! ```
 //! let mut routes = Routes::new();
 //! let asking = ask(alloc, &mut routes, &mut reader);
-//! let text = outcome_text(alloc, &outcome)?;
+//! let text = outcome_reply_text(alloc, &outcome)?;
 //! ```
 #![tactic(auto)]
 
-mod answer_text;
 mod asked;
 mod asking;
 mod command_value;
-mod content;
-mod fields;
 mod head;
+mod header_fields;
 pub mod laws;
-mod members;
-mod reply;
+mod member_values;
+mod reply_text;
 mod route;
 
-pub use answer_text::{key_text, outcome_text, usage_text};
 pub use asked::{AskFault, Asked, Rejection, Sent};
 pub use asking::{Asking, MAX_BODY_LENGTH, ask};
 pub use head::{MAX_EXCHANGE_READS, MAX_HEAD_LENGTH, MAX_HEADERS};
-pub use reply::rejection_text;
+pub use reply_text::{key_reply_text, outcome_reply_text, rejection_text, usage_reply_text};
 pub use route::{Route, Routes};

@@ -1,5 +1,6 @@
 //! What is asked for, by the target of a request.
-ghost use Rattle.std.specs.Prelude.{◌≡◌, ◌≢◌, ◌<◌, ◌^◌, ◌++◌, ℕ, List, decimal, IfOk, IfErr, IfSome, IfNone};
+ghost use Rattle.std.specs.Prelude.{◌≡◌, ◌≢◌, ◌<◌, ◌^◌, ◌++◌, ℕ, List, decimal, IfOk, IfErr};
+ghost use Rattle.std.specs.Prelude.{IfSome, IfNone};
 ghost use Rattle.std.specs.Option.{ForSome};
 ghost use Rattle.http_messages.specs.Route.{routes, route_text, pattern_of, IsRoute, IsRouteOf};
 ghost use Rattle.register_requests.specs.Request.{IsKeyNumber};
@@ -94,7 +95,7 @@ fn field_between<'t>(target: &'t [u8], prefix: &[u8], back: &[u8]) -> Option<&'t
 }
 
 /// The number of a key that stands between the prefix and the back.
-fn key_between(target: &[u8], prefix: &[u8], back: &[u8]) -> Option<u32>
+fn key_number_between(target: &[u8], prefix: &[u8], back: &[u8]) -> Option<u32>
     ensures found { IfSome result (λ n.
         (target.now ≡ prefix.now ++ (decimal n ++ back.now)) × IsKeyNumber n) }
     ensures none { IfNone result ((n : ℕ) → IsKeyNumber n →
@@ -133,11 +134,11 @@ fn route_of_pattern(pattern: RoutePattern, target: &[u8]) -> Option<Route>
             }
         }
         RoutePattern::Key => {
-            let key = key_between(target, b"/keys/", b"")?;
+            let key = key_number_between(target, b"/keys/", b"")?;
             Some(Route::Show(key))
         }
         RoutePattern::Usage => {
-            let key = key_between(target, b"/keys/", b"/usage")?;
+            let key = key_number_between(target, b"/keys/", b"/usage")?;
             Some(Route::Usage(key))
         }
     }

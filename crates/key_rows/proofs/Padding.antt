@@ -11,7 +11,7 @@ use Rattle.period_core.proofs.Types.{of_each_type}
 use Rattle.lifecycle_core.specs.State.{is_reached_at}
 use Rattle.key_rows.specs.declared.key_row.KeyRow.{KeyRow}
 use Rattle.key_rows.specs.Export.{date_text}
-use Rattle.key_rows.specs.Report.{left, right, spaces, mark, report_line}
+use Rattle.key_rows.specs.Report.{left, right, spaces, report_mark, report_line}
 
 -- a hole that is filled up to a width, from the left or from the right
 abbrev to_left : ℕ → List ℕ → List ℕ
@@ -54,7 +54,7 @@ kind_left =
 abbrev pub formatted : ℕ → ℕ → KeyRow → List ℕ
 formatted latest until r =
     to_right 7 r.number ++ (codes "  " ++ (date_text r.row.dates.protect_stop ++ (codes "  "
-    ++ (to_left 7 (mark latest until r)
+    ++ (to_left 7 (report_mark latest until r)
     ++ (codes "  " ++ (to_left 22 (key_type_text r.kind) ++ (codes "  "
     ++ (r.owner ++ (codes "  " ++ (r.purpose ++ codes "\n"))))))))))
 

@@ -28,8 +28,8 @@ report_head until = codes "Keys due for rotation by " ++ moment_text until ++ co
 
 -- A key is overdue where its Protect Stop Date is reached at the latest moment, due where it is up to the horizon, and
 -- past that it is listed since it is long.
-abbrev pub mark : ℕ → ℕ → KeyRow → List ℕ
-mark latest until r =
+abbrev pub report_mark : ℕ → ℕ → KeyRow → List ℕ
+report_mark latest until r =
     if is_reached_at r.row.dates.protect_stop latest then codes "overdue"
     else if is_reached_at r.row.dates.protect_stop until then codes "due"
     else codes "long"
@@ -37,7 +37,7 @@ mark latest until r =
 unfoldable pub report_line : ℕ → ℕ → KeyRow → List ℕ
 report_line latest until r =
     right 7 (decimal r.number) ++ codes "  " ++ date_text r.row.dates.protect_stop ++ codes "  "
-    ++ left 7 (mark latest until r) ++ codes "  " ++ left 22 (key_type_text r.kind) ++ codes "  "
+    ++ left 7 (report_mark latest until r) ++ codes "  " ++ left 22 (key_type_text r.kind) ++ codes "  "
     ++ r.owner ++ codes "  " ++ r.purpose ++ codes "\n"
 
 unfoldable pub report_total : ℕ → List ℕ

@@ -1,5 +1,6 @@
 //! The text of an export, a row at a time.
-ghost use Rattle.std.specs.Prelude.{◌≡◌, ◌<◌, ◌+◌, ◌^◌, ◌++◌, ℕ, List, [], ◌∷◌, length, OnOk, IfOk, Some};
+ghost use Rattle.std.specs.Prelude.{◌≡◌, ◌<◌, ◌+◌, ◌^◌, ◌++◌, ℕ, List, [], ◌∷◌, length, OnOk, IfOk};
+ghost use Rattle.std.specs.Prelude.{Some};
 ghost use Rattle.key_rows.specs.Export.{IsPrintable, export_header, export_row};
 ghost use Rattle.key_rows.specs.RowWriter.{HasFields, written};
 ghost use Rattle.key_rows.specs.Cell.{cell_text};

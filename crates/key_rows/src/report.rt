@@ -49,8 +49,8 @@ pub fn is_due_or_long(until: Moment, periods: &OfficePeriods, row: &KeyRow) -> b
 }
 
 /// Whether the key's Protect Stop Date is reached, or will be by the horizon, or the key is long.
-fn mark(latest: Moment, until: Moment, row: &KeyRow) -> &'static str
-    ensures { result.now ≡ spec.mark latest until row.now }
+fn report_mark(latest: Moment, until: Moment, row: &KeyRow) -> &'static str
+    ensures { result.now ≡ spec.report_mark latest until row.now }
 {
     match row.row.dates.protect_stop {
         Some(stop) if stop <= latest => "overdue",
@@ -71,7 +71,7 @@ pub fn report_line(
     let number = row.number;
     let stop = date_text(row.row.dates.protect_stop);
     let stop = stop.as_str();
-    let mark = mark(latest, until, row);
+    let mark = report_mark(latest, until, row);
     let kind = row.kind.text();
     let owner = row.owner.text();
     let purpose = row.purpose.text();

@@ -58,9 +58,9 @@ stands : (text : List ℕ) (m at n : ℕ) → n < 100 → take 2 (drop at (momen
     → IsOf (take 2 (drop at text)) n
 stands text m at n small there e = record { small = small; same = ap (λ (s : List ℕ). take 2 (drop at s)) e ∙ there }
 
-pub format_fixed : (text : List ℕ) (m : ℕ) → IsMoment m → text ≡ moment_text m → IsTextOf text m
+pub format_date_and_time : (text : List ℕ) (m : ℕ) → IsMoment m → text ≡ moment_text m → IsTextOf text m
 unfolding moment_text
-format_fixed text m is e =
+format_date_and_time text m is e =
     let years = in_years m is in
     record {
       century = stands text m 0 _ (omega (arith, years.last)) refl e;
@@ -111,7 +111,7 @@ pub date_read : {century year month day : ℕ} (text : List ℕ) (m : ℕ) → I
     → Reads (take 2 (drop 5 text)) (Some month) → Reads (take 2 (drop 8 text)) (Some day)
     → IsDateRead century year month day m
 date_read {century} {year} {month} {day} text m is e of_century of_year of_month of_day =
-    let at = format_fixed text m is e in
+    let at = format_date_and_time text m is e in
     let high = read_as at.century of_century in
     let low = read_as at.year of_year in
     record { year = omega (arith, high, low); month = read_as at.month of_month; day = read_as at.day of_day }
@@ -122,7 +122,7 @@ pub time_read : {hour minute second : ℕ} (text : List ℕ) (m : ℕ) → IsMom
     → Reads (take 2 (drop 17 text)) (Some second)
     → m ≡ day_number (date_at m) * 86_400 + hour * 3600 + minute * 60 + second
 time_read {hour} {minute} {second} text m is e of_hour of_minute of_second =
-    let at = format_fixed text m is e in
+    let at = format_date_and_time text m is e in
     omega (arith, from_parts m, read_as at.hour of_hour, read_as at.minute of_minute, read_as at.second of_second)
 
 -- two digits are of one number below 100
@@ -139,7 +139,7 @@ reads_same {digits} {a} of b small other =
 -- the text of a moment reads as the moment's own parts
 pub one_moment : (m n : ℕ) → IsMoment m → IsMoment n → moment_text m ≡ moment_text n → m ≡ n
 one_moment m n of_m of_n e =
-    let at = format_fixed (moment_text m) m of_m refl in
+    let at = format_date_and_time (moment_text m) m of_m refl in
     let date = date_read (moment_text m) n of_n e
     (reads_same at.century) (reads_same at.year) (reads_same at.month) (reads_same at.day) in
     let time = time_read (moment_text m) n of_n e

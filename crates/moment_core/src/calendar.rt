@@ -52,7 +52,7 @@ pub(crate) fn day_number_of(year: u32, month: u8, day: u8) -> Option<u64>
 }
 
 /// The date with this year and month, and this day or the month's last where there is no such day.
-fn clamp_day(year: u32, month: u32, day: u8) -> Date
+fn clamp_to_month_end(year: u32, month: u32, day: u8) -> Date
     requires year_in { (1970 ≤ year) × (year ≤ 9999) }
     requires month_in { (1 ≤ month) × (month ≤ 12) }
     requires day_in { 1 ≤ day }
@@ -64,7 +64,7 @@ fn clamp_day(year: u32, month: u32, day: u8) -> Date
 }
 
 /// The day so many months after a date, or `None` after the year 9999.
-fn day_after_months(date: Date, months: u16) -> Option<u64>
+fn day_number_after_months(date: Date, months: u16) -> Option<u64>
     requires { (c : Civil) × HasParts date c }
     ensures day { (c : Civil) → HasParts date c →
         MatchOption result (9999 < (months_on c months).year)
@@ -76,7 +76,7 @@ fn day_after_months(date: Date, months: u16) -> Option<u64>
     if year > 9999 {
         return None;
     }
-    let later = clamp_day(year, months % 12 + 1, date.day);
+    let later = clamp_to_month_end(year, months % 12 + 1, date.day);
     Some(u64::from(later.days_since_min() - DAYS_BEFORE))
 }
 
@@ -87,7 +87,7 @@ impl Moment {
         ensures { result ≡ months_after self months }
     {
         let seconds = self.seconds();
-        let day = day_after_months(date_of(seconds / DAY_SECONDS), months)?;
+        let day = day_number_after_months(date_of(seconds / DAY_SECONDS), months)?;
         Moment::new(day * DAY_SECONDS + seconds % DAY_SECONDS)
     }
 

@@ -11,6 +11,6 @@
 mod calendar;
 pub mod laws;
 mod moment;
-mod text;
+mod moment_text;
 
-pub use moment::{LAST_SECOND, Moment};
+pub use moment::{FIRST_MOMENT, LAST_SECOND, Moment};

@@ -7,6 +7,9 @@ use std::marker::Model;
 /// The second of the last moment, 9999-12-31T23:59:59Z.
 pub const LAST_SECOND: u64 = 253_402_300_799;
 
+/// The first moment, 1970-01-01T00:00:00Z.
+pub const FIRST_MOMENT: Moment = Moment { seconds: 0 };
+
 /// A moment, as KMIP's Date-Time: the seconds since 1970-01-01T00:00:00Z, leap seconds not counted,
 /// up to [`LAST_SECOND`] (the range is this register's own). In a contract it is that number.
 #[derive(Clone, Copy, Debug, PartialEq, Eq, Hash, PartialOrd, Ord)]

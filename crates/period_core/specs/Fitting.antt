@@ -5,8 +5,8 @@ use Rattle.std.specs.Prelude.{None, Some, is_some, is_none, Result, Ok, Err, IsT
 use Rattle.lifecycle_core.specs.declared.dates.Dates.{Dates}
 use Rattle.moment_core.specs.Calendar.{months_after}
 use Rattle.period_core.specs.Period.{Period}
-use Rattle.period_core.specs.declared.fitting.DateRefusal.{DateRefusal}
-use Rattle.period_core.specs.declared.fitting.DateRefusal.TheVariants.{DateOrder, PeriodTooLong, DateRange}
+use Rattle.period_core.specs.declared.date_fitting.DateRefusal.{DateRefusal}
+use Rattle.period_core.specs.declared.date_fitting.DateRefusal.TheVariants.{DateOrder, PeriodTooLong, DateRange}
 
 -- the first date is not after the second, where both are set
 abbrev pub is_not_after : Option ℕ → Option ℕ → Bool
@@ -27,15 +27,15 @@ abbrev pub recipient_limit : Period → Dates → Option ℕ
 recipient_limit p d = months_on_date d.protect_stop p.recipient
 
 -- Activation, Protect Stop and Deactivation are in this order
-abbrev pub are_in_order : Dates → Bool
-are_in_order d =
+abbrev pub are_dates_in_order : Dates → Bool
+are_dates_in_order d =
     is_not_after d.activation d.protect_stop && is_not_after d.protect_stop d.deactivation
     && is_not_after d.activation d.deactivation
 
 -- dates fit a period: they are in order, and neither use is longer than its months. A limit past the
 -- range limits nothing
 pub record Fits (p : Period) (d : Dates) : Type 0 where
-  pub order : IsTrue (are_in_order d)
+  pub order : IsTrue (are_dates_in_order d)
   pub originator : IsTrue (is_not_after d.protect_stop (originator_limit p d))
   pub recipient : IsTrue (is_not_after d.deactivation (recipient_limit p d))
 
@@ -53,34 +53,34 @@ earlier_of (Some first) None = Some first
 earlier_of (Some first) (Some second) = Some (min first second)
 
 -- step 1: Protect Stop, where Activation is set and it is not
-abbrev pub with_protect_stop : Period → Dates → Dates
-with_protect_stop p d =
+abbrev pub with_default_protect_stop : Period → Dates → Dates
+with_default_protect_stop p d =
     if is_some d.activation && is_none d.protect_stop
     then record d { protect_stop = earlier_of (originator_limit p d) d.deactivation } else d
 
 -- step 2: Deactivation, where Activation is set and it is not
-abbrev pub with_deactivation : Period → Dates → Dates
-with_deactivation p d =
+abbrev pub with_default_deactivation : Period → Dates → Dates
+with_default_deactivation p d =
     if is_some d.activation && is_none d.deactivation
     then record d { deactivation = recipient_limit p d } else d
 
 -- the date, but no later than the limit
-abbrev pub cut : Option ℕ → Option ℕ → Option ℕ
-cut None limit = None
-cut (Some date) None = Some date
-cut (Some date) (Some limit) = Some (min date limit)
+abbrev pub cut_to_limit : Option ℕ → Option ℕ → Option ℕ
+cut_to_limit None limit = None
+cut_to_limit (Some date) None = Some date
+cut_to_limit (Some date) (Some limit) = Some (min date limit)
 
-abbrev pub with_defaults : Period → Dates → Dates
-with_defaults p d = with_deactivation p (with_protect_stop p d)
+abbrev pub dates_with_defaults : Period → Dates → Dates
+dates_with_defaults p d = with_default_deactivation p (with_default_protect_stop p d)
 
 -- the dates of an activation: each step's date cut to its limit
-abbrev pub within_limits : Period → Dates → Dates
-within_limits p d =
-    let first = with_protect_stop p d in
-    let stop = cut first.protect_stop (originator_limit p first) in
+abbrev pub dates_within_limits : Period → Dates → Dates
+dates_within_limits p d =
+    let first = with_default_protect_stop p d in
+    let stop = cut_to_limit first.protect_stop (originator_limit p first) in
     let stopped = record first { protect_stop = stop } in
-    let second = with_deactivation p stopped in
-    record second { deactivation = cut second.deactivation (recipient_limit p second) }
+    let second = with_default_deactivation p stopped in
+    record second { deactivation = cut_to_limit second.deactivation (recipient_limit p second) }
 
 -- ---- refusals
 
@@ -91,7 +91,7 @@ length_refusal (Some date) None = None
 length_refusal None limit = None
 
 abbrev pub order_refusal : Dates → Option DateRefusal
-order_refusal d = if are_in_order d then None else Some DateOrder
+order_refusal d = if are_dates_in_order d then None else Some DateOrder
 
 -- a default was past the range, and its date is still unset
 abbrev pub range_refusal : Dates → Option DateRefusal
@@ -118,7 +118,7 @@ unless_refused (Some refusal) d = Err refusal
 -- Fill: the first that holds of the dates with their defaults refuses them
 abbrev pub fill_of : Period → Dates → Result Dates DateRefusal
 fill_of p d =
-    let full = with_defaults p d in
+    let full = dates_with_defaults p d in
     unless_refused (first_that_holds (
     order_refusal full
     ∷ length_refusal full.protect_stop (originator_limit p full)
@@ -129,7 +129,7 @@ fill_of p d =
 -- Trim: no period is too long after it, so it refuses for the order and the range alone
 abbrev pub trim_of : Period → Dates → Result Dates DateRefusal
 trim_of p d =
-    let full = within_limits p d in
+    let full = dates_within_limits p d in
     unless_refused (first_that_holds (order_refusal full ∷ range_refusal full ∷ [])) full
 
 -- ---- what they owe

@@ -10,15 +10,15 @@
 //! ```
 #![tactic(auto)]
 
-mod fitting;
+mod date_fitting;
 mod key_type;
 pub mod laws;
 mod office;
 mod period;
 
-pub use fitting::{
-    DateRefusal, are_in_order, fill, fits, is_long, is_not_after, trim, with_defaults,
-    within_limits,
+pub use date_fitting::{
+    DateRefusal, are_dates_in_order, dates_with_defaults, dates_within_limits, fill, fits, is_long,
+    is_not_after, trim,
 };
 pub use key_type::KeyType;
 pub use office::OfficePeriods;

@@ -49,10 +49,10 @@ impl OfficePeriods {
     }
 
     /// Whether the office set none of any type.
-    pub fn are_none_set(&self) -> bool
+    pub fn are_all_unset(&self) -> bool
         ensures { IsTrue result ↔ ((kind : KeyType) → set_in self.now kind ≡ None) }
     {
-        self.are_none_set_of(&KeyType::ALL)
+        self.are_unset_of(&KeyType::ALL)
     }
 
     /// The period that keys of the type are held to: the one that was set, or the type's own.
@@ -78,7 +78,7 @@ impl OfficePeriods {
     }
 
     /// Whether the office set none of these types.
-    fn are_none_set_of(&self, types: &[KeyType]) -> bool
+    fn are_unset_of(&self, types: &[KeyType]) -> bool
         ensures { result ≡ list_all (λ kind. is_none (set_in self.now kind)) types.now }
     {
         types

@@ -2,7 +2,7 @@
 use Rattle.std.proofs.Common.{◌≡◌, ℕ, cond, List, [], ◌∷◌, ◌++◌, None, refl, sym, ap, subst, ◌∙◌, arith, inl, inr}
 use Rattle.lifecycle_core.specs.declared.dates.Dates.{Dates}
 use Rattle.period_core.specs.Period.{Period}
-use Rattle.period_core.specs.Fitting.{with_defaults}
+use Rattle.period_core.specs.Fitting.{dates_with_defaults}
 use Rattle.register_requests.specs.declared.request.Request.{Request}
 use Rattle.register_core.specs.History.{period, type, dates, dated_by}
 use Rattle.register_core.specs.Effect.{dates_after, sets_dates}
@@ -35,8 +35,8 @@ made_sound h q k made =
     ∙ made.fit) in
     let set = ap (dated_by (h ++ q ∷ [])) made.next ∙ dated_made h q r made.makes in
     let its = dates_when_made h q k made in
-    sound_as span _ (with_defaults span given) _ set its
-    (sound_by span given (with_defaults span given) fit (filled_keeps span given) refl)
+    sound_as span _ (dates_with_defaults span given) _ set its
+    (sound_by span given (dates_with_defaults span given) fit (filled_keeps span given) refl)
 
 -- what the request makes of the dates of the key that it names
 on_steps : (h : List Request) (q : Request) (k : ℕ) → IsOn h q k → IsSound (dated_by h k) (dates h k)

@@ -9,8 +9,9 @@ use Rattle.lifecycle_core.specs.declared.dates.Dates.{Dates}
 use Rattle.lifecycle_core.specs.Reason.{is_compromise}
 use Rattle.moment_core.specs.Calendar.{in_range, months_after}
 use Rattle.moment_core.specs.Moment.{IsMoment, last_second}
-use Rattle.period_core.specs.Fitting.{cut, earlier_of, with_defaults, months_on_date, originator_limit}
-use Rattle.period_core.specs.Fitting.{recipient_limit, within_limits, with_deactivation, with_protect_stop}
+use Rattle.period_core.specs.Fitting.{cut_to_limit, earlier_of, dates_with_defaults, months_on_date, originator_limit}
+use Rattle.period_core.specs.Fitting.{recipient_limit, dates_within_limits, with_default_deactivation}
+use Rattle.period_core.specs.Fitting.{with_default_protect_stop}
 use Rattle.period_core.specs.Period.{Period}
 use Rattle.register_requests.specs.declared.request.Command.{Command}
 use Rattle.register_requests.specs.declared.request.Command.TheVariants.{Register as Registers, Activate, SetDates}
@@ -18,7 +19,8 @@ use Rattle.register_requests.specs.declared.request.Command.TheVariants.{Revoke,
 use Rattle.register_requests.specs.declared.request.Edit.{Edit}
 use Rattle.register_requests.specs.declared.request.Edit.TheVariants.{Keep, Clear, Set}
 use Rattle.register_requests.specs.declared.request.Request.{Request}
-use Rattle.register_core.specs.Effect.{dates_after, deactivated, apply_edit, edited_dates, given_dates, cut_at}
+use Rattle.register_core.specs.Effect.{dates_after, deactivated, date_after_edit, edited_dates, given_dates}
+use Rattle.register_core.specs.Effect.{cut_date_at}
 use Rattle.register_core.specs.Fold.{IsLawful}
 use Rattle.register_core.specs.History.{Placed, count, dates, own_from, period, type}
 use Rattle.register_requests.specs.Request.{IsCommand, IsDate, IsEdit, IsRequest}
@@ -52,16 +54,16 @@ earlier_in None second a b = b
 earlier_in (Some x) None a b = a
 earlier_in (Some x) (Some y) a b = omega (arith, a)
 
-cut_in : (date limit : Option ℕ) → IsDate date → IsDate (cut date limit)
+cut_in : (date limit : Option ℕ) → IsDate date → IsDate (cut_to_limit date limit)
 cut_in None limit a = tt
 cut_in (Some x) None a = a
 cut_in (Some x) (Some y) a = omega (arith, a)
 
-no_later_in : (t : ℕ) (date : Option ℕ) → IsDate date → IsDate (cut_at t date)
+no_later_in : (t : ℕ) (date : Option ℕ) → IsDate date → IsDate (cut_date_at t date)
 no_later_in t None a = tt
 no_later_in t (Some x) a = omega (arith, a)
 
-edited_in : (edit : Edit) (date : Option ℕ) → IsEdit edit → IsDate date → IsDate (apply_edit edit date)
+edited_in : (edit : Edit) (date : Option ℕ) → IsEdit edit → IsDate date → IsDate (date_after_edit edit date)
 edited_in Keep date e a = a
 edited_in Clear date e a = tt
 edited_in (Set x) date e a = e
@@ -72,7 +74,7 @@ either : (b : Bool) (x y : Dates) → AreDates x → AreDates y → AreDates (co
 either true x y a b = a
 either false x y a b = b
 
-with_stop : (p : Period) (d : Dates) → AreDates d → AreDates (with_protect_stop p d)
+with_stop : (p : Period) (d : Dates) → AreDates d → AreDates (with_default_protect_stop p d)
 with_stop p d are =
     either (is_some d.activation && is_none d.protect_stop) _ d (record {
       activation = are.activation;
@@ -81,7 +83,7 @@ with_stop p d are =
       deactivation = are.deactivation;
     }) are
 
-with_end : (p : Period) (d : Dates) → AreDates d → AreDates (with_deactivation p d)
+with_end : (p : Period) (d : Dates) → AreDates d → AreDates (with_default_deactivation p d)
 with_end p d are =
     either (is_some d.activation && is_none d.deactivation) _ d (record {
       activation = are.activation;
@@ -89,20 +91,20 @@ with_end p d are =
       deactivation = limit_in d.protect_stop p.recipient;
     }) are
 
-filled_in : (p : Period) (d : Dates) → AreDates d → AreDates (with_defaults p d)
-filled_in p d are = with_end p (with_protect_stop p d) (with_stop p d are)
+filled_in : (p : Period) (d : Dates) → AreDates d → AreDates (dates_with_defaults p d)
+filled_in p d are = with_end p (with_default_protect_stop p d) (with_stop p d are)
 
-trimmed_in : (p : Period) (d : Dates) → AreDates d → AreDates (within_limits p d)
+trimmed_in : (p : Period) (d : Dates) → AreDates d → AreDates (dates_within_limits p d)
 trimmed_in p d are =
-    let first = with_protect_stop p d in
+    let first = with_default_protect_stop p d in
     let in_first = with_stop p d are in
-    let stopped : Dates = record first { protect_stop = cut first.protect_stop (originator_limit p first) } in
+    let stopped : Dates = record first { protect_stop = cut_to_limit first.protect_stop (originator_limit p first) } in
     let in_stopped : AreDates stopped = record {
       activation = in_first.activation;
       protect_stop = cut_in first.protect_stop (originator_limit p first) in_first.protect_stop;
       deactivation = in_first.deactivation;
     } in
-    let second = with_deactivation p stopped in
+    let second = with_default_deactivation p stopped in
     let in_second = with_end p stopped in_stopped in
     record {
       activation = in_second.activation;

@@ -12,14 +12,16 @@ use Rattle.moment_core.specs.Calendar.{months_after}
 use Rattle.moment_core.proofs.Forward.{months_forward}
 use Rattle.period_core.specs.declared.key_type.KeyType.{KeyType}
 use Rattle.period_core.specs.Period.{Period}
-use Rattle.period_core.specs.Fitting.{is_not_after, months_on_date, Fits, KeepsDate, cut, with_defaults, within_limits}
+use Rattle.period_core.specs.Fitting.{is_not_after, months_on_date, Fits, KeepsDate, cut_to_limit, dates_with_defaults}
+use Rattle.period_core.specs.Fitting.{dates_within_limits}
 use Rattle.register_requests.specs.declared.request.Command.{Command}
 use Rattle.register_requests.specs.declared.request.Command.TheVariants.{Register as Registers, Activate, SetDates}
 use Rattle.register_requests.specs.declared.request.Command.TheVariants.{Revoke, Destroy}
 use Rattle.register_requests.specs.declared.request.Edit.{Edit}
 use Rattle.register_requests.specs.declared.request.Edit.TheVariants.{Keep, Clear, Set}
 use Rattle.register_core.specs.declared.view.Held.{Held}
-use Rattle.register_core.specs.Effect.{apply_edit, edited_dates, cut_at, compromised, deactivated, dates_after}
+use Rattle.register_core.specs.Effect.{date_after_edit, edited_dates, cut_date_at, compromised, deactivated}
+use Rattle.register_core.specs.Effect.{dates_after}
 use Rattle.register_core.specs.Effect.{sets_dates}
 use Rattle.register_requests.specs.CommandRule.{before_compromise, is_one_of, is_for}
 use Rattle.register_core.specs.Verdict.{keeps_date, freeze_refusal, dates_refusal}
@@ -56,7 +58,7 @@ reached_stop : (stop : Option ℕ) (t : ℕ) → IsTrue (is_reached_at stop t) �
 reached_stop None t reached = absurd cc
 reached_stop (Some x) t reached = (x, refl, leb-true x t reached)
 
-no_cut : (x t n : ℕ) (limit : Option ℕ) → limit ≡ months_after t n → x ≤ t → cut (Some x) limit ≡ Some x
+no_cut : (x t n : ℕ) (limit : Option ℕ) → limit ≡ months_after t n → x ≤ t → cut_to_limit (Some x) limit ≡ Some x
 no_cut x t n None is le = refl
 no_cut x t n (Some limit) is le =
     let later = months_forward t n limit (sym is) in
@@ -80,7 +82,7 @@ sound_by period d new fits keeps occurs = record {
 -- ---- Activate
 
 activated_moves : (period : Period) (d : Dates) (t : ℕ) → state_at d t ≡ PreActive
-    → MovesOnly d t (within_limits period (record d { activation = Some t }))
+    → MovesOnly d t (dates_within_limits period (record d { activation = Some t }))
 activated_moves period d t early =
     let given : Dates = record d { activation = Some t } in
     let keeps = trimmed_keeps period given in
@@ -117,7 +119,7 @@ edited_moves : (period : Period) (d : Dates) (t : ℕ) (activation protect_stop 
     → (state_at d t ≡ PreActive) ⊎ (state_at d t ≡ Active)
     → (not (keeps_date activation) && not (is_one_of (PreActive ∷ []) (state_at d t)))
     || (not (keeps_date protect_stop) && is_reached_at d.protect_stop t) ≡ false
-    → MovesOnly d t (with_defaults period (edited_dates activation protect_stop deactivation d))
+    → MovesOnly d t (dates_with_defaults period (edited_dates activation protect_stop deactivation d))
 edited_moves period d t activation protect_stop deactivation early free =
     let given : Dates = edited_dates activation protect_stop deactivation d in
     let keeps = filled_keeps period given in
@@ -129,14 +131,14 @@ edited_moves period d t activation protect_stop deactivation early free =
             let open_now : not (is_one_of (PreActive ∷ []) (state_at d t))
             ≡ true = ap (λ (s : State). not (is_one_of (PreActive ∷ []) s)) active in
             let edit = kept_edit activation (must_keep (keeps_date activation) _ both.0 open_now) in
-            inr (keeps.activation ∙ ap (λ (e : Edit). apply_edit e d.activation) edit)
+            inr (keeps.activation ∙ ap (λ (e : Edit). date_after_edit e d.activation) edit)
       ];
       deactivation = elim early [ inl pre ↦ inl pre | inr active ↦ inr (inl active) ];
       protect_stop = λ reached.
           let stop = reached_stop d.protect_stop t reached in
           let edit = kept_edit protect_stop
           (must_keep (keeps_date protect_stop) (is_reached_at d.protect_stop t) both.1 reached) in
-          filled_stop period given stop.0 (ap (λ (e : Edit). apply_edit e d.protect_stop) edit ∙ stop.1) ∙ sym stop.1;
+          filled_stop period given stop.0 (ap (λ (e : Edit). date_after_edit e d.protect_stop) edit ∙ stop.1) ∙ sym stop.1;
       initial = keeps.initial;
       destroy = keeps_same d.destroy _ keeps.destroy;
       compromise = keeps_same d.compromise _ keeps.compromise;
@@ -145,7 +147,7 @@ edited_moves period d t activation protect_stop deactivation early free =
 
 -- ---- Revoke
 
-no_later : (stop : Option ℕ) (t : ℕ) → IsTrue (is_reached_at stop t) → cut_at t stop ≡ stop
+no_later : (stop : Option ℕ) (t : ℕ) → IsTrue (is_reached_at stop t) → cut_date_at t stop ≡ stop
 no_later None t reached = refl
 no_later (Some x) t reached =
     let le = leb-true x t reached in ap (λ (y : ℕ). Some y) (let e : min x t ≡ x = omega (arith, le) in e)
@@ -193,7 +195,7 @@ before_limit t n (Some limit) is = le-leb t limit (months_forward t n limit (sym
 
 shortened : (period : Period) (t : ℕ) (act stop end : Option ℕ) → FitsSo period act stop end
     → is_reached_at act t ≡ true → is_reached_at end t ≡ false → is_some stop ≡ true → is_some end ≡ true
-    → FitsSo period act (cut_at t stop) (Some t)
+    → FitsSo period act (cut_date_at t stop) (Some t)
 shortened period t None stop end fits active open_end stopped ended = absurd cc
 shortened period t (Some a) None end fits active open_end stopped ended = absurd cc
 shortened period t (Some a) (Some p) None fits active open_end stopped ended = absurd cc
@@ -239,7 +241,7 @@ joined period d so = record {
   recipient = so.recipient;
 }
 
-stop_some : (stop : Option ℕ) (t : ℕ) → is_some stop ≡ true → is_some (cut_at t stop) ≡ true
+stop_some : (stop : Option ℕ) (t : ℕ) → is_some stop ≡ true → is_some (cut_date_at t stop) ≡ true
 stop_some None t some = absurd cc
 stop_some (Some x) t some = refl
 

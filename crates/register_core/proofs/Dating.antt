@@ -5,10 +5,11 @@ use Rattle.std.specs.Prelude.{nat_lt, min, is_some, is_none}
 use Rattle.std.proofs.lemmas.Bool.{ltb-false, le-leb}
 use Rattle.lifecycle_core.specs.declared.dates.Dates.{Dates}
 use Rattle.period_core.specs.Period.{Period}
-use Rattle.period_core.specs.declared.fitting.DateRefusal.{DateRefusal}
-use Rattle.period_core.specs.declared.fitting.DateRefusal.TheVariants.{DateOrder, PeriodTooLong, DateRange}
+use Rattle.period_core.specs.declared.date_fitting.DateRefusal.{DateRefusal}
+use Rattle.period_core.specs.declared.date_fitting.DateRefusal.TheVariants.{DateOrder, PeriodTooLong, DateRange}
 use Rattle.period_core.specs.Fitting.{is_not_after, originator_limit, recipient_limit, Fits, earlier_of}
-use Rattle.period_core.specs.Fitting.{with_protect_stop, with_deactivation, cut, with_defaults, within_limits}
+use Rattle.period_core.specs.Fitting.{with_default_protect_stop, with_default_deactivation, cut_to_limit}
+use Rattle.period_core.specs.Fitting.{dates_with_defaults, dates_within_limits}
 use Rattle.period_core.specs.Fitting.{length_refusal, order_refusal, range_refusal, unless_refused, fill_of, trim_of}
 use Rattle.register_core.specs.Verdict.{refused_dates}
 use Rattle.register_core.proofs.Filling.{past}
@@ -25,28 +26,28 @@ record IsApart {X : Type 0} (f : Dates → X) : Type 0 where
   pub end : (d : Dates) (date : Option ℕ) → f (record d { deactivation = date }) ≡ f d
 
 stop_kept : {X : Type 0} (f : Dates → X) → IsApart f → (period : Period) (d : Dates)
-    → f (with_protect_stop period d) ≡ f d
+    → f (with_default_protect_stop period d) ≡ f d
 stop_kept f apart period d = kept f (is_some d.activation && is_none d.protect_stop) _ d (apart.stop d _)
 
 end_kept : {X : Type 0} (f : Dates → X) → IsApart f → (period : Period) (d : Dates)
-    → f (with_deactivation period d) ≡ f d
+    → f (with_default_deactivation period d) ≡ f d
 end_kept f apart period d = kept f (is_some d.activation && is_none d.deactivation) _ d (apart.end d _)
 
 filled_kept : {X : Type 0} (f : Dates → X) → IsApart f → (period : Period) (d : Dates)
-    → f (with_defaults period d) ≡ f d
-filled_kept f apart period d = end_kept f apart period (with_protect_stop period d) ∙ stop_kept f apart period d
+    → f (dates_with_defaults period d) ≡ f d
+filled_kept f apart period d = end_kept f apart period (with_default_protect_stop period d) ∙ stop_kept f apart period d
 
 abbrev stopped : Period → Dates → Dates
 stopped period d =
-    let first = with_protect_stop period d in
-    record first { protect_stop = cut first.protect_stop (originator_limit period first) }
+    let first = with_default_protect_stop period d in
+    record first { protect_stop = cut_to_limit first.protect_stop (originator_limit period first) }
 
 trimmed_kept : {X : Type 0} (f : Dates → X) → IsApart f → (period : Period) (d : Dates)
-    → f (within_limits period d) ≡ f d
+    → f (dates_within_limits period d) ≡ f d
 trimmed_kept f apart period d =
-    apart.end (with_deactivation period (stopped period d)) _
+    apart.end (with_default_deactivation period (stopped period d)) _
     ∙ end_kept f apart period (stopped period d)
-    ∙ apart.stop (with_protect_stop period d) _
+    ∙ apart.stop (with_default_protect_stop period d) _
     ∙ stop_kept f apart period d
 
 -- the dates that no date set by hand moves
@@ -68,11 +69,11 @@ keeps_by old new kept_by = record {
       (record { stop = λ x date. refl; end = λ x date. refl });
 }
 
-pub filled_keeps : (period : Period) (d : Dates) → KeepsOthers d (with_defaults period d)
-filled_keeps period d = keeps_by d (with_defaults period d) (λ X f apart. filled_kept f apart period d)
+pub filled_keeps : (period : Period) (d : Dates) → KeepsOthers d (dates_with_defaults period d)
+filled_keeps period d = keeps_by d (dates_with_defaults period d) (λ X f apart. filled_kept f apart period d)
 
-pub trimmed_keeps : (period : Period) (d : Dates) → KeepsOthers d (within_limits period d)
-trimmed_keeps period d = keeps_by d (within_limits period d) (λ X f apart. trimmed_kept f apart period d)
+pub trimmed_keeps : (period : Period) (d : Dates) → KeepsOthers d (dates_within_limits period d)
+trimmed_keeps period d = keeps_by d (dates_within_limits period d) (λ X f apart. trimmed_kept f apart period d)
 
 never_empty : (b : Bool) (o : Option ℕ) (x : ℕ) → o ≡ Some x → b && is_none o ≡ false
 never_empty true None x set = absurd cc
@@ -81,7 +82,7 @@ never_empty false o x set = refl
 
 -- a Protect Stop that is set is no default
 given_stop : (period : Period) (d : Dates) (x : ℕ) → d.protect_stop ≡ Some x
-    → (with_protect_stop period d).protect_stop ≡ Some x
+    → (with_default_protect_stop period d).protect_stop ≡ Some x
 given_stop period d x set =
     by (is_some d.activation && is_none d.protect_stop) (never_empty (is_some d.activation) d.protect_stop x set)
   where
@@ -92,26 +93,26 @@ given_stop period d x set =
     by false e = set
 
 pub filled_stop : (period : Period) (d : Dates) (x : ℕ) → d.protect_stop ≡ Some x
-    → (with_defaults period d).protect_stop ≡ Some x
+    → (dates_with_defaults period d).protect_stop ≡ Some x
 filled_stop period d x set =
     kept (λ (y : Dates). y.protect_stop)
-    (is_some (with_protect_stop period d).activation && is_none (with_protect_stop period d).deactivation) _
-    (with_protect_stop period d) refl
+    (is_some (with_default_protect_stop period d).activation && is_none (with_default_protect_stop period d).deactivation) _
+    (with_default_protect_stop period d) refl
     ∙ given_stop period d x set
 
 -- Trim's Protect Stop
 trimmed_stop_is : (period : Period) (d : Dates)
-    → (within_limits period d).protect_stop ≡ (stopped period d).protect_stop
+    → (dates_within_limits period d).protect_stop ≡ (stopped period d).protect_stop
 trimmed_stop_is period d =
     kept (λ (y : Dates). y.protect_stop)
     (is_some (stopped period d).activation && is_none (stopped period d).deactivation) _ (stopped period d) refl
 
 pub trimmed_stop : (period : Period) (d : Dates) (x : ℕ) → d.protect_stop ≡ Some x
-    → (within_limits period d).protect_stop ≡ cut (Some x) (originator_limit period d)
+    → (dates_within_limits period d).protect_stop ≡ cut_to_limit (Some x) (originator_limit period d)
 trimmed_stop period d x set =
     trimmed_stop_is period d
-    ∙ ap (λ (o : Option ℕ). cut o (originator_limit period (with_protect_stop period d))) (given_stop period d x set)
-    ∙ ap (λ (o : Option ℕ). cut (Some x) o)
+    ∙ ap (λ (o : Option ℕ). cut_to_limit o (originator_limit period (with_default_protect_stop period d))) (given_stop period d x set)
+    ∙ ap (λ (o : Option ℕ). cut_to_limit (Some x) o)
     (stop_kept (originator_limit period) (record { stop = λ y date. refl; end = λ y date. refl }) period d)
 
 -- ---- that they fit
@@ -161,9 +162,9 @@ whole d e = record {
 }
 
 pub filled_fits : (period : Period) (d : Dates) → refused_dates (fill_of period d) ≡ None
-    → Fits period (with_defaults period d) × IsWhole (with_defaults period d)
+    → Fits period (dates_with_defaults period d) × IsWhole (dates_with_defaults period d)
 filled_fits period d e =
-    let full = with_defaults period d in
+    let full = dates_with_defaults period d in
     let originator = length_refusal full.protect_stop (originator_limit period full) in
     let recipient = length_refusal full.deactivation (recipient_limit period full) in
     let order = past (order_refusal full) (originator ∷ recipient ∷ range_refusal full ∷ []) (passes _ full e) in
@@ -178,17 +179,17 @@ filled_fits period d e =
       whole full range.here,
     )
 
-cut_within : (date limit : Option ℕ) → is_not_after (cut date limit) limit ≡ true
+cut_within : (date limit : Option ℕ) → is_not_after (cut_to_limit date limit) limit ≡ true
 cut_within None limit = refl
 cut_within (Some date) None = refl
 cut_within (Some date) (Some limit) = le-leb (min date limit) limit (omega arith)
 
 pub trimmed_fits : (period : Period) (d : Dates) → refused_dates (trim_of period d) ≡ None
-    → Fits period (within_limits period d) × IsWhole (within_limits period d)
+    → Fits period (dates_within_limits period d) × IsWhole (dates_within_limits period d)
 trimmed_fits period d e =
-    let full = within_limits period d in
-    let first = with_protect_stop period d in
-    let second = with_deactivation period (stopped period d) in
+    let full = dates_within_limits period d in
+    let first = with_default_protect_stop period d in
+    let second = with_default_deactivation period (stopped period d) in
     let ordering = past (order_refusal full) (range_refusal full ∷ []) (passes _ full e) in
     let range = past (range_refusal full) [] ordering.later in
     let limit : originator_limit period full ≡ originator_limit period first =

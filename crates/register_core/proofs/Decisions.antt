@@ -9,7 +9,7 @@ use Rattle.lifecycle_core.specs.declared.dates.Dates.{Dates}
 use Rattle.lifecycle_core.specs.State.{state_at}
 use Rattle.period_core.specs.declared.key_type.KeyType.{KeyType}
 use Rattle.period_core.specs.Period.{Period}
-use Rattle.period_core.specs.Fitting.{with_defaults}
+use Rattle.period_core.specs.Fitting.{dates_with_defaults}
 use Rattle.register_requests.specs.declared.request.Request.{Request}
 use Rattle.register_requests.specs.declared.request.Command.{Command}
 use Rattle.register_requests.specs.declared.request.Command.TheVariants.{Advance, SetPeriod}
@@ -24,13 +24,14 @@ use Rattle.register_core.specs.History.{latest, count, period, type, dates, owne
 use Rattle.register_requests.specs.Subject.{Registration, Subject, Makes, Names, NoKey, subject, named_by, key_by}
 use Rattle.register_requests.specs.Subject.{count_by, key_of, made_by, named}
 use Rattle.register_requests.proofs.Subjects.{is_named}
-use Rattle.register_core.specs.Effect.{given_dates, dates_after, owner_after, row_at}
+use Rattle.register_core.specs.Effect.{given_dates, dates_after, owner_after, row_with_dates_at}
 use Rattle.register_core.specs.Custody.{custodians, approvals, need, held}
 use Rattle.register_core.specs.KeptReply.{reply}
 use Rattle.register_requests.specs.Version.{current}
 use Rattle.register_core.specs.Verdict.{key_refusal, named_key, judgement}
 use Rattle.register_core.specs.CustodyRefusal.{already_custodian, already_approved}
-use Rattle.register_core.specs.Decision.{held_change, registered_key, change_of, change_by, change_without_key}
+use Rattle.register_core.specs.Decision.{change_of_held_key, registered_key, change_of, change_by_request}
+use Rattle.register_core.specs.Decision.{change_without_key}
 use Rattle.register_core.specs.Decision.{reply_to, Stands, LeadsTo}
 use Rattle.register_core.proofs.Histories.{latest_grows, count_grows, key_named, kind_named, owner_named, dates_named}
 use Rattle.register_core.proofs.Histories.{kind_made, owner_made, dates_made}
@@ -44,7 +45,7 @@ abbrev pub standing : List Request → ℕ → Held
 standing h k = record {
   kind = type h k;
   owner = owner h k;
-  row = row_at (dates h k) (latest h);
+  row = row_with_dates_at (dates h k) (latest h);
   need = need h k;
   custodians = custodians h k;
   approvals = approvals h k;
@@ -60,7 +61,7 @@ module _ (needed : ℕ) (cs approving : List (List ℕ)) where
   -- a key with this type, this owner and these dates at the moment t
   abbrev standing_so : KeyType → List ℕ → Dates → ℕ → Held
   standing_so kind by d t =
-      record { kind = kind; owner = by; row = row_at d t; need = needed; custodians = cs; approvals = approving }
+      record { kind = kind; owner = by; row = row_with_dates_at d t; need = needed; custodians = cs; approvals = approving }
 
   abbrev assembled : Bool → KeyType → List ℕ → Dates → ℕ → Option Held
   assembled is kind by d t = cond is (Some (standing_so kind by d t)) None
@@ -94,7 +95,7 @@ count_named h q k names =
 
 pub held_named : (h : List Request) (q : Request) (k : ℕ) → named q.command ≡ Some k → is_there h k ≡ true →
     Stands (h ++ q ∷ []) k (type h k) (owner_after (owner h k) q.command)
-    (row_at (dates_after (period h (type h k)) (dates h k) q.moment q.command) q.moment)
+    (row_with_dates_at (dates_after (period h (type h k)) (dates h k) q.moment q.command) q.moment)
 held_named h q k names is =
     let all = h ++ q ∷ [] in
     assembled_same (need all k) (custodians all k) (approvals all k) (is_there all k) (type all k) (type h k)
@@ -111,7 +112,7 @@ held_made h q r makes =
     let counted : count all ≡ k = count_grows h q ∙ ap (λ (s : Subject). count h + count_by s) makes in
     assembled_same (need all k) (custodians all k) (approvals all k) (is_there all k) (type all k) r.kind
     (owner all k) r.owner
-    (dates all k) (with_defaults (period h r.kind) (given_dates q.moment r.activation r.protect_stop r.deactivation))
+    (dates all k) (dates_with_defaults (period h r.kind) (given_dates q.moment r.activation r.protect_stop r.deactivation))
     (latest all) q.moment
     (there all k (omega arith) (omega (arith, counted)))
     (kind_made h q r makes)
@@ -131,7 +132,7 @@ replied h q key = record {
 
 reply_of_key : (h : List Request) (q : Request) (k : ℕ) (d : Dates) → key_of (count h) q.command ≡ Some k
     → dates (h ++ q ∷ []) k ≡ d →
-    record { key = k; state = Some (row_at d q.moment).state; moment = q.moment } ≡ reply h q
+    record { key = k; state = Some (row_with_dates_at d q.moment).state; moment = q.moment } ≡ reply h q
 reply_of_key h q k d is same =
     sym (ap (replied h q) is
     ∙ ap (λ (e : Dates). record { key = k; state = Some (state_at e q.moment); moment = q.moment }) same)
@@ -166,12 +167,12 @@ agrees_made : (h : List Request) (q : Request) (r : Registration) → subject q.
 agrees_made h q r makes =
     let given : Dates = given_dates q.moment r.activation r.protect_stop r.deactivation in
     let replies =
-    reply_of_key h q (count h + 1) (with_defaults (period h r.kind) given) (ap (key_by (count h)) makes)
+    reply_of_key h q (count h + 1) (dates_with_defaults (period h r.kind) given) (ap (key_by (count h)) makes)
     (dates_made h q r makes) in
     (replies, (held_made h q r makes, nobody_changes h q (count h + 1) (ap named_by makes), periods_made h q r makes))
 
 agrees_named : (h : List Request) (q : Request) (k : ℕ) → named q.command ≡ Some k → is_there h k ≡ true → IsNew h q k →
-    Agrees h q (held_change (period h) k (standing h k) q)
+    Agrees h q (change_of_held_key (period h) k (standing h k) q)
 agrees_named h q k names is new =
     let replies =
     reply_of_key h q k (dates_after (period h (type h k)) (dates h k) q.moment q.command)
@@ -179,7 +180,7 @@ agrees_named h q k names is new =
     (replies, (held_named h q k names is, custody_lead h q k names new, periods_named h q k names))
 
 pub change_named : (periods : KeyType → Period) (c : Command) (k : ℕ) (key : Held) (q : Request) → named c ≡ Some k
-    → change_of periods (subject c) (Some key) q ≡ held_change periods k key q
+    → change_of periods (subject c) (Some key) q ≡ change_of_held_key periods k key q
 change_named periods c k key q names =
     ap (λ (s : Subject). change_of periods s (Some key) q) (is_named (subject c) k names)
 
@@ -201,8 +202,8 @@ agrees_key h q k None names is passed =
     let refused = unknown_named q.command k names in let known = passed.known in absurd cc
 agrees_key h q k (Some key) names is passed =
     let stands = held_stands h k key is in
-    let same : held_change (period h) k key q ≡ held_change (period h) k (standing h k) q =
-    ap (λ (x : Held). held_change (period h) k x q) stands.1 in
+    let same : change_of_held_key (period h) k key q ≡ change_of_held_key (period h) k (standing h k) q =
+    ap (λ (x : Held). change_of_held_key (period h) k x q) stands.1 in
     let custodian : already_custodian (Some (standing h k)) q.command
     ≡ None = ap (λ (x : Held). already_custodian (Some x) q.command) (sym stands.1) ∙ passed.new_custodian in
     let approval : already_approved (Some (standing h k)) q.caller q.command
@@ -234,14 +235,14 @@ agrees_by h q NoKey key is view passed = agrees_without h q q.command refl is
 -- ---- accepted requests
 
 pub accepted_agrees : (h : List Request) (q : Request) → judgement h q ≡ None
-    → Agrees h q (change_by (period h) (named_key h q.command) q)
+    → Agrees h q (change_by_request (period h) (named_key h q.command) q)
 accepted_agrees h q accepted =
     agrees_by h q (subject q.command) (named_key h q.command) refl refl
     (passes current (latest h) (count h) (period h) (named_key h q.command) q accepted)
 
 -- so do as many keys and a change that are these
 pub agrees_as : (h : List Request) (q : Request) (keys : ℕ) (change : Change) → keys ≡ count h
-    → change ≡ change_by (period h) (named_key h q.command) q → judgement h q ≡ None
+    → change ≡ change_by_request (period h) (named_key h q.command) q → judgement h q ≡ None
     → (reply_to keys q.moment change ≡ reply h q) × LeadsTo h q change
 agrees_as h q keys change counted same accepted =
     let agrees = accepted_agrees h q accepted in (

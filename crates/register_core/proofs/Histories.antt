@@ -10,7 +10,7 @@ use Rattle.std.proofs.lemmas.List.Sums.{fold-append}
 use Rattle.lifecycle_core.specs.declared.dates.Dates.{Dates}
 use Rattle.period_core.specs.declared.key_type.KeyType.{KeyType}
 use Rattle.period_core.specs.declared.key_type.KeyType.TheVariants.{DataEncryption}
-use Rattle.period_core.specs.Fitting.{with_defaults}
+use Rattle.period_core.specs.Fitting.{dates_with_defaults}
 use Rattle.register_requests.specs.declared.request.Request.{Request}
 use Rattle.register_requests.specs.declared.request.Command.{Command}
 use Rattle.register_core.specs.History.{latest, registrations, count, Placed, own_from, own, period, type, dates}
@@ -18,7 +18,8 @@ use Rattle.register_core.specs.History.{owner, dated_by}
 use Rattle.register_requests.specs.Subject.{Registration, Subject, Makes, Names, NoKey, subject, registration_by}
 use Rattle.register_requests.specs.Subject.{named_by, key_by, count_by, registration_of, named, key_of, made_by, is_key}
 use Rattle.register_requests.proofs.Subjects.{is_registration, is_named}
-use Rattle.register_core.specs.Effect.{kind_by, kind_after, no_dates, given_dates, dates_after, owner_after, sets_dates}
+use Rattle.register_core.specs.Effect.{kind_by, kind_after, unset_dates, given_dates, dates_after, owner_after}
+use Rattle.register_core.specs.Effect.{sets_dates}
 use Rattle.period_core.specs.Period.{Period, periods}
 
 -- ---- lists with one more
@@ -135,8 +136,8 @@ owner_other h q k other = fold_same owner_step [] h q k other
 pub dates_other : (h : List Request) (q : Request) (k : ℕ) → is_key k (key_of (count h) q.command) ≡ false
     → dates (h ++ q ∷ []) k ≡ dates h k
 dates_other h q k other =
-    ap (λ (kind : KeyType). fold (dates_step kind) no_dates (own (h ++ q ∷ []) k)) (kind_other h q k other)
-    ∙ fold_same (dates_step (type h k)) no_dates h q k other
+    ap (λ (kind : KeyType). fold (dates_step kind) unset_dates (own (h ++ q ∷ []) k)) (kind_other h q k other)
+    ∙ fold_same (dates_step (type h k)) unset_dates h q k other
 
 pub dated_other : (h : List Request) (q : Request) (k : ℕ) → is_key k (key_of (count h) q.command) ≡ false
     → dated_by (h ++ q ∷ []) k ≡ dated_by h k
@@ -158,8 +159,8 @@ owner_named h q k names = fold_ends owner_step [] h q k (key_named q.command (co
 pub dates_named : (h : List Request) (q : Request) (k : ℕ) → named q.command ≡ Some k
     → dates (h ++ q ∷ []) k ≡ dates_after (period h (type h k)) (dates h k) q.moment q.command
 dates_named h q k names =
-    ap (λ (kind : KeyType). fold (dates_step kind) no_dates (own (h ++ q ∷ []) k)) (kind_named h q k names)
-    ∙ fold_ends (dates_step (type h k)) no_dates h q k (key_named q.command (count h) k names)
+    ap (λ (kind : KeyType). fold (dates_step kind) unset_dates (own (h ++ q ∷ []) k)) (kind_named h q k names)
+    ∙ fold_ends (dates_step (type h k)) unset_dates h q k (key_named q.command (count h) k names)
 
 pub dated_named : (h : List Request) (q : Request) (k : ℕ) → named q.command ≡ Some k
     → dated_by (h ++ q ∷ []) k ≡ cond (sets_dates q.command) (period h (type h k)) (dated_by h k)
@@ -183,11 +184,11 @@ owner_made h q r makes =
 
 pub dates_made : (h : List Request) (q : Request) (r : Registration) → subject q.command ≡ Makes r →
     dates (h ++ q ∷ []) (count h + 1)
-    ≡ with_defaults (period h r.kind) (given_dates q.moment r.activation r.protect_stop r.deactivation)
+    ≡ dates_with_defaults (period h r.kind) (given_dates q.moment r.activation r.protect_stop r.deactivation)
 dates_made h q r makes =
-    let before : Dates = fold (dates_step r.kind) no_dates (own h (count h + 1)) in
-    ap (λ (kind : KeyType). fold (dates_step kind) no_dates (own (h ++ q ∷ []) (count h + 1))) (kind_made h q r makes)
-    ∙ fold_ends (dates_step r.kind) no_dates h q (count h + 1) (ap (key_by (count h)) makes)
+    let before : Dates = fold (dates_step r.kind) unset_dates (own h (count h + 1)) in
+    ap (λ (kind : KeyType). fold (dates_step kind) unset_dates (own (h ++ q ∷ []) (count h + 1))) (kind_made h q r makes)
+    ∙ fold_ends (dates_step r.kind) unset_dates h q (count h + 1) (ap (key_by (count h)) makes)
     ∙ ap (λ (c : Command). dates_after (period h r.kind) before q.moment c) (is_registration q.command r makes)
 
 pub dated_made : (h : List Request) (q : Request) (r : Registration) → subject q.command ≡ Makes r

@@ -26,7 +26,7 @@ use Rattle.register_requests.specs.declared.request.Command.TheVariants.{SetPeri
 use Rattle.register_core.specs.declared.reply.Reply.{Reply}
 use Rattle.register_core.specs.declared.view.Held.{Held}
 use Rattle.register_core.specs.declared.view.View.{View}
-use Rattle.register_core.specs.Decision.{change_of, change_by, change_without_key, reply_to, reply_of_view}
+use Rattle.register_core.specs.Decision.{change_of, change_by_request, change_without_key, reply_to, reply_of_view}
 use Rattle.register_core.specs.declared.reply.Refusal.TheVariants.{RequestReused}
 use Rattle.register_core.specs.Fold.{IsLawful, history}
 use Rattle.register_core.specs.History.{count, dates}
@@ -348,7 +348,7 @@ decided_in_range view q request few accepted =
       command = request.command;
       key = key_decided view.keys q.moment (always view.period) view.key q (subject q.command) few
           (λ k names. (number k names).1);
-      moment = subst IsMoment (sym (moment_decided view.keys q.moment (change_by (always view.period) view.key q)))
+      moment = subst IsMoment (sym (moment_decided view.keys q.moment (change_by_request (always view.period) view.key q)))
           request.moment;
       whole = whole_decided view.keys q.moment (always view.period) view.key q (subject q.command)
           (λ k names. (number k names).0) (key_known view q accepted);
@@ -356,4 +356,4 @@ decided_in_range view q request few accepted =
 
 -- its reply is of the request's moment
 pub decided_at : (view : View) (q : Request) → (reply_of_view view q).moment ≡ q.moment
-decided_at view q = moment_decided view.keys q.moment (change_by (always view.period) view.key q)
+decided_at view q = moment_decided view.keys q.moment (change_by_request (always view.period) view.key q)

@@ -25,9 +25,9 @@ use Rattle.register_requests.specs.CommandRule.{is_same_giver}
 use Rattle.register_core.specs.CustodyRefusal.{custody_refusal}
 use Rattle.register_core.specs.Verdict.{refused_dates, dates_refusal, custodian_refusal, always, judge, judge_view}
 use Rattle.register_core.specs.Verdict.{judgement, named_key}
-use Rattle.register_core.specs.Decision.{registered_key, change_of, change_by, reply_of_view, IsViewOf, LeadsTo}
+use Rattle.register_core.specs.Decision.{registered_key, change_of, change_by_request, reply_of_view, IsViewOf, LeadsTo}
 use Rattle.register_core.specs.Effect.{given_dates, edited_dates, dates_after}
-use Rattle.register_core.specs.Need.{needed_of, needed_key, needed_type, Suffices}
+use Rattle.register_core.specs.Need.{needed_of, needed_key, needed_period_type, Suffices}
 use Rattle.register_core.proofs.Decisions.{agrees_as}
 use Rattle.register_requests.proofs.Subjects.{is_registration}
 
@@ -69,7 +69,7 @@ abbrev pub AreSoFor : Option KeyType → (KeyType → Period) → (KeyType → P
 AreSoFor needed periods others = IfSome needed (λ kind. periods kind ≡ others kind)
 
 fit_so : (periods others : KeyType → Period) (key : Option Held) (t : ℕ) (c : Command)
-    → AreSoFor (needed_type key c) periods others → dates_refusal periods key t c ≡ dates_refusal others key t c
+    → AreSoFor (needed_period_type key c) periods others → dates_refusal periods key t c ≡ dates_refusal others key t c
 fit_so periods others key t (Registers kind owner activation protect_stop deactivation purpose) same =
     ap (λ (p : Period). refused_dates (fill_of p (given_dates t activation protect_stop deactivation))) same
 fit_so periods others (Some held) t (Activate k) same =
@@ -83,12 +83,12 @@ fit_so periods others None t c same = refl
 fit_so periods others (Some held) t c same = refl
 
 pub judge_by : (last keys : ℕ) (periods others : KeyType → Period) (key : Option Held) (q : Request)
-    → AreSoFor (needed_type key q.command) periods others
+    → AreSoFor (needed_period_type key q.command) periods others
     → judge last keys periods key q ≡ judge last keys others key q
 judge_by last keys periods others key q same = rw (fit_so periods others key q.moment q.command same)
 
 dates_so : (periods others : KeyType → Period) (held : Held) (t k : ℕ) (c : Command) → named c ≡ Some k
-    → AreSoFor (needed_type (Some held) c) periods others
+    → AreSoFor (needed_period_type (Some held) c) periods others
     → dates_after (periods held.kind) held.row.dates t c ≡ dates_after (others held.kind) held.row.dates t c
 dates_so periods others held t k (Registers kind owner activation protect_stop deactivation purpose) names same =
     absurd cc
@@ -99,10 +99,10 @@ dates_so periods others held t k (SetDates n activation protect_stop deactivatio
 dates_so periods others held t k c names same = refl
 
 change_so : (periods others : KeyType → Period) (s : Subject) (key : Option Held) (q : Request) → subject q.command ≡ s
-    → AreSoFor (needed_type key q.command) periods others → change_of periods s key q ≡ change_of others s key q
+    → AreSoFor (needed_period_type key q.command) periods others → change_of periods s key q ≡ change_of others s key q
 change_so periods others (Makes r) key q is same =
     let so : periods r.kind ≡ others r.kind =
-    subst (λ (c : Command). AreSoFor (needed_type key c) periods others) (is_registration q.command r is) same in
+    subst (λ (c : Command). AreSoFor (needed_period_type key c) periods others) (is_registration q.command r is) same in
     ap (λ (p : Period). change.Made (registered_key (always p) q.moment r)) so
 change_so periods others (Names k) None q is same = refl
 change_so periods others (Names k) (Some held) q is same =
@@ -110,7 +110,7 @@ change_so periods others (Names k) (Some held) q is same =
 change_so periods others NoKey key q is same = refl
 
 pub changed_by : (periods others : KeyType → Period) (key : Option Held) (q : Request)
-    → AreSoFor (needed_type key q.command) periods others → change_by periods key q ≡ change_by others key q
+    → AreSoFor (needed_period_type key q.command) periods others → change_by_request periods key q ≡ change_by_request others key q
 changed_by periods others key q same = change_so periods others (subject q.command) key q refl same
 
 -- ---- a moment below the latest
@@ -151,12 +151,12 @@ change_same periods NoKey c key q = refl
 
 -- what is needed gives what the accepted request changes
 pub changed_so : (h : List Request) (q : Request) → judgement h q ≡ None →
-    change_by (period h) (needed_key h q) q ≡ change_by (period h) (named_key h q.command) q
+    change_by_request (period h) (needed_key h q) q ≡ change_by_request (period h) (named_key h q.command) q
 changed_so h q accepted = by (nat_lt q.moment (latest h)) (named_key h q.command) refl accepted
   where
     by : (b : Bool) (key : Option Held) → nat_lt q.moment (latest h) ≡ b
         → judge (latest h) (count h) (period h) key q ≡ None
-        → change_by (period h) (cond b None (option_map (needed_of q.command) key)) q ≡ change_by (period h) key q
+        → change_by_request (period h) (cond b None (option_map (needed_of q.command) key)) q ≡ change_by_request (period h) key q
     by true key is accepted = let refused = is_early (latest h) (count h) (period h) key q is in absurd cc
     by false key is accepted = change_same (period h) (subject q.command) q.command key q
 
@@ -173,12 +173,12 @@ judged_by h view q is =
 
 -- and where it accepts, the reply and what the change leads to are
 pub needed_agrees : (h : List Request) (view : View) (q : Request) → Suffices view h q → judge_view view q ≡ None →
-    (reply_of_view view q ≡ reply h q) × LeadsTo h q (change_by (always view.period) view.key q)
+    (reply_of_view view q ≡ reply h q) × LeadsTo h q (change_by_request (always view.period) view.key q)
 needed_agrees h view q is accepted =
     let judged : judgement h q ≡ None = sym (judged_by h view q is) ∙ accepted in
-    agrees_as h q view.keys (change_by (always view.period) view.key q) is.keys_are
+    agrees_as h q view.keys (change_by_request (always view.period) view.key q) is.keys_are
     (changed_by (always view.period) (period h) view.key q is.period_is
-    ∙ ap (λ (key : Option Held). change_by (period h) key q) is.key_is ∙ changed_so h q judged)
+    ∙ ap (λ (key : Option Held). change_by_request (period h) key q) is.key_is ∙ changed_so h q judged)
     judged
 
 -- ---- a view of the whole key
@@ -193,9 +193,9 @@ whole_judged h view q is =
 
 pub whole_agrees : (h : List Request) (view : View) (q : Request) → IsViewOf view h q.command
     → judge_view view q ≡ None
-    → (reply_of_view view q ≡ reply h q) × LeadsTo h q (change_by (always view.period) view.key q)
+    → (reply_of_view view q ≡ reply h q) × LeadsTo h q (change_by_request (always view.period) view.key q)
 whole_agrees h view q is accepted =
-    agrees_as h q view.keys (change_by (always view.period) view.key q) is.keys_are
+    agrees_as h q view.keys (change_by_request (always view.period) view.key q) is.keys_are
     (changed_by (always view.period) (period h) view.key q is.period_is
-    ∙ ap (λ (key : Option Held). change_by (period h) key q) is.key_is)
+    ∙ ap (λ (key : Option Held). change_by_request (period h) key q) is.key_is)
     (sym (whole_judged h view q is) ∙ accepted)

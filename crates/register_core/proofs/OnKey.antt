@@ -6,7 +6,7 @@ use Rattle.std.proofs.lemmas.Bool.{and_parts, leb-true, ltb-false}
 use Rattle.std.proofs.lemmas.Bool.Decides.{eqb_tells}
 use Rattle.lifecycle_core.specs.declared.dates.Dates.{Dates}
 use Rattle.lifecycle_core.specs.State.{state_at}
-use Rattle.period_core.specs.Fitting.{with_defaults}
+use Rattle.period_core.specs.Fitting.{dates_with_defaults}
 use Rattle.register_requests.specs.declared.request.Request.{Request}
 use Rattle.register_core.specs.declared.reply.Refusal.{Refusal}
 use Rattle.register_core.specs.declared.view.Held.{Held}
@@ -99,7 +99,7 @@ abbrev pub given_to : Request → Registration → Dates
 given_to q r = given_dates q.moment r.activation r.protect_stop r.deactivation
 
 pub dates_when_made : (h : List Request) (q : Request) (k : ℕ) (made : IsMade h q k)
-    → dates (h ++ q ∷ []) k ≡ with_defaults (period h made.registration.kind) (given_to q made.registration)
+    → dates (h ++ q ∷ []) k ≡ dates_with_defaults (period h made.registration.kind) (given_to q made.registration)
 dates_when_made h q k made = ap (dates (h ++ q ∷ [])) made.next ∙ dates_made h q made.registration made.makes
 
 -- it neither makes nor names it

@@ -7,7 +7,7 @@ use Rattle.lifecycle_core.specs.declared.dates.Dates.{Dates}
 use Rattle.lifecycle_core.specs.declared.reason.Reason.{Reason}
 use Rattle.lifecycle_core.specs.Reason.{is_compromise}
 use Rattle.period_core.specs.Period.{Period}
-use Rattle.period_core.specs.Fitting.{is_not_after, with_defaults}
+use Rattle.period_core.specs.Fitting.{is_not_after, dates_with_defaults}
 use Rattle.register_requests.specs.declared.request.Request.{Request}
 use Rattle.register_requests.specs.declared.request.Command.{Command}
 use Rattle.register_requests.specs.declared.request.Command.TheVariants.{Register as Registers, Activate, SetDates}
@@ -123,7 +123,7 @@ past_next h q lawful accepted before k has =
           let p : Period = period h made.registration.kind in
           let its = dates_when_made h q k made in
           subst (IsPast q.moment) (sym its)
-          (kept q.moment given (with_defaults p given) (filled_keeps p given)
+          (kept q.moment given (dates_with_defaults p given) (filled_keeps p given)
           (record { initial = omega arith; destroy = refl; compromise = refl; occurrence = refl }))
       | inr (inl on) ↦
           let past = moved (dates h k) (before k (on.low, on.high)) in

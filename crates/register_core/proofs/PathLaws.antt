@@ -9,7 +9,7 @@ use Rattle.lifecycle_core.specs.State.{state_at}
 use Rattle.lifecycle_core.specs.Transition.{Leads}
 use Rattle.lifecycle_core.proofs.Transitions.{time_leads}
 use Rattle.period_core.specs.Period.{Period}
-use Rattle.period_core.specs.Fitting.{with_defaults}
+use Rattle.period_core.specs.Fitting.{dates_with_defaults}
 use Rattle.register_requests.specs.declared.request.Request.{Request}
 use Rattle.register_core.specs.History.{latest, count, type, period, dates}
 use Rattle.register_core.specs.Laws.{IsAccepted, HasKey, MovesOnly, state_of_key}
@@ -42,7 +42,7 @@ made_path h q k made =
     let keeps = filled_keeps p given in
     from_none h k _ made.next
     (subst (λ (d : Dates). Leads None (Some (state_at d q.moment))) (sym its)
-    (path_made (with_defaults p given) q.moment (ap is_some keeps.destroy) (ap is_some keeps.compromise)))
+    (path_made (dates_with_defaults p given) q.moment (ap is_some keeps.destroy) (ap is_some keeps.compromise)))
 
 on_path : (h : List Request) (q : Request) (k : ℕ) → IsAccepted h q → IsOn h q k
     → Leads (state_of_key h k) (Some (state_at (dates (h ++ q ∷ []) k) q.moment))

@@ -11,7 +11,7 @@ use Rattle.lifecycle_core.specs.Reason.{is_compromise}
 use Rattle.lifecycle_core.specs.Transition.{IsPath, Leads}
 use Rattle.lifecycle_core.proofs.Transitions.{is_transition, listed}
 use Rattle.period_core.specs.Period.{Period}
-use Rattle.period_core.specs.Fitting.{with_defaults, within_limits}
+use Rattle.period_core.specs.Fitting.{dates_with_defaults, dates_within_limits}
 use Rattle.register_requests.specs.declared.request.Command.{Command}
 use Rattle.register_requests.specs.declared.request.Command.TheVariants.{Register as Registers, Activate, SetDates}
 use Rattle.register_requests.specs.declared.request.Command.TheVariants.{Revoke, Destroy}
@@ -94,9 +94,9 @@ still_unset : (old new : Option ℕ) → new ≡ old → is_some old ≡ false �
 still_unset old new same none = ap is_some same ∙ none
 
 activated_path : (period : Period) (d : Dates) (t : ℕ) → state_at d t ≡ PreActive
-    → Goes d t (within_limits period (record d { activation = Some t }))
+    → Goes d t (dates_within_limits period (record d { activation = Some t }))
 activated_path period d t early =
-    let new : Dates = within_limits period (record d { activation = Some t }) in
+    let new : Dates = dates_within_limits period (record d { activation = Some t }) in
     let keeps = trimmed_keeps period (record d { activation = Some t }) in
     let old = its_shows d t PreActive early in
     as_from d new t PreActive early
@@ -105,10 +105,10 @@ activated_path period d t early =
 
 edited_path : (period : Period) (d : Dates) (t : ℕ) (activation protect_stop deactivation : Edit)
     → (state_at d t ≡ PreActive) ⊎ (state_at d t ≡ Active)
-    → MovesOnly d t (with_defaults period (edited_dates activation protect_stop deactivation d))
-    → Goes d t (with_defaults period (edited_dates activation protect_stop deactivation d))
+    → MovesOnly d t (dates_with_defaults period (edited_dates activation protect_stop deactivation d))
+    → Goes d t (dates_with_defaults period (edited_dates activation protect_stop deactivation d))
 edited_path period d t activation protect_stop deactivation early moves =
-    let new : Dates = with_defaults period (edited_dates activation protect_stop deactivation d) in
+    let new : Dates = dates_with_defaults period (edited_dates activation protect_stop deactivation d) in
     let keeps = filled_keeps period (edited_dates activation protect_stop deactivation d) in
     elim early [
       | inl pre ↦

@@ -5,7 +5,7 @@ use Rattle.lifecycle_core.specs.declared.row.Row.{Row}
 use Rattle.lifecycle_core.specs.Row.{IsRightAt}
 use Rattle.period_core.specs.declared.key_type.KeyType.{KeyType}
 use Rattle.period_core.specs.Period.{Period}
-use Rattle.period_core.specs.Fitting.{with_defaults}
+use Rattle.period_core.specs.Fitting.{dates_with_defaults}
 use Rattle.register_requests.specs.declared.request.Request.{Request}
 use Rattle.register_requests.specs.declared.request.Command.{Command}
 use Rattle.register_requests.specs.declared.request.Command.TheVariants.{SetPeriod}
@@ -23,14 +23,15 @@ use Rattle.register_core.specs.Settings.{KeyNeed, TypePeriod, with_need, with_pe
 use Rattle.register_core.specs.Custody.{all_custodians, custodians, all_approvals, approvals, need, held}
 use Rattle.register_core.specs.declared.key.Key.{Key}
 use Rattle.register_core.specs.Verdict.{named_key, always}
-use Rattle.register_core.specs.Need.{needed_type}
+use Rattle.register_core.specs.Need.{needed_period_type}
 use Rattle.register_requests.specs.Subject.{Registration, Subject, Makes, Names, NoKey, subject}
-use Rattle.register_core.specs.Effect.{no_dates, given_dates, dates_after, owner_after, row_at, custody_change}
+use Rattle.register_core.specs.Effect.{unset_dates, given_dates, dates_after, owner_after, row_with_dates_at}
+use Rattle.register_core.specs.Effect.{custody_change}
 use Rattle.register_core.specs.KeyName.{is_key_name, is_at, KeyName, key_name}
 
 -- the dates of the key as it stands; where there is none, no date is set
 abbrev pub dates_before : Option Held → Dates
-dates_before None = no_dates
+dates_before None = unset_dates
 dates_before (Some held) = held.row.dates
 
 -- by this period these are the dates after the request of the key that it makes, or that it names and that stands so
@@ -38,10 +39,10 @@ abbrev pub AreDatesAfter : Period → Option Held → Request → Dates → Type
 AreDatesAfter p key q d = d ≡ dates_after p (dates_before key) q.moment q.command
 
 -- what an accepted request makes of the key that it names by this number, by these periods of the types
-abbrev pub held_change : (KeyType → Period) → ℕ → Held → Request → Change
-held_change periods key held q =
+abbrev pub change_of_held_key : (KeyType → Period) → ℕ → Held → Request → Change
+change_of_held_key periods key held q =
     change.Held key (owner_after held.owner q.command)
-    (row_at (dates_after (periods held.kind) held.row.dates q.moment q.command) q.moment)
+    (row_with_dates_at (dates_after (periods held.kind) held.row.dates q.moment q.command) q.moment)
     (custody_change held.row.dates q.caller q.command)
 
 -- the key that a registration makes at the moment t
@@ -50,7 +51,7 @@ registered_key periods t new = record {
   kind = new.kind;
   owner = new.owner;
   purpose = new.purpose;
-  row = row_at (with_defaults (periods new.kind) (given_dates t new.activation new.protect_stop new.deactivation)) t;
+  row = row_with_dates_at (dates_with_defaults (periods new.kind) (given_dates t new.activation new.protect_stop new.deactivation)) t;
 }
 
 -- what an accepted command that is about no key changes of what the register keeps besides keys
@@ -62,11 +63,11 @@ change_without_key c = change.Nothing
 abbrev pub change_of : (KeyType → Period) → Subject → Option Held → Request → Change
 change_of periods (Makes registration) key q = change.Made (registered_key periods q.moment registration)
 change_of periods (Names key) None q = change.Nothing
-change_of periods (Names key) (Some held) q = held_change periods key held q
+change_of periods (Names key) (Some held) q = change_of_held_key periods key held q
 change_of periods NoKey key q = change_without_key q.command
 
-abbrev pub change_by : (KeyType → Period) → Option Held → Request → Change
-change_by periods key q = change_of periods (subject q.command) key q
+abbrev pub change_by_request : (KeyType → Period) → Option Held → Request → Change
+change_by_request periods key q = change_of periods (subject q.command) key q
 
 -- the reply to a request with this change, where this many keys were made before it
 abbrev pub reply_to : ℕ → ℕ → Change → Reply
@@ -77,7 +78,7 @@ reply_to keys t change.Nothing = record { key = 0; state = None; moment = t }
 
 -- the reply to the request, where the decision rests on this view and accepts it
 abbrev pub reply_of_view : View → Request → Reply
-reply_of_view view q = reply_to view.keys q.moment (change_by (always view.period) view.key q)
+reply_of_view view q = reply_to view.keys q.moment (change_by_request (always view.period) view.key q)
 
 -- the key's row is right at t
 abbrev pub IsRightKey : Option Held → ℕ → Type 0
@@ -88,7 +89,7 @@ IsRightKey (Some held) t = IsRightAt held.row t
 pub record IsViewOf (view : View) (h : List Request) (c : Command) : Type 0 where
   pub latest_is : view.latest ≡ latest h
   pub keys_are : view.keys ≡ count h
-  pub period_is : IfSome (needed_type view.key c) (λ kind. view.period ≡ period h kind)
+  pub period_is : IfSome (needed_period_type view.key c) (λ kind. view.period ≡ period h kind)
   pub key_is : view.key ≡ named_key h c
 
 -- ---- what a change leads to

@@ -8,8 +8,8 @@ use Rattle.lifecycle_core.specs.Reason.{is_compromise}
 use Rattle.period_core.specs.declared.key_type.KeyType.{KeyType}
 use Rattle.period_core.specs.KeyType.{key_type_code}
 use Rattle.period_core.specs.Period.{Period}
-use Rattle.period_core.specs.declared.fitting.DateRefusal.{DateRefusal}
-use Rattle.period_core.specs.Fitting.{with_defaults, within_limits, fill_of, trim_of}
+use Rattle.period_core.specs.declared.date_fitting.DateRefusal.{DateRefusal}
+use Rattle.period_core.specs.Fitting.{dates_with_defaults, dates_within_limits, fill_of, trim_of}
 use Rattle.register_requests.specs.declared.request.Command.{Command}
 use Rattle.register_requests.specs.declared.request.Command.TheVariants.{Register, Activate, SetDates, Revoke, Assign}
 use Rattle.register_requests.specs.declared.request.Command.TheVariants.{AddCustodian, RemoveCustodian, Approve}
@@ -39,28 +39,28 @@ owner_after before _ = before
 -- ---- dates
 
 -- no date is set before a key is registered
-abbrev pub no_dates : Dates
-no_dates = record { initial = 0; activation = None; protect_stop = None; deactivation = None; destroy = None; compromise = None; compromise_occurrence = None }
+abbrev pub unset_dates : Dates
+unset_dates = record { initial = 0; activation = None; protect_stop = None; deactivation = None; destroy = None; compromise = None; compromise_occurrence = None }
 
 -- the dates that a registration at the moment t gives, before Fill
 abbrev pub given_dates : ℕ → Option ℕ → Option ℕ → Option ℕ → Dates
 given_dates t activation protect_stop deactivation =
-    record no_dates { initial = t; activation = activation; protect_stop = protect_stop; deactivation = deactivation }
+    record unset_dates { initial = t; activation = activation; protect_stop = protect_stop; deactivation = deactivation }
 
-abbrev pub apply_edit : Edit → Option ℕ → Option ℕ
-apply_edit Keep before = before
-apply_edit Clear before = None
-apply_edit (Set date) before = Some date
+abbrev pub date_after_edit : Edit → Option ℕ → Option ℕ
+date_after_edit Keep before = before
+date_after_edit Clear before = None
+date_after_edit (Set date) before = Some date
 
 -- the dates with these edits, before Fill
 abbrev pub edited_dates : Edit → Edit → Edit → Dates → Dates
 edited_dates activation protect_stop deactivation d =
-    record d { activation = apply_edit activation d.activation; protect_stop = apply_edit protect_stop d.protect_stop; deactivation = apply_edit deactivation d.deactivation }
+    record d { activation = date_after_edit activation d.activation; protect_stop = date_after_edit protect_stop d.protect_stop; deactivation = date_after_edit deactivation d.deactivation }
 
 -- a date that is later than t becomes t
-abbrev pub cut_at : ℕ → Option ℕ → Option ℕ
-cut_at t None = None
-cut_at t (Some date) = Some (min date t)
+abbrev pub cut_date_at : ℕ → Option ℕ → Option ℕ
+cut_date_at t None = None
+cut_date_at t (Some date) = Some (min date t)
 
 -- a key that is compromised at t, with the occurrence that is given, or the Initial Date
 abbrev pub compromised : ℕ → Option ℕ → Dates → Dates
@@ -68,15 +68,15 @@ compromised t occurrence d = record d { compromise = Some t; compromise_occurren
 
 -- a key that is deactivated at t: its originator use ends no later
 abbrev pub deactivated : ℕ → Dates → Dates
-deactivated t d = record d { deactivation = Some t; protect_stop = cut_at t d.protect_stop }
+deactivated t d = record d { deactivation = Some t; protect_stop = cut_date_at t d.protect_stop }
 
 -- the dates of a key after a command at the moment t, where this is the period of its type
 abbrev pub dates_after : Period → Dates → ℕ → Command → Dates
 dates_after p d t (Register kind owner activation protect_stop deactivation purpose) =
-    with_defaults p (given_dates t activation protect_stop deactivation)
-dates_after p d t (Activate key) = within_limits p (record d { activation = Some t })
+    dates_with_defaults p (given_dates t activation protect_stop deactivation)
+dates_after p d t (Activate key) = dates_within_limits p (record d { activation = Some t })
 dates_after p d t (SetDates key activation protect_stop deactivation) =
-    with_defaults p (edited_dates activation protect_stop deactivation d)
+    dates_with_defaults p (edited_dates activation protect_stop deactivation d)
 dates_after p d t (Revoke key reason occurrence) =
     if is_compromise reason then compromised t occurrence d else deactivated t d
 dates_after p d t (Destroy key) = record d { destroy = Some t }
@@ -92,8 +92,8 @@ dates_or_refusal p d t (SetDates key activation protect_stop deactivation) =
 dates_or_refusal p d t c = Ok (dates_after p d t c)
 
 -- dates, with the state that they give at t
-abbrev pub row_at : Dates → ℕ → Row
-row_at d t = record { dates = d; state = state_at d t }
+abbrev pub row_with_dates_at : Dates → ℕ → Row
+row_with_dates_at d t = record { dates = d; state = state_at d t }
 
 -- ---- usage periods
 

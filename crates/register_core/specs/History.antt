@@ -9,7 +9,7 @@ use Rattle.period_core.specs.Period.{Period}
 use Rattle.period_core.specs.Period.{periods}
 use Rattle.register_requests.specs.declared.request.Request.{Request}
 use Rattle.register_requests.specs.Subject.{Registration, registration_of, key_of, is_key}
-use Rattle.register_core.specs.Effect.{kind_after, owner_after, period_after, sets_dates, no_dates, dates_after}
+use Rattle.register_core.specs.Effect.{kind_after, owner_after, period_after, sets_dates, unset_dates, dates_after}
 
 -- the moment of the latest accepted request, 0 before the first
 abbrev pub latest : List Request → ℕ
@@ -59,7 +59,7 @@ type h k = fold (λ before p. kind_after before p.request.command) DataEncryptio
 -- the dates that the requests of key k give it, one after the other, each by the period that its type had before it
 abbrev pub dates : List Request → ℕ → Dates
 dates h k =
-    fold (λ d p. dates_after (period p.before (type h k)) d p.request.moment p.request.command) no_dates (own h k)
+    fold (λ d p. dates_after (period p.before (type h k)) d p.request.moment p.request.command) unset_dates (own h k)
 
 -- the period that the dates of key k were held to when a command gave it dates last
 abbrev pub dated_by : List Request → ℕ → Period

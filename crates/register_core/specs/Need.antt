@@ -29,15 +29,15 @@ needed_key h q = if nat_lt q.moment (latest h) then None else option_map (needed
 
 -- The type whose period the dates that the command gives are held to: the registered type, or that of the key that it
 -- names. Where it gives no dates, or the key is not there, it is none.
-abbrev pub needed_type : Option Held → Command → Option KeyType
-needed_type key (Register kind owner activation protect_stop deactivation purpose) = Some kind
-needed_type (Some held) (Activate key) = Some held.kind
-needed_type (Some held) (SetDates key activation protect_stop deactivation) = Some held.kind
-needed_type _ _ = None
+abbrev pub needed_period_type : Option Held → Command → Option KeyType
+needed_period_type key (Register kind owner activation protect_stop deactivation purpose) = Some kind
+needed_period_type (Some held) (Activate key) = Some held.kind
+needed_period_type (Some held) (SetDates key activation protect_stop deactivation) = Some held.kind
+needed_period_type _ _ = None
 
 -- the view has what the request needs after this history
 pub record Suffices (view : View) (h : List Request) (q : Request) : Type 0 where
   pub latest_is : view.latest ≡ latest h
   pub keys_are : view.keys ≡ count h
-  pub period_is : IfSome (needed_type view.key q.command) (λ kind. view.period ≡ period h kind)
+  pub period_is : IfSome (needed_period_type view.key q.command) (λ kind. view.period ≡ period h kind)
   pub key_is : view.key ≡ needed_key h q

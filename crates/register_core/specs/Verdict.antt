@@ -22,8 +22,8 @@ use Rattle.register_core.specs.declared.reply.Refusal.TheVariants.{NotOwner, Not
 use Rattle.register_core.specs.declared.reply.Refusal.TheVariants.{DateOrder, PeriodTooLong, DateRange}
 use Rattle.register_core.specs.declared.reply.Refusal.TheVariants.{OccurrenceLater, Full, NotOffice}
 use Rattle.lifecycle_core.specs.declared.dates.Dates.{Dates}
-use Rattle.period_core.specs.declared.fitting.DateRefusal.{DateRefusal}
-use Rattle.period_core.specs.declared.fitting.DateRefusal.TheVariants as dates
+use Rattle.period_core.specs.declared.date_fitting.DateRefusal.{DateRefusal}
+use Rattle.period_core.specs.declared.date_fitting.DateRefusal.TheVariants as dates
 use Rattle.period_core.specs.Fitting.{first_that_holds, fill_of, trim_of}
 use Rattle.period_core.specs.declared.key_type.KeyType.{KeyType}
 use Rattle.period_core.specs.Period.{Period}

@@ -1,18 +1,292 @@
-//! What a request makes of the register, where the key that it names is known.
-ghost use Rattle.std.specs.Prelude.{◌≡◌, ◌≤◌, List, Some, IfOk, IfErr, None};
+//! The verdict on a request, and what it makes of the register, where the key that it names is
+//! known.
+ghost use Rattle.std.specs.Prelude.{◌≡◌, None, Some, IfOk, IfErr, OnOk, ◌≤◌, List};
+ghost use Rattle.register_requests.specs.declared.request.Command.{Command};
+ghost use Rattle.period_core.specs.Fitting.{Checks};
+ghost use Rattle.register_requests.specs.CommandRule.{rule};
+ghost use Rattle.register_core.specs.CustodyRefusal.{already_custodian, no_such_custodian};
+ghost use Rattle.register_core.specs.CustodyRefusal.{too_many_custodians, owner_custodian};
+ghost use Rattle.register_core.specs.CustodyRefusal.{already_approved, no_approval};
+ghost use Rattle.register_core.specs.CustodyRefusal.{approvals_missing, custody_refusal};
+ghost use Rattle.register_core.specs.Decision.{AreDatesAfter, IsRightKey, IsViewOf, LeadsTo};
+ghost use Rattle.register_core.specs.Decision.{change_by_request, reply_to, reply_of_view};
+ghost use Rattle.register_core.specs.Verdict.{moment_refusal, key_refusal, giver_refusal};
+ghost use Rattle.register_core.specs.Verdict.{state_refusal, keeps_date, freeze_refusal};
+ghost use Rattle.register_core.specs.Verdict.{entry_refusal, occurrence_refusal, limit_refusal};
+ghost use Rattle.register_core.specs.Verdict.{judge_view, always, max_keys, judgement};
+ghost use Rattle.register_requests.specs.Version.{current};
 ghost use Rattle.register_core.specs.KeptReply.{reply};
-ghost use Rattle.register_core.specs.Verdict.{always, max_keys, judge_view, judgement};
-ghost use Rattle.register_core.specs.Decision.{IsRightKey, IsViewOf, LeadsTo};
-ghost use Rattle.register_core.specs.Decision.{change_by, reply_to, reply_of_view};
 ghost use Rattle.register_core.specs.Need.{Suffices};
 
 use crate::change::{Accept, Change};
-use crate::effect::change_by;
+use crate::effect::{change_by_request, named_key_dates_after};
+use crate::limits::MAX_KEYS;
 use crate::reply::{Refusal, Reply};
-use crate::verdict::accepted_dates;
-use crate::view::View;
+use crate::view::{Held, View};
+use lifecycle_core::{Dates, State, state_of};
 use moment_core::Moment;
-use register_requests::Request;
+use register_requests::{Command, Edit, Giver, Name, OFFICE, Request, Version};
+
+/// The moment is not below the latest.
+fn check_moment(latest: Moment, at: Moment) -> Result<(), Refusal>
+    ensures { Checks (moment_refusal latest at) result }
+{
+    if at < latest {
+        Err(Refusal::MomentBehind { latest })
+    } else {
+        Ok(())
+    }
+}
+
+/// A key that the command names is there.
+fn check_key_exists(key: &Option<Held>, command: &Command) -> Result<(), Refusal>
+    ensures { Checks (key_refusal key.now command.now) result }
+{
+    match (key, command.key()) {
+        (None, Some(_)) => Err(Refusal::UnknownKey),
+        _ => Ok(()),
+    }
+}
+
+/// The caller is the one whom the command's rule has as its giver.
+fn check_giver(giver: Giver, key: &Option<Held>, caller: &Name) -> Result<(), Refusal>
+    ensures { (command : Command) → giver ≡ (rule command).giver
+        → Checks (giver_refusal key.now caller.now command) result }
+{
+    match (giver, key) {
+        (Giver::Owner, Some(held)) if *caller != held.owner => Err(Refusal::NotOwner),
+        (Giver::Custodian, Some(held)) if !held.custodians.contains(caller) => {
+            Err(Refusal::NotCustodian)
+        }
+        (Giver::Office, _) if caller.text() != OFFICE => Err(Refusal::NotOffice),
+        // With no key there is no owner to compare: that was refused before.
+        _ => Ok(()),
+    }
+}
+
+/// The key has at the moment one of these states.
+fn check_state(states: &[State], key: &Option<Held>, at: Moment) -> Result<(), Refusal>
+    ensures { (command : Command) → states.now ≡ (rule command).states
+        → Checks (state_refusal key.now at command) result }
+{
+    let Some(held) = key else {
+        return Ok(());
+    };
+    let state = state_of(&held.row.dates, at);
+    if states.contains(&state) {
+        Ok(())
+    } else {
+        Err(Refusal::WrongState { state })
+    }
+}
+
+/// Whether the edit keeps its date.
+fn keeps_date(edit: Edit) -> bool
+    ensures { result ≡ keeps_date edit }
+{
+    matches!(edit, Edit::Keep)
+}
+
+/// An Activation Date is kept outside Pre-Active, and a Protect Stop that is reached.
+fn check_freeze(key: &Option<Held>, at: Moment, command: &Command) -> Result<(), Refusal>
+    ensures { Checks (freeze_refusal key.now at command.now) result }
+{
+    let (
+        Some(held),
+        Command::SetDates {
+            activation,
+            protect_stop,
+            ..
+        },
+    ) = (key, command)
+    else {
+        return Ok(());
+    };
+    let dates = &held.row.dates;
+    let is_active = state_of(dates, at) != State::PreActive;
+    let is_stopped = dates.protect_stop.is_some_and(|stop| stop <= at);
+    if (!keeps_date(*activation) && is_active) || (!keeps_date(*protect_stop) && is_stopped) {
+        Err(Refusal::DateFrozen)
+    } else {
+        Ok(())
+    }
+}
+
+/// The name to add is no custodian yet.
+fn check_new_custodian(key: &Option<Held>, command: &Command) -> Result<(), Refusal>
+    ensures { Checks (already_custodian key.now command.now) result }
+{
+    match (key, command) {
+        (Some(held), Command::AddCustodian { name, .. }) if held.custodians.contains(name) => {
+            Err(Refusal::AlreadyCustodian)
+        }
+        _ => Ok(()),
+    }
+}
+
+/// The name to remove is a custodian.
+fn check_removed_custodian(key: &Option<Held>, command: &Command) -> Result<(), Refusal>
+    ensures { Checks (no_such_custodian key.now command.now) result }
+{
+    match (key, command) {
+        (Some(held), Command::RemoveCustodian { name, .. }) if !held.custodians.contains(name) => {
+            Err(Refusal::NoSuchCustodian)
+        }
+        _ => Ok(()),
+    }
+}
+
+/// A custodian is added only where there are fewer than a key may have.
+fn check_room_for_custodian(key: &Option<Held>, command: &Command) -> Result<(), Refusal>
+    ensures { Checks (too_many_custodians current key.now command.now) result }
+{
+    match (key, command) {
+        (Some(held), Command::AddCustodian { .. })
+            if held.custodians.len() >= Version::CURRENT.max_custodians() => {
+            Err(Refusal::TooManyCustodians)
+        }
+        _ => Ok(()),
+    }
+}
+
+/// No custodian becomes the owner, and no owner a custodian.
+fn check_owner_is_no_custodian(key: &Option<Held>, command: &Command) -> Result<(), Refusal>
+    ensures { Checks (owner_custodian key.now command.now) result }
+{
+    let is_both = match (key, command) {
+        (Some(held), Command::AddCustodian { name, .. }) => *name == held.owner,
+        (Some(held), Command::Assign { owner, .. }) => held.custodians.contains(owner),
+        _ => false,
+    };
+    if is_both {
+        Err(Refusal::OwnerCustodian)
+    } else {
+        Ok(())
+    }
+}
+
+/// The caller approves only where no approval of its stands.
+fn check_new_approval(key: &Option<Held>, caller: &Name, command: &Command) -> Result<(), Refusal>
+    ensures { Checks (already_approved key.now caller.now command.now) result }
+{
+    match (key, command) {
+        (Some(held), Command::Approve { .. }) if held.approvals.contains(caller) => {
+            Err(Refusal::AlreadyApproved)
+        }
+        _ => Ok(()),
+    }
+}
+
+/// The caller withdraws only where its approval stands.
+fn check_withdrawn_approval(
+    key: &Option<Held>,
+    caller: &Name,
+    command: &Command,
+) -> Result<(), Refusal>
+    ensures { Checks (no_approval key.now caller.now command.now) result }
+{
+    match (key, command) {
+        (Some(held), Command::Withdraw { .. }) if !held.approvals.contains(caller) => {
+            Err(Refusal::NoApproval)
+        }
+        _ => Ok(()),
+    }
+}
+
+/// The key is destroyed only where as many approvals stand as that needs.
+fn check_approvals(key: &Option<Held>, command: &Command) -> Result<(), Refusal>
+    ensures { Checks (approvals_missing key.now command.now) result }
+{
+    let (Some(held), Command::Destroy { .. }) = (key, command) else {
+        return Ok(());
+    };
+    let have = held.approvals.len();
+    let need = usize::from(held.need);
+    if have < need {
+        Err(Refusal::ApprovalsMissing { have, need })
+    } else {
+        Ok(())
+    }
+}
+
+/// No refusal of custody holds; else the first.
+fn check_custody(key: &Option<Held>, caller: &Name, command: &Command) -> Result<(), Refusal>
+    ensures { Checks (custody_refusal key.now caller.now command.now) result }
+{
+    check_new_custodian(key, command)?;
+    check_removed_custodian(key, command)?;
+    check_room_for_custodian(key, command)?;
+    check_owner_is_no_custodian(key, command)?;
+    check_new_approval(key, caller, command)?;
+    check_withdrawn_approval(key, caller, command)?;
+    check_approvals(key, command)
+}
+
+/// The occurrence of a compromise is not after the moment.
+fn check_occurrence(at: Moment, command: &Command) -> Result<(), Refusal>
+    ensures { Checks (occurrence_refusal at command.now) result }
+{
+    match *command {
+        Command::Revoke {
+            occurrence: Some(occurrence),
+            ..
+        } if at < occurrence => Err(Refusal::OccurrenceLater),
+        _ => Ok(()),
+    }
+}
+
+/// A key is made only where there are fewer than the register takes.
+fn check_key_limit(keys: u32, command: &Command) -> Result<(), Refusal>
+    ensures { Checks (limit_refusal keys command.now) result }
+{
+    match command {
+        Command::Register { .. } if keys >= MAX_KEYS => Err(Refusal::Full),
+        _ => Ok(()),
+    }
+}
+
+/// No refusal of who asks, of which key and when, holds; else the first.
+fn check_entry(view: &View, request: &Request) -> Result<(), Refusal>
+    ensures { Checks (entry_refusal view.now.latest view.now.key request.now) result }
+{
+    let at = request.moment;
+    let command = &request.command;
+    check_moment(view.latest, at)?;
+    check_key_exists(&view.key, command)?;
+    let rule = command.rule();
+    check_giver(rule.giver, &view.key, &request.caller)?;
+    check_state(rule.states, &view.key, at)
+}
+
+/// The dates of the key that the request makes or names, as they are after it where it is accepted.
+///
+/// # Errors
+/// The first refusal of the request that holds.
+pub(crate) fn accepted_dates(view: &View, request: &Request) -> Result<Dates, Refusal>
+    ensures accepted { OnOk result (judge_view view.now request.now ≡ None) }
+    ensures dates { IfOk result (AreDatesAfter view.now.period view.now.key request.now) }
+    ensures refused { IfErr result (λ refusal. judge_view view.now request.now ≡ Some refusal) }
+{
+    let at = request.moment;
+    let command = &request.command;
+    check_entry(view, request)?;
+    check_freeze(&view.key, at, command)?;
+    let dates = named_key_dates_after(view.period, &view.key, at, command)?;
+    check_custody(&view.key, &request.caller, command)?;
+    check_occurrence(at, command)?;
+    check_key_limit(view.keys, command)?;
+    Ok(dates)
+}
+
+/// The first refusal of the request that holds, or `None`: it is accepted.
+pub fn judge(view: &View, request: &Request) -> Option<Refusal>
+    ensures { result ≡ judge_view view.now request.now }
+{
+    match accepted_dates(view, request) {
+        Ok(_) => None,
+        Err(refusal) => Some(refusal),
+    }
+}
 
 /// The reply to an accepted request with this change, where this many keys were made before it.
 fn reply_to(keys: u32, at: Moment, change: &Change) -> Reply
@@ -46,7 +320,7 @@ pub fn decide(view: &View, request: &Request) -> Result<Accept, Refusal>
     ensures refused { IfErr result (λ refusal. judge_view view.now request.now ≡ Some refusal) }
     ensures accepted { IfOk result (λ accept. judge_view view.now request.now ≡ None) }
     ensures change { IfOk result (λ accept. accept.change
-        ≡ change_by (always view.now.period) view.now.key request.now) }
+        ≡ change_by_request (always view.now.period) view.now.key request.now) }
     ensures reply { IfOk result (λ accept. accept.reply ≡ reply_of_view view.now request.now) }
     ensures judgement { (h : List Request) → Suffices view.now h request.now →
         IfErr result (λ refusal. judgement h request.now ≡ Some refusal)
@@ -63,7 +337,7 @@ pub fn decide(view: &View, request: &Request) -> Result<Accept, Refusal>
     match accepted_dates(view, request) {
         Err(refusal) => Err(refusal),
         Ok(dates) => {
-            let change = change_by(dates, &view.key, request);
+            let change = change_by_request(dates, &view.key, request);
             let reply = reply_to(view.keys, request.moment, &change);
             Ok(Accept { change, reply })
         }

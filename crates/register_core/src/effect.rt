@@ -3,10 +3,13 @@
 ghost use Rattle.std.specs.Prelude.{◌≡◌, None, Some, IsSome, IfOk, IfErr, OnOk};
 ghost use Rattle.period_core.specs.Fitting.{fill_of, trim_of};
 ghost use Rattle.period_core.specs.Period.{Period as UsagePeriod};
-ghost use Rattle.register_core.specs.Effect.{owner_after, no_dates, given_dates, apply_edit};
-ghost use Rattle.register_core.specs.Effect.{edited_dates, cut_at, dates_after, dates_or_refusal};
-ghost use Rattle.register_core.specs.Effect.{row_at, custody_change};
-ghost use Rattle.register_core.specs.Decision.{change_by, change_without_key, held_change};
+ghost use Rattle.register_core.specs.Effect.{owner_after, unset_dates, given_dates};
+ghost use Rattle.register_core.specs.Effect.{date_after_edit};
+ghost use Rattle.register_core.specs.Effect.{edited_dates, cut_date_at, dates_after};
+ghost use Rattle.register_core.specs.Effect.{dates_or_refusal};
+ghost use Rattle.register_core.specs.Effect.{row_with_dates_at, custody_change};
+ghost use Rattle.register_core.specs.Decision.{change_by_request, change_without_key};
+ghost use Rattle.register_core.specs.Decision.{change_of_held_key};
 ghost use Rattle.register_core.specs.Decision.{AreDatesAfter, dates_before};
 ghost use Rattle.register_core.specs.Verdict.{always, dates_refusal, key_refusal};
 
@@ -15,16 +18,16 @@ use crate::key::Key;
 use crate::reply::Refusal;
 use crate::view::Held;
 use lifecycle_core::{Dates, Row, state_of};
-use moment_core::Moment;
+use moment_core::{FIRST_MOMENT, Moment};
 use period_core::{DateRefusal, Period, fill, trim};
 use register_requests::{Command, Edit, Name, Request};
 
 /// The dates of a key before it is registered: none is set.
-fn no_dates() -> Dates
-    ensures { result ≡ no_dates }
+fn unset_dates() -> Dates
+    ensures { result ≡ unset_dates }
 {
     Dates {
-        initial: Moment::new(0).unwrap(),
+        initial: FIRST_MOMENT,
         activation: None,
         protect_stop: None,
         deactivation: None,
@@ -48,13 +51,13 @@ pub fn given_dates(
         activation,
         protect_stop,
         deactivation,
-        ..no_dates()
+        ..unset_dates()
     }
 }
 
 /// The date after an edit.
-fn apply_edit(edit: Edit, before: Option<Moment>) -> Option<Moment>
-    ensures { result ≡ apply_edit edit before }
+fn date_after_edit(edit: Edit, before: Option<Moment>) -> Option<Moment>
+    ensures { result ≡ date_after_edit edit before }
 {
     match edit {
         Edit::Keep => before,
@@ -68,16 +71,16 @@ fn edited_dates(activation: Edit, protect_stop: Edit, deactivation: Edit, dates:
     ensures { result ≡ edited_dates activation protect_stop deactivation dates.now }
 {
     Dates {
-        activation: apply_edit(activation, dates.activation),
-        protect_stop: apply_edit(protect_stop, dates.protect_stop),
-        deactivation: apply_edit(deactivation, dates.deactivation),
+        activation: date_after_edit(activation, dates.activation),
+        protect_stop: date_after_edit(protect_stop, dates.protect_stop),
+        deactivation: date_after_edit(deactivation, dates.deactivation),
         ..*dates
     }
 }
 
 /// The dates with the state that they give at the moment.
-fn row_at(dates: Dates, at: Moment) -> Row
-    ensures { result ≡ row_at dates at }
+fn row_with_dates_at(dates: Dates, at: Moment) -> Row
+    ensures { result ≡ row_with_dates_at dates at }
 {
     Row {
         dates,
@@ -86,8 +89,8 @@ fn row_at(dates: Dates, at: Moment) -> Row
 }
 
 /// The earlier of the date and the moment, where the date is set.
-fn cut_at(at: Moment, date: Option<Moment>) -> Option<Moment>
-    ensures { result ≡ cut_at at date }
+fn cut_date_at(at: Moment, date: Option<Moment>) -> Option<Moment>
+    ensures { result ≡ cut_date_at at date }
 {
     match date {
         Some(date) if at < date => Some(at),
@@ -101,7 +104,7 @@ fn dates_before(key: &Option<Held>) -> Dates
 {
     match key {
         Some(held) => held.row.dates,
-        None => no_dates(),
+        None => unset_dates(),
     }
 }
 
@@ -126,7 +129,7 @@ fn trimmed_dates(period: Period, mut dates: Dates) -> Result<Dates, DateRefusal>
 ///
 /// # Errors
 /// Why the dates that the command gives do not fit the period.
-fn dates_after(
+fn dates_or_refusal(
     period: Period,
     dates: &Dates,
     at: Moment,
@@ -171,7 +174,7 @@ fn dates_after(
         }),
         Command::Revoke { .. } => Ok(Dates {
             deactivation: Some(at),
-            protect_stop: cut_at(at, dates.protect_stop),
+            protect_stop: cut_date_at(at, dates.protect_stop),
             ..*dates
         }),
         Command::Destroy { .. } => Ok(Dates {
@@ -184,7 +187,7 @@ fn dates_after(
 
 /// The dates after the command at the moment of the key that it makes or names, by this period, or
 /// their refusal.
-pub(crate) fn dates_by(
+pub(crate) fn named_key_dates_after(
     period: Period,
     key: &Option<Held>,
     at: Moment,
@@ -197,7 +200,7 @@ pub(crate) fn dates_by(
     ensures err { key_refusal key.now command.now ≡ None → IfErr result (λ refusal.
         dates_refusal (always period) key.now at command.now ≡ Some refusal) }
 {
-    Ok(dates_after(period, &dates_before(key), at, command)?)
+    Ok(dates_or_refusal(period, &dates_before(key), at, command)?)
 }
 
 /// What becomes of the custody of a key with these dates, by the caller's command.
@@ -230,15 +233,15 @@ fn owner_after(before: Name, command: &Command) -> Name
 
 /// What the accepted request makes of the key that it names by this number, where these are the
 /// key's dates after it.
-fn held_change(dates: Dates, key: u32, held: &Held, request: &Request) -> Change
+fn change_of_held_key(dates: Dates, key: u32, held: &Held, request: &Request) -> Change
     ensures { (period : UsagePeriod) → AreDatesAfter period (Some held.now) request.now dates
-        → result ≡ held_change (always period) key held.now request.now }
+        → result ≡ change_of_held_key (always period) key held.now request.now }
 {
     let command = &request.command;
     Change::Held {
         key,
         owner: owner_after(held.owner, command),
-        row: row_at(dates, request.moment),
+        row: row_with_dates_at(dates, request.moment),
         custody: custody_change(&held.row.dates, request.caller, command),
     }
 }
@@ -254,9 +257,9 @@ fn change_without_key(command: &Command) -> Change
 }
 
 /// What the accepted request changes, where it names this key, and these are the dates after it.
-pub(crate) fn change_by(dates: Dates, named: &Option<Held>, request: &Request) -> Change
+pub(crate) fn change_by_request(dates: Dates, named: &Option<Held>, request: &Request) -> Change
     ensures { (period : UsagePeriod) → AreDatesAfter period named.now request.now dates
-        → result ≡ change_by (always period) named.now request.now }
+        → result ≡ change_by_request (always period) named.now request.now }
 {
     let command = &request.command;
     if let Command::Register {
@@ -270,11 +273,11 @@ pub(crate) fn change_by(dates: Dates, named: &Option<Held>, request: &Request) -
             kind,
             owner,
             purpose,
-            row: row_at(dates, request.moment),
+            row: row_with_dates_at(dates, request.moment),
         });
     }
     match (command.key(), named) {
-        (Some(key), Some(held)) => held_change(dates, key, held, request),
+        (Some(key), Some(held)) => change_of_held_key(dates, key, held, request),
         (Some(_), None) => Change::Nothing,
         (None, _) => change_without_key(command),
     }

@@ -57,7 +57,7 @@ impl KeptReply {
 
     /// What a request with this command is answered that has the caller and the number of this one:
     /// the first reply where the commands are the same, and else [`Refusal::RequestReused`].
-    pub fn answer_again(&self, command: &Command) -> Answer
+    pub fn answer_to_repeat(&self, command: &Command) -> Answer
         ensures { (new : Reply) → result ≡ answer_by (repeated self.now command.now) new }
     {
         if self.has_command(command) {

@@ -39,9 +39,9 @@ record IsRowOf (h : List Request) (r : KeyRow) : Type 0 where
   kind : r.kind ≡ type h r.number
   dates_are : r.row.dates ≡ dates h r.number
 
-numbered_in : (h : List Request) (r : KeyRow) → Contains (all_rows h) r
+numbered_key_in : (h : List Request) (r : KeyRow) → Contains (all_rows h) r
     → (x : ℕ × Key) × Has (numbered (tables h).keys) x × (r ≡ row_of x)
-numbered_in h r there = map_has row_of (numbered (tables h).keys) r (contains_has (all_rows h) r there)
+numbered_key_in h r there = map_has row_of (numbered (tables h).keys) r (contains_has (all_rows h) r there)
 
 in_list : {X : Type 0} (xs : List X) (i : ℕ) (x : X) → slice_get xs i ≡ Some x → i < length xs
 in_list xs i x at = elim (cases_lt i (length xs)) [
@@ -70,13 +70,13 @@ of_key h x has =
     ]
 
 row_is : (h : List Request) (r : KeyRow) → Contains (all_rows h) r → IsRowOf h r
-row_is h r there = let x = numbered_in h r there in subst (IsRowOf h) (sym x.2) (of_key h x.0 x.1)
+row_is h r there = let x = numbered_key_in h r there in subst (IsRowOf h) (sym x.2) (of_key h x.0 x.1)
 
 -- no two rows have one number
 pub own_numbers : (h : List Request) → HaveOwnNumbers (all_rows h)
 own_numbers h r s of_r of_s same =
-    let x = numbered_in h r of_r in
-    let y = numbered_in h s of_s in
+    let x = numbered_key_in h r of_r in
+    let y = numbered_key_in h s of_s in
     let number : x.0.0 ≡ y.0.0 = sym (ap (λ (row : KeyRow). row.number) x.2) ∙ same
     ∙ ap (λ (row : KeyRow). row.number) y.2 in
     x.2 ∙ ap row_of (sym (one_number (tables h) x.0 y.0 x.1 y.1 number)) ∙ sym y.2

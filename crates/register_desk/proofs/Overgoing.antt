@@ -25,7 +25,7 @@ use Rattle.period_core.specs.declared.key_type.KeyType.{KeyType}
 use Rattle.period_core.specs.Period.{Period}
 use Rattle.register_core.specs.declared.view.Held.{Held}
 use Rattle.register_core.specs.declared.view.View.{View}
-use Rattle.register_core.specs.Decision.{change_by, change_of, change_without_key, reply_of_view, reply_to}
+use Rattle.register_core.specs.Decision.{change_by_request, change_of, change_without_key, reply_of_view, reply_to}
 use Rattle.register_requests.specs.declared.request.Command.{Command}
 use Rattle.register_requests.specs.declared.request.Command.TheVariants.{SetPeriod}
 use Rattle.register_core.specs.KeptReply.{kept_with, IsKeptReply}
@@ -110,7 +110,7 @@ module _ {S : Type 0} (g : store.Ghosts S) (old new : Desk S g) (t : Tables) (q 
     (made : Change) (given : Reply)
     (whole : old.is_broken ≡ false) (over : IsOver g old t) (in_range : IsKeptReply (kept_with q given))
     (at : given.moment ≡ q.moment)
-    (is : made ≡ change_by (always view.period) view.key q)
+    (is : made ≡ change_by_request (always view.period) view.key q)
     (told : given ≡ reply_of_view view q)
     (accepted : judge_view view q ≡ None) (seen_so : IsViewOver t q view) where
   abbrev after : Tables
@@ -140,9 +140,9 @@ module _ {S : Type 0} (g : store.Ghosts S) (old new : Desk S g) (t : Tables) (q 
         ∙ accepted;
     change_is =
         is ∙ changed_by (always view.period) (period_over t) view.key q seen_so.period_is
-        ∙ ap (λ (k : Option Held). change_by (period_over t) k q) seen_so.key_is;
+        ∙ ap (λ (k : Option Held). change_by_request (period_over t) k q) seen_so.key_is;
     reply_is =
-        told ∙ ap (λ (n : ℕ). reply_to n q.moment (change_by (always view.period) view.key q)) seen_so.keys_are
+        told ∙ ap (λ (n : ℕ). reply_to n q.moment (change_by_request (always view.period) view.key q)) seen_so.keys_are
         ∙ ap (reply_to (length t.keys) q.moment) (sym is);
   }
 

@@ -10,7 +10,7 @@ use Rattle.register_core.specs.declared.change.Change.{Change}
 use Rattle.register_core.specs.declared.reply.Reply.{Reply}
 use Rattle.register_requests.specs.declared.request.Command.{Command}
 use Rattle.register_requests.specs.declared.request.Request.{Request}
-use Rattle.register_core.specs.Decision.{change_by, reply_to}
+use Rattle.register_core.specs.Decision.{change_by_request, reply_to}
 use Rattle.register_core.specs.KeptReply.{kept_with}
 use Rattle.register_requests.specs.Subject.{named}
 use Rattle.register_core.specs.Verdict.{judge}
@@ -102,7 +102,7 @@ LeavesEither g h other desk = LeavesOneOf h other (seen g desk.connection)
 -- change and this reply
 pub record AcceptsOver (t : Tables) (q : Request) (change : Change) (reply : Reply) : Type 0 where
   pub accepted : judge t.counts.latest (length t.keys) (period_over t) (key_needed t q) q ≡ None
-  pub change_is : change ≡ change_by (period_over t) (key_needed t q) q
+  pub change_is : change ≡ change_by_request (period_over t) (key_needed t q) q
   pub reply_is : reply ≡ reply_to (length t.keys) q.moment change
 
 -- The request was accepted with this reply: the desk is over what the change makes of the tables, and its row is kept.

@@ -13,7 +13,7 @@ use Rattle.register_core.specs.declared.view.View.{View}
 use Rattle.register_requests.specs.CommandRule.{looks_at_custody, needs_approvals}
 use Rattle.register_requests.specs.Quorum.{min_approvals}
 use Rattle.register_core.specs.Settings.{need_at, period_at}
-use Rattle.register_core.specs.Need.{needed_type}
+use Rattle.register_core.specs.Need.{needed_period_type}
 use Rattle.register_requests.specs.Subject.{named}
 use Rattle.register_store.specs.TableChanges.{key_at}
 use Rattle.register_store.specs.TableReads.{loaded}
@@ -28,8 +28,8 @@ abbrev pub need_for : Tables → Command → ℕ → ℕ
 need_for t c number = if needs_approvals c then need_over t number else min_approvals
 
 -- the key, with nobody in its custody
-abbrev pub without_custody : Key → Held
-without_custody k = record {
+abbrev pub held_without_custody : Key → Held
+held_without_custody k = record {
   kind = k.kind;
   owner = k.owner;
   row = k.row;
@@ -43,7 +43,7 @@ abbrev pub key_for : Tables → Command → ℕ → Option Held
 key_for t c number =
     if looks_at_custody c
     then option_map (λ key. (loaded number (need_for t c number) t key).0) (key_at t.keys number)
-    else option_map without_custody (key_at t.keys number)
+    else option_map held_without_custody (key_at t.keys number)
 
 -- that of the key which the request names; nothing where its moment is below the latest, which refuses it whatever the
 -- key is
@@ -59,5 +59,5 @@ period_over t kind = unwrap_or (period_at kind t.periods) (periods kind)
 pub record IsViewOver (t : Tables) (q : Request) (view : View) : Type 0 where
   pub latest_is : view.latest ≡ t.counts.latest
   pub keys_are : view.keys ≡ length t.keys
-  pub period_is : IfSome (needed_type view.key q.command) (λ kind. view.period ≡ period_over t kind)
+  pub period_is : IfSome (needed_period_type view.key q.command) (λ kind. view.period ≡ period_over t kind)
   pub key_is : view.key ≡ key_needed t q

@@ -48,11 +48,11 @@ pub lives_anyway : {S : Type 0} (g : Ghosts S) (may_leave : S → Image → Type
     → ((h : List Request) → StandsFor g kept h → IsClean g now
     → RunsSome g h outcome.end outcome.replies old new kept now)
     → LivesAnyway g may_leave found old new (Ok (record { outcome = outcome; files = files }))
-lives_anyway g may_leave found outcome files old new kept now whole into closes goes_on stands runs =
+lives_anyway g may_leave found outcome files old new kept now whole into closes may_serve_on stands runs =
     let some = λ (clean : IsCleanStore (g.view files.store)) (may : Image → Type 0) (leaves : LeavesAsDesk g now may)
     (h : List Request) (lawful : IsLawful h) (holds : HoldsRegister h found).
     lives_some g may outcome old new kept now leaves.lives
-    h (runs h (stands h lawful holds (goes_on (closes clean))) (closes clean)) whole in
+    h (runs h (stands h lawful holds (may_serve_on (closes clean))) (closes clean)) whole in
     record {
       some = λ h lawful holds clean. of_both (into clean) (λ may leaves. some clean may leaves h lawful holds);
       leads = λ clean. of_both (into clean)

@@ -12,14 +12,14 @@ use Rattle.register_desk.specs.Lives.{AreInRange}
 use Rattle.register_desk.specs.Register.{StandsFor}
 
 -- a next exchange may follow one that ended so: the register may be asked again
-abbrev pub goes_on : Finish → Bool
-goes_on (AtEnd rest) = true
-goes_on (Ended Memory) = true
-goes_on (Ended Store) = false
-goes_on (Ended Broken) = false
-goes_on (Ended ReadFault) = true
-goes_on (Ended WriteFault) = true
-goes_on (Ended BadHeader) = true
+abbrev pub may_serve_on : Finish → Bool
+may_serve_on (AtEnd rest) = true
+may_serve_on (Ended Memory) = true
+may_serve_on (Ended Store) = false
+may_serve_on (Ended Broken) = false
+may_serve_on (Ended ReadFault) = true
+may_serve_on (Ended WriteFault) = true
+may_serve_on (Ended BadHeader) = true
 
 -- how serving ends: as many exchanges as were asked for came and went, or none may follow, or no connection was
 -- accepted or no moment told

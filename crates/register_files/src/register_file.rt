@@ -74,7 +74,7 @@ fn close_connection<S: Alter + Drop>(connection: Connection<S>) -> S
 }
 
 /// The files of a register that nobody uses any more, with the log copied into the database file.
-fn into_files<F: Files>(desk: Desk<F::Opened>) -> Closed<F::Opened>
+fn close_desk<F: Files>(desk: Desk<F::Opened>) -> Closed<F::Opened>
     ensures clean { IsCleanStore (F.Opened.Store.view result.store)
         → IsClean F.Opened.Store desk }
     // What a stop leaves of the register is what is found in the files, up to their closing and from
@@ -101,7 +101,7 @@ pub fn init_file<F: Files>(
 {
     let connection = files.connect(rt, file)?;
     let desk = Desk::create(rt.alloc(), connection)?;
-    Ok(into_files::<F>(desk))
+    Ok(close_desk::<F>(desk))
 }
 
 /// Opens the register in the file. Where there is no file none is made.
@@ -150,7 +150,7 @@ pub fn run_file<F: Files + Drop, R: Read, W: Write>(
     let outcome = run(reader, writer, &mut desk);
     Ok(Life {
         outcome,
-        files: into_files::<F>(desk),
+        files: close_desk::<F>(desk),
     })
 }
 
@@ -184,7 +184,7 @@ pub fn import_file<F: Files + Drop, R: Read + Drop, W: Write>(
     );
     Ok(Life {
         outcome,
-        files: into_files::<F>(desk),
+        files: close_desk::<F>(desk),
     })
 }
 
@@ -207,7 +207,7 @@ pub fn export_file<F: Files + Drop, W: Write>(
     let outcome = export(rt.alloc(), &mut desk, writer);
     Ok(Life {
         outcome,
-        files: into_files::<F>(desk),
+        files: close_desk::<F>(desk),
     })
 }
 
@@ -232,7 +232,7 @@ pub fn report_file<F: Files + Drop, W: Write>(
     let outcome = rotation(rt.alloc(), &mut desk, days, writer);
     Ok(Life {
         outcome,
-        files: into_files::<F>(desk),
+        files: close_desk::<F>(desk),
     })
 }
 
@@ -251,7 +251,7 @@ pub fn serve_file<F: Files + Drop>(
     let mut desk = open_file(rt, file, files)?;
     let end = serve_at(rt, &mut desk, bounds.port, bounds.exchanges);
     Ok(Life {
-        outcome: Outcome::of(end),
-        files: into_files::<F>(desk),
+        outcome: Outcome::ended(end),
+        files: close_desk::<F>(desk),
     })
 }

@@ -4,7 +4,7 @@ ghost use Rattle.register_requests.specs.declared.request.Request.{Request};
 ghost use Rattle.register_desk.specs.Desk.{IsClean, IsWhole};
 ghost use Rattle.register_desk.specs.Register.{StandsFor};
 ghost use Rattle.register_http.specs.OneItem.{LeavesOne};
-ghost use Rattle.register_files.specs.ServedExchanges.{EndsServing, LeavesSome, goes_on};
+ghost use Rattle.register_files.specs.ServedExchanges.{EndsServing, LeavesSome, may_serve_on};
 
 use moment_core::Moment;
 use register_desk::{Desk, End, Finish, Watched};
@@ -119,7 +119,7 @@ impl<C: Clock> Write for Timed<'_, C> {
 /// Takes off the connection what the client has sent after its request, as far as it is there:
 /// bytes that nobody read would have the system break the connection before the client has its
 /// reply.
-fn drain(stream: &TcpStream) {
+fn drain_client(stream: &TcpStream) {
     if stream.shutdown(Shutdown::Write).is_err() || stream.set_nonblocking(true).is_err() {
         return;
     }
@@ -151,13 +151,13 @@ fn serve_connection<S: Alter, C: Clock>(
     let mut reader = Watched::new(client.timed_from(start));
     let mut writer = Watched::new(client.timed_from(start));
     let outcome = exchange(alloc, routes, desk, moment, &mut reader, &mut writer);
-    drain(client.stream);
+    drain_client(client.stream);
     outcome.end
 }
 
 /// Whether a next exchange may follow one that ended so: the register may be asked again.
-fn goes_on(finish: Finish) -> bool
-    ensures { result ≡ goes_on finish }
+fn may_serve_on(finish: Finish) -> bool
+    ensures { result ≡ may_serve_on finish }
 {
     match finish {
         Finish::Ended(End::Store) => false,
@@ -199,7 +199,7 @@ pub fn serve_on<S: Alter, C: Clock, N: Now>(
             timer: clocks.timer,
         };
         let finish = serve_connection(alloc, &mut routes, desk, &client, moment);
-        if !goes_on(finish) {
+        if !may_serve_on(finish) {
             return finish;
         }
         served += 1;

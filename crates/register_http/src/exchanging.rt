@@ -15,7 +15,8 @@ ghost use Rattle.register_http.specs.OneItem.{LeavesOne};
 ghost use Rattle.register_http.specs.SentReply.{Sends, end_reply, reply_text};
 
 use http_messages::{
-    AskFault, Asked, Routes, Sent, ask, key_text, outcome_text, rejection_text, usage_text,
+    AskFault, Asked, Routes, Sent, ask, key_reply_text, outcome_reply_text, rejection_text,
+    usage_reply_text,
 };
 use moment_core::Moment;
 use register_core::{Refusal, Request};
@@ -54,7 +55,7 @@ fn text_or_end(text: Result<String, AllocError>) -> Result<String, End>
 fn unknown_key_text(alloc: Global) -> Result<String, AllocError>
     ensures { IfOk result (IsTextOf (outcome_reply (Err UnknownKey))) }
 {
-    outcome_text(alloc, &Err(Refusal::UnknownKey))
+    outcome_reply_text(alloc, &Err(Refusal::UnknownKey))
 }
 
 /// Shows a key.
@@ -62,7 +63,7 @@ fn show_reply<S: Alter>(alloc: Global, desk: &mut Desk<S>, key: u32) -> Result<S
     ensures { (moment : ℕ) → Acts S.Store moment (Asked.ShowKey key) desk.old desk.new result }
 {
     match desk.show(key)? {
-        Some(shown) => text_or_end(key_text(alloc, &shown)),
+        Some(shown) => text_or_end(key_reply_text(alloc, &shown)),
         None => text_or_end(unknown_key_text(alloc)),
     }
 }
@@ -72,7 +73,7 @@ fn usage_reply<S: Alter>(alloc: Global, desk: &mut Desk<S>, key: u32) -> Result<
     ensures { (moment : ℕ) → Acts S.Store moment (Asked.ShowUsage key) desk.old desk.new result }
 {
     match desk.usage(key)? {
-        Some(usage) => text_or_end(usage_text(alloc, &usage)),
+        Some(usage) => text_or_end(usage_reply_text(alloc, &usage)),
         None => text_or_end(unknown_key_text(alloc)),
     }
 }
@@ -102,7 +103,7 @@ fn apply_reply<S: Alter>(
 {
     let request = request_at(moment, sent);
     let answer = desk.apply(&request)?;
-    text_or_end(outcome_text(alloc, &answer.outcome()))
+    text_or_end(outcome_reply_text(alloc, &answer.outcome()))
 }
 
 /// Does what is asked at this moment, and gives the text of the reply.
@@ -110,7 +111,7 @@ fn apply_reply<S: Alter>(
 /// # Errors
 /// [`End::Memory`], [`End::Store`] or [`End::Broken`], as the call of the desk has it; the first
 /// also where memory gave out for the text.
-fn answer<S: Alter>(
+fn answer_asked<S: Alter>(
     alloc: Global,
     desk: &mut Desk<S>,
     moment: Moment,
@@ -149,7 +150,11 @@ fn finish_or_end(answered: &Result<String, End>, finish: Finish) -> Finish
 }
 
 /// Writes the reply to what was answered, after so many bytes were read.
-fn send<W: Write>(writer: &mut Watched<W>, answered: &Result<String, End>, read: u64) -> Outcome
+fn send_reply<W: Write>(
+    writer: &mut Watched<W>,
+    answered: &Result<String, End>,
+    read: u64,
+) -> Outcome
     ensures sends { Sends (reply_text answered.now) (W.contents writer.old.inner)
         (W.contents writer.new.inner) result.written result.replies }
     ensures ends { EndsAs answered.now result.end result.replies }
@@ -196,17 +201,17 @@ pub fn exchange<R: Read, W: Write, S: Alter>(
     ensures reader { LeavesReader R.remaining reader.old reader.new result }
     ensures writer { LeavesWriter writer.new result }
 {
-    reader.begin();
-    writer.begin();
+    reader.start_counting();
+    writer.start_counting();
     let asking = ask(alloc, routes, reader);
     let read = asking.read as u64;
     let answered = match asking.asked {
-        Ok(Some(asked)) => answer(alloc, desk, moment, &asked),
-        Ok(None) => return Outcome::of(Finish::AtEnd { rest: 0 }).with_read(read),
+        Ok(Some(asked)) => answer_asked(alloc, desk, moment, &asked),
+        Ok(None) => return Outcome::ended(Finish::AtEnd { rest: 0 }).with_read(read),
         Err(AskFault::Memory) => Err(End::Memory),
         Err(AskFault::ReadFault) => {
-            return Outcome::of(Finish::Ended(End::ReadFault)).with_read(read);
+            return Outcome::ended(Finish::Ended(End::ReadFault)).with_read(read);
         }
     };
-    send(writer, &answered, read)
+    send_reply(writer, &answered, read)
 }

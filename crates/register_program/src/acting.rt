@@ -3,7 +3,8 @@ ghost use Rattle.std.specs.Prelude.{◌≡◌, false, length};
 ghost use Rattle.register_desk.specs.End.{exit_status};
 ghost use Rattle.register_program.specs.Act.{unopened_status, usage_status, status_of};
 ghost use Rattle.register_program.specs.Act.{ActsWithoutWords};
-ghost use Rattle.register_program.specs.Task.{status_after, ActsBy, IsWordsStatus, Performs, RunsInMemory};
+ghost use Rattle.register_program.specs.Task.{status_after, ActsBy, IsWordsStatus, Performs};
+ghost use Rattle.register_program.specs.Task.{RunsInMemory};
 
 use clap::error::ErrorKind;
 use register_desk::{End, Finish, OpenRefusal, Watched, create_in_memory, run};
@@ -103,7 +104,7 @@ fn run_in_memory<R: Read + Drop, W: Write>(
 }
 
 /// Does the task, over these files where it names one.
-pub fn perform<F: Files + Drop, R: Read + Drop, W: Write>(
+pub fn perform_task<F: Files + Drop, R: Read + Drop, W: Write>(
     rt: &HostRuntime,
     files: F,
     task: &Task<'_>,
@@ -178,7 +179,7 @@ pub fn act<F: Files + Drop, R: Read + Drop, W: Write, E: Write>(
 {
     let Outputs { writer, faults } = outputs;
     match read_words(rt.alloc(), words) {
-        Ok(task) => report_done(perform(rt, files, &task, reader, writer), faults),
+        Ok(task) => report_done(perform_task(rt, files, &task, reader, writer), faults),
         Err(error) => report_words_error(&error, faults),
     }
 }

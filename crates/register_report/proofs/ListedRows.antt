@@ -17,9 +17,9 @@ use Rattle.register_core.specs.Fold.{IsLawful}
 use Rattle.register_core.specs.History.{period, set_period}
 use Rattle.register_desk.specs.KeyRows.{all_rows}
 use Rattle.register_desk.proofs.KeyRowsOf.{listed_if_due, listed_is_due, own_numbers}
-use Rattle.register_report.specs.declared.table.Table.{Table}
-use Rattle.register_report.specs.declared.table.Table.TheVariants.{Report}
-use Rattle.register_report.specs.Table.{head_text, lines_text, lists, table_text}
+use Rattle.register_report.specs.declared.key_table.KeyTable.{KeyTable}
+use Rattle.register_report.specs.declared.key_table.KeyTable.TheVariants.{Report}
+use Rattle.register_report.specs.KeyTable.{head_text, lines_text, lists, table_text}
 
 same_filter : (p q : KeyRow → Bool) → ((r : KeyRow) → p r ≡ q r) → (rows : List KeyRow) → filter p rows ≡ filter q rows
 same_filter p q same [] = refl
@@ -28,7 +28,7 @@ same_filter p q same (r ∷ rows) =
     ∙ ap (λ rest. cond (q r) (r ∷ rest) rest) (same_filter p q same rows)
 
 module _ (latest until : ℕ) (set : OfficePeriods) where
-  abbrev table : Table
+  abbrev table : KeyTable
   table = Report latest until set
 
   -- the lines of rows are those of the rows that are listed

@@ -17,14 +17,14 @@ use Rattle.register_desk.specs.Desk.{ChangesNothing, IsClean, IsWhole}
 use Rattle.register_desk.specs.Register.{StandsFor}
 use Rattle.register_desk.specs.KeyRows.{AreAll, AreSoFar, GiveNext, HaveGiven, all_rows, until_of}
 use Rattle.register_desk.proofs.Readings.{nothing_done, nothing_then, stands_still}
-use Rattle.register_report.specs.declared.table.Table.{Table}
-use Rattle.register_report.specs.Table.{count_in, lines_text, lists, row_text}
+use Rattle.register_report.specs.declared.key_table.KeyTable.{KeyTable}
+use Rattle.register_report.specs.KeyTable.{count_in, lines_text, lists, row_text}
 use Rattle.register_report.specs.TextWriter.{Puts, PutsRows, PutsText}
 use Rattle.register_report.proofs.TextLemmas.{prefix_whole, no_fault, passed_on, puts_nothing, puts_well, text_failed}
 use Rattle.register_report.proofs.TextLemmas.{text_same, text_then}
 
 -- the lines of one row more, and their number
-one_line : (table : Table) (given : List KeyRow) (row : KeyRow)
+one_line : (table : KeyTable) (given : List KeyRow) (row : KeyRow)
     → lines_text table (given ++ row ∷ []) ≡ lines_text table given ++ row_text table row
 one_line table [] row = append-nil (row_text table row)
 one_line table (r ∷ given) row =
@@ -38,7 +38,7 @@ pub at_most_one : (listed : Bool) → one_if listed ≤ 1
 at_most_one true = omega arith
 at_most_one false = omega arith
 
-count_more : (table : Table) (given : List KeyRow) (row : KeyRow)
+count_more : (table : KeyTable) (given : List KeyRow) (row : KeyRow)
     → count_in table (given ++ row ∷ []) ≡ count_in table given + one_if (lists table row)
 count_more table [] row = by (lists table row)
   where
@@ -53,7 +53,7 @@ count_more table (r ∷ given) row = by (lists table r) (count_more table given 
     by true rest = omega (arith, rest)
     by false rest = rest
 
-module _ {W S : Type 0} (contents : W → Option (List ℕ)) (g : Ghosts S) (table : Table) where
+module _ {W S : Type 0} (contents : W → Option (List ℕ)) (g : Ghosts S) (table : KeyTable) where
   pub record SoFar (old now : Watched W) (before after : ℕ) (start rows : KeyRows S g)
       (count : ℕ) : Type 0 where
     pub given : List KeyRow
@@ -88,7 +88,7 @@ pub record Next {S : Type 0} {g : Ghosts S} (rows next : KeyRows S g)
       → IsWhole rows.desk.now → IsClean g next.desk.now → HaveGiven rows (all_rows h) given
       → GiveNext next (all_rows h) given found
 
-module _ {W S : Type 0} {contents : W → Option (List ℕ)} {g : Ghosts S} {table : Table}
+module _ {W S : Type 0} {contents : W → Option (List ℕ)} {g : Ghosts S} {table : KeyTable}
     {old now : Watched W} {before after : ℕ} {start rows : KeyRows S g} {count : ℕ}
     (so : SoFar contents g table old now before after start rows count) where
   pub still : {desk : Desk S g} → ChangesNothing g rows.desk.now desk
@@ -188,7 +188,7 @@ module _ {W S : Type 0} {contents : W → Option (List ℕ)} {g : Ghosts S} {tab
     }
 
 module _ {W S : Type 0} {contents : W → Option (List ℕ)} {g : Ghosts S} {old new : Watched W}
-    {before after : ℕ} {rows_old rows_new : KeyRows S g} {table : Table} {e : End} where
+    {before after : ℕ} {rows_old rows_new : KeyRows S g} {table : KeyTable} {e : End} where
   -- the same of a failure that was passed on
   pub rows_passed_on : (r : Result ℕ End) → IsErrAnd r (λ x. x ≡ e)
       → PutsRows contents g old new before after rows_old rows_new table (Err e)

@@ -94,9 +94,9 @@ moment_up_to (suc last) field = elim (is_same field (moment_text (suc last))) [
   ]
 ]
 
-date_in : (field : List ℕ) → Decided (Writes date_field IsDate field)
-date_in [] = inl (None, tt, refl)
-date_in (byte ∷ field) = elim (moment_up_to last_second (byte ∷ field)) [
+date_of_field : (field : List ℕ) → Decided (Writes date_field IsDate field)
+date_of_field [] = inl (None, tt, refl)
+date_of_field (byte ∷ field) = elim (moment_up_to last_second (byte ∷ field)) [
   | inl found ↦ inl (Some found.0, found.1, found.2)
   | inr none ↦ inr (λ it. no_date none it.0 it.1 it.2)
 ]
@@ -159,7 +159,7 @@ module _ (moment : ℕ) (caller : List ℕ) (number : ℕ) where
 
     parts_in : Decided (RowParts moment caller number u v w x y z)
     parts_in =
-        let dates = both (date_in w) (both (date_in x) (both (date_in y) (read_or_none purpose_reader z))) in
+        let dates = both (date_of_field w) (both (date_of_field x) (both (date_of_field y) (read_or_none purpose_reader z))) in
         let all = both (read_or_none key_type_reader u) (both (read_or_none name_reader v) dates) in
         elim (both (may_have moment caller number) all) [
           | inl it ↦ inl (record {
@@ -235,14 +235,14 @@ module _ (moment : ℕ) (caller : List ℕ) (number : ℕ) where
       },
     )
 
-    six_fields : HasItem the_row
-    six_fields = elim parts_in [
+    fields_of_row : HasItem the_row
+    fields_of_row = elim parts_in [
       | inl parts ↦ of_parts parts
       | inr none ↦ (None, λ q of. none (parts_of q of))
     ]
 
   item_of : (fields : Row) → HasItem fields
-  item_of (u ∷ v ∷ w ∷ x ∷ y ∷ z ∷ []) = six_fields u v w x y z
+  item_of (u ∷ v ∷ w ∷ x ∷ y ∷ z ∷ []) = fields_of_row u v w x y z
   item_of [] = (None, λ q of. let same = of.fields_are in absurd cc)
   item_of (u ∷ []) = (None, λ q of. let same = of.fields_are in absurd cc)
   item_of (u ∷ v ∷ []) = (None, λ q of. let same = of.fields_are in absurd cc)

@@ -8,8 +8,8 @@ use Rattle.register_desk.specs.declared.end.End.{End}
 use Rattle.register_desk.specs.declared.end.End.TheVariants.{WriteFault}
 use Rattle.register_desk.specs.declared.rows.KeyRows.{KeyRows}
 use Rattle.register_desk.specs.KeyRows.{all_rows}
-use Rattle.register_report.specs.declared.table.Table.{Table}
-use Rattle.register_report.specs.Table.{foot_text, head_text, lines_text}
+use Rattle.register_report.specs.declared.key_table.KeyTable.{KeyTable}
+use Rattle.register_report.specs.KeyTable.{foot_text, head_text, lines_text}
 use Rattle.register_report.specs.TextWriter.{PutsRows, PutsTable, PutsText}
 use Rattle.register_report.proofs.TextLemmas.{passed_on, text_failed, text_longer, text_nothing, text_same, text_then}
 
@@ -19,7 +19,7 @@ other_fault : {T : Type 0} (e : End) → e ≢ WriteFault
 other_fault e other is = other (let same : e ≡ WriteFault = cc in same)
 
 -- nothing was written
-pub no_head : {W S : Type 0} (contents : W → Option (List ℕ)) {g : Ghosts S} (table : Table)
+pub no_head : {W S : Type 0} (contents : W → Option (List ℕ)) {g : Ghosts S} (table : KeyTable)
     → (writer : Watched W) (count : ℕ) (start : KeyRows S g) (e : End)
     → e ≢ WriteFault → PutsTable contents g writer writer count count start start table (Err e)
 no_head contents {g} table writer count start e other = record {
@@ -32,7 +32,7 @@ no_head contents {g} table writer count start e other = record {
   are = λ h stands whole clean none. (none (all_rows h)).so_far;
 }
 
-module _ {W S : Type 0} {contents : W → Option (List ℕ)} {g : Ghosts S} (table : Table)
+module _ {W S : Type 0} {contents : W → Option (List ℕ)} {g : Ghosts S} (table : KeyTable)
     (start : KeyRows S g) {a b : Watched W} {i j : ℕ} where
   pub part_of_head : {e : End} → PutsText {T = Unit {0}} contents a b i j (head_text table) (Err e)
       → PutsTable contents g a b i j start start table (Err e)
@@ -80,7 +80,7 @@ module _ {W S : Type 0} {contents : W → Option (List ℕ)} {g : Ghosts S} (tab
           with_foot (text_nothing contents d k (foot_text table count) e (other_fault e other))
 
 module _ {W S : Type 0} {contents : W → Option (List ℕ)} {g : Ghosts S} {old new : Watched W}
-    {before after : ℕ} {rows_old rows_new : KeyRows S g} {table : Table} {e : End} where
+    {before after : ℕ} {rows_old rows_new : KeyRows S g} {table : KeyTable} {e : End} where
   -- the same of a failure that was passed on
   pub table_passed_on : (r : Result (Unit {0}) End) → IsErrAnd r (λ x. x ≡ e)
       → PutsTable contents g old new before after rows_old rows_new table (Err e)

@@ -20,9 +20,9 @@ use Rattle.register_desk.specs.Desk.{ChangesNothing, IsClean, IsWhole}
 use Rattle.register_desk.specs.Register.{StandsFor}
 use Rattle.register_desk.specs.KeyRows.{AreAll, HaveGiven, all_rows, until_of}
 use Rattle.register_desk.specs.Run.{IsPrefixOf}
-use Rattle.register_report.specs.declared.table.Table.{Table}
-use Rattle.register_report.specs.declared.table.Table.TheVariants.{Export}
-use Rattle.register_report.specs.Table.{count_in, foot_text, head_text, lines_text, row_text, table_text}
+use Rattle.register_report.specs.declared.key_table.KeyTable.{KeyTable}
+use Rattle.register_report.specs.declared.key_table.KeyTable.TheVariants.{Export}
+use Rattle.register_report.specs.KeyTable.{count_in, foot_text, head_text, lines_text, row_text, table_text}
 use Rattle.register_report.specs.TextWriter.{AreUpTo, IsExport, Puts, PutsAll, PutsTable, TextOf, WritesText, finish_of}
 use Rattle.register_report.specs.TextWriter.{text_up_to}
 use Rattle.register_desk.proofs.Readings.{stands_still}
@@ -61,14 +61,14 @@ begins true (Some until) all given rows first whole =
 
 -- ---- texts
 
-lines_then : (table : Table) (given rest : List KeyRow)
+lines_then : (table : KeyTable) (given rest : List KeyRow)
     → lines_text table (given ++ rest) ≡ lines_text table given ++ lines_text table rest
 lines_then table [] rest = refl
 lines_then table (r ∷ given) rest =
     ap (λ text. row_text table r ++ text) (lines_then table given rest)
     ∙ sym (append_assoc (row_text table r) (lines_text table given) (lines_text table rest))
 
-text_then : (table : Table) (given rest : List KeyRow)
+text_then : (table : KeyTable) (given rest : List KeyRow)
     → table_text table (given ++ rest) ≡ (head_text table ++ lines_text table given)
     ++ (lines_text table rest ++ foot_text table (count_in table (given ++ rest)))
 text_then table given rest =
@@ -78,7 +78,7 @@ text_then table given rest =
     (append_assoc (lines_text table given) (lines_text table rest) foot)
     ∙ sym (append_assoc (head_text table) (lines_text table given) (lines_text table rest ++ foot))
 
-prefix_so : (is_all : Bool) (table : Table) (given rows : List KeyRow) (bytes : List ℕ)
+prefix_so : (is_all : Bool) (table : KeyTable) (given rows : List KeyRow) (bytes : List ℕ)
     → Begins is_all given rows → IsPrefixOf bytes (text_up_to is_all table given)
     → IsPrefixOf bytes (table_text table rows)
 prefix_so true table given rows bytes it prefix =
@@ -88,7 +88,7 @@ prefix_so false table given rows bytes it prefix =
     (prefix_of_first bytes (head_text table ++ lines_text table given)
     (lines_text table it.rest ++ foot_text table (count_in table (given ++ it.rest))) prefix)
 
-whole_so : (is_all : Bool) (table : Table) (given rows : List KeyRow) (bytes : List ℕ)
+whole_so : (is_all : Bool) (table : KeyTable) (given rows : List KeyRow) (bytes : List ℕ)
     → (r : Result (Unit {0}) End) → Begins is_all given rows → OnOk r (is_all ≡ true)
     → OnOk r (bytes ≡ text_up_to is_all table given) → OnOk r (bytes ≡ table_text table rows)
 whole_so is_all table given rows bytes (Err e) it all whole = tt
@@ -98,7 +98,7 @@ whole_so is_all table given rows bytes (Ok x) it all whole =
 -- ---- a whole call
 
 module _ {W S : Type 0} {contents : W → Option (List ℕ)} {g : Ghosts S} {old new : Watched W}
-    {before after : ℕ} {table : Table} {Text : TextOf} where
+    {before after : ℕ} {table : KeyTable} {Text : TextOf} where
   -- The rows were lent the desk, of which nothing had been changed, and the text is that of the table of all the rows.
   pub puts_all : (desk_old desk_new : Desk S g) {start next : KeyRows S g}
       → {r : Result (Unit {0}) End}

@@ -2,5 +2,5 @@ pub mod ImportRows
 pub mod RecordFields
 pub mod ImportProgress
 pub mod Import
-pub mod Table
+pub mod KeyTable
 pub mod TextWriter

@@ -21,8 +21,8 @@ use Rattle.register_desk.specs.Desk.{ChangesNothing, IsBroken, IsClean, IsWhole}
 use Rattle.register_desk.specs.Register.{StandsFor}
 use Rattle.register_desk.specs.KeyRows.{AreAll, AreSoFar, GoOn, HaveGiven, all_rows, until_of}
 use Rattle.register_desk.specs.Run.{AreFlushed, IsPrefixOf, max_idle_turns}
-use Rattle.register_report.specs.declared.table.Table.{Table}
-use Rattle.register_report.specs.Table.{count_in, head_text, lines_text, table_text}
+use Rattle.register_report.specs.declared.key_table.KeyTable.{KeyTable}
+use Rattle.register_report.specs.KeyTable.{count_in, head_text, lines_text, table_text}
 
 -- ---- a writer
 
@@ -62,7 +62,7 @@ GivesRows g old new is_all given =
 
 -- the lines of the rows that came were written, and counted where the call went well
 pub record PutsRows {W S : Type 0} (contents : W → Option (List ℕ)) (g : Ghosts S)
-    (old new : Watched W) (before after : ℕ) (rows_old rows_new : KeyRows S g) (table : Table)
+    (old new : Watched W) (before after : ℕ) (rows_old rows_new : KeyRows S g) (table : KeyTable)
     (result : Result ℕ End) : Type 0 where
   pub given : List KeyRow
   pub text : PutsText contents old new before after (lines_text table given) result
@@ -70,13 +70,13 @@ pub record PutsRows {W S : Type 0} (contents : W → Option (List ℕ)) (g : Gho
   pub are : GivesRows g rows_old rows_new (is_ok result) given
 
 -- the text of a table as far as these rows, and of all of it where they are all
-abbrev pub text_up_to : Bool → Table → List KeyRow → List ℕ
+abbrev pub text_up_to : Bool → KeyTable → List KeyRow → List ℕ
 text_up_to false table given = head_text table ++ lines_text table given
 text_up_to true table given = table_text table given
 
 -- the table of the rows that came was written, or a prefix of it
 pub record PutsTable {W S : Type 0} (contents : W → Option (List ℕ)) (g : Ghosts S)
-    (old new : Watched W) (before after : ℕ) (rows_old rows_new : KeyRows S g) (table : Table)
+    (old new : Watched W) (before after : ℕ) (rows_old rows_new : KeyRows S g) (table : KeyTable)
     (result : Result (Unit {0}) End) : Type 0 where
   pub is_all : Bool
   pub given : List KeyRow

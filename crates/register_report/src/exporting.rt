@@ -10,11 +10,12 @@ ghost use Rattle.register_desk.specs.Desk.{IsClean};
 ghost use Rattle.register_desk.specs.Register.{StandsFor};
 ghost use Rattle.register_desk.specs.KeyRows.{all_rows};
 ghost use Rattle.register_desk.specs.Run.{LeavesWriter};
-ghost use Rattle.register_report.specs.TextWriter.{EndsAs, IsExport, IsReport, LeavesAlone, PutsAll, WritesText};
+ghost use Rattle.register_report.specs.TextWriter.{EndsAs, IsExport, IsReport, LeavesAlone};
+ghost use Rattle.register_report.specs.TextWriter.{PutsAll, WritesText};
 ghost use Rattle.register_report.specs.TextWriter.{finish_of};
 
-use crate::table::Table;
-use crate::writing::put_table;
+use crate::key_table::KeyTable;
+use crate::table_writing::put_table;
 use key_rows::{horizon, last_moment};
 use moment_core::Moment;
 use register_desk::{Desk, End, Finish, Outcome, Watched};
@@ -23,14 +24,14 @@ use std::alloc::Global;
 use std::io::Write;
 
 /// What a call did that wrote so much and reads nothing.
-fn outcome(written: u64, done: Result<(), End>) -> Outcome
+fn outcome_of_output(written: u64, done: Result<(), End>) -> Outcome
     ensures { result ≡ record { read = 0; written = written; replies = 0; end = finish_of done } }
 {
     let end = match done {
         Ok(()) => Finish::AtEnd { rest: 0 },
         Err(end) => Finish::Ended(end),
     };
-    Outcome::of(end).with_written(written, 0)
+    Outcome::ended(end).with_written(written, 0)
 }
 
 /// Writes the export of all keys.
@@ -46,7 +47,7 @@ fn put_export<W: Write, S: Alter>(
     ensures end { EndsAs (finish_of result) }
 {
     let mut rows = desk.keys()?;
-    put_table(alloc, &Table::Export, &mut rows, writer, written)
+    put_table(alloc, &KeyTable::Export, &mut rows, writer, written)
 }
 
 /// Writes the report on the keys that are due in so many days, or are long. Where the office set no
@@ -67,13 +68,13 @@ fn put_rotation_report<W: Write, S: Alter>(
     let latest = desk.latest();
     let until = horizon(latest, days);
     let periods = desk.office_periods()?;
-    let last = if periods.are_none_set() {
+    let last = if periods.are_all_unset() {
         until
     } else {
         last_moment()
     };
     let mut rows = desk.due(last)?;
-    let report = Table::Report(latest, until, periods);
+    let report = KeyTable::Report(latest, until, periods);
     put_table(alloc, &report, &mut rows, writer, written)
 }
 
@@ -101,10 +102,10 @@ pub fn export<W: Write, S: Alter>(
     ensures ends { EndsAs result.end }
     ensures uncounted { (result.read ≡ 0) × (result.replies ≡ 0) }
 {
-    writer.begin();
+    writer.start_counting();
     let mut written: u64 = 0;
     let done = put_export(alloc, desk, writer, &mut written);
-    outcome(written, done)
+    outcome_of_output(written, done)
 }
 
 /// Writes the report on the keys that are due for rotation in so many days from the latest accepted
@@ -132,8 +133,8 @@ pub fn rotation<W: Write, S: Alter>(
     ensures writer { LeavesWriter W.contents writer.old writer.new result }
     ensures ends { EndsAs result.end }
 {
-    writer.begin();
+    writer.start_counting();
     let mut written: u64 = 0;
     let done = put_rotation_report(alloc, desk, days, writer, &mut written);
-    outcome(written, done)
+    outcome_of_output(written, done)
 }

@@ -13,12 +13,13 @@ ghost use Rattle.register_desk.specs.Run.{LeavesDesk, LeavesNext, LeavesWriter};
 ghost use Rattle.register_desk.specs.Run.{IsRequestNext, RunsOver};
 ghost use Rattle.register_desk.specs.Lives.{LivesSome};
 ghost use Rattle.register_report.specs.Import.{DoesNothing, EndsWithoutHeader, ImportsBroken};
-ghost use Rattle.register_report.specs.ImportRows.{AreTexts, BeginsWithHeader, HasRowItems, HasRows};
+ghost use Rattle.register_report.specs.ImportRows.{AreTexts, BeginsWithHeader, HasRowItems};
+ghost use Rattle.register_report.specs.ImportRows.{HasRows};
 ghost use Rattle.register_report.specs.ImportRows.{header, max_rows};
 ghost use Rattle.register_report.specs.ImportProgress.{EndsEarly, ExplainsEnd, ExplainsNoHeader};
 ghost use Rattle.register_report.specs.ImportProgress.{ServesRowsTo, StopsReading};
 
-use crate::row::{is_header, row_item};
+use crate::import_row::{is_header, row_item};
 use csv::{ErrorKind, Reader, ReaderBuilder, StringRecord};
 use moment_core::Moment;
 use register_core::Name;
@@ -40,7 +41,7 @@ struct Series {
 }
 
 /// Reads the next record, and tells whether there was one.
-fn next_row<R: Read>(reader: &mut Reader<R>, row: &mut StringRecord) -> Result<bool, End>
+fn read_next_row<R: Read>(reader: &mut Reader<R>, row: &mut StringRecord) -> Result<bool, End>
     requires plain { reader_trim reader.old ≡ trim.None }
     requires flexible { is_flexible reader.old ≡ true }
     requires ready { Ready reader.old }
@@ -74,7 +75,7 @@ fn read_header<R: Read>(reader: &mut Reader<R>, row: &mut StringRecord) -> Resul
     ensures ready { OnOk result (Ready reader.new) }
     ensures end { IfErr result (λ end. ExplainsNoHeader R.remaining reader.old reader.new end) }
 {
-    if next_row(reader, row)? && is_header(row) {
+    if read_next_row(reader, row)? && is_header(row) {
         Ok(())
     } else {
         Err(End::BadHeader)
@@ -115,7 +116,7 @@ fn import_rows<R: Read, W: Write, S: Alter>(
     let mut written: u64 = 0;
     let mut replies: u64 = 0;
     let end = loop {
-        match next_row(reader, row) {
+        match read_next_row(reader, row) {
             Ok(true) => {
                 // Only a row that is there is one too many.
                 if replies == MAX_ROWS {
@@ -223,7 +224,7 @@ pub fn import<R: Read + Drop, W: Write, S: Alter>(
     ensures uncounted { result.read ≡ 0 }
     ensures no_rest { (rest : ℕ) → result.end ≡ Finish.AtEnd rest → rest ≡ 0 }
 {
-    writer.begin();
+    writer.start_counting();
     let mut reader = ReaderBuilder::new()
         .has_headers(false)
         .flexible(true)
@@ -236,6 +237,6 @@ pub fn import<R: Read + Drop, W: Write, S: Alter>(
     };
     match read_header(&mut reader, &mut row) {
         Ok(()) => import_rows(&mut reader, &mut row, &series, writer, desk),
-        Err(end) => Outcome::of(Finish::Ended(end)),
+        Err(end) => Outcome::ended(Finish::Ended(end)),
     }
 }

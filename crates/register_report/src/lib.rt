@@ -9,11 +9,11 @@
 #![tactic(auto)]
 
 mod exporting;
+mod import_row;
 mod importing;
+mod key_table;
 pub mod laws;
-mod row;
-mod table;
-mod writing;
+mod table_writing;
 
 pub use exporting::{export, rotation};
 pub use importing::{MAX_ROWS, import};

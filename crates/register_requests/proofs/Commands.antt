@@ -1,14 +1,14 @@
 -- A command is its kind and its fields.
 use Rattle.std.proofs.Common.{◌≡◌, Some, None, refl, sym, ap, ◌∙◌}
-use Rattle.register_requests.specs.declared.command_kind.CommandKind.{CommandKind}
-use Rattle.register_requests.specs.declared.command_kind.CommandKind.TheVariants as kinds
+use Rattle.register_requests.specs.declared.command_fields.CommandKind.{CommandKind}
+use Rattle.register_requests.specs.declared.command_fields.CommandKind.TheVariants as kinds
 use Rattle.register_requests.specs.declared.request.Command.{Command}
 use Rattle.register_requests.specs.declared.request.Command.TheVariants.{Advance}
-use Rattle.register_requests.specs.declared.fields.Fields.{Fields}
-use Rattle.register_requests.specs.declared.fields.Fields.TheVariants.{Nothing, Key, KeyAndName, KeyAndOwner}
-use Rattle.register_requests.specs.declared.fields.Fields.TheVariants.{KeyAndNeed}
-use Rattle.register_requests.specs.declared.fields.Fields.TheVariants.{TypeAndPeriod, Registration, DateEdits}
-use Rattle.register_requests.specs.declared.fields.Fields.TheVariants.{Revocation}
+use Rattle.register_requests.specs.declared.command_fields.Fields.{Fields}
+use Rattle.register_requests.specs.declared.command_fields.Fields.TheVariants.{Nothing, Key, KeyAndName, KeyAndOwner}
+use Rattle.register_requests.specs.declared.command_fields.Fields.TheVariants.{KeyAndNeed}
+use Rattle.register_requests.specs.declared.command_fields.Fields.TheVariants.{TypeAndPeriod, Registration, DateEdits}
+use Rattle.register_requests.specs.declared.command_fields.Fields.TheVariants.{Revocation}
 use Rattle.register_requests.specs.CommandKind.{command_shape}
 use Rattle.register_requests.specs.CommandRule.{kind_of}
 use Rattle.register_requests.specs.Fields.{fields_of, command_with, shape_of}

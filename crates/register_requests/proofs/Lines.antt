@@ -14,16 +14,16 @@ use Rattle.lifecycle_core.specs.Reason.{reason_code}
 use Rattle.period_core.specs.declared.key_type.KeyType.{KeyType}
 use Rattle.register_requests.specs.declared.request.Request.{Request}
 use Rattle.register_requests.specs.declared.request.Command.{Command}
-use Rattle.register_requests.specs.declared.fields.Fields.{Fields}
-use Rattle.register_requests.specs.declared.fields.Fields.TheVariants.{Nothing, Key, KeyAndName, KeyAndOwner}
-use Rattle.register_requests.specs.declared.fields.Fields.TheVariants.{KeyAndNeed}
-use Rattle.register_requests.specs.declared.fields.Fields.TheVariants.{TypeAndPeriod, Registration, DateEdits}
-use Rattle.register_requests.specs.declared.fields.Fields.TheVariants.{Revocation}
-use Rattle.register_requests.specs.declared.fields.Shape.{Shape}
-use Rattle.register_requests.specs.declared.fields.Shape.TheVariants as shapes
+use Rattle.register_requests.specs.declared.command_fields.Fields.{Fields}
+use Rattle.register_requests.specs.declared.command_fields.Fields.TheVariants.{Nothing, Key, KeyAndName, KeyAndOwner}
+use Rattle.register_requests.specs.declared.command_fields.Fields.TheVariants.{KeyAndNeed}
+use Rattle.register_requests.specs.declared.command_fields.Fields.TheVariants.{TypeAndPeriod, Registration, DateEdits}
+use Rattle.register_requests.specs.declared.command_fields.Fields.TheVariants.{Revocation}
+use Rattle.register_requests.specs.declared.command_fields.Shape.{Shape}
+use Rattle.register_requests.specs.declared.command_fields.Shape.TheVariants as shapes
 use Rattle.register_requests.specs.Fields.{fields_of, command_with, shape_of}
-use Rattle.register_requests.specs.declared.command_kind.CommandKind.{CommandKind}
-use Rattle.register_requests.specs.declared.command_kind.CommandKind.TheVariants as kinds
+use Rattle.register_requests.specs.declared.command_fields.CommandKind.{CommandKind}
+use Rattle.register_requests.specs.declared.command_fields.CommandKind.TheVariants as kinds
 use Rattle.register_requests.specs.declared.request.Edit.{Edit}
 use Rattle.register_requests.specs.declared.request.Edit.TheVariants.{Keep, Clear, Set}
 use Rattle.moment_core.specs.Moment.{IsMoment}

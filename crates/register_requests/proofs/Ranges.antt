@@ -4,10 +4,11 @@ use Rattle.std.specs.Prelude.{nat_lt}
 use Rattle.std.proofs.lemmas.Bool.{lt-ltb}
 use Rattle.lifecycle_core.specs.Reason.{is_compromise}
 use Rattle.register_requests.specs.declared.request.Command.{Command}
-use Rattle.register_requests.specs.declared.fields.Fields.{Fields}
-use Rattle.register_requests.specs.declared.fields.Fields.TheVariants.{Nothing, TypeAndPeriod, Registration, Revocation}
+use Rattle.register_requests.specs.declared.command_fields.Fields.{Fields}
+use Rattle.register_requests.specs.declared.command_fields.Fields.TheVariants.{Nothing, TypeAndPeriod, Registration, Revocation}
 use Rattle.register_requests.specs.Fields.{fields_of}
-use Rattle.register_requests.specs.Request.{AreFields, IsCommand, IsKeyNumber, is_numbered, is_dated, has_text}
+use Rattle.register_requests.specs.Request.{AreFields, IsCommand, IsKeyNumber, is_numbered, is_occurrence_allowed}
+use Rattle.register_requests.specs.Request.{has_text}
 use Rattle.register_requests.specs.Subject.{subject_by, named_by, named}
 
 both : (key : ℕ) (b : Bool) → IsKeyNumber key → b ≡ true → (nat_lt 0 key && b) ≡ true
@@ -18,7 +19,7 @@ of_compromise true x only = refl
 of_compromise false x only = absurd (let e = only refl in cc)
 
 -- The last row has all other fields: each names a key, and has nothing else that its types leave open.
-fields_in_range : (f : Fields) → AreFields f → (is_numbered (named_by (subject_by f)) && is_dated f) ≡ true
+fields_in_range : (f : Fields) → AreFields f → (is_numbered (named_by (subject_by f)) && is_occurrence_allowed f) ≡ true
 fields_in_range Nothing is = refl
 fields_in_range (TypeAndPeriod kind period) is = refl
 fields_in_range (Registration kind owner activation protect_stop deactivation purpose) is = refl

@@ -19,8 +19,8 @@ use Rattle.lifecycle_core.specs.declared.reason.Reason.TheVariants.{AffiliationC
 use Rattle.lifecycle_core.specs.declared.reason.Reason.TheVariants.{CessationOfOperation, PrivilegeWithdrawn}
 use Rattle.lifecycle_core.specs.Reason.{reason_code, is_compromise}
 use Rattle.period_core.specs.declared.key_type.KeyType.{KeyType}
-use Rattle.register_requests.specs.declared.command_kind.CommandKind.{CommandKind}
-use Rattle.register_requests.specs.declared.command_kind.CommandKind.TheVariants.{Advance}
+use Rattle.register_requests.specs.declared.command_fields.CommandKind.{CommandKind}
+use Rattle.register_requests.specs.declared.command_fields.CommandKind.TheVariants.{Advance}
 use Rattle.register_requests.specs.declared.request.Edit.{Edit}
 use Rattle.register_requests.specs.declared.request.Edit.TheVariants.{Keep, Clear, Set}
 use Rattle.register_requests.specs.Name.{is_name_byte, max_name_length, IsName}

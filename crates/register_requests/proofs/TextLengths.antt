@@ -10,11 +10,11 @@ use Rattle.lifecycle_core.specs.Reason.{reason_code}
 use Rattle.period_core.specs.declared.key_type.KeyType.{KeyType}
 use Rattle.period_core.specs.declared.key_type.KeyType.TheVariants as types
 use Rattle.period_core.specs.KeyType.{key_type_text}
-use Rattle.register_requests.specs.declared.fields.Fields.{Fields}
-use Rattle.register_requests.specs.declared.fields.Fields.TheVariants.{Nothing, Key, KeyAndName, KeyAndOwner}
-use Rattle.register_requests.specs.declared.fields.Fields.TheVariants.{KeyAndNeed}
-use Rattle.register_requests.specs.declared.fields.Fields.TheVariants.{TypeAndPeriod, Registration, DateEdits}
-use Rattle.register_requests.specs.declared.fields.Fields.TheVariants.{Revocation}
+use Rattle.register_requests.specs.declared.command_fields.Fields.{Fields}
+use Rattle.register_requests.specs.declared.command_fields.Fields.TheVariants.{Nothing, Key, KeyAndName, KeyAndOwner}
+use Rattle.register_requests.specs.declared.command_fields.Fields.TheVariants.{KeyAndNeed}
+use Rattle.register_requests.specs.declared.command_fields.Fields.TheVariants.{TypeAndPeriod, Registration, DateEdits}
+use Rattle.register_requests.specs.declared.command_fields.Fields.TheVariants.{Revocation}
 use Rattle.register_requests.specs.declared.request.Command.{Command}
 use Rattle.register_requests.specs.declared.request.Command.TheVariants.{Register, Activate, SetDates, Revoke, Assign}
 use Rattle.register_requests.specs.declared.request.Command.TheVariants.{AddCustodian, RemoveCustodian, Approve}

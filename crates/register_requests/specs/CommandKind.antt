@@ -1,11 +1,11 @@
 -- The kinds of commands. Their words, and the versions that know them, are this register's own.
 use Rattle.std.specs.Prelude.{ℕ, List, codes}
-use Rattle.register_requests.specs.declared.command_kind.CommandKind.{CommandKind}
-use Rattle.register_requests.specs.declared.command_kind.CommandKind.TheVariants as kinds
-use Rattle.register_requests.specs.declared.fields.Shape.{Shape}
-use Rattle.register_requests.specs.declared.fields.Shape.TheVariants.{Nothing, Key, KeyAndName, KeyAndOwner, KeyAndNeed}
-use Rattle.register_requests.specs.declared.fields.Shape.TheVariants.{TypeAndPeriod, Registration, DateEdits}
-use Rattle.register_requests.specs.declared.fields.Shape.TheVariants.{Revocation}
+use Rattle.register_requests.specs.declared.command_fields.CommandKind.{CommandKind}
+use Rattle.register_requests.specs.declared.command_fields.CommandKind.TheVariants as kinds
+use Rattle.register_requests.specs.declared.command_fields.Shape.{Shape}
+use Rattle.register_requests.specs.declared.command_fields.Shape.TheVariants.{Nothing, Key, KeyAndName, KeyAndOwner, KeyAndNeed}
+use Rattle.register_requests.specs.declared.command_fields.Shape.TheVariants.{TypeAndPeriod, Registration, DateEdits}
+use Rattle.register_requests.specs.declared.command_fields.Shape.TheVariants.{Revocation}
 use Rattle.register_requests.specs.declared.version.Version.{Version}
 use Rattle.register_requests.specs.declared.version.Version.TheVariants.{First, Second}
 

@@ -8,8 +8,8 @@ use Rattle.lifecycle_core.specs.declared.state.State.TheVariants.{PreActive, Act
 use Rattle.lifecycle_core.specs.declared.state.State.TheVariants.{Destroyed, DestroyedCompromised}
 use Rattle.lifecycle_core.specs.State.{state_code}
 use Rattle.lifecycle_core.specs.Reason.{is_compromise}
-use Rattle.register_requests.specs.declared.command_kind.CommandKind.{CommandKind}
-use Rattle.register_requests.specs.declared.command_kind.CommandKind.TheVariants as kinds
+use Rattle.register_requests.specs.declared.command_fields.CommandKind.{CommandKind}
+use Rattle.register_requests.specs.declared.command_fields.CommandKind.TheVariants as kinds
 use Rattle.register_requests.specs.declared.command_rule.Giver.{Giver}
 use Rattle.register_requests.specs.declared.command_rule.Giver.TheVariants.{Anybody, Owner, Custodian, Office}
 use Rattle.register_requests.specs.declared.request.Command.{Command}

@@ -10,11 +10,11 @@ use Rattle.period_core.specs.KeyType.{key_type_text}
 use Rattle.period_core.specs.Period.{IsPeriod}
 use Rattle.register_requests.specs.declared.request.Request.{Request}
 use Rattle.register_requests.specs.declared.request.Command.{Command}
-use Rattle.register_requests.specs.declared.fields.Fields.{Fields}
-use Rattle.register_requests.specs.declared.fields.Fields.TheVariants.{Nothing, Key, KeyAndName, KeyAndOwner}
-use Rattle.register_requests.specs.declared.fields.Fields.TheVariants.{KeyAndNeed}
-use Rattle.register_requests.specs.declared.fields.Fields.TheVariants.{TypeAndPeriod, Registration, DateEdits}
-use Rattle.register_requests.specs.declared.fields.Fields.TheVariants.{Revocation}
+use Rattle.register_requests.specs.declared.command_fields.Fields.{Fields}
+use Rattle.register_requests.specs.declared.command_fields.Fields.TheVariants.{Nothing, Key, KeyAndName, KeyAndOwner}
+use Rattle.register_requests.specs.declared.command_fields.Fields.TheVariants.{KeyAndNeed}
+use Rattle.register_requests.specs.declared.command_fields.Fields.TheVariants.{TypeAndPeriod, Registration, DateEdits}
+use Rattle.register_requests.specs.declared.command_fields.Fields.TheVariants.{Revocation}
 use Rattle.register_requests.specs.Fields.{fields_of}
 use Rattle.register_requests.specs.declared.request.Edit.{Edit}
 use Rattle.register_requests.specs.declared.request.Edit.TheVariants.{Keep, Clear, Set}
@@ -78,21 +78,21 @@ is_numbered None = true
 is_numbered (Some key) = nat_lt 0 key
 
 -- and an occurrence is given only with a compromise.
-abbrev pub is_dated : Fields → Bool
-is_dated (Revocation key reason (Some occurrence)) = is_compromise reason
-is_dated (Revocation key reason None) = true
-is_dated Nothing = true
-is_dated (Key key) = true
-is_dated (KeyAndName key name) = true
-is_dated (KeyAndOwner key owner) = true
-is_dated (KeyAndNeed key need) = true
-is_dated (TypeAndPeriod kind period) = true
-is_dated (Registration kind owner activation protect_stop deactivation purpose) = true
-is_dated (DateEdits key activation protect_stop deactivation) = true
+abbrev pub is_occurrence_allowed : Fields → Bool
+is_occurrence_allowed (Revocation key reason (Some occurrence)) = is_compromise reason
+is_occurrence_allowed (Revocation key reason None) = true
+is_occurrence_allowed Nothing = true
+is_occurrence_allowed (Key key) = true
+is_occurrence_allowed (KeyAndName key name) = true
+is_occurrence_allowed (KeyAndOwner key owner) = true
+is_occurrence_allowed (KeyAndNeed key need) = true
+is_occurrence_allowed (TypeAndPeriod kind period) = true
+is_occurrence_allowed (Registration kind owner activation protect_stop deactivation purpose) = true
+is_occurrence_allowed (DateEdits key activation protect_stop deactivation) = true
 
 -- the command has a text
 abbrev pub has_text : Command → Bool
-has_text c = is_numbered (named c) && is_dated (fields_of c)
+has_text c = is_numbered (named c) && is_occurrence_allowed (fields_of c)
 
 -- ---- texts
 

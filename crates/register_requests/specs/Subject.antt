@@ -2,8 +2,8 @@
 use Rattle.std.specs.Prelude.{ℕ, ◌+◌, ◌==◌, Bool, false, List, Option, None, Some}
 use Rattle.period_core.specs.declared.key_type.KeyType.{KeyType}
 use Rattle.register_requests.specs.declared.request.Command.{Command}
-use Rattle.register_requests.specs.declared.fields.Fields.{Fields}
-use Rattle.register_requests.specs.declared.fields.Fields.TheVariants as fields
+use Rattle.register_requests.specs.declared.command_fields.Fields.{Fields}
+use Rattle.register_requests.specs.declared.command_fields.Fields.TheVariants as fields
 use Rattle.register_requests.specs.Fields.{fields_of}
 
 -- what a registration gives its key

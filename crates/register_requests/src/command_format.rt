@@ -3,17 +3,15 @@
 ghost use Rattle.std.specs.Prelude.{◌≡◌, ◌+◌, ◌≤◌, ◌++◌, codes, decimal, length};
 ghost use Rattle.arrayvec.specs.ArrayString.{array_string_len};
 ghost use Rattle.period_core.specs.KeyType.{key_type_text};
-ghost use Rattle.register_requests.specs.declared.fields.Fields.TheVariants.{DateEdits, TypeAndPeriod};
-ghost use Rattle.register_requests.specs.declared.fields.Fields.TheVariants.{Revocation};
+ghost use Rattle.register_requests.specs.declared.command_fields.Fields.TheVariants.{DateEdits};
+ghost use Rattle.register_requests.specs.declared.command_fields.Fields.TheVariants.{TypeAndPeriod};
+ghost use Rattle.register_requests.specs.declared.command_fields.Fields.TheVariants.{Revocation};
 ghost use Rattle.register_requests.specs.Request.{fields_text, command_text, date_text, edit_text};
 
-use crate::command_kind::MAX_WORD_LENGTH;
-use crate::fields::Fields;
-use crate::name::Name;
-use crate::purpose::Purpose;
-use crate::quorum::Quorum;
+use crate::command_fields::{Fields, MAX_WORD_LENGTH};
 use crate::request::{Command, Edit};
 use crate::short_text::ShortText;
+use crate::values::{Name, Purpose, Quorum};
 use arrayvec::ArrayString;
 use itoa::Buffer;
 use lifecycle_core::Reason;

@@ -1,7 +1,7 @@
 //! The rule of each command, as a table.
 ghost use Rattle.std.specs.Prelude.{◌≡◌};
 
-use crate::command_kind::CommandKind;
+use crate::command_fields::CommandKind;
 use crate::request::Command;
 use lifecycle_core::State;
 

@@ -7,31 +7,25 @@
 //! ```
 #![tactic(auto)]
 
+mod command_fields;
 mod command_format;
-mod command_kind;
 mod command_rule;
-mod fields;
-mod line;
-mod name;
-mod number;
-mod purpose;
-mod quorum;
-mod reading;
 mod request;
+mod request_line;
+mod request_reading;
 mod short_text;
-mod text;
+mod values;
 mod version;
 
+pub use command_fields::{CommandKind, Fields, MAX_WORD_LENGTH, Shape};
 pub use command_format::{CommandText, MAX_COMMAND_LENGTH, command_text, put_number};
-pub use command_kind::{CommandKind, MAX_WORD_LENGTH};
 pub use command_rule::{Giver, OFFICE, Rule};
-pub use fields::{Fields, Shape};
-pub use line::{MAX_LINE_LENGTH, read_request};
-pub use name::{MAX_NAME_LENGTH, Name};
-pub use number::{MAX_REQUEST_NUMBER, RequestNumber};
-pub use purpose::{MAX_PURPOSE_LENGTH, Purpose};
-pub use quorum::{MAX_APPROVALS, MIN_APPROVALS, Quorum};
-pub use reading::{read_command, read_decimal, read_key_number};
 pub use request::{Command, Edit, Request};
+pub use request_line::{MAX_LINE_LENGTH, read_request};
+pub use request_reading::{read_command, read_decimal, read_key_number};
 pub use short_text::ShortText;
+pub use values::{
+    MAX_APPROVALS, MAX_NAME_LENGTH, MAX_PURPOSE_LENGTH, MAX_REQUEST_NUMBER, MIN_APPROVALS, Name,
+    Purpose, Quorum, RequestNumber,
+};
 pub use version::Version;

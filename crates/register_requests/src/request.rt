@@ -1,8 +1,5 @@
 //! A request, and the commands that a request can carry.
-use crate::name::Name;
-use crate::number::RequestNumber;
-use crate::purpose::Purpose;
-use crate::quorum::Quorum;
+use crate::values::{Name, Purpose, Quorum, RequestNumber};
 use lifecycle_core::Reason;
 use moment_core::Moment;
 use period_core::{KeyType, Period};

@@ -24,12 +24,12 @@ use Rattle.sql_steps.proofs.Removing.{removes}
 use Rattle.sql_steps.proofs.Statements.{plain_query, is_picked}
 use Rattle.register_requests.specs.Name.{IsName}
 use Rattle.register_core.specs.KeyName.{KeyName, key_name, is_key_name, is_at}
-use Rattle.register_store.specs.declared.custody.Role.{Role}
-use Rattle.register_store.specs.declared.custody.Role.TheVariants as role
+use Rattle.register_store.specs.declared.stored_key.Role.{Role}
+use Rattle.register_store.specs.declared.stored_key.Role.TheVariants as role
 use Rattle.register_store.specs.declared.table.TableName.{TableName}
 use Rattle.register_store.specs.declared.table.TableName.TheVariants.{Custodian, Approval}
-use Rattle.register_store.specs.declared.custody.RoleChange.{RoleChange}
-use Rattle.register_store.specs.declared.custody.RoleChange.TheVariants.{Given, Taken}
+use Rattle.register_store.specs.declared.stored_key.RoleChange.{RoleChange}
+use Rattle.register_store.specs.declared.stored_key.RoleChange.TheVariants.{Given, Taken}
 use Rattle.register_store.specs.Roles.{change_text, with_role_changed}
 use Rattle.register_store.specs.Tables.{custodian, approval, to_custodian, place_of, table_of, Layout, Tables}
 use Rattle.register_store.specs.Tables.{ShowsEntries, Shows, IsNamed, IsInRange, content, name_cells}

@@ -24,8 +24,8 @@ use Rattle.register_requests.specs.Name.{IsName}
 use Rattle.register_core.specs.Names.{sorted_names}
 use Rattle.register_store.specs.declared.error.StoreError.{StoreError}
 use Rattle.register_store.specs.declared.error.StoreError.TheVariants.{Database, NoRegister}
-use Rattle.register_store.specs.declared.custody.Role.{Role}
-use Rattle.register_store.specs.declared.custody.Role.TheVariants as role
+use Rattle.register_store.specs.declared.stored_key.Role.{Role}
+use Rattle.register_store.specs.declared.stored_key.Role.TheVariants as role
 use Rattle.register_store.specs.declared.table.TableName.{TableName}
 use Rattle.register_store.specs.declared.table.TableName.TheVariants.{Custodian, Approval}
 use Rattle.register_store.specs.Roles.{names_of, select_text}

@@ -48,11 +48,11 @@ IsNew _ = ⊥
 abbrev no_text : Parsed
 no_text = record { statement = written.Empty; names = []; formats = []; start = 0; end = 0; tail = 0 }
 
-abbrev read_as : Result Parsed CompileError → Parsed
+abbrev pub read_as : Result Parsed CompileError → Parsed
 read_as (Ok p) = p
 read_as (Err e) = no_text
 
-abbrev parsed : TableName → Parsed
+abbrev pub parsed : TableName → Parsed
 parsed name = read_as (first (create_text name))
 
 abbrev no_table : CreateTable
@@ -68,7 +68,7 @@ abbrev written_as : Statement → CreateTable
 written_as (written.CreateTable def) = def
 written_as _ = no_table
 
-abbrev def_of : TableName → CreateTable
+abbrev pub def_of : TableName → CreateTable
 def_of name = written_as (parsed name).statement
 
 text_is : (name : TableName) → IsNew name → IsText (create_text name) (parsed name) (def_of name) (unplaced name)
@@ -166,7 +166,7 @@ below_in (x ∷ tables) n t (inl same) =
 below_in (x ∷ tables) n t (inr later) = below_in tables (max n (x.tree + 1)) t later
 
 -- each table of the schema is below the next tree
-below_next : (s : Schema) (t : Table) → Has s.tables t → t.tree < next_tree s
+pub below_next : (s : Schema) (t : Table) → Has s.tables t → t.tree < next_tree s
 below_next s t h =
     omega (
       arith,

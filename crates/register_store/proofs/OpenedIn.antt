@@ -179,7 +179,7 @@ first_opens a b d found first checks x did = record {
       record {
         has = record {
           is_open = it.3;
-          holds = it.0.1 t.tables (subst (λ v. HoldsIn v t.tables b.now) own here.holds);
+          holds = it.0.1.second t.tables (subst (λ v. HoldsIn v t.tables b.now) own here.holds);
           committed = it.1;
         };
         mark_is = told;

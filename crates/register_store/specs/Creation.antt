@@ -11,6 +11,7 @@ use Rattle.sql_steps.specs.CreatedTables.{Creates, Indexes}
 use Rattle.sql_steps.specs.Steps.{Change}
 use Rattle.register_store.specs.declared.key_index.KeyIndex.{KeyIndex}
 use Rattle.register_store.specs.declared.table.TableName.{TableName}
+use Rattle.register_store.specs.Beside.{KeepsOthers, LacksMeta}
 use Rattle.register_store.specs.Tables.{fresh, all_tables, keys, table_of, place_of, count_text, no_rows}
 use Rattle.register_store.specs.Schema.{no_schema, schema_after, schema_with, made_indexes, index_of, index_place}
 use Rattle.register_store.specs.Schema.{Holds, rows_of}
@@ -40,9 +41,10 @@ pub record IsNewRegister (db : Database) : Type 0 where
   pub holds : Holds no_rows db
   pub indexed : db.schema ≡ schema_with (fresh made_indexes)
 
--- an empty database comes to hold one
-abbrev pub MakesAll : Change
-MakesAll old new = old.schema ≡ no_schema → IsNewRegister new
+-- an empty database comes to hold one, and one that has other tables keeps them
+pub record MakesAll (old new : Database) : Type 0 where
+  pub register : old.schema ≡ no_schema → IsNewRegister new
+  pub others : LacksMeta old.schema → KeepsOthers old new
 
 -- none of the register's tables was there, and that
 abbrev pub MakesRegister : Change

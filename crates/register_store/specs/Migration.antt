@@ -8,6 +8,7 @@ use Rattle.sql_steps.specs.Steps.{Change}
 use Rattle.register_requests.specs.declared.version.Version.TheVariants.{First, Second}
 use Rattle.register_store.specs.declared.table.TableName.{TableName}
 use Rattle.register_store.specs.declared.table.TableName.TheVariants.{Period, Quorum}
+use Rattle.register_store.specs.Beside.{HasMetaApart, KeepsOthers}
 use Rattle.register_store.specs.Creation.{FindsIn, IsThere, WhereNone}
 use Rattle.register_store.specs.Schema.{Holds, HoldsIn, rows_of, schema_below}
 use Rattle.register_store.specs.Tables.{AreApartBelow, IsInRange, Layout, ShowsIn, Tables, content}
@@ -20,9 +21,10 @@ abbrev pub HasNewTable : Schema → Type 0
 HasNewTable schema = IsThere Period schema ⊎ IsThere Quorum schema
 
 -- a database that holds tables in the first version, whatever history they are of if any, comes to hold the same tables
--- in the second
-abbrev pub TakesToSecond : Change
-TakesToSecond old new = (t : Tables) → HoldsIn First t old → Holds t new
+-- in the second; and one that has others beside them keeps these
+pub record TakesToSecond (old new : Database) : Type 0 where
+  pub second : (t : Tables) → HoldsIn First t old → Holds t new
+  pub others : HasMetaApart old.schema → KeepsOthers old new
 
 -- none of the tables that the second version adds was there, and that
 abbrev pub Migrates : Change

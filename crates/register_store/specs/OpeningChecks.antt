@@ -5,7 +5,7 @@ use Rattle.std.specs.List.{AllByRecursion}
 use Rattle.lifecycle_core.specs.declared.dates.Dates.{Dates}
 use Rattle.lifecycle_core.specs.Row.{IsRightAt}
 use Rattle.period_core.specs.declared.key_type.KeyType.{KeyType}
-use Rattle.period_core.specs.Fitting.{Fits, are_in_order, is_not_after}
+use Rattle.period_core.specs.Fitting.{Fits, are_dates_in_order, is_not_after}
 use Rattle.period_core.specs.Period.{periods}
 use Rattle.register_core.specs.declared.kept_reply.KeptReply.{KeptReply}
 use Rattle.register_core.specs.declared.key.Key.{Key}
@@ -27,7 +27,7 @@ use Rattle.register_store.specs.Tables.{Counts, all_tables, place_of, table_coun
 -- another, they are in order.
 abbrev pub DatesFit : Version → KeyType → Dates → Type 0
 DatesFit First kind d = Fits (periods kind) d
-DatesFit Second kind d = IsTrue (are_in_order d)
+DatesFit Second kind d = IsTrue (are_dates_in_order d)
 
 -- the dates are those of a key whose latest request was at this moment or before
 pub record ArePast (latest : ℕ) (d : Dates) : Type 0 where

@@ -26,7 +26,7 @@ use Rattle.register_requests.specs.Quorum.{IsQuorum}
 use Rattle.register_core.specs.Settings.{need_at, period_at}
 use Rattle.register_requests.specs.Request.{IsCommand, IsDate, command_text}
 use Rattle.register_store.specs.declared.counted.Counted.{Counted}
-use Rattle.register_store.specs.declared.custody.Role.{Role}
+use Rattle.register_store.specs.declared.stored_key.Role.{Role}
 use Rattle.register_store.specs.declared.error.StoreError.{StoreError}
 use Rattle.register_store.specs.declared.error.StoreError.TheVariants.{Database, Memory, NoRegister}
 use Rattle.register_store.specs.Columns.{key_columns}

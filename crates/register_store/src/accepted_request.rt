@@ -1,29 +1,218 @@
-//! What an accepted request writes, as one transaction.
-ghost use Rattle.std.specs.Prelude.{◌≡◌, ◌≤◌, ◌+◌, IfOk};
+//! What an accepted request writes, as one transaction; its own row, and finding it again.
+ghost use Rattle.std.specs.Prelude.{◌≡◌, ◌≢◌, ℕ, pos, Option, MatchOption, ◌≤◌, ◌+◌, IfOk};
+ghost use Rattle.sqlite.specs.Held.{state};
+ghost use Rattle.sqlite.specs.Order.{column};
+ghost use Rattle.sqlite.specs.declared.types.Value.TheVariants.{Int, Text as Words};
+ghost use Rattle.sqlite_value.specs.Value.{owned};
+ghost use Rattle.lifecycle_core.specs.declared.state.State.{State};
+ghost use Rattle.register_core.specs.declared.kept_reply.KeptReply.{KeptReply};
+ghost use Rattle.register_core.specs.KeptReply.{IsKeptReply};
+ghost use Rattle.register_requests.specs.Number.{IsNumber};
+ghost use Rattle.register_requests.specs.Request.{IsCommand, command_text};
+ghost use Rattle.register_requests.specs.declared.request.Command.{Command};
+ghost use Rattle.register_store.specs.StepCount.{Writes};
+ghost use Rattle.register_store.specs.Tables.{state_cell};
+ghost use Rattle.register_store.specs.TableChanges.{Makes, Always, with_counts, with_kept};
+ghost use Rattle.register_store.specs.TableChanges.{with_recorded, AreRightAt, HasKeys};
+ghost use Rattle.register_store.specs.TableChanges.{with_keys_advanced};
+ghost use Rattle.register_store.specs.TableReads.{Calls, HasRequest, Reads, ShowsRequest, seen};
 ghost use Rattle.register_core.specs.Verdict.{max_keys};
 ghost use Rattle.sql_steps.specs.Steps.{TransactsBy};
 ghost use Rattle.register_store.specs.AcceptedRequest.{CanTake, with_request};
 ghost use Rattle.register_store.specs.Change.{made_count, with_change, with_custody};
 ghost use Rattle.register_store.specs.Due.{moved_on, update_text, with_each};
-ghost use Rattle.register_store.specs.StepCount.{Writes};
-ghost use Rattle.register_store.specs.TableChanges.{Makes, Always, AreRightAt, HasKeys};
-ghost use Rattle.register_store.specs.TableChanges.{with_keys_advanced};
-ghost use Rattle.register_store.specs.TableReads.{seen, Calls};
 
-use crate::cell::MomentCell;
+use crate::columns::{RequestCell, columns};
 use crate::counted::{Counted, Inside, StepCount, Work};
-use crate::custody::RoleChange::{Given, Taken};
-use crate::custody::{Role, change_role, end_approvals};
 use crate::error::StoreError;
-use crate::key_row::{add_key, update_key};
-use crate::request_row::record_request;
 use crate::setting::{set_need, set_period};
+use crate::stored_key::RoleChange::{Given, Taken};
+use crate::stored_key::{
+    MomentCell, Role, add_key, end_approvals, give_or_take_role, key_number_in, moment_in,
+    number_in, state_in, text_in, update_key,
+};
+use lifecycle_core::State;
 use moment_core::Moment;
 use register_core::CustodyChange::{
     ApprovalsEnded, Approved, CustodianAdded, CustodianRemoved, Kept, NeedSet, Withdrawn,
 };
-use register_core::{Change, CustodyChange, KeptReply};
-use sqlite::{Alter, params};
+use register_core::{
+    Change, Command, CustodyChange, KeptReply, Name, Reply, RequestNumber, command_text,
+    read_command,
+};
+use sqlite::types::{ToSql, ValueRef};
+use sqlite::{Alter, Row, params};
+
+/// A request's number.
+#[derive(Clone, Copy)]
+struct NumberCell(RequestNumber);
+
+impl<'a> ToSql<'a> for NumberCell {
+    ghost to_sql = { λ number. Int (pos number.0) };
+
+    fn to_sql(self) -> ValueRef<'a>
+        ensures { owned result ≡ Int (pos self.0) }
+    {
+        ValueRef::Int(self.0.get() as i64)
+    }
+}
+
+/// The state in a reply, kept as its code, or as 0 where there is none.
+#[derive(Clone, Copy)]
+struct ReplyStateCell(Option<State>);
+
+impl<'a> ToSql<'a> for ReplyStateCell {
+    ghost to_sql = { λ state. Int (pos (state_cell state.0)) };
+
+    fn to_sql(self) -> ValueRef<'a>
+        ensures { owned result ≡ Int (pos (state_cell self.0)) }
+    {
+        match self.0 {
+            Some(state) => ValueRef::Int(i64::from(state.code())),
+            None => ValueRef::Int(0),
+        }
+    }
+}
+
+/// The state of a reply in the cell, which may be none.
+fn reply_state_in(row: &Row, at: usize) -> Option<Option<State>>
+    ensures { MatchOption result
+        ((state : Option State) → column row.now at ≢ Int (pos (state_cell state)))
+        (λ state. column row.now at ≡ Int (pos (state_cell state))) }
+{
+    if number_in(row, at)? == 0 {
+        return Some(None);
+    }
+    state_in(row, at).map(Some)
+}
+
+/// The number of a request in the cell.
+pub(crate) fn request_number_in(row: &Row, at: usize) -> Option<RequestNumber>
+    ensures { MatchOption result
+        ((number : ℕ) → IsNumber number → column row.now at ≢ Int (pos number))
+        (λ number. column row.now at ≡ Int (pos number)) }
+{
+    RequestNumber::new(number_in(row, at)?)
+}
+
+/// The command in the cell.
+fn command_in(row: &Row, at: usize) -> Option<Command>
+    ensures { MatchOption result
+        ((command : Command) → IsCommand command
+        → column row.now at ≢ Words (command_text command))
+        (λ command. (column row.now at ≡ Words (command_text command)) × IsCommand command) }
+{
+    read_command(text_in(row, at)?)
+}
+
+/// What is kept of the caller's request under this number, with its command and its reply in these
+/// cells.
+pub(crate) fn kept_reply_in(row: &Row, caller: &Name, number: RequestNumber) -> Option<KeptReply>
+    ensures { MatchOption result
+        ((k : KeptReply) → IsKeptReply k → ¬ ShowsRequest caller.now number row.now k)
+        (ShowsRequest caller.now number row.now) }
+{
+    let kept = KeptReply {
+        caller: *caller,
+        number,
+        command: command_in(row, RequestCell::Command as usize)?,
+        reply: Reply {
+            key: key_number_in(row, RequestCell::Key as usize)?,
+            state: reply_state_in(row, RequestCell::State as usize)?,
+            moment: moment_in(row, RequestCell::Moment as usize)?,
+        },
+    };
+    if kept.is_whole() { Some(kept) } else { None }
+}
+
+/// What is kept of the caller's request under this number, or `None` where none was accepted. It
+/// changes nothing.
+///
+/// # Errors
+/// [`StoreError::Database`] where the database refused, and [`StoreError::NoRegister`] where the
+/// row is one that no register holds.
+pub fn find_request<S: Alter>(
+    connection: &mut Counted<S>,
+    caller: &Name,
+    number: RequestNumber,
+) -> Result<Option<KeptReply>, StoreError>
+    ensures counted { Calls 2 connection.old connection.new }
+    ensures reads { Reads S.Store (HasRequest caller.now number)
+        connection.old connection.new result }
+{
+    connection.find_one_row(
+        columns!(request listed "SELECT ", " FROM request WHERE caller = ?1 AND number = ?2"),
+        params![caller.text(), NumberCell(number)],
+        |row| kept_reply_in(row, caller, number),
+    )
+}
+
+/// Adds what is kept of a request. The database refuses it where the caller's number has a row.
+fn add_request<T: Inside>(
+    tx: &mut T,
+    steps: &mut StepCount,
+    kept: &KeptReply,
+) -> Result<(), StoreError>
+    ensures { Writes T.Inside.sees T.Inside.name 1
+        (Makes (λ _. IsKeptReply kept.now) (with_kept kept.now))
+        tx.old tx.new steps.old steps.new result }
+{
+    let command = command_text(&kept.command);
+    tx.execute(
+        steps,
+        columns!(
+            request given "INSERT INTO request (caller, number",
+            ") VALUES (:caller, :number", ")"
+        ),
+        params![
+            kept.caller.text(),
+            NumberCell(kept.number),
+            command.as_str(),
+            kept.reply.key,
+            ReplyStateCell(kept.reply.state),
+            MomentCell(kept.reply.moment)
+        ],
+    )?;
+    Ok(())
+}
+
+/// Sets the latest moment and the number of keys.
+fn set_latest_and_key_count<T: Inside>(
+    tx: &mut T,
+    steps: &mut StepCount,
+    latest: Moment,
+    key_count: u32,
+) -> Result<(), StoreError>
+    ensures { Writes T.Inside.sees T.Inside.name 1 (Makes Always (with_counts latest key_count))
+        tx.old tx.new steps.old steps.new result }
+{
+    tx.execute(
+        steps,
+        "UPDATE meta SET latest = ?1, key_count = ?2 WHERE id = 1",
+        params![MomentCell(latest), key_count],
+    )?;
+    Ok(())
+}
+
+/// Writes what is kept of the request that is accepted: its row, its moment as the latest, and the
+/// number of keys after it.
+///
+/// # Errors
+/// [`StoreError::Database`] where the database refused, as it does where the caller's number has a
+/// row already.
+pub(crate) fn record_request<T: Inside>(
+    tx: &mut T,
+    steps: &mut StepCount,
+    kept: &KeptReply,
+    key_count: u32,
+) -> Result<(), StoreError>
+    ensures { Writes T.Inside.sees T.Inside.name 2
+        (Makes (λ _. IsKeptReply kept.now) (with_recorded kept.now key_count))
+        tx.old tx.new steps.old steps.new result }
+{
+    add_request(tx, steps, kept)?;
+    set_latest_and_key_count(tx, steps, kept.reply.moment, key_count)
+}
 
 /// A date of a key by which time moves it on.
 #[derive(Clone, Copy, Debug, PartialEq, Eq)]
@@ -99,10 +288,16 @@ fn write_custody<T: Inside>(
 {
     match custody {
         Kept => Ok(()),
-        CustodianAdded(name) => change_role(tx, steps, Given(Role::Custodian), number, name),
-        CustodianRemoved(name) => change_role(tx, steps, Taken(Role::Custodian), number, name),
-        Approved(name) => change_role(tx, steps, Given(Role::Approver), number, name),
-        Withdrawn(name) => change_role(tx, steps, Taken(Role::Approver), number, name),
+        CustodianAdded(name) => give_or_take_role(tx, steps, Given(Role::Custodian), number, name),
+        CustodianRemoved(name) => give_or_take_role(
+            tx,
+            steps,
+            Taken(Role::Custodian),
+            number,
+            name,
+        ),
+        Approved(name) => give_or_take_role(tx, steps, Given(Role::Approver), number, name),
+        Withdrawn(name) => give_or_take_role(tx, steps, Taken(Role::Approver), number, name),
         ApprovalsEnded => end_approvals(tx, steps, number),
         NeedSet(need) => set_need(tx, steps, number, *need),
     }

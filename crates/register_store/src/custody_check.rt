@@ -10,9 +10,9 @@ ghost use Rattle.register_store.specs.CheckedRows.{AreEmpty, IsAny, KnowsCustodi
 ghost use Rattle.register_store.specs.OpeningChecks.{owners_of};
 ghost use Rattle.register_store.specs.declared.table.TableName.TheVariants.{Approval, Custodian};
 
-use crate::cell::{name_in, number_in};
 use crate::columns::{NameCell, columns};
 use crate::error::CheckError;
+use crate::stored_key::{name_in, number_in};
 use register_core::{Name, Version};
 use row_checks::{RowCheck, check_rows};
 use sqlite::{Alter, Connection, Row};
@@ -58,7 +58,7 @@ fn add_name(lists: &mut Vec<Vec<Name>>, at: usize, name: Name) -> Result<(), All
 }
 
 /// So many empty lists.
-fn empty_lists(alloc: Global, count: usize) -> Result<Vec<Vec<Name>>, CheckError>
+fn empty_name_lists(alloc: Global, count: usize) -> Result<Vec<Vec<Name>>, CheckError>
     ensures made { IfOk result (λ lists. AreEmpty lists.items × (length lists.items ≡ count)) }
     ensures failed { IfErr result (λ error. error ≡ CheckError.Memory) }
 {
@@ -88,7 +88,7 @@ impl RowCheck for CustodianCheck {
 
     ghost refuses = { λ first check rows. RefusesCustodians first.most first.owners.items rows };
 
-    fn take(&mut self, row: &Row) -> Result<bool, AllocError> {
+    fn take_row(&mut self, row: &Row) -> Result<bool, AllocError> {
         let Some(shown) = name_at_key_in(row) else {
             return Ok(false);
         };
@@ -128,7 +128,7 @@ pub(crate) fn check_custodians<S: Alter>(
     ensures survives { Survives (state S.Store connection.old)
         (state S.Store connection.new) (λ _. ⊥) }
 {
-    let custodians = empty_lists(alloc, owners.len())?;
+    let custodians = empty_name_lists(alloc, owners.len())?;
     let mut check = CustodianCheck {
         most: version.max_custodians(),
         owners,
@@ -159,7 +159,7 @@ impl RowCheck for ApprovalCheck {
     ghost refuses = { λ first check rows.
         RefusesEach ShowsName (IsListed first.custodians.items) rows };
 
-    fn take(&mut self, row: &Row) -> Result<bool, AllocError> {
+    fn take_row(&mut self, row: &Row) -> Result<bool, AllocError> {
         let Some(shown) = name_at_key_in(row) else {
             return Ok(false);
         };

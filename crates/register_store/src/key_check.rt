@@ -9,21 +9,20 @@ ghost use Rattle.register_store.specs.OpeningChecks.{ArePast, DatesFit, IsSoundA
 ghost use Rattle.register_store.specs.CheckedTables.{ShowsNumbered, ChecksTable, mark_of};
 ghost use Rattle.register_store.specs.CheckedRows.{AreOwners};
 
-use crate::cell::number_in;
 use crate::columns::{KeyCell, columns};
 use crate::error::CheckError;
 use crate::found::Found;
-use crate::key_row::key_in;
+use crate::stored_key::{key_in, number_in};
 use lifecycle_core::Dates;
 use moment_core::Moment;
-use period_core::{KeyType, are_in_order, fits, is_not_after, period_of};
+use period_core::{KeyType, are_dates_in_order, fits, is_not_after, period_of};
 use register_core::{Key, Name, Version};
 use row_checks::{RowCheck, check_rows};
 use sqlite::{Alter, Connection, Row};
 use std::alloc::{AllocError, Global};
 
 /// Whether the dates are those of a key whose latest request was at this moment or before.
-fn are_past(dates: &Dates, latest: Moment) -> bool
+fn are_done_dates_past(dates: &Dates, latest: Moment) -> bool
     ensures { IsTrue result ↔ ArePast latest dates.now }
 {
     dates.initial <= latest
@@ -39,19 +38,19 @@ fn are_dates_of_version(version: Version, kind: KeyType, dates: &Dates) -> bool
 {
     match version {
         Version::First => fits(period_of(kind), dates),
-        Version::Second => are_in_order(dates),
+        Version::Second => are_dates_in_order(dates),
     }
 }
 
 /// Whether a register of this version may hold the key at its latest moment.
-fn is_sound(version: Version, key: &Key, latest: Moment) -> bool
+fn is_sound_key(version: Version, key: &Key, latest: Moment) -> bool
     ensures { IsTrue result ↔ IsSoundAt version latest key.now }
 {
     let dates = &key.row.dates;
     are_dates_of_version(version, key.kind, dates)
         && (dates.activation.is_none() || dates.protect_stop.is_some())
         && (dates.activation.is_none() || dates.deactivation.is_some())
-        && are_past(dates, latest)
+        && are_done_dates_past(dates, latest)
         && key.row.has_right_state_at(latest)
 }
 
@@ -63,7 +62,7 @@ fn sound_key_in(row: &Row, number: u32, found: Found) -> Option<Key>
 {
     let shown = number_in(row, KeyCell::Number as usize)?;
     let key = key_in(row)?;
-    if shown == u64::from(number) && is_sound(found.version, &key, found.latest) {
+    if shown == u64::from(number) && is_sound_key(found.version, &key, found.latest) {
         Some(key)
     } else {
         None
@@ -87,7 +86,7 @@ impl RowCheck for KeyCheck {
 
     ghost refuses = { λ first check rows. RefusesKeys first.found rows };
 
-    fn take(&mut self, row: &Row) -> Result<bool, AllocError> {
+    fn take_row(&mut self, row: &Row) -> Result<bool, AllocError> {
         // Before the row is read: no more owners are kept than meta counts, whatever the file has.
         if self.count >= self.found.keys {
             return Ok(false);

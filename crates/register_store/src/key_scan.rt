@@ -3,17 +3,16 @@ ghost use Rattle.std.specs.Prelude.{◌≡◌, ◌+◌, ◌≤◌, ℕ, MatchOpt
 ghost use Rattle.moment_core.specs.Moment.{IsMoment};
 ghost use Rattle.register_core.specs.declared.key.Key.{Key};
 ghost use Rattle.register_core.specs.Verdict.{max_keys};
-ghost use Rattle.register_store.specs.KeyScan.{HasNextDue, next_run};
+ghost use Rattle.register_store.specs.KeyScan.{HasNextDue, run_of_next_key};
 ghost use Rattle.register_store.specs.TableReads.{seen, Calls, HasRow, KeepsSight, Reads, ShowsAt};
 ghost use Rattle.register_store.specs.DueSearch.{HasFirst, IsNumbered, is_found, is_later};
 ghost use Rattle.register_store.specs.DueSearch.{search_text};
 ghost use Rattle.register_store.specs.declared.key_scan.DateRun.{DateRun};
 
-use crate::cell::{MomentCell, number_in};
 use crate::columns::{KeyCell, columns};
 use crate::counted::Counted;
 use crate::error::StoreError;
-use crate::key_row::{find_key_row, key_in};
+use crate::stored_key::{MomentCell, find_key_row, key_in, number_in};
 use moment_core::Moment;
 use register_core::Key;
 use sqlite::{Alter, Row, params};
@@ -45,8 +44,8 @@ pub enum DateRun {
 
 impl DueCursor {
     /// How the key stands that comes next after this cursor, by its Protect Stop Date.
-    pub fn next_run(self, stop: Moment) -> DateRun
-        ensures { result ≡ next_run self stop }
+    pub fn run_of_next_key(self, stop: Moment) -> DateRun
+        ensures { result ≡ run_of_next_key self stop }
     {
         if stop == self.stop {
             DateRun::Later
@@ -86,7 +85,7 @@ impl DueSearch {
 }
 
 /// The key in the cells, with its number in the last of them.
-fn numbered_in(row: &Row) -> Option<(u64, Key)>
+fn numbered_key_in(row: &Row) -> Option<(u64, Key)>
     ensures { MatchOption result ((x : ℕ × Key) → IsNumbered x → ¬ ShowsAt row.now x)
         (λ x. ShowsAt row.now (x.0, x.1)) }
 {
@@ -106,10 +105,10 @@ fn find_first_due<S: Alter>(
         connection.old connection.new result }
     ensures moment { IsMoment until }
 {
-    connection.find_one(
+    connection.find_one_row(
         by.sql(),
         params![MomentCell(last.stop), MomentCell(until), last.number],
-        numbered_in,
+        numbered_key_in,
     )
 }
 
@@ -125,10 +124,10 @@ fn find_due_with_later_stop<S: Alter>(
         connection.old connection.new result }
     ensures moment { IsMoment until }
 {
-    connection.find_one(
+    connection.find_one_row(
         FIND_LATER_STOP,
         params![MomentCell(stop), MomentCell(until)],
-        numbered_in,
+        numbered_key_in,
     )
 }
 

@@ -7,10 +7,10 @@ ghost use Rattle.register_store.specs.Stored.{Stored};
 ghost use Rattle.register_store.specs.CheckedTables.{ChecksTable};
 ghost use Rattle.register_store.specs.CheckedRows.{IsCounts, RefusesMeta, TellsMeta};
 
-use crate::cell::{key_number_in, moment_in, number_in};
 use crate::columns::{MetaCell, columns};
 use crate::error::CheckError;
 use crate::found::Found;
+use crate::stored_key::{key_number_in, moment_in, number_in};
 use register_core::{MAX_KEYS, Version};
 use row_checks::{RowCheck, check_rows};
 use sqlite::{Alter, Connection, Row};
@@ -29,7 +29,7 @@ impl MetaRow {
     ghost use Rattle.register_store.specs.CheckedRows.{counts_in};
 
     /// What the row counts, or why it is refused.
-    fn counts(&self) -> Result<Found, CheckError>
+    fn counts_or_refusal(&self) -> Result<Found, CheckError>
         ensures { result ≡ counts_in self.now }
     {
         match *self {
@@ -77,7 +77,7 @@ impl RowCheck for MetaCheck {
 
     ghost refuses = { λ first check rows. RefusesMeta rows };
 
-    fn take(&mut self, row: &Row) -> Result<bool, AllocError> {
+    fn take_row(&mut self, row: &Row) -> Result<bool, AllocError> {
         if self.told.is_some() {
             return Ok(false);
         }
@@ -106,7 +106,7 @@ pub(crate) fn check_meta<S: Alter>(connection: &mut Connection<S>) -> Result<Fou
         &mut check,
     )?;
     match check.told {
-        Some(told) => told.counts(),
+        Some(told) => told.counts_or_refusal(),
         None => Err(CheckError::NotARegister),
     }
 }

@@ -1,6 +1,7 @@
 //! Taking a register of the first version to the second.
 ghost use Rattle.std.specs.Prelude.{◌≡◌, false, Err};
 ghost use Rattle.sql_steps.specs.Steps.{Steps, Transacts};
+ghost use Rattle.register_store.specs.Beside.{UpdatesMeta};
 ghost use Rattle.register_store.specs.Migration.{FindsNew};
 ghost use Rattle.register_store.specs.Migration.{Migrates, SetsVersion};
 
@@ -14,6 +15,7 @@ use sqlite::{Alter, Connection, Error, Transaction, params};
 fn set_version<S: Alter>(tx: &mut Transaction<'_, S>) -> Result<usize, Error>
     ensures same_reference { tx.new.conn.ghost_name ≡ tx.old.conn.ghost_name }
     ensures set { Steps S.Store (λ _. SetsVersion) tx.old.conn.now tx.new.conn.now result }
+    ensures beside { Steps S.Store (λ _. UpdatesMeta) tx.old.conn.now tx.new.conn.now result }
 {
     tx.execute(
         "UPDATE meta SET version = ?1 WHERE id = 1",
@@ -33,7 +35,7 @@ impl SchemaChange for Migration {
     ghost makes = { TakesToSecond };
 
     /// Whether one of the new tables is there.
-    fn finds_one<S: Alter>(&self, tx: &mut Transaction<'_, S>) -> Result<bool, Error> {
+    fn finds_a_table<S: Alter>(&self, tx: &mut Transaction<'_, S>) -> Result<bool, Error> {
         if is_table_there(tx, TableName::Period)? {
             return Ok(true);
         }
@@ -49,6 +51,7 @@ impl SchemaChange for Migration {
 }
 
 /// Takes a register of the first version to the second, whole or not at all, and so over a stop.
+/// Each other table, index and view of the file stays as it was.
 ///
 /// # Errors
 /// [`CreateError::HasTables`] where a table of the second version is there already, and

@@ -9,18 +9,18 @@ ghost use Rattle.register_store.specs.OpeningChecks.{IsReplyOf};
 ghost use Rattle.register_store.specs.CheckedTables.{ShowsKept, ChecksTable, mark_of};
 ghost use Rattle.register_store.specs.CheckedRows.{IsAny};
 
-use crate::cell::name_in;
+use crate::accepted_request::{kept_reply_in, request_number_in};
 use crate::columns::{RequestCell, columns};
 use crate::error::CheckError;
 use crate::found::Found;
-use crate::request_row::{kept_reply_in, request_number_in};
+use crate::stored_key::name_in;
 use register_core::KeptReply;
 use row_checks::{RowCheck, check_rows};
 use sqlite::{Alter, Connection, Row};
 use std::alloc::AllocError;
 
 /// What the row shows of a request, by its first four cells with its caller and its number.
-fn kept_in(row: &Row) -> Option<KeptReply>
+fn kept_request_in(row: &Row) -> Option<KeptReply>
     ensures { MatchOption result
         ((k : KeptReply) → ¬ ShowsKept row.now k) (ShowsKept row.now) }
 {
@@ -54,8 +54,8 @@ impl RowCheck for RequestCheck {
     ghost refuses = { λ first check rows.
         RefusesEach ShowsKept (IsReplyOf (mark_of first.found)) rows };
 
-    fn take(&mut self, row: &Row) -> Result<bool, AllocError> {
-        let Some(kept) = kept_in(row) else {
+    fn take_row(&mut self, row: &Row) -> Result<bool, AllocError> {
+        let Some(kept) = kept_request_in(row) else {
             return Ok(false);
         };
         Ok(is_possible_reply(&kept, self.found))

@@ -4,6 +4,7 @@ ghost use Rattle.std.specs.Prelude.{◌≡◌, ◌≤◌, false, Err};
 ghost use Rattle.sqlite.specs.Held.{state};
 ghost use Rattle.sql_steps.specs.Steps.{Steps, Transacts};
 ghost use Rattle.register_requests.specs.declared.version.Version.TheVariants.{First};
+ghost use Rattle.register_store.specs.Beside.{Adds, IsMadeAs};
 ghost use Rattle.register_store.specs.Creation.{Answers, FindsIn, FindsInside, IsThere};
 ghost use Rattle.register_store.specs.Creation.{MakesTable, WhereNone};
 ghost use Rattle.register_store.specs.Migration.{MakesNext};
@@ -31,7 +32,7 @@ pub(crate) trait SchemaChange {
     ///
     /// # Errors
     /// As the database refused it.
-    fn finds_one<S: Alter>(&self, tx: &mut Transaction<'_, S>) -> Result<bool, Error>
+    fn finds_a_table<S: Alter>(&self, tx: &mut Transaction<'_, S>) -> Result<bool, Error>
         ensures same_reference { tx.new.conn.ghost_name ≡ tx.old.conn.ghost_name }
         ensures answer { Steps S.Store (Answers has_one) tx.old.conn.now tx.new.conn.now result };
 
@@ -64,7 +65,7 @@ pub(crate) fn is_table_there<S: Alter>(
 }
 
 /// Makes one of the tables, empty, where those before it are made: in an empty database, or beside
-/// those of a register of the first version.
+/// those of a register of the first version. Whatever else the database has stays.
 pub(crate) fn make_table<S: Alter>(
     tx: &mut Transaction<'_, S>,
     table: TableName,
@@ -73,13 +74,15 @@ pub(crate) fn make_table<S: Alter>(
     ensures made { Steps S.Store (λ _. MakesTable table) tx.old.conn.now tx.new.conn.now result }
     ensures next { table_count First ≤ place_of table →
         Steps S.Store (λ _. MakesNext table) tx.old.conn.now tx.new.conn.now result }
+    ensures beside { Steps S.Store (λ _. Adds (IsMadeAs table))
+        tx.old.conn.now tx.new.conn.now result }
 {
     tx.execute(table.create_sql(), &[])?;
     Ok(())
 }
 
 /// Makes the change where none of its tables is there.
-fn make_where_none<S: Alter, C: SchemaChange>(
+fn make_where_no_table_is<S: Alter, C: SchemaChange>(
     tx: &mut Transaction<'_, S>,
     change: &C,
 ) -> Result<(), CreateError>
@@ -90,7 +93,7 @@ fn make_where_none<S: Alter, C: SchemaChange>(
     ensures there { result ≡ Err CreateError.HasTables → FindsInside C.SchemaChange.has_one
         (state S.Store tx.old.conn.now) (state S.Store tx.new.conn.now) }
 {
-    if change.finds_one(tx)? {
+    if change.finds_a_table(tx)? {
         return Err(CreateError::HasTables);
     }
     change.make(tx)?;
@@ -115,7 +118,7 @@ pub(crate) fn change_schema<S: Alter, C: SchemaChange>(
 {
     let mut tx = connection.transaction();
     // Where this fails the transaction is dropped, which rolls it back.
-    make_where_none(&mut tx, change)?;
+    make_where_no_table_is(&mut tx, change)?;
     tx.commit()?;
     Ok(())
 }

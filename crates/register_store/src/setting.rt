@@ -10,10 +10,10 @@ ghost use Rattle.register_store.specs.TableChanges.{without_period};
 ghost use Rattle.register_store.specs.TableReads.{Calls, HasNeed, HasPeriod, KeepsSight, Reads};
 ghost use Rattle.register_store.specs.TableReads.{ShowsPeriod, seen};
 
-use crate::cell::{months_in, need_in};
 use crate::columns::columns;
 use crate::counted::{Counted, Inside, StepCount};
 use crate::error::StoreError;
+use crate::stored_key::{months_in, quorum_in};
 use period_core::{KeyType, Period};
 use register_core::Quorum;
 use sqlite::{Alter, Row, params};
@@ -121,17 +121,17 @@ pub(crate) fn set_need<T: Inside>(
 /// # Errors
 /// [`StoreError::Database`] where the database refused, and [`StoreError::NoRegister`] where the
 /// row is one that no register holds.
-pub fn find_need<S: Alter>(
+pub fn find_key_need<S: Alter>(
     connection: &mut Counted<S>,
     key: u32,
 ) -> Result<Option<Quorum>, StoreError>
     ensures counted { Calls 2 connection.old connection.new }
     ensures reads { Reads S.Store (HasNeed key) connection.old connection.new result }
 {
-    connection.find_one(
+    connection.find_one_row(
         columns!(quorum listed "SELECT ", " FROM quorum WHERE key_no = ?1"),
         params![key],
-        |row| need_in(row, 0),
+        |row| quorum_in(row, 0),
     )
 }
 
@@ -146,8 +146,8 @@ fn period_in(row: &Row) -> Option<Period>
 /// The usage period that is set for the type, or `None` where none is. It changes nothing.
 ///
 /// # Errors
-/// As [`find_need`].
-pub fn find_period<S: Alter>(
+/// As [`find_key_need`].
+pub fn find_office_period<S: Alter>(
     connection: &mut Counted<S>,
     kind: KeyType,
 ) -> Result<Option<Period>, StoreError>
@@ -155,7 +155,7 @@ pub fn find_period<S: Alter>(
     ensures sight { KeepsSight (seen S.Store connection.old) (seen S.Store connection.new) }
     ensures reads { Reads S.Store (HasPeriod kind) connection.old connection.new result }
 {
-    connection.find_one(
+    connection.find_one_row(
         columns!(period listed "SELECT ", " FROM period WHERE kind = ?1"),
         params![u32::from(kind.code())],
         period_in,

@@ -11,10 +11,10 @@ ghost use Rattle.register_store.specs.CheckedRows.{IsAny, key_need, type_period}
 ghost use Rattle.register_store.specs.OpeningChecks.{IsNeedOf};
 ghost use Rattle.register_store.specs.declared.table.TableName.TheVariants as table;
 
-use crate::cell::{kind_in, months_in, need_in, number_in};
 use crate::columns::columns;
 use crate::error::CheckError;
 use crate::found::Found;
+use crate::stored_key::{key_type_in, months_in, number_in, quorum_in};
 use period_core::{KeyType, Period};
 use register_core::Quorum;
 use row_checks::{RowCheck, check_rows};
@@ -40,7 +40,7 @@ fn period_row_in(row: &Row) -> Option<PeriodRow>
     ensures { MatchOption result ((set : TypePeriod) → ¬ ShowsTypePeriod row.now set)
         (λ shown. ShowsTypePeriod row.now (type_period shown.kind shown.period)) }
 {
-    let kind = kind_in(row, 0)?;
+    let kind = key_type_in(row, 0)?;
     let originator = months_in(row, 1)?;
     let recipient = months_in(row, 2)?;
     let period = Period::new(originator, recipient)?;
@@ -48,12 +48,12 @@ fn period_row_in(row: &Row) -> Option<PeriodRow>
 }
 
 /// The need of a key that the row shows.
-fn need_row_in(row: &Row) -> Option<NeedRow>
+fn quorum_row_in(row: &Row) -> Option<NeedRow>
     ensures { MatchOption result ((set : KeyNeed) → ¬ ShowsKeyNeed row.now set)
         (λ shown. ShowsKeyNeed row.now (key_need shown.key shown.need)) }
 {
     let key = number_in(row, 0)?;
-    let need = need_in(row, 1)?;
+    let need = quorum_in(row, 1)?;
     Some(NeedRow { key, need })
 }
 
@@ -69,7 +69,7 @@ impl RowCheck for PeriodCheck {
 
     ghost refuses = { λ first check rows. RefusesEach ShowsTypePeriod IsAnyPeriod rows };
 
-    fn take(&mut self, row: &Row) -> Result<bool, AllocError> {
+    fn take_row(&mut self, row: &Row) -> Result<bool, AllocError> {
         Ok(period_row_in(row).is_some())
     }
 }
@@ -120,8 +120,8 @@ impl RowCheck for NeedCheck {
     ghost refuses = { λ first check rows.
         RefusesEach ShowsKeyNeed (IsNeedOf (counts_of first.found)) rows };
 
-    fn take(&mut self, row: &Row) -> Result<bool, AllocError> {
-        let Some(shown) = need_row_in(row) else {
+    fn take_row(&mut self, row: &Row) -> Result<bool, AllocError> {
+        let Some(shown) = quorum_row_in(row) else {
             return Ok(false);
         };
         Ok(is_need_of_counted_key(shown, self.found))

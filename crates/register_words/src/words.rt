@@ -102,7 +102,7 @@ fn required_option<'a>(alloc: Global, name: &'a str, value: &'a str, help: &'a s
 }
 
 /// A command over a register in a file.
-fn file_command<'a>(
+fn subcommand_with_file<'a>(
     alloc: Global,
     name: &'a str,
     about: &'a str,
@@ -112,26 +112,26 @@ fn file_command<'a>(
         .arg(required_option(alloc, "file", "FILE", FILE))
 }
 
-fn import_command<'a>(alloc: Global) -> Result<Command<'a>, AllocError> {
-    file_command(alloc, "import", IMPORT)?
+fn import_subcommand<'a>(alloc: Global) -> Result<Command<'a>, AllocError> {
+    subcommand_with_file(alloc, "import", IMPORT)?
         .after_help(ROWS)
         .arg(required_option(alloc, "moment", "SECONDS", MOMENT))?
         .arg(required_option(alloc, "caller", "NAME", CALLER))?
         .arg(required_option(alloc, "first", "NUMBER", FIRST))
 }
 
-fn report_command<'a>(alloc: Global) -> Result<Command<'a>, AllocError> {
-    file_command(alloc, "report", REPORT)?.arg(required_option(alloc, "days", "DAYS", DAYS))
+fn report_subcommand<'a>(alloc: Global) -> Result<Command<'a>, AllocError> {
+    subcommand_with_file(alloc, "report", REPORT)?.arg(required_option(alloc, "days", "DAYS", DAYS))
 }
 
-fn serve_command<'a>(alloc: Global) -> Result<Command<'a>, AllocError> {
-    file_command(alloc, "serve", SERVE)?
+fn serve_subcommand<'a>(alloc: Global) -> Result<Command<'a>, AllocError> {
+    subcommand_with_file(alloc, "serve", SERVE)?
         .arg(required_option(alloc, "port", "PORT", PORT))?
         .arg(required_option(alloc, "exchanges", "NUMBER", EXCHANGES))
 }
 
-fn run_command<'a>(alloc: Global) -> Result<Command<'a>, AllocError> {
-    Ok(file_command(alloc, "run", RUN)?.after_help(LINE))
+fn run_subcommand<'a>(alloc: Global) -> Result<Command<'a>, AllocError> {
+    Ok(subcommand_with_file(alloc, "run", RUN)?.after_help(LINE))
 }
 
 /// The command with this one below it, if there was memory for that.
@@ -142,7 +142,7 @@ fn with_subcommand<'a>(
     command.subcommand(below?)
 }
 
-fn command<'a>(alloc: Global) -> Result<Command<'a>, AllocError> {
+fn keyreg_command<'a>(alloc: Global) -> Result<Command<'a>, AllocError> {
     let command = Command::new(alloc, "keyreg")
         .about(ABOUT)
         .version(VERSION)
@@ -150,12 +150,12 @@ fn command<'a>(alloc: Global) -> Result<Command<'a>, AllocError> {
         .override_usage("keyreg [COMMAND]")
         .subcommand_required(true)
         .disable_help_subcommand(true);
-    let command = with_subcommand(command, file_command(alloc, "init", INIT))?;
-    let command = with_subcommand(command, run_command(alloc))?;
-    let command = with_subcommand(command, import_command(alloc))?;
-    let command = with_subcommand(command, file_command(alloc, "export", EXPORT))?;
-    let command = with_subcommand(command, report_command(alloc))?;
-    with_subcommand(command, serve_command(alloc))
+    let command = with_subcommand(command, subcommand_with_file(alloc, "init", INIT))?;
+    let command = with_subcommand(command, run_subcommand(alloc))?;
+    let command = with_subcommand(command, import_subcommand(alloc))?;
+    let command = with_subcommand(command, subcommand_with_file(alloc, "export", EXPORT))?;
+    let command = with_subcommand(command, report_subcommand(alloc))?;
+    with_subcommand(command, serve_subcommand(alloc))
 }
 
 /// What a command asks for, with the values of its options.
@@ -199,7 +199,7 @@ pub fn read_words(alloc: Global, words: &[String]) -> Result<Task<'_>, Error>
     if words.len() <= 1 {
         return Ok(Task::RunInMemory);
     }
-    let mut command = command(alloc)?;
+    let mut command = keyreg_command(alloc)?;
     let matches = command.try_get_matches_from_mut(words)?;
     let task = match matches.subcommand() {
         Some((command, options)) => task_of(command, options),

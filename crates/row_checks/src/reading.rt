@@ -46,7 +46,7 @@ fn check_rows_left<S: Alter, T: RowCheck>(
             Ok(None) => return Ok(()),
             Err(error) => return Err(RowsError::Database(error)),
         };
-        match check.take(row) {
+        match check.take_row(row) {
             Ok(true) => {}
             Ok(false) => return Err(RowsError::Refused),
             Err(_) => return Err(RowsError::Memory),

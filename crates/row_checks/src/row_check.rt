@@ -20,7 +20,7 @@ pub trait RowCheck {
     ///
     /// # Errors
     /// Where memory gave out.
-    fn take(&mut self, row: &Row) -> Result<bool, AllocError>
+    fn take_row(&mut self, row: &Row) -> Result<bool, AllocError>
         ensures taken { result ≡ Ok true → (first : Self) (rows : List Cells) →
             has_taken first self.old rows → has_taken first self.new (rows ++ row.now ∷ []) }
         ensures refused { result ≡ Ok false → (first : Self) (rows : List Cells) →

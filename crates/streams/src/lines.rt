@@ -169,7 +169,7 @@ impl<const MAX_LENGTH: usize> Lines<MAX_LENGTH> {
             taken: _,
         } = self;
         let piece: &[u8; MAX_PIECE_LENGTH] = piece;
-        append_within(held, *line_length, &piece[*start..*start + count]);
+        append_within_room(held, *line_length, &piece[*start..*start + count]);
         *line_length += count as u64;
         *start += count;
     }
@@ -241,7 +241,7 @@ fn find_line_feed(bytes: &[u8]) -> Option<usize>
 }
 
 // Puts `part` after the first `count` bytes of `held`, as far as there is room.
-fn append_within(held: &mut [u8], count: u64, part: &[u8])
+fn append_within_room(held: &mut [u8], count: u64, part: &[u8])
     ensures { take (count + length part.now) held.new
         ≡ take (length held.old) (take count held.old ++ part.now) }
 {

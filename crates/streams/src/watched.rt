@@ -62,7 +62,7 @@ impl<T> Watched<T> {
         self.failed
     }
 
-    /// The turns since the last [`begin`](Watched::begin), which stop at `u64::MAX`.
+    /// The turns since the last [`start_counting`](Watched::start_counting), which stop at `u64::MAX`.
     pub fn turns(&self) -> u64
         ensures { result ≡ self.now.turns }
     {
@@ -91,7 +91,7 @@ impl<T> Watched<T> {
     }
 
     /// Counts from 0 again. A call that is lent one does this first.
-    pub fn begin(&mut self)
+    pub fn start_counting(&mut self)
         ensures { self.new ≡ record self.old { turns = 0; idle = 0 } }
     {
         self.turns = 0;

@@ -11,8 +11,8 @@ use moment_core::Moment;
 use period_core::{KeyType, period_of};
 use register_core::{
     Command, CommandKind, Giver, Held, MIN_APPROVALS, Name, Names, Purpose, Quorum, Refusal, Reply,
-    Request, Version, View, command_text, given_dates, needed_type, read_command, read_request,
-    reply_line,
+    Request, Version, View, command_text, given_dates, needed_period_type, read_command,
+    read_request, reply_line,
 };
 use std::alloc::{AllocError, Global};
 use std::fmt;
@@ -269,7 +269,7 @@ const NEEDED: [NeededRow; 7] = [
 /// Whether the command needs the period of this type, where the key is this.
 fn is_needed(key: &Option<Held>, text: &str, kind: Option<KeyType>) -> bool {
     match read_command(text.as_bytes()) {
-        Some(command) => needed_type(key, &command) == kind,
+        Some(command) => needed_period_type(key, &command) == kind,
         None => false,
     }
 }

@@ -4,7 +4,7 @@ use crate::cases::first_wrong;
 use crate::fresh_run::desk_of;
 use period_core::KeyType;
 use register_store::{
-    Counted, StoreError, each_key, find_key_row, find_need, find_period, load_key,
+    Counted, StoreError, each_key, find_key_need, find_key_row, find_office_period, load_key,
 };
 use sqlite::MemStore;
 use std::alloc::Global;
@@ -35,8 +35,8 @@ impl Look {
             Look::Row => Ok(find_key_row(tables, 1)?.is_some()),
             Look::Next => Ok(each_key(tables, 0)?.is_some()),
             Look::Key => Ok(load_key(alloc, tables, 1, 3)?.is_some()),
-            Look::Need => Ok(find_need(tables, 1)?.is_some()),
-            Look::Period => Ok(find_period(tables, KeyType::Master)?.is_some()),
+            Look::Need => Ok(find_key_need(tables, 1)?.is_some()),
+            Look::Period => Ok(find_office_period(tables, KeyType::Master)?.is_some()),
         }
     }
 }

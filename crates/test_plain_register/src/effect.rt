@@ -1,10 +1,11 @@
 //! What a command makes of a key's dates.
 ghost use Rattle.std.specs.Prelude.{◌≡◌};
-ghost use Rattle.register_core.specs.Effect.{apply_edit, dates_after, deactivated, compromised};
+ghost use Rattle.register_core.specs.Effect.{date_after_edit, dates_after, deactivated};
+ghost use Rattle.register_core.specs.Effect.{compromised};
 
 use lifecycle_core::Dates;
 use moment_core::Moment;
-use period_core::{Period, with_defaults, within_limits};
+use period_core::{Period, dates_with_defaults, dates_within_limits};
 use register_core::{Command, Edit, given_dates};
 
 /// The dates of a key that is deactivated at the moment: its originator use ends no later.
@@ -36,7 +37,7 @@ fn compromised(at: Moment, occurrence: Option<Moment>, dates: &Dates) -> Dates
 
 /// What the edit makes of a date.
 fn edited(date: Option<Moment>, edit: Edit) -> Option<Moment>
-    ensures { result ≡ apply_edit edit date }
+    ensures { result ≡ date_after_edit edit date }
 {
     match edit {
         Edit::Set(moment) => Some(moment),
@@ -55,10 +56,10 @@ pub(crate) fn dates_after(period: Period, dates: &Dates, at: Moment, command: &C
             protect_stop: stop,
             deactivation: end,
             ..
-        } => with_defaults(period, given_dates(at, active, stop, end)),
+        } => dates_with_defaults(period, given_dates(at, active, stop, end)),
         Command::Activate { .. } => {
             let activation = Some(at);
-            within_limits(
+            dates_within_limits(
                 period,
                 Dates {
                     activation,
@@ -81,7 +82,7 @@ pub(crate) fn dates_after(period: Period, dates: &Dates, at: Moment, command: &C
                 deactivation,
                 ..*dates
             };
-            with_defaults(period, edited)
+            dates_with_defaults(period, edited)
         }
         Command::Revoke {
             reason,

@@ -4,7 +4,8 @@ ghost use Rattle.std.specs.Prelude.{◌≡◌, ◌+◌, ◌^◌, ◌<◌, ◌≤
 ghost use Rattle.std.specs.Prelude.{unwrap_or, IsSome, if◌then◌else◌};
 ghost use Rattle.register_core.specs.History.{latest, count, period, type, owner, dates};
 ghost use Rattle.register_requests.specs.Subject.{key_of, made_by, is_key};
-ghost use Rattle.register_core.specs.Effect.{kind_after, owner_after, dates_after, period_after, no_dates};
+ghost use Rattle.register_core.specs.Effect.{kind_after, owner_after, dates_after, period_after};
+ghost use Rattle.register_core.specs.Effect.{unset_dates};
 
 use crate::effect::dates_after;
 use lifecycle_core::Dates;
@@ -125,8 +126,8 @@ pub fn owner(history: &[Request], key: u32) -> Option<Name>
 }
 
 /// The dates of a key before it is registered: none is set.
-fn no_dates() -> Dates
-    ensures { result ≡ no_dates }
+fn unset_dates() -> Dates
+    ensures { result ≡ unset_dates }
 {
     given_dates(Moment::new(0).unwrap(), None, None, None)
 }
@@ -184,7 +185,7 @@ pub fn dates(history: &[Request], key: u32) -> Dates
     ensures { result ≡ dates history.now key }
 {
     let kind = kind_of_key(history, key);
-    let mut dates = no_dates();
+    let mut dates = unset_dates();
     let mut made = 0;
     for at in 0..history.len() {
         let request = &history[at];

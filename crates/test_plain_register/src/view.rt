@@ -8,7 +8,7 @@ use crate::custody::{approvals, custodians, need};
 use crate::history::{count, dates, kind_of_key, latest, owner, period};
 use lifecycle_core::{Row, state_of};
 use period_core::KeyType;
-use register_core::{Command, Held, Refusal, Request, View, judge, needed_type};
+use register_core::{Command, Held, Refusal, Request, View, judge, needed_period_type};
 use std::alloc::{AllocError, Global};
 
 /// The key as it stands at the latest moment, or `None` where there is no such key.
@@ -44,7 +44,7 @@ fn view(alloc: Global, history: &[Request], command: &Command) -> Result<View, A
         None => None,
     };
     // Any type's serves where no period is looked at.
-    let kind = needed_type(&key, command).unwrap_or(KeyType::DataEncryption);
+    let kind = needed_period_type(&key, command).unwrap_or(KeyType::DataEncryption);
     Ok(View {
         latest: latest(history),
         keys: count(history),

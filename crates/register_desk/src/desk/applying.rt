@@ -92,7 +92,7 @@ impl<S: Alter> Desk<S> {
             return Ok(Answer::Refused(Refusal::BadLine));
         }
         match self.look_up_kept_reply(&request.caller, request.number)? {
-            Some(before) => Ok(before.answer_again(&request.command)),
+            Some(before) => Ok(before.answer_to_repeat(&request.command)),
             None => self.apply_new(request),
         }
     }
@@ -129,14 +129,14 @@ impl<S: Alter> Desk<S> {
         match decide(&view, request) {
             Err(refusal) => Ok(Answer::Refused(refusal)),
             Ok(accept) => {
-                self.accept(request, &accept)?;
+                self.commit_accepted(request, &accept)?;
                 Ok(Answer::Accepted(accept.reply))
             }
         }
     }
 
     /// Makes the change of an accepted request, and keeps the request with its reply.
-    fn accept(&mut self, request: &Request, accept: &Accept) -> Result<(), End>
+    fn commit_accepted(&mut self, request: &Request, accept: &Accept) -> Result<(), End>
         requires whole { IsWhole self.old }
         requires later { self.old.latest ≤ accept.now.reply.moment }
         requires room { self.old.keys + made_count accept.now.change ≤ max_keys }
@@ -183,10 +183,10 @@ impl<S: Alter> Desk<S> {
     {
         match find_request(&mut self.connection, caller, number) {
             Ok(Some(kept)) if !kept.reply.is_within_counts(self.latest, self.keys) => {
-                Err(self.end_by(StoreError::NoRegister))
+                Err(self.break_on_store_error(StoreError::NoRegister))
             }
             Ok(found) => Ok(found),
-            Err(_) => Err(self.end_by(StoreError::NoRegister)),
+            Err(_) => Err(self.break_on_store_error(StoreError::NoRegister)),
         }
     }
 }

@@ -4,7 +4,7 @@ use crate::desk::Desk;
 use crate::end::End;
 use crate::rows::{KeyRows, Progress, Scan, key_row};
 use key_rows::KeyRow;
-use moment_core::Moment;
+use moment_core::{FIRST_MOMENT, Moment};
 use register_store::{DateRun, DueCursor, StoreError, each_due, each_key};
 use sqlite::Alter;
 
@@ -37,7 +37,7 @@ impl<S: Alter> Desk<S> {
         if self.is_broken {
             return Err(End::Broken);
         }
-        Ok(self.rows(Scan::ByNumber(0)))
+        Ok(self.scan_rows(Scan::ByNumber(0)))
     }
 
     /// The Active keys with a Protect Stop Date up to `until`, by that date and then by number, one
@@ -58,13 +58,15 @@ impl<S: Alter> Desk<S> {
         if self.is_broken {
             return Err(End::Broken);
         }
-        let stop = Moment::new(0).unwrap();
-        let first = DueCursor { stop, number: 0 };
-        Ok(self.rows(Scan::ByStop(until, first, DateRun::First)))
+        let first = DueCursor {
+            stop: FIRST_MOMENT,
+            number: 0,
+        };
+        Ok(self.scan_rows(Scan::ByStop(until, first, DateRun::First)))
     }
 
     /// Lends the desk to rows.
-    fn rows(&mut self, scan: Scan) -> KeyRows<'_, S>
+    fn scan_rows(&mut self, scan: Scan) -> KeyRows<'_, S>
         ensures same_reference { result.desk.ghost_name ≡ self.entry.ghost_name }
         ensures same { result.desk.now ≡ self.old }
         ensures scan { result.scan ≡ scan }
@@ -78,7 +80,7 @@ impl<S: Alter> Desk<S> {
     }
 
     /// The next row of a scan, or `None` after the last.
-    pub(crate) fn next_row(&mut self, scan: Scan) -> Result<Option<KeyRow>, StoreError>
+    pub(crate) fn next_scanned_row(&mut self, scan: Scan) -> Result<Option<KeyRow>, StoreError>
         ensures reads { ChangesNothing S.Store self.old self.new }
         ensures mark { self.new.is_broken ≡ self.old.is_broken }
         ensures next { (h : List Request) → StandsFor S.Store self.old h → IsWhole self.old
@@ -86,14 +88,14 @@ impl<S: Alter> Desk<S> {
         ensures counts_on { IfOk result (CountsOn self.old.keys scan) }
     {
         match scan {
-            Scan::ByNumber(last) => self.next_by_number(last),
-            Scan::ByStop(until, last, run) => self.next_by_stop(until, last, run),
+            Scan::ByNumber(last) => self.next_row_by_number(last),
+            Scan::ByStop(until, last, run) => self.next_due_row_by_stop(until, last, run),
         }
     }
 
     /// The row of the key after the one with this number, or `None` after the last. That of a key
     /// that is counted is there.
-    fn next_by_number(&mut self, last: u32) -> Result<Option<KeyRow>, StoreError>
+    fn next_row_by_number(&mut self, last: u32) -> Result<Option<KeyRow>, StoreError>
         ensures reads { ChangesNothing S.Store self.old self.new }
         ensures mark { self.new.is_broken ≡ self.old.is_broken }
         ensures next { (h : List Request) → StandsFor S.Store self.old h → IsWhole self.old
@@ -110,7 +112,7 @@ impl<S: Alter> Desk<S> {
     }
 
     /// The row of the first key that is due after this cursor, or `None` after the last.
-    fn next_by_stop(
+    fn next_due_row_by_stop(
         &mut self,
         until: Moment,
         last: DueCursor,

@@ -2,15 +2,15 @@
 ghost use Rattle.std.specs.Prelude.{◌≡◌, unwrap_or};
 ghost use Rattle.period_core.specs.Period.{periods};
 ghost use Rattle.register_requests.specs.Quorum.{min_approvals};
-ghost use Rattle.register_desk.specs.TablesView.{without_custody};
+ghost use Rattle.register_desk.specs.TablesView.{held_without_custody};
 
 use crate::desk::Desk;
 use crate::end::End;
 use period_core::{KeyType, Period, period_of};
 use register_core::{
-    Command, Held, Key, MIN_APPROVALS, Names, Purpose, Quorum, Request, View, needed_type,
+    Command, Held, Key, MIN_APPROVALS, Names, Purpose, Quorum, Request, View, needed_period_type,
 };
-use register_store::{StoreError, find_key_row, find_need, find_period, load_key};
+use register_store::{StoreError, find_key_need, find_key_row, find_office_period, load_key};
 use sqlite::Alter;
 use std::alloc::Global;
 
@@ -26,7 +26,7 @@ impl<S: Alter> Desk<S> {
     ghost use Rattle.register_desk.specs.DeskCalls.{KeepsAll, LooksUp};
     ghost use Rattle.register_desk.specs.Register.{Sees};
     ghost use Rattle.register_core.specs.Decision.{IsRightKey};
-    ghost use Rattle.register_core.specs.Need.{needed_type};
+    ghost use Rattle.register_core.specs.Need.{needed_period_type};
     ghost use Rattle.register_desk.specs.TablesView.{IsViewOver, key_for, key_needed, need_for};
     ghost use Rattle.register_desk.specs.TablesView.{need_over, period_over};
 
@@ -68,10 +68,10 @@ impl<S: Alter> Desk<S> {
         ensures looks { LooksUp S.Store 2 self.old self.new result }
         ensures no_memory { result ≢ Err End.Memory }
         ensures found { (t : Tables) → Sees S.Store t self.old → IsClean S.Store self.new
-            → IfOk result (λ period. IfSome (needed_type key.now command.now) (λ kind.
+            → IfOk result (λ period. IfSome (needed_period_type key.now command.now) (λ kind.
             period ≡ period_over t kind)) }
     {
-        match needed_type(key, command) {
+        match needed_period_type(key, command) {
             Some(kind) => self.look_up_period(kind),
             // A decision that gives no dates looks at no period.
             None => Ok(period_of(KeyType::DataEncryption)),
@@ -86,9 +86,9 @@ impl<S: Alter> Desk<S> {
         ensures found { (t : Tables) → Sees S.Store t self.old → IsClean S.Store self.new
             → IfOk result (λ period. period ≡ period_over t kind) }
     {
-        match find_period(&mut self.connection, kind) {
+        match find_office_period(&mut self.connection, kind) {
             Ok(found) => Ok(period_or_default(kind, found)),
-            Err(_) => Err(self.end_by(StoreError::NoRegister)),
+            Err(_) => Err(self.break_on_store_error(StoreError::NoRegister)),
         }
     }
 
@@ -112,13 +112,13 @@ impl<S: Alter> Desk<S> {
         let Some(number) = request.command.key() else {
             return Ok(None);
         };
-        let found = self.look_up_held_for(&request.command, number)?;
-        self.right_or_broken(found)
+        let found = self.look_up_key_for_command(&request.command, number)?;
+        self.right_state_or_broken(found)
     }
 
     /// The key that was found, if one was, whose state is to be the one that its dates have at the
     /// latest moment. Another breaks the desk.
-    fn right_or_broken(&mut self, found: Option<Held>) -> Result<Option<Held>, End>
+    fn right_state_or_broken(&mut self, found: Option<Held>) -> Result<Option<Held>, End>
         requires { IsWhole self.old }
         ensures same { KeepsAll self.old self.new }
         ensures unchanged { IfOk result (λ key. self.new ≡ self.old) }
@@ -129,7 +129,7 @@ impl<S: Alter> Desk<S> {
     {
         match found {
             Some(held) if !held.row.has_right_state_at(self.latest) => {
-                Err(self.end_by(StoreError::NoRegister))
+                Err(self.break_on_store_error(StoreError::NoRegister))
             }
             found => Ok(found),
         }
@@ -137,7 +137,11 @@ impl<S: Alter> Desk<S> {
 
     /// The key with this number as it stands in the tables, with its custody where a decision on
     /// the command looks at it.
-    fn look_up_held_for(&mut self, command: &Command, number: u32) -> Result<Option<Held>, End>
+    fn look_up_key_for_command(
+        &mut self,
+        command: &Command,
+        number: u32,
+    ) -> Result<Option<Held>, End>
         requires whole { IsWhole self.old }
         requires opened { IsOpen S.Store self.old }
         ensures looks { LooksUp S.Store 38 self.old self.new result }
@@ -147,20 +151,20 @@ impl<S: Alter> Desk<S> {
             → IfOk result (λ key. key ≡ key_for t command.now number) }
     {
         if command.looks_at_custody() {
-            let need = self.look_up_need_for(command, number)?;
-            return match self.look_up_held(number, need)? {
+            let need = self.look_up_need_for_command(command, number)?;
+            return match self.look_up_whole_key(number, need)? {
                 Some((held, _)) => Ok(Some(held)),
                 None => Ok(None),
             };
         }
-        match self.look_up_row(number)? {
-            Some(key) => Ok(Some(without_custody(self.alloc, key))),
+        match self.look_up_key_row(number)? {
+            Some(key) => Ok(Some(held_without_custody(self.alloc, key))),
             None => Ok(None),
         }
     }
 
     /// Whether a key with this number is counted.
-    fn has_key(&self, number: u32) -> bool
+    fn is_counted_key(&self, number: u32) -> bool
         ensures none { result ≡ false → IsNoKey self.now.keys number }
         ensures one { result ≡ true → IsNoKey self.now.keys number → ⊥ }
     {
@@ -169,7 +173,11 @@ impl<S: Alter> Desk<S> {
 
     /// What was found of the key with this number. That of a key that is counted is to be there; its
     /// want breaks the desk.
-    fn found_or_broken<T: Drop>(&mut self, number: u32, found: Option<T>) -> Result<Option<T>, End>
+    fn counted_row_or_broken<T: Drop>(
+        &mut self,
+        number: u32,
+        found: Option<T>,
+    ) -> Result<Option<T>, End>
         requires { IsWhole self.old }
         ensures same { KeepsAll self.old self.new }
         ensures unchanged { IfOk result (λ key. self.new ≡ self.old) }
@@ -179,14 +187,14 @@ impl<S: Alter> Desk<S> {
             (found ≡ None) × (IsNoKey self.old.keys number → ⊥)) }
         ensures broken { IfErr result (λ end. (end ≡ End.Store) × IsBroken self.new) }
     {
-        if found.is_none() && self.has_key(number) {
-            return Err(self.end_by(StoreError::NoRegister));
+        if found.is_none() && self.is_counted_key(number) {
+            return Err(self.break_on_store_error(StoreError::NoRegister));
         }
         Ok(found)
     }
 
     /// The row of the key with this number as it stands in the tables.
-    pub(super) fn look_up_row(&mut self, number: u32) -> Result<Option<Key>, End>
+    pub(super) fn look_up_key_row(&mut self, number: u32) -> Result<Option<Key>, End>
         requires { IsWhole self.old }
         ensures looks { LooksUp S.Store 2 self.old self.new result }
         ensures no_memory { result ≢ Err End.Memory }
@@ -195,8 +203,8 @@ impl<S: Alter> Desk<S> {
             → IfOk result (HasRow number t) }
     {
         match find_key_row(&mut self.connection, number) {
-            Ok(found) => self.found_or_broken(number, found),
-            Err(_) => Err(self.end_by(StoreError::NoRegister)),
+            Ok(found) => self.counted_row_or_broken(number, found),
+            Err(_) => Err(self.break_on_store_error(StoreError::NoRegister)),
         }
     }
 
@@ -208,14 +216,14 @@ impl<S: Alter> Desk<S> {
         ensures found { (t : Tables) → Sees S.Store t self.old → IsClean S.Store self.new
             → IfOk result (λ need. need ≡ need_over t number) }
     {
-        match find_need(&mut self.connection, number) {
+        match find_key_need(&mut self.connection, number) {
             Ok(found) => Ok(need_or_default(found)),
-            Err(_) => Err(self.end_by(StoreError::NoRegister)),
+            Err(_) => Err(self.break_on_store_error(StoreError::NoRegister)),
         }
     }
 
     /// The same where a decision on the command looks at it, and else the least.
-    fn look_up_need_for(&mut self, command: &Command, number: u32) -> Result<u8, End>
+    fn look_up_need_for_command(&mut self, command: &Command, number: u32) -> Result<u8, End>
         requires opened { IsOpen S.Store self.old }
         requires whole { IsWhole self.old }
         ensures looks { LooksUp S.Store 2 self.old self.new result }
@@ -231,7 +239,7 @@ impl<S: Alter> Desk<S> {
 
     /// The key with this number as it stands in the tables where its destruction needs so many
     /// approvals, with its purpose.
-    pub(super) fn look_up_held(
+    pub(super) fn look_up_whole_key(
         &mut self,
         number: u32,
         need: u8,
@@ -245,15 +253,15 @@ impl<S: Alter> Desk<S> {
             return Err(End::Broken);
         }
         match load_key(self.alloc, &mut self.connection, number, need) {
-            Ok(found) => self.found_or_broken(number, found),
-            Err(error) => Err(self.end_by(error)),
+            Ok(found) => self.counted_row_or_broken(number, found),
+            Err(error) => Err(self.break_on_store_error(error)),
         }
     }
 }
 
 /// The key, with nobody in its custody.
-fn without_custody(alloc: Global, key: Key) -> Held
-    ensures { result ≡ without_custody key }
+fn held_without_custody(alloc: Global, key: Key) -> Held
+    ensures { result ≡ held_without_custody key }
 {
     Held {
         kind: key.kind,

@@ -5,7 +5,7 @@ use crate::end::End;
 use key_rows::Record;
 use lifecycle_core::{Usage, usage};
 use period_core::{KeyType, OfficePeriods, Period};
-use register_store::{StoreError, find_period};
+use register_store::{StoreError, find_office_period};
 use sqlite::Alter;
 
 impl<S: Alter> Desk<S> {
@@ -40,7 +40,7 @@ impl<S: Alter> Desk<S> {
             return Err(End::Broken);
         }
         let need = self.look_up_need(number)?;
-        match self.look_up_held(number, need)? {
+        match self.look_up_whole_key(number, need)? {
             Some((held, purpose)) => Ok(Some(Record::new(number, held, purpose))),
             None => Ok(None),
         }
@@ -108,7 +108,7 @@ impl<S: Alter> Desk<S> {
         ensures found { (t : Tables) → Sees S.Store t self.old → IsWhole self.old
             → IsClean S.Store self.new → IfOk result (λ set. set ≡ period_at kind t.periods) }
     {
-        find_period(&mut self.connection, kind)
+        find_office_period(&mut self.connection, kind)
     }
 
     /// What the key with this number may be used for at the latest accepted moment, or `None` where
@@ -127,7 +127,7 @@ impl<S: Alter> Desk<S> {
         if self.is_broken {
             return Err(End::Broken);
         }
-        match self.look_up_row(number)? {
+        match self.look_up_key_row(number)? {
             Some(key) => Ok(Some(usage(&key.row.dates, self.latest))),
             None => Ok(None),
         }

@@ -4,7 +4,7 @@ ghost use Rattle.std.specs.Prelude.{◌≤◌};
 ghost use Rattle.register_core.specs.Verdict.{max_keys};
 ghost use Rattle.register_core.specs.Decision.{IsRightKey};
 
-use super::keys::{answer_by, change_by, dates_in, outcome_by, view_in, view_with};
+use super::keys::{answer_by, change_by_request, dates_in, outcome_by, view_in, view_with};
 use lifecycle_core::{Dates, State};
 use moment_core::Moment;
 use period_core::{KeyType, period_of};
@@ -197,7 +197,7 @@ fn custody_becomes(
 ) -> Result<bool, Fail> {
     let view = view_in(alloc, state)?;
     let request = read_request(line.as_bytes()).ok_or("a request")?;
-    Ok(is_of(&change_by(&view, &request), expected))
+    Ok(is_of(&change_by_request(&view, &request), expected))
 }
 
 /// A compromise ends the approvals of a key that is not destroyed yet.
@@ -244,7 +244,7 @@ fn dates_of(change: Option<Change>) -> Option<Dates> {
 fn dates_after(alloc: Global, state: State, line: &str) -> Result<Dates, Fail> {
     let view = view_in(alloc, state)?;
     let request = read_request(line.as_bytes()).ok_or("a request")?;
-    Ok(dates_of(change_by(&view, &request)).ok_or("dates")?)
+    Ok(dates_of(change_by_request(&view, &request)).ok_or("dates")?)
 }
 
 /// Whether the key was destroyed and compromised then, in seconds.
@@ -280,7 +280,7 @@ fn is_owned(change: &Option<Change>, owner: &str) -> bool {
 fn is_owner_after(alloc: Global, line: &str, owner: &str) -> Result<bool, Fail> {
     let view = view_in(alloc, PRE)?;
     let request = read_request(line.as_bytes()).ok_or("a request")?;
-    Ok(is_owned(&change_by(&view, &request), owner))
+    Ok(is_owned(&change_by_request(&view, &request), owner))
 }
 
 /// A key is another's once it is assigned, and by no other command.

@@ -97,7 +97,7 @@ pub fn answer_by(view: &View, request: &Request) -> Result<Reply, Refusal>
 }
 
 /// What becomes of the view's key by the request, if that is accepted.
-pub fn change_by(view: &View, request: &Request) -> Option<Change>
+pub fn change_by_request(view: &View, request: &Request) -> Option<Change>
     requires within { view.now.keys ≤ max_keys }
     requires right { IsRightKey view.now.key view.now.latest }
 {

@@ -1,6 +1,6 @@
 //! Every command in every state of its key, by each caller.
 
-use super::keys::{answer_by, change_by, outcome_by, view_in};
+use super::keys::{answer_by, change_by_request, outcome_by, view_in};
 use lifecycle_core::State;
 use moment_core::Moment;
 use period_core::{KeyType, Period, period_of};
@@ -180,7 +180,7 @@ fn is_change_of(line: &str, expected: &Change) -> bool {
         period: period_of(KeyType::Master),
         key: None,
     };
-    change_by(&view, &request) == Some(*expected)
+    change_by_request(&view, &request) == Some(*expected)
 }
 
 #[test]

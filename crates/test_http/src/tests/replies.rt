@@ -1,5 +1,7 @@
 //! The texts of replies: each status, each refusal, a key and its usage.
-use http_messages::{Rejection, Route, key_text, outcome_text, rejection_text, usage_text};
+use http_messages::{
+    Rejection, Route, key_reply_text, outcome_reply_text, rejection_text, usage_reply_text,
+};
 use key_rows::{KeyRow, Record};
 use lifecycle_core::{Dates, Process, Row, State, Usage};
 use moment_core::Moment;
@@ -49,7 +51,7 @@ fn is_answered(
     status: &str,
     body: &str,
 ) -> Result<bool, AllocError> {
-    let text = outcome_text(alloc, &outcome)?;
+    let text = outcome_reply_text(alloc, &outcome)?;
     Ok(text.as_str() == reply_of(alloc, status, body)?.as_str())
 }
 
@@ -155,7 +157,7 @@ const USAGES: [(Usage, &str); 3] = [
 #[test]
 fn usages_have_their_bodies(rt: HostRuntime) -> Result<(), AllocError> {
     for (usage, body) in &USAGES {
-        let text = usage_text(rt.alloc(), usage)?;
+        let text = usage_reply_text(rt.alloc(), usage)?;
         assert_eq!(rt;
             text.as_str(),
             reply_of(rt.alloc(), "200 OK", body)?.as_str()
@@ -209,7 +211,7 @@ fn a_key_has_its_body(rt: HostRuntime) -> Result<(), Fail> {
         custodians: names(alloc, &["cat", "dan"])?,
         approvals: names(alloc, &["cat"])?,
     };
-    let text = key_text(alloc, &shown)?;
+    let text = key_reply_text(alloc, &shown)?;
     let body = format!(in alloc;
         "{KEY}\u{fc}\",\"state\":\"Destroyed-Compromised\",\"type\":\"master\"}}"
     )?;

@@ -24,7 +24,7 @@ returns-in-Usage-clause-asks g c = λ h left at known.
 pub returns-in-Ok-post_of-clause-asks : goal.returns-in-Ok-post_of-clause-asks
 returns-in-Ok-post_of-clause-asks g c = λ h left at known.
     let is = subst (IsFor h) c.in-Requests.is (c.in-Ok-route_of_head.ensures.ok h at) in
-    let all = subst (λ lines. AreGathered lines c.gather-fields.result) at.fields c.gather-fields.ensures in
+    let all = subst (λ lines. AreGathered lines c.gather_lines-fields.result) at.fields c.gather_lines-fields.ensures in
     let post = c.in-Ok-post_of.post in
     let says = c.in-Ok-post_of.ensures.ok _ all in
     let bytes = c.args.head.now.bytes.now in
@@ -37,7 +37,7 @@ returns-in-Ok-post_of-clause-asks g c = λ h left at known.
 pub returns-in-Err-post_of-clause-asks : goal.returns-in-Err-post_of-clause-asks
 returns-in-Err-post_of-clause-asks g c = λ h left at known.
     let is = subst (IsFor h) c.in-Requests.is (c.in-Ok-route_of_head.ensures.ok h at) in
-    let all = subst (λ lines. AreGathered lines c.gather-fields.result) at.fields c.gather-fields.ensures in
+    let all = subst (λ lines. AreGathered lines c.gather_lines-fields.result) at.fields c.gather_lines-fields.ensures in
     let rest = drop c.args.head.now.spans.len c.args.head.now.bytes.now ++ left in
     head_asks h _ _ c.rejected-in-Err-post_of.result c.rejected-in-Err-post_of.ensures
     (rule.post _ is.host is.target is.method (c.in-Err-post_of.ensures.err _ all rest))

@@ -1,7 +1,7 @@
 use Rattle.std.proofs.Common.{◌≡◌, ◌≢◌, ℕ, ◌+◌, ◌<◌, ◌≤◌, min, List, [], ◌∷◌, length, arith, refl, sym, ap, subst, ◌∙◌}
 use Rattle.http_messages.specs.HeaderFields.{AreFound, IsLength}
-use Rattle.http_messages.specs.declared.fields.Values.{Values}
-use Rattle.http_messages.specs.declared.fields.Values.TheVariants as found
+use Rattle.http_messages.specs.declared.header_fields.Values.{Values}
+use Rattle.http_messages.specs.declared.header_fields.Values.TheVariants as found
 use Rattle.http_messages.specs.Asked.{max_body_length, encoded, no_length, bad_length, large_body, no_sender}
 use Rattle.http_messages.proofs.asking.post_of.Goals as goal
 
@@ -41,11 +41,11 @@ returns-in-Several-clause-err c = λ lines all rest.
     bad_length (rw c.in-None.is at all.transfer_encoding) (several_not_none _ several)
     (λ n a. several_not_one _ a.0 several a.1)
 
-pub returns-in_default-length_of-clause-err : goal.returns-in_default-length_of-clause-err
-returns-in_default-length_of-clause-err c = λ lines all rest.
+pub returns-in_default-content_length_of-clause-err : goal.returns-in_default-content_length_of-clause-err
+returns-in_default-content_length_of-clause-err c = λ lines all rest.
     let one = rw c.in-One.is at all.content_length in
     bad_length (rw c.in-None.is at all.transfer_encoding) (one_not_none _ _ one)
-    (λ n a. c.in_default-length_of.ensures.none n (subst (λ v. IsLength v n) (same_one _ _ a.0 one a.1) a.2))
+    (λ n a. c.in_default-content_length_of.ensures.none n (subst (λ v. IsLength v n) (same_one _ _ a.0 one a.1) a.2))
 
 pub returns-then-length-gt-MAX_BODY_LENGTH-clause-err : goal.returns-then-length-gt-MAX_BODY_LENGTH-clause-err
 returns-then-length-gt-MAX_BODY_LENGTH-clause-err c = λ lines all rest.

@@ -16,23 +16,23 @@ one_is a b vs e f = cc
 abbrev AreOfNobody : Lines → Type 0
 AreOfNobody lines = (caller : List ℕ) (number : ℕ) → IsFrom lines caller number → ⊥
 
-pub returns-in_err-one-clause-none : goal.returns-in_err-one-clause-none
-returns-in_err-one-clause-none c = λ lines all. if_none _ (AreOfNobody lines)
-    (λ caller n p. c.in_err-one.ensures.none _ all.caller caller p.caller_is)
+pub returns-in_err-only_value-clause-none : goal.returns-in_err-only_value-clause-none
+returns-in_err-only_value-clause-none c = λ lines all. if_none _ (AreOfNobody lines)
+    (λ caller n p. c.in_err-only_value.ensures.none _ all.caller caller p.caller_is)
 
 pub returns-in_err-caller-clause-none : goal.returns-in_err-caller-clause-none
 returns-in_err-caller-clause-none c = λ lines all. if_none _ (AreOfNobody lines) (λ caller n p.
-    let same = one_is _ caller _ (c.in_ok-one.ensures.found _ all.caller) p.caller_is in
+    let same = one_is _ caller _ (c.in_ok-only_value.ensures.found _ all.caller) p.caller_is in
     absurd (cc (c.in_err-caller.ensures.in_range.1 (subst IsName (sym same) p.name))))
 
-pub returns-in_err-one-2-clause-none : goal.returns-in_err-one-2-clause-none
-returns-in_err-one-2-clause-none c = λ lines all. if_none _ (AreOfNobody lines)
-    (λ caller n p. c.in_err-one-2.ensures.none _ all.request_number (decimal n) p.number_is)
+pub returns-in_err-only_value-2-clause-none : goal.returns-in_err-only_value-2-clause-none
+returns-in_err-only_value-2-clause-none c = λ lines all. if_none _ (AreOfNobody lines)
+    (λ caller n p. c.in_err-only_value-2.ensures.none _ all.request_number (decimal n) p.number_is)
 
 pub returns-in_err-read_decimal-clause-none : goal.returns-in_err-read_decimal-clause-none
 returns-in_err-read_decimal-clause-none c = λ lines all. if_none _ (AreOfNobody lines) (λ caller n p.
     let fits : n < 2 ^ 64 = omega (arith, p.in_range.1) in
-    let field = one_is _ (decimal n) _ (c.in_ok-one-2.ensures.found _ all.request_number) p.number_is in
+    let field = one_is _ (decimal n) _ (c.in_ok-only_value-2.ensures.found _ all.request_number) p.number_is in
     c.in_err-read_decimal.ensures.none n fits field)
 
 pub returns-in_err-number-clause-none : goal.returns-in_err-number-clause-none
@@ -40,15 +40,15 @@ returns-in_err-number-clause-none c = λ lines all. if_none _ (AreOfNobody lines
     let read = c.in_ok-read_decimal.field-0 in
     let small : read < 2 ^ 64 = omega arith in
     let fits : n < 2 ^ 64 = omega (arith, p.in_range.1) in
-    let field = one_is _ (decimal n) _ (c.in_ok-one-2.ensures.found _ all.request_number) p.number_is in
+    let field = one_is _ (decimal n) _ (c.in_ok-only_value-2.ensures.found _ all.request_number) p.number_is in
     let same : read ≡ n = decimal_injective read n small fits (sym c.in_ok-read_decimal.ensures.found ∙ field) in
     absurd (cc (c.in_err-number.ensures.in_range.1 (subst IsNumber (sym same) p.in_range))))
 
 pub returns-clause-found : goal.returns-clause-found
 returns-clause-found c = λ lines all. record {
-  caller_is = c.in_ok-one.ensures.found _ all.caller ∙ ap (λ v. v ∷ []) (sym c.in_ok-caller.ensures.value);
+  caller_is = c.in_ok-only_value.ensures.found _ all.caller ∙ ap (λ v. v ∷ []) (sym c.in_ok-caller.ensures.value);
   name = search rules;
-  number_is = c.in_ok-one-2.ensures.found _ all.request_number
+  number_is = c.in_ok-only_value-2.ensures.found _ all.request_number
       ∙ ap (λ v. v ∷ []) (c.in_ok-read_decimal.ensures.found ∙ ap decimal (sym c.in_ok-number.ensures.value));
   in_range = search rules;
 }

@@ -3,11 +3,11 @@ use Rattle.serde_json.specs.Data.{Members}
 use Rattle.period_core.specs.declared.key_type.KeyType.{KeyType}
 use Rattle.period_core.specs.Period.{Period}
 use Rattle.lifecycle_core.specs.declared.reason.Reason.{Reason}
-use Rattle.register_requests.specs.declared.fields.Fields.{Fields}
-use Rattle.register_requests.specs.declared.fields.Fields.TheVariants.{TypeAndPeriod, Registration, DateEdits}
-use Rattle.register_requests.specs.declared.fields.Fields.TheVariants.{Revocation}
-use Rattle.register_requests.specs.declared.fields.Shape.{Shape}
-use Rattle.register_requests.specs.declared.fields.Shape.TheVariants as shapes
+use Rattle.register_requests.specs.declared.command_fields.Fields.{Fields}
+use Rattle.register_requests.specs.declared.command_fields.Fields.TheVariants.{TypeAndPeriod, Registration, DateEdits}
+use Rattle.register_requests.specs.declared.command_fields.Fields.TheVariants.{Revocation}
+use Rattle.register_requests.specs.declared.command_fields.Shape.{Shape}
+use Rattle.register_requests.specs.declared.command_fields.Shape.TheVariants as shapes
 use Rattle.register_requests.specs.declared.request.Edit.{Edit}
 use Rattle.register_requests.specs.Request.{AreFields}
 use Rattle.http_messages.specs.CommandValue.{HasMembers, IsShaped}

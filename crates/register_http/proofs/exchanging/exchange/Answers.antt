@@ -13,13 +13,13 @@ pub returns-in-Ok-None-clause-exchanges : goal.returns-in-Ok-None-clause-exchang
 returns-in-Ok-None-clause-exchanges g c = record {
   asked = c.ask-asking.result.asked;
   asks = λ bytes known. c.ask-asking.ensures.asks bytes
-      (ap (λ (r : Watched g.row.R.Denot). g.R.Read.remaining r.inner) c.begin.ensures ∙ known);
+      (ap (λ (r : Watched g.row.R.Denot). g.R.Read.remaining r.inner) c.start_counting.ensures ∙ known);
   serves = rw (c.with_read.ensures) (
       served_after g.S.Store c.args.moment c.args.desk.now c.args.desk.now c.ask-asking.result.asked _
       (g.W.Write.contents c.args.writer.now.inner) _ _ c.ask-asking.result.read
-      (ap (λ (w : Watched g.row.W.Denot). g.W.Write.contents w.inner) c.begin-2.ensures)
-      (sent_nothing g.S.Store c.args.moment c.args.desk.now c.args.desk.now c.ask-asking.result.asked _ c.of.result
-      (search rules) refl c.of.ensures));
+      (ap (λ (w : Watched g.row.W.Denot). g.W.Write.contents w.inner) c.start_counting-2.ensures)
+      (sent_nothing g.S.Store c.args.moment c.args.desk.now c.args.desk.now c.ask-asking.result.asked _ c.ended.result
+      (search rules) refl c.ended.ensures));
 }
 
 pub returns-in-Ok-None-clause-leaves : goal.returns-in-Ok-None-clause-leaves
@@ -44,14 +44,14 @@ returns-in-Ok-None-clause-reader g c =
     c.ask-asking.new.reader
     (rw (c.with_read.ensures) (
       read.0,
-      rw (sym (ap (λ (r : Watched g.row.R.Denot). g.R.Read.remaining r.inner) c.begin.ensures)) read.1,
+      rw (sym (ap (λ (r : Watched g.row.R.Denot). g.R.Read.remaining r.inner) c.start_counting.ensures)) read.1,
       sym read.2,
     ))
-    (c.ask-asking.ensures.tells (ap (λ (r : Watched g.row.R.Denot). r.failed) c.begin.ensures ∙ c.requires.reader))
+    (c.ask-asking.ensures.tells (ap (λ (r : Watched g.row.R.Denot). r.failed) c.start_counting.ensures ∙ c.requires.reader))
     c.ask-asking.ensures.fault (search rules)
 
 pub returns-in-Ok-None-clause-writer : goal.returns-in-Ok-None-clause-writer
-returns-in-Ok-None-clause-writer g c = rw (c.with_read.ensures, c.of.ensures) (search rules)
+returns-in-Ok-None-clause-writer g c = rw (c.with_read.ensures, c.ended.ensures) (search rules)
 
 -- ---- the reader failed
 
@@ -59,14 +59,14 @@ pub returns-in-Err-ReadFault-clause-exchanges : goal.returns-in-Err-ReadFault-cl
 returns-in-Err-ReadFault-clause-exchanges g c = record {
   asked = c.ask-asking.result.asked;
   asks = λ bytes known. c.ask-asking.ensures.asks bytes
-      (ap (λ (r : Watched g.row.R.Denot). g.R.Read.remaining r.inner) c.begin.ensures ∙ known);
+      (ap (λ (r : Watched g.row.R.Denot). g.R.Read.remaining r.inner) c.start_counting.ensures ∙ known);
   serves = rw (c.with_read-in-Err-ReadFault.ensures) (
       served_after g.S.Store c.args.moment c.args.desk.now c.args.desk.now c.ask-asking.result.asked _
       (g.W.Write.contents c.args.writer.now.inner) _ _ c.ask-asking.result.read
-      (ap (λ (w : Watched g.row.W.Denot). g.W.Write.contents w.inner) c.begin-2.ensures)
+      (ap (λ (w : Watched g.row.W.Denot). g.W.Write.contents w.inner) c.start_counting-2.ensures)
       (sent_no_reply g.S.Store c.args.moment c.args.desk.now c.args.desk.now c.ask-asking.result.asked _
-      c.of-in-Err-ReadFault.result (search rules) refl
-      c.of-in-Err-ReadFault.ensures));
+      c.ended-in-Err-ReadFault.result (search rules) refl
+      c.ended-in-Err-ReadFault.ensures));
 }
 
 pub returns-in-Err-ReadFault-clause-leaves : goal.returns-in-Err-ReadFault-clause-leaves
@@ -92,15 +92,15 @@ returns-in-Err-ReadFault-clause-reader g c =
     c.args.reader.now c.ask-asking.new.reader
     (rw (c.with_read-in-Err-ReadFault.ensures) (
       read.0,
-      rw (sym (ap (λ (r : Watched g.row.R.Denot). g.R.Read.remaining r.inner) c.begin.ensures)) read.1,
+      rw (sym (ap (λ (r : Watched g.row.R.Denot). g.R.Read.remaining r.inner) c.start_counting.ensures)) read.1,
       sym read.2,
     ))
-    (c.ask-asking.ensures.tells (ap (λ (r : Watched g.row.R.Denot). r.failed) c.begin.ensures ∙ c.requires.reader))
+    (c.ask-asking.ensures.tells (ap (λ (r : Watched g.row.R.Denot). r.failed) c.start_counting.ensures ∙ c.requires.reader))
     c.ask-asking.ensures.fault (search rules)
 
 pub returns-in-Err-ReadFault-clause-writer : goal.returns-in-Err-ReadFault-clause-writer
 returns-in-Err-ReadFault-clause-writer g c =
-    rw (c.with_read-in-Err-ReadFault.ensures, c.of-in-Err-ReadFault.ensures) (search rules)
+    rw (c.with_read-in-Err-ReadFault.ensures, c.ended-in-Err-ReadFault.ensures) (search rules)
 
 -- ---- a reply was sent
 
@@ -108,19 +108,19 @@ pub returns-clause-exchanges : goal.returns-clause-exchanges
 returns-clause-exchanges g c = record {
   asked = c.ask-asking.result.asked;
   asks = λ bytes known. c.ask-asking.ensures.asks bytes
-      (ap (λ (r : Watched g.row.R.Denot). g.R.Read.remaining r.inner) c.begin.ensures ∙ known);
-  serves = rw (ap (λ (n : ℕ). record c.send.result { read = n }) c.send.ensures.read) (
+      (ap (λ (r : Watched g.row.R.Denot). g.R.Read.remaining r.inner) c.start_counting.ensures ∙ known);
+  serves = rw (ap (λ (n : ℕ). record c.send_reply.result { read = n }) c.send_reply.ensures.read) (
       served_after g.S.Store c.args.moment c.args.desk.now c.match-asking.desk c.ask-asking.result.asked _
       (g.W.Write.contents c.args.writer.now.inner) _ _ c.ask-asking.result.read
-      (ap (λ (w : Watched g.row.W.Denot). g.W.Write.contents w.inner) c.begin-2.ensures)
+      (ap (λ (w : Watched g.row.W.Denot). g.W.Write.contents w.inner) c.start_counting-2.ensures)
       (elim c.match-asking.branch [
         | in-Ok-Some w ↦ sent_answer g.S.Store c.args.moment c.args.desk.now c.match-asking.desk
-            c.ask-asking.result.asked _ _ _ c.send.result c.match-asking.answered _ _ w.desk-is w.answered-is
-            w.answer-answered.ensures c.send.ensures.sends c.send.ensures.ends (search rules)
+            c.ask-asking.result.asked _ _ _ c.send_reply.result c.match-asking.answered _ _ w.desk-is w.answered-is
+            w.answer_asked-answered.ensures c.send_reply.ensures.sends c.send_reply.ensures.ends (search rules)
         | in-Err-Memory w ↦ sent_memory g.S.Store c.args.moment c.args.desk.now c.match-asking.desk
-            c.ask-asking.result.asked _ _ c.send.result c.match-asking.answered
-            (search rules) w.desk-is w.answered-is c.send.ensures.sends
-            c.send.ensures.ends
+            c.ask-asking.result.asked _ _ c.send_reply.result c.match-asking.answered
+            (search rules) w.desk-is w.answered-is c.send_reply.ensures.sends
+            c.send_reply.ensures.ends
       ]));
 }
 
@@ -129,26 +129,26 @@ unfolding returns-clause-exchanges
 returns-clause-leaves g c =
     let is_moment : IsMoment c.args.moment = search rules in
     leaves_one g.S.Store c.args.moment c.args.desk.now c.match-asking.desk is_moment c.ask-asking.result.asked
-    c.send.result _ _ c.ask-asking.ensures.in_range (returns-clause-exchanges g c).serves
+    c.send_reply.result _ _ c.ask-asking.ensures.in_range (returns-clause-exchanges g c).serves
 
 pub returns-clause-clean : goal.returns-clause-clean
 unfolding returns-clause-exchanges
 returns-clause-clean g c =
     was_clean g.S.Store c.args.moment c.args.desk.now c.match-asking.desk c.ask-asking.result.asked
-    c.send.result _ _ (returns-clause-exchanges g c).serves
+    c.send_reply.result _ _ (returns-clause-exchanges g c).serves
 
 pub returns-clause-reader : goal.returns-clause-reader
 unfolding returns-clause-exchanges
 returns-clause-reader g c =
     let read = c.ask-asking.ensures.read in
     leaves_reader g.S.Store c.args.moment c.args.desk.now c.match-asking.desk c.ask-asking.result.asked _ _
-    c.send.result (returns-clause-exchanges g c).serves g.R.Read.remaining c.args.reader.now c.ask-asking.new.reader
-    (rw (c.send.ensures.read) (
+    c.send_reply.result (returns-clause-exchanges g c).serves g.R.Read.remaining c.args.reader.now c.ask-asking.new.reader
+    (rw (c.send_reply.ensures.read) (
       read.0,
-      rw (sym (ap (λ (r : Watched g.row.R.Denot). g.R.Read.remaining r.inner) c.begin.ensures)) read.1,
+      rw (sym (ap (λ (r : Watched g.row.R.Denot). g.R.Read.remaining r.inner) c.start_counting.ensures)) read.1,
       sym read.2,
     ))
-    (c.ask-asking.ensures.tells (ap (λ (r : Watched g.row.R.Denot). r.failed) c.begin.ensures ∙ c.requires.reader))
+    (c.ask-asking.ensures.tells (ap (λ (r : Watched g.row.R.Denot). r.failed) c.start_counting.ensures ∙ c.requires.reader))
     c.ask-asking.ensures.fault (search rules)
 
 pub returns-clause-writer : goal.returns-clause-writer

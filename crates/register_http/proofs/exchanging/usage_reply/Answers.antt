@@ -6,13 +6,13 @@ use Rattle.register_http.proofs.exchanging.usage_reply.Goals as goal
 
 pub returns-in-Some : goal.returns-in-Some
 returns-in-Some g c = λ moment.
-    acts_text _ moment _ _ _ c.usage_text.result c.text_or_end.result
+    acts_text _ moment _ _ _ c.usage_reply_text.result c.text_or_end.result
     (went_reading _ moment _ _ _ (record { same = λ h. refl; uses = refl; asks = λ rejection is. absurd (cc) })
     c.in_ok-usage.ensures.ends c.in_ok-usage.ensures.reads)
     (inl c.in_ok-usage.ensures.reads)
     (λ rejection is. absurd (cc))
-    (λ h stands clean. found_text usage_reply (Some _) _ c.usage_text.result (sym c.in-Some.is
-    ∙ c.in_ok-usage.ensures.used h stands clean) c.usage_text.ensures)
+    (λ h stands clean. found_text usage_reply (Some _) _ c.usage_reply_text.result (sym c.in-Some.is
+    ∙ c.in_ok-usage.ensures.used h stands clean) c.usage_reply_text.ensures)
     c.text_or_end.ensures.ok c.text_or_end.ensures.err
 
 pub returns-in-None : goal.returns-in-None

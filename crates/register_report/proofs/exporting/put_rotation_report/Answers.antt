@@ -8,7 +8,7 @@ use Rattle.register_desk.specs.Desk.{ChangesNothing, IsClean}
 use Rattle.register_desk.specs.KeyRows.{AreAll, all_rows}
 use Rattle.register_report.proofs.ListedRows.{EndsAt, report_rows}
 use Rattle.register_report.proofs.WholeTable.{puts_all, puts_none}
-use Rattle.register_report.proofs.exporting.put_rotation_report.Goals.{then-are_none_set, else-are_none_set}
+use Rattle.register_report.proofs.exporting.put_rotation_report.Goals.{then-are_all_unset, else-are_all_unset}
 use Rattle.register_report.proofs.exporting.put_rotation_report.Goals as goal
 
 pub returns-in_err-periods-clause-puts : goal.returns-in_err-periods-clause-puts
@@ -33,12 +33,12 @@ returns-clause-puts g c =
     let at = c.latest-latest.ensures.latest h stands in
     let until = c.horizon-until.ensures ∙ ap (λ t. horizon t c.args.days) at in
     let ends : EndsAt c.latest-latest.result c.horizon-until.result c.in_ok-periods.periods h stands.lawful found
-    c.if-are_none_set.last = elim c.if-are_none_set.branch [
-      | then-are_none_set w ↦ inl (c.are_none_set.ensures.0 (search rules), w.last-is)
-      | else-are_none_set w ↦ inr (w.last-is ∙ w.last_moment-last.ensures)
+    c.if-are_all_unset.last = elim c.if-are_all_unset.branch [
+      | then-are_all_unset w ↦ inl (c.are_all_unset.ensures.0 (search rules), w.last-is)
+      | else-are_all_unset w ↦ inr (w.last-is ∙ w.last_moment-last.ensures)
     ] in
     let all = report_rows c.latest-latest.result c.horizon-until.result c.in_ok-periods.periods h stands.lawful found
-    c.if-are_none_set.last (omega (arith, until)) ends is.0
+    c.if-are_all_unset.last (omega (arith, until)) ends is.0
     (subst (λ last. AreListed (all_rows h) last (period h) is.0) (sym until) is.1) in (
       all.0,
       subst (λ u. AreAll u (all_rows h) all.0) (sym lent.begins.1) all.1,

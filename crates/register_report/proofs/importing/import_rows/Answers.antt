@@ -35,8 +35,8 @@ loop-row-preserved g c =
     let not_full = c.if-replies-eq-MAX_ROWS.false in
     record {
       served =
-          rows_then c.next_row.new.reader
-          (fields_of c.next_row.new.row) invariant.served invariant.config row next.text
+          rows_then c.read_next_row.new.reader
+          (fields_of c.read_next_row.new.row) invariant.served invariant.config row next.text
           c.row_item-item.ensures.item c.in-Ok.ensures.serves c.in-Ok.ensures.goes_on;
       wrote =
           wrote_item g.S.Store _ _ _ c.loop-row.desk c.answer_item.new.desk
@@ -83,7 +83,7 @@ returns-then-replies-eq-MAX_ROWS-clause-cause g c is =
     record {
       reader = c.loop-row.reader;
       served = c.loop-row.invariant.served;
-      why = inl (c.if-replies-eq-MAX_ROWS.true, (fields_of c.next_row.new.row, row));
+      why = inl (c.if-replies-eq-MAX_ROWS.true, (fields_of c.read_next_row.new.row, row));
     }
 
 -- ---- a row whose item ended it
@@ -93,10 +93,10 @@ returns-in-Err-answer_item-clause-serves g c =
     let row = rw c.in-Ok-true.field-0-test at c.in-Ok-true.ensures.reads in
     row_stops c.in-Err-answer_item.stop.end (record {
       reader = c.loop-row.reader;
-      next = c.next_row.new.reader;
+      next = c.read_next_row.new.reader;
       so_far = g.W.Write.contents c.loop-row.writer.inner;
       mid = c.loop-row.desk;
-      row = fields_of c.next_row.new.row;
+      row = fields_of c.read_next_row.new.row;
       item = c.row_item-item.result;
       part = c.in-Err-answer_item.stop.written;
       served = c.loop-row.invariant.served;
@@ -139,8 +139,8 @@ returns-in-Ok-false-clause-serves g c =
     let none = rw c.in-Ok-false.field-0-test at c.in-Ok-false.ensures.reads in (
       record {
         reader = c.loop-row.reader;
-        last = c.next_row.new.reader;
-        fields = fields_of c.next_row.new.row;
+        last = c.read_next_row.new.reader;
+        fields = fields_of c.read_next_row.new.row;
         served = c.loop-row.invariant.served;
         config = c.loop-row.invariant.config;
         at_end = none;
@@ -163,19 +163,19 @@ returns-in-Ok-false-clause-desk g c =
 
 pub returns-in-Err-clause-serves : goal.returns-in-Err-clause-serves
 returns-in-Err-clause-serves g c =
-    unread_at c.next_row.new.reader c.loop-row.invariant.served c.in-Err.end c.in-Err.ensures.end
+    unread_at c.read_next_row.new.reader c.loop-row.invariant.served c.in-Err.end c.in-Err.ensures.end
 
 pub returns-in-Err-clause-writer : goal.returns-in-Err-clause-writer
 returns-in-Err-clause-writer g c =
     let invariant = c.loop-row.invariant in
     leaves_sound g.W.Write.contents c.args.writer.now c.loop-row.writer
     _ invariant.wrote invariant.flushed invariant.idle_bounded
-    (unread_sound g.R.Read.remaining c.loop-row.reader c.next_row.new.reader c.in-Err.end
+    (unread_sound g.R.Read.remaining c.loop-row.reader c.read_next_row.new.reader c.in-Err.end
     c.in-Err.ensures.end)
 
 pub returns-in-Err-clause-desk : goal.returns-in-Err-clause-desk
 returns-in-Err-clause-desk g c =
-    unread_leaves g.R.Read.remaining c.loop-row.reader c.next_row.new.reader g.S.Store
+    unread_leaves g.R.Read.remaining c.loop-row.reader c.read_next_row.new.reader g.S.Store
     c.args.desk.now c.loop-row.desk c.loop-row.invariant.goes_on c.in-Err.end
     c.in-Err.ensures.end
 
@@ -187,5 +187,5 @@ returns-in-Err-clause-cause g c is =
       served = c.loop-row.invariant.served;
       why =
           inr (subst (λ (end : End). ExplainsEnd g.R.Read.remaining c.loop-row.reader
-          c.next_row.new.reader end) fault c.in-Err.ensures.end);
+          c.read_next_row.new.reader end) fault c.in-Err.ensures.end);
     }

@@ -1,7 +1,7 @@
 use Rattle.std.proofs.Common.{◌≡◌, ◌-◌, ◌*◌, ◌≤◌, true}
 use Rattle.csv.specs.Reading.{Ready, default_config, is_flexible, reader_config, reader_trim}
 use Rattle.csv.specs.declared.reader.Trim.TheVariants as trim
-use Rattle.register_core.specs.declared.line.TheConstants.{MAX_REPLY_LENGTH}
+use Rattle.register_core.specs.declared.answer.TheConstants.{MAX_REPLY_LENGTH}
 use Rattle.streams.specs.declared.watched.TheConstants.{MAX_IDLE_TURNS}
 use Rattle.register_desk.specs.Desk.{GoesOn}
 use Rattle.register_desk.specs.Run.{AreFlushed, Wrote}

@@ -24,19 +24,19 @@ written sees name most number asked made old new before after r is few did = rec
 
 pub returns-in-CustodianAdded : goal.returns-in-CustodianAdded
 returns-in-CustodianAdded g c =
-    written g.T.Inside.sees g.T.Inside.name _ c.args.number _ _ _ _ _ _ _ c.in-CustodianAdded.is (omega arith) c.change_role.ensures
+    written g.T.Inside.sees g.T.Inside.name _ c.args.number _ _ _ _ _ _ _ c.in-CustodianAdded.is (omega arith) c.give_or_take_role.ensures
 
 pub returns-in-CustodianRemoved : goal.returns-in-CustodianRemoved
 returns-in-CustodianRemoved g c =
-    written g.T.Inside.sees g.T.Inside.name _ c.args.number _ _ _ _ _ _ _ c.in-CustodianRemoved.is (omega arith) c.change_role-in-CustodianRemoved.ensures
+    written g.T.Inside.sees g.T.Inside.name _ c.args.number _ _ _ _ _ _ _ c.in-CustodianRemoved.is (omega arith) c.give_or_take_role-in-CustodianRemoved.ensures
 
 pub returns-in-Approved : goal.returns-in-Approved
 returns-in-Approved g c =
-    written g.T.Inside.sees g.T.Inside.name _ c.args.number _ _ _ _ _ _ _ c.in-Approved.is (omega arith) c.change_role-in-Approved.ensures
+    written g.T.Inside.sees g.T.Inside.name _ c.args.number _ _ _ _ _ _ _ c.in-Approved.is (omega arith) c.give_or_take_role-in-Approved.ensures
 
 pub returns-in-Withdrawn : goal.returns-in-Withdrawn
 returns-in-Withdrawn g c =
-    written g.T.Inside.sees g.T.Inside.name _ c.args.number _ _ _ _ _ _ _ c.in-Withdrawn.is (omega arith) c.change_role-in-Withdrawn.ensures
+    written g.T.Inside.sees g.T.Inside.name _ c.args.number _ _ _ _ _ _ _ c.in-Withdrawn.is (omega arith) c.give_or_take_role-in-Withdrawn.ensures
 
 pub returns-in-ApprovalsEnded : goal.returns-in-ApprovalsEnded
 returns-in-ApprovalsEnded g c =

@@ -13,13 +13,13 @@ returns-clause-reads g c =
     reads_one g.S.Store
     (due_read (search_text by) (query_of by) (passes_of by) (search_is by) (same_params c.args.until c.args.last)
     (is_found by c.args.until c.args.last) (check_is c.args.until c.args.last by)) (search rules)
-    c.args.connection.now c.find_one.new.self c.find_one.result
+    c.args.connection.now c.find_one_row.new.self c.find_one_row.result
     (rw (
       c.sql.ensures,
       c.params-to_sql.ensures.value,
       c.params-to_sql-2.ensures.value,
       c.params-to_sql-3.ensures,
-    ) at c.find_one.ensures.finds)
+    ) at c.find_one_row.ensures.finds)
 
 pub returns-clause-sight : goal.returns-clause-sight
 returns-clause-sight g c =
@@ -29,6 +29,6 @@ returns-clause-sight g c =
       c.params-to_sql.ensures.value,
       c.params-to_sql-2.ensures.value,
       c.params-to_sql-3.ensures,
-    ) at c.find_one.ensures.finds in
+    ) at c.find_one_row.ensures.finds in
     keeps_sight (search_text by) (same_params c.args.until c.args.last) (query_of by)
-    (seen g.S.Store c.args.connection.now) (seen g.S.Store c.find_one.new.self) one.answer one.row
+    (seen g.S.Store c.args.connection.now) (seen g.S.Store c.find_one_row.new.self) one.answer one.row

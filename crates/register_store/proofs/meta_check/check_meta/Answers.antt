@@ -11,8 +11,8 @@ check_rows-requires-clause-query g c = query_of Meta
 
 pub returns-in-Some-clause-checks : goal.returns-in-Some-clause-checks
 returns-in-Some-clause-checks g c t =
-    meta_told t _ _ c.check_rows.ensures.survives c.in-Some.told c.counts.result
-    (c.counts.ensures ∙ ap counts_in c.in-Some.told-is)
+    meta_told t _ _ c.check_rows.ensures.survives c.in-Some.told c.counts_or_refusal.result
+    (c.counts_or_refusal.ensures ∙ ap counts_in c.in-Some.told-is)
     (told_as _ _ _ _ c.in-Some.is (λ clean. c.in_ok-check_rows.ensures.met clean refl))
 
 pub returns-in-None-clause-checks : goal.returns-in-None-clause-checks

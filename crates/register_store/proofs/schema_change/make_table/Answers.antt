@@ -1,9 +1,11 @@
 use Rattle.std.proofs.Common.{[]}
 use Rattle.sqlite.specs.Held.{state}
 use Rattle.sql_steps.proofs.Stepping.{runs}
+use Rattle.register_store.specs.Beside.{Adds, IsMadeAs}
 use Rattle.register_store.specs.Creation.{MakesTable}
 use Rattle.register_store.specs.Migration.{MakesNext}
 use Rattle.register_store.specs.Tables.{create_text}
+use Rattle.register_store.proofs.Beside.{table_adds}
 use Rattle.register_store.proofs.Creating.{makes_table}
 use Rattle.register_store.proofs.NewTables.{makes_next}
 use Rattle.register_store.proofs.schema_change.make_table.Goals as goal
@@ -19,5 +21,12 @@ pub returns-clause-next : goal.returns-clause-next
 returns-clause-next g c new =
     runs (MakesNext c.args.table) (create_text c.args.table) [] (state g.S.Store c.args.tx.now.conn.now)
     (state g.S.Store c.execute.new.self.conn.now) c.in_ok-execute.field-0 (makes_next c.args.table new _ _)
+    (λ clean inside. rw c.create_sql.ensures at (c.in_ok-execute.ensures.runs clean inside))
+    c.in_ok-execute.ensures.survives
+
+pub returns-clause-beside : goal.returns-clause-beside
+returns-clause-beside g c =
+    runs (Adds (IsMadeAs c.args.table)) (create_text c.args.table) [] (state g.S.Store c.args.tx.now.conn.now)
+    (state g.S.Store c.execute.new.self.conn.now) c.in_ok-execute.field-0 (table_adds c.args.table _ _)
     (λ clean inside. rw c.create_sql.ensures at (c.in_ok-execute.ensures.runs clean inside))
     c.in_ok-execute.ensures.survives

@@ -46,7 +46,7 @@ returns-in-Ok-false-clause-refused g c clean given begun is =
     record {
       rows = so_far.0 ++ c.in-Ok-Some.row.now ∷ [];
       shown = given_begin g.S.Store c.args.sql.now [] last _ more;
-      holds = c.take.ensures.refused (let a = c.in-Ok-false.is in let b = c.in-Ok-false.field-0-test in cc)
+      holds = c.take_row.ensures.refused (let a = c.in-Ok-false.is in let b = c.in-Ok-false.field-0-test in cc)
           c.args.check.now so_far.0 so_far.2;
       same = unchanged_then first old (state g.S.Store last) so_far.3 same;
     }

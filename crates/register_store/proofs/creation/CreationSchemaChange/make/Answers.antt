@@ -1,10 +1,12 @@
 use Rattle.std.proofs.Common.{length, Ok}
 use Rattle.sqlite.specs.Held.{state}
 use Rattle.sql_steps.specs.Steps.{Then}
-use Rattle.sql_steps.proofs.Stepping.{steps_as, steps_then}
+use Rattle.sql_steps.proofs.Stepping.{steps_then}
 use Rattle.register_store.specs.Tables.{all_tables}
 use Rattle.register_store.specs.Schema.{made_indexes}
+use Rattle.register_store.specs.Beside.{AddsUncounted, InsertsMeta}
 use Rattle.register_store.specs.Creation.{MakesAll, MakesFirst, MakesIndexes, AddsMeta}
+use Rattle.register_store.proofs.Beside.{makes_beside, steps_both}
 use Rattle.register_store.proofs.creation.CreationSchemaChange.make.Goals as goal
 
 pub returns-clause-made : goal.returns-clause-made
@@ -19,5 +21,14 @@ returns-clause-made g c =
     (Ok c.in_ok-make_indexes.field-0) c.in_ok-make_tables.ensures.made c.in_ok-make_indexes.ensures.made in
     let three = steps_then (λ _. Then Tables Indexes) (λ _. AddsMeta) a d e c.in_ok-make_indexes.field-0
     (Ok c.in_ok-insert_meta.field-0) two c.in_ok-insert_meta.ensures.added in
-    steps_as (λ _. Then (Then Tables Indexes) AddsMeta) (λ _. MakesAll) a e c.in_ok-insert_meta.field-0 (tt {0})
-    (λ old new done first. done.2 (done.1.2 (done.1.1 first))) three
+    let beside_two = steps_then (λ _. AddsUncounted) (λ _. AddsUncounted) a b d c.in_ok-make_tables.field-0
+    (Ok c.in_ok-make_indexes.field-0) c.in_ok-make_tables.ensures.beside c.in_ok-make_indexes.ensures.beside in
+    let beside_three = steps_then (λ _. Then AddsUncounted AddsUncounted) (λ _. InsertsMeta) a d e
+    c.in_ok-make_indexes.field-0 (Ok c.in_ok-insert_meta.field-0) beside_two c.in_ok-insert_meta.ensures.beside in
+    steps_both (λ _. Then (Then Tables Indexes) AddsMeta)
+    (λ _. Then (Then AddsUncounted AddsUncounted) InsertsMeta) (λ _. MakesAll) a e
+    c.in_ok-insert_meta.field-0 c.in_ok-insert_meta.field-0 (tt {0})
+    (λ old new done kept. record {
+      register = λ first. done.2 (done.1.2 (done.1.1 first));
+      others = makes_beside old kept.1.0 kept.0 new kept.1.1 kept.1.2 kept.2;
+    }) three beside_three

@@ -13,7 +13,7 @@ returns-clause-line g c =
     let within : c.self.inside.start + c.args.count ≤ c.self.inside.end =
     unread_within _ c.args.self.now c.self.inside.piece c.self.inside.start c.args.count c.self.inside.end
     c.self.view_is refl c.self.invariant.ordered c.requires in
-    Extends-by_part _ c.args.self.now _ c.self.inside.held c.append_within.new.held _ c.args.count c.self.view_is
+    Extends-by_part _ c.args.self.now _ c.self.inside.held c.append_within_room.new.held _ c.args.count c.self.view_is
     c.requires
     (slice_range-take c.self.inside.piece c.self.inside.start c.args.count c.self.inside.end within) refl c.self.told2
-    c.append_within.ensures refl refl refl
+    c.append_within_room.ensures refl refl refl

@@ -1,7 +1,0 @@
-use Rattle.std.proofs.Common.{◌∙◌, ap}
-use Rattle.serde_json.specs.Written.{has_float}
-use Rattle.http_messages.proofs.NoFloats.{key_has_none}
-use Rattle.http_messages.proofs.answer_text.key_text.Goals as goal
-
-pub value_text-requires : goal.value_text-requires
-value_text-requires c = ap has_float c.in_ok-value.ensures ∙ key_has_none c.args.shown.now

@@ -1,5 +1,0 @@
-use Rattle.std.proofs.Common.{rules}
-use Rattle.register_core.proofs.kept_reply.KeptReply.answer_again.Goals as goal
-
-pub returns-else-has_command : goal.returns-else-has_command
-returns-else-has_command c = search rules

@@ -1,0 +1,15 @@
+use Rattle.register_desk.proofs.Readings.{looks_failed, looks_where}
+use Rattle.register_desk.proofs.Taken.{loads_few}
+use Rattle.register_desk.proofs.desk.Desk.look_up_whole_key.Goals as goal
+
+pub returns-in-Ok-clause-looks : goal.returns-in-Ok-clause-looks
+returns-in-Ok-clause-looks g c =
+    looks_where g.S.Store _ 36 _ _ _ _ _ _ c.if-self.false c.in-Ok.ensures.reads (loads_few g.S.Store c.args.number
+    c.args.self.now c.load_key.new.connection c.if-self.false c.in-Ok.ensures.reads.clean c.load_key.ensures.counted)
+    c.counted_row_or_broken.ensures.same c.counted_row_or_broken.ensures.unchanged c.counted_row_or_broken.ensures.broken
+
+pub returns-in-Err-clause-looks : goal.returns-in-Err-clause-looks
+returns-in-Err-clause-looks g c =
+    looks_failed g.S.Store _ 36 _ _ _ _ _ _ c.if-self.false c.in-Err.ensures.reads (loads_few g.S.Store c.args.number
+    c.args.self.now c.load_key.new.connection c.if-self.false c.in-Err.ensures.reads.clean c.load_key.ensures.counted)
+    c.break_on_store_error.ensures.same c.break_on_store_error.ensures.memory c.break_on_store_error.ensures.store

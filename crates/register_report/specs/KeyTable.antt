@@ -1,0 +1,42 @@
+-- The two texts that a register is written out as, piece by piece: the export of all keys, and the
+-- report on those that are due for rotation, or are long.
+use Rattle.std.specs.Prelude.{ℕ, Bool, true, List, [], ◌++◌, length, filter, flat_map, if◌then◌else◌}
+use Rattle.period_core.specs.Office.{period_in}
+use Rattle.key_rows.specs.declared.key_row.KeyRow.{KeyRow}
+use Rattle.key_rows.specs.DueRows.{is_listed}
+use Rattle.key_rows.specs.Export.{export_header, export_row}
+use Rattle.key_rows.specs.Report.{report_head, report_line, report_total}
+use Rattle.register_report.specs.declared.key_table.KeyTable.{KeyTable}
+use Rattle.register_report.specs.declared.key_table.KeyTable.TheVariants.{Export, Report}
+
+-- the row has a line
+abbrev pub lists : KeyTable → KeyRow → Bool
+lists Export row = true
+lists (Report latest until periods) row = is_listed until (period_in periods) row
+
+abbrev pub head_text : KeyTable → List ℕ
+head_text Export = export_header
+head_text (Report latest until periods) = report_head until
+
+abbrev pub line_text : KeyTable → KeyRow → List ℕ
+line_text Export row = export_row row
+line_text (Report latest until periods) row = report_line latest until row
+
+abbrev pub foot_text : KeyTable → ℕ → List ℕ
+foot_text Export count = []
+foot_text (Report latest until periods) count = report_total count
+
+-- its line, where the row has one
+abbrev pub row_text : KeyTable → KeyRow → List ℕ
+row_text table row = if lists table row then line_text table row else []
+
+-- the lines of rows, and how many they are
+abbrev pub lines_text : KeyTable → List KeyRow → List ℕ
+lines_text table rows = flat_map (row_text table) rows
+
+abbrev pub count_in : KeyTable → List KeyRow → ℕ
+count_in table rows = length (filter (lists table) rows)
+
+-- the head, the lines of these rows, and the foot
+abbrev pub table_text : KeyTable → List KeyRow → List ℕ
+table_text table rows = head_text table ++ (lines_text table rows ++ foot_text table (count_in table rows))

@@ -1,5 +1,0 @@
-use Rattle.std.proofs.Common.{rules}
-use Rattle.register_requests.proofs.number.RequestNumber.new.Goals as goal
-
-pub returns-else-contains-clause-in_range : goal.returns-else-contains-clause-in_range
-returns-else-contains-clause-in_range c = search rules

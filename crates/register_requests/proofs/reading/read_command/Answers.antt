@@ -1,5 +1,0 @@
-use Rattle.register_requests.proofs.Lines.{is_command_item}
-use Rattle.register_requests.proofs.reading.read_command.Goals as goal
-
-pub returns : goal.returns
-returns c = is_command_item c.args.bytes.now c.command_of.result c.command_of.ensures

@@ -1,8 +1,0 @@
-use Rattle.std.proofs.Common.{arith}
-use Rattle.std.proofs.lemmas.Grind.{common_steps}
-use Rattle.register_requests.specs.RequestLine.{field_at}
-use Rattle.register_requests.proofs.reading.split_field.Goals as goal
-
-pub returns : goal.returns
-unfolding field_at
-returns c = grind (arith, common_steps)

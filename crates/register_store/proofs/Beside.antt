@@ -1,0 +1,362 @@
+-- Making a register and migrating one leave what the file has beside it.
+use Rattle.std.proofs.Common.{◌≡◌, ◌==◌, ◌<◌, inl, inr, ℕ, Bool, true, false, List, [], codes, Option, None, Some}
+use Rattle.std.proofs.Common.{Result, Ok, Err, refl, sym, ap, subst, ◌∙◌, arith}
+use Rattle.std.specs.Prelude.{find, slice_range, ◌+◌, get_or, ◌∷◌}
+use Rattle.std.proofs.lemmas.Grind.{common_steps}
+use Rattle.register_store.specs.Creation.{MakesIndex, MakesIndexes}
+use Rattle.std.proofs.lemmas.Bool.{eqb-true}
+use Rattle.std.proofs.lemmas.Option.{none-some, same_Some}
+use Rattle.std.specs.Option.{option_and_then, option_map}
+use Rattle.sqlite.specs.Compile.{table_defined_by}
+use Rattle.sqlite.specs.Does.{sequence_text}
+use Rattle.sqlite.specs.Effect.{Database}
+use Rattle.sqlite.specs.Order.{Row}
+use Rattle.sqlite.specs.Schema.{Schema}
+use Rattle.sqlite.specs.State.{State, Executes, mode_of}
+use Rattle.sqlite.specs.Table.{Table}
+use Rattle.sqlite_ast.specs.declared.CreateIndex.{CreateIndex}
+use Rattle.sqlite_ast.specs.declared.Statement.{Statement}
+use Rattle.sqlite_ast.specs.declared.Statement.TheVariants as written
+use Rattle.sqlite_catalog.proofs.SoundLemmas.{lowered}
+use Rattle.sqlite_resolve.specs.Compile.{first}
+use Rattle.sqlite_resolve.specs.declared.error.CompileError.{CompileError}
+use Rattle.sqlite_rules.proofs.ListLemmas.{has_found}
+use Rattle.sqlite_rules.specs.Action.{work_by, works}
+use Rattle.sqlite_rules.specs.Lists.{Has}
+use Rattle.sqlite_rules.specs.declared.action.Deed.{Deed}
+use Rattle.sqlite_schema.specs.Names.{same_name}
+use Rattle.sqlite_value.specs.declared.keys.Order.{Order}
+use Rattle.sqlite_schema.specs.Rules.{ParentKey, declared_order, key_in, key_places, parent_key}
+use Rattle.sqlite_schema.specs.declared.schema.Keys.{Keys}
+use Rattle.sqlite_schema.specs.declared.schema.Reference.{Reference}
+use Rattle.sqlite_syntax.specs.declared.statement.Parsed.{Parsed}
+use Rattle.sqlite_tied.specs.Compute.{everything}
+use Rattle.sql_steps.specs.Steps.{Change, StepsBy, Then}
+use Rattle.sql_steps.proofs.Stepping.{stays, steps_as, steps_then}
+use Rattle.register_store.specs.Beside.{Adds, AddsUncounted, HasMetaApart, InsertsMeta, IsMadeAs, IsUncounted, KeepsOthers, LacksMeta}
+use Rattle.register_store.specs.Beside.{UpdatesMeta, WritesMeta, is_meta}
+use Rattle.register_store.specs.Schema.{index_text}
+use Rattle.register_store.specs.Tables.{create_text}
+use Rattle.register_store.specs.declared.key_index.KeyIndex.{KeyIndex}
+use Rattle.register_store.specs.declared.key_index.KeyIndex.TheVariants.{Activation, Deactivation, ProtectStop}
+use Rattle.register_store.specs.declared.table.TableName.{TableName}
+use Rattle.register_store.specs.declared.table.TableName.TheVariants.{Approval, Custodian, Keys as KeysTable, Meta, Period}
+use Rattle.register_store.specs.declared.table.TableName.TheVariants.{Quorum, Request}
+use Rattle.register_store.proofs.BesideMade.{adds_by_index, adds_by_table, adds_none, adds_then}
+use Rattle.register_store.proofs.BesideMeta.{WritesOne, filter_none, flat_none, inserts_one, updates_one}
+use Rattle.register_store.proofs.Creating.{row_params, row_text}
+use Rattle.register_store.proofs.EachTable.{unplaced}
+use Rattle.register_store.proofs.NewTables.{below_next, def_of, parsed, read_as}
+use Rattle.register_store.proofs.NextTexts.{IsText}
+use Rattle.register_store.proofs.Readings.{survives_none}
+use Rattle.register_store.proofs.VersionSet.{version_params, version_text}
+
+-- ---- the tables
+
+-- the text is that of the table, from its first byte to its last
+record IsWhole (name : TableName) : Type 0 where
+  text : IsText (create_text name) (parsed name) (def_of name) (unplaced name)
+  whole : slice_range (create_text name) (parsed name).start (parsed name).end ≡ create_text name
+  defined : table_defined_by (create_text name) ≡ Ok (unplaced name)
+  uncounted : IsUncounted (unplaced name)
+  named : is_meta (unplaced name).name ≡ true → name ≡ Meta
+
+whole_is : (name : TableName) → IsWhole name
+unfolding everything
+whole_is Meta = record { text = record { parsed = refl; is = refl; always = refl; own = refl; defined = refl; computed = refl }; whole = refl; defined = refl; uncounted = refl; named = λ h. refl }
+whole_is KeysTable = record { text = record { parsed = refl; is = refl; always = refl; own = refl; defined = refl; computed = refl }; whole = refl; defined = refl; uncounted = refl; named = λ h. absurd (cc) }
+whole_is Custodian = record { text = record { parsed = refl; is = refl; always = refl; own = refl; defined = refl; computed = refl }; whole = refl; defined = refl; uncounted = refl; named = λ h. absurd (cc) }
+whole_is Approval = record { text = record { parsed = refl; is = refl; always = refl; own = refl; defined = refl; computed = refl }; whole = refl; defined = refl; uncounted = refl; named = λ h. absurd (cc) }
+whole_is Request = record { text = record { parsed = refl; is = refl; always = refl; own = refl; defined = refl; computed = refl }; whole = refl; defined = refl; uncounted = refl; named = λ h. absurd (cc) }
+whole_is Period = record { text = record { parsed = refl; is = refl; always = refl; own = refl; defined = refl; computed = refl }; whole = refl; defined = refl; uncounted = refl; named = λ h. absurd (cc) }
+whole_is Quorum = record { text = record { parsed = refl; is = refl; always = refl; own = refl; defined = refl; computed = refl }; whole = refl; defined = refl; uncounted = refl; named = λ h. absurd (cc) }
+
+unreferring : (name : TableName) (r : Reference) → Has (unplaced name).references r → is_meta r.parent ≡ false
+unfolding everything
+unreferring Meta r h = absurd h
+unreferring KeysTable r h = absurd h
+unreferring Custodian r (inl same) = rw same refl
+unreferring Custodian r (inr none) = absurd none
+unreferring Approval r (inl same) = rw same refl
+unreferring Approval r (inr none) = absurd none
+unreferring Request r h = absurd h
+unreferring Period r h = absurd h
+unreferring Quorum r (inl same) = rw same refl
+unreferring Quorum r (inr none) = absurd none
+
+pub made_as : (name : TableName) → IsMadeAs name (unplaced name)
+made_as name = record {
+  uncounted = (whole_is name).uncounted;
+  unreferring = unreferring name;
+  named = (whole_is name).named;
+}
+
+-- the table that the database makes by itself, where one with AUTOINCREMENT was there without it
+abbrev sequence : Result Table CompileError → Table
+sequence (Ok table) = table
+sequence (Err e) = unplaced Meta
+
+abbrev counting : Table
+counting = sequence (table_defined_by sequence_text)
+
+counting_is : table_defined_by sequence_text ≡ Ok counting
+unfolding everything
+counting_is = refl
+
+counting_as : (name : TableName) → IsMadeAs name counting
+unfolding everything
+counting_as name = record {
+  uncounted = refl;
+  unreferring = λ r h. absurd h;
+  named = λ h. absurd (cc);
+}
+
+-- a CREATE TABLE adds its table
+pub table_adds : (name : TableName) (old new : State) (count : ℕ) → Executes (create_text name) [] old new (Ok count)
+    → Adds (IsMadeAs name) old.now new.now
+table_adds name =
+    let w = whole_is name in
+    adds_by_table (IsMadeAs name) counting counting_is (counting_as name) (create_text name) (parsed name) (def_of name)
+    (unplaced name) w.text w.whole w.defined (made_as name)
+
+-- ---- the indexes
+
+abbrev no_index : Statement → CreateIndex
+no_index (written.CreateIndex def) = def
+no_index _ = record { if_missing = true; name = []; table = []; columns = []; is_unique = false }
+
+abbrev parsed_index : KeyIndex → Parsed
+parsed_index index = read_as (first (index_text index))
+
+record IsIndexText (index : KeyIndex) : Type 0 where
+  read : first (index_text index) ≡ Ok (parsed_index index)
+  is : (parsed_index index).statement ≡ written.CreateIndex (no_index (parsed_index index).statement)
+
+index_read : (index : KeyIndex) → IsIndexText index
+unfolding everything
+index_read Activation = record { read = refl; is = refl }
+index_read Deactivation = record { read = refl; is = refl }
+index_read ProtectStop = record { read = refl; is = refl }
+
+pub index_adds : (index : KeyIndex) (old new : State) (count : ℕ) → Executes (index_text index) [] old new (Ok count)
+    → AddsUncounted old.now new.now
+unfolding AddsUncounted
+index_adds index =
+    let r = index_read index in
+    adds_by_index IsUncounted (index_text index) (parsed_index index) (no_index (parsed_index index).statement) r.read r.is
+
+-- ---- the writes of `meta`
+
+writes_meta : (old new : Database) (table : Table) → Has old.schema.tables table → is_meta table.name ≡ true
+    → WritesOne table old new → WritesMeta old new
+writes_meta old new table has called one = record {
+  schema_is = one.schema;
+  rows = λ t h apart. one.rows t h (apart table has called);
+}
+
+abbrev read_text : List ℕ → Parsed
+read_text text = read_as (first text)
+
+record AreRead : Type 0 where
+  row : first row_text ≡ Ok (read_text row_text)
+  version : first version_text ≡ Ok (read_text version_text)
+
+are_read : AreRead
+unfolding everything
+are_read = record { row = refl; version = refl }
+
+pub inserts_meta : (old new : State) (count : ℕ) → Executes row_text row_params old new (Ok count)
+    → InsertsMeta old.now new.now
+unfolding everything
+inserts_meta old new count h uncounted =
+    let it = inserts_one row_text (read_text row_text) (codes "meta") are_read.row _ _ refl old new row_params count uncounted h in
+    writes_meta old.now new.now it.0 it.1 it.2 it.3
+
+-- a foreign key leads to a table of the name that it gives
+parent_tree : (tables : List Table) (r : Reference) (key : ParentKey) → parent_key tables r ≡ Some key
+    → (t : Table) × Has tables t × (same_name t.name r.parent ≡ true) × (key.0 ≡ t.tree)
+parent_tree tables r key h = by (find (λ (t : Table). same_name t.name r.parent) tables) refl
+  where
+    by_order : (t : Table) (places : List ℕ) (o : Option Order)
+        → option_map (λ x. (t.tree, places, x)) o ≡ Some key → key.0 ≡ t.tree
+    by_order t places None is = absurd (none-some _ is)
+    by_order t places (Some x) is = ap (λ (k : ParentKey). k.0) (sym (same_Some _ _ is))
+
+    by_places : (t : Table) (places : Option (List ℕ)) → option_and_then (key_in t) places ≡ Some key → key.0 ≡ t.tree
+    by_places t None is = absurd (none-some _ is)
+    by_places t (Some places) is = by_order t places (declared_order t places) is
+
+    by : (o : Option Table) → find (λ (t : Table). same_name t.name r.parent) tables ≡ o
+        → (t : Table) × Has tables t × (same_name t.name r.parent ≡ true) × (key.0 ≡ t.tree)
+    by None is = absurd (none-some _ (rw is at h))
+    by (Some t) is =
+        let has = has_found (λ (t : Table). same_name t.name r.parent) tables t is in
+        (t, has.0, has.1, by_places t (key_places t r.parent_columns) (rw is at h))
+
+-- a table of a name that is not `meta` is not called so
+other_name : (t : Table) (name : List ℕ) → same_name t.name name ≡ true → is_meta name ≡ false → is_meta t.name ≡ false
+other_name t name same other = by (is_meta t.name) refl
+  where
+    by : (b : Bool) → is_meta t.name ≡ b → is_meta t.name ≡ false
+    by false is = is
+    by true is =
+        let low = sym ((lowered t.name name).0 same) ∙ (lowered t.name (codes "meta")).0 is in
+        absurd (let e = sym ((lowered name (codes "meta")).1 low) ∙ other in cc)
+
+-- so no change of `meta` sets off an action
+module _ (s : Schema) (apart : HasMetaApart s) (m : Table) (has : Has s.tables m) (called : is_meta m.name ≡ true) where
+  work_none : (child : Table) → Has s.tables child → (r : Reference) → Has child.references r → (moves : List (Row × Row))
+      (deed : Option Deed) (key : Option ParentKey) → parent_key s.tables r ≡ key → work_by 0 m.tree moves child r deed key ≡ None
+  work_none child h r k moves None key is = refl
+  work_none child h r k moves (Some deed) None is = refl
+  work_none child h r k moves (Some deed) (Some key) is = by (key.0 == m.tree) refl
+    where
+      by : (b : Bool) → (key.0 == m.tree) ≡ b → work_by 0 m.tree moves child r (Some deed) (Some key) ≡ None
+      by false off = rw off refl
+      by true on =
+          let parent = parent_tree s.tables r key is in
+          let other = other_name parent.0 r.parent parent.2 (apart.unreferred child r h k) in
+          absurd (apart.apart m parent.0 has parent.1 called other (sym (eqb-true _ _ on) ∙ parent.3))
+
+  idle_update : (keys : Keys) (olds news : List Row) → works s keys 0 m.tree olds news ≡ []
+  idle_update keys olds news =
+      flat_none _ s.tables (λ child h. filter_none _ child.references (λ r k. work_none child h r k _ _ _ refl))
+
+pub updates_meta : (old new : State) (count : ℕ) → Executes version_text version_params old new (Ok count)
+    → UpdatesMeta old.now new.now
+unfolding everything
+updates_meta old new count h apart =
+    let it = updates_one version_text (read_text version_text) (codes "meta") are_read.version _ _ refl old new version_params count
+    (λ t has called olds news. idle_update old.now.schema apart t has called (mode_of old).keys olds news) h in
+    writes_meta old.now new.now it.0 it.1 it.2 it.3
+
+-- ---- the whole
+
+pub adds_weaker : (P Q : Table → Type 0) → ((x : Table) → P x → Q x) → (old new : Database) → Adds P old new
+    → Adds Q old new
+adds_weaker P Q weaker old new a = record {
+  tables = a.tables;
+  rows = a.rows;
+  indexes = a.indexes;
+  views = a.views;
+  news = λ t h. elim (a.news t h) [
+    | inl before ↦ inl before
+    | inr new ↦ inr (new.0, weaker new.0 new.1, new.2, new.3, new.4)
+  ];
+  higher = a.higher;
+}
+
+pub makes_beside : (old some mid new : Database) → AddsUncounted old some → AddsUncounted some mid → InsertsMeta mid new
+    → LacksMeta old.schema → KeepsOthers old new
+unfolding AddsUncounted
+makes_beside old some mid new tables indexes inserts lacks =
+    let a = adds_then IsUncounted old some mid tables indexes in
+    let wrote = inserts (λ m h called. elim (a.news m h) [
+      | inl before ↦ absurd (let e = sym called ∙ lacks m before in cc)
+      | inr new ↦ ap (λ (t : Table). t.is_counted) new.3 ∙ new.1
+    ]) in
+    record {
+      tables = λ t h. subst (λ (s : Schema). Has s.tables t) (sym wrote.schema_is) (a.tables t h);
+      rows = λ t h other. wrote.rows t (a.tables t h) (λ m k called e. elim (a.news m k) [
+        | inl before ↦ absurd (let e = sym called ∙ lacks m before in cc)
+        | inr new ↦ absurd (omega (arith, below_next old.schema t h, new.4, e, ap (λ (t : Table). t.tree) new.3))
+      ]) ∙ a.rows t h;
+      indexes = λ i h. subst (λ (s : Schema). Has s.indexes i) (sym wrote.schema_is) (a.indexes i h);
+      views = λ v h. subst (λ (s : Schema). Has s.views v) (sym wrote.schema_is) (a.views v h);
+    }
+
+-- a table that is none of the name `meta`, and refers to none
+pub record IsOther (x : Table) : Type 0 where
+  named : is_meta x.name ≡ false
+  unreferring : (r : Reference) → Has x.references r → is_meta r.parent ≡ false
+
+other_made : (name : TableName) → (name ≡ Meta → ⊥) → (x : Table) → IsMadeAs name x → IsOther x
+other_made name off x it = record { named = by (is_meta x.name) refl; unreferring = it.unreferring }
+  where
+    by : (b : Bool) → is_meta x.name ≡ b → is_meta x.name ≡ false
+    by false is = is
+    by true is = absurd (off (it.named is))
+
+stays_apart : (old mid : Database) → Adds IsOther old mid → HasMetaApart old.schema → HasMetaApart mid.schema
+stays_apart old mid a it = record {
+  apart = λ m t h k called other. elim (a.news m h) [
+    | inl before ↦ elim (a.news t k) [
+      | inl too ↦ it.apart m t before too called other
+      | inr new ↦ λ e. omega (arith, below_next old.schema m before, new.4, e, ap (λ (x : Table). x.tree) new.3)
+    ]
+    | inr new ↦ absurd (let e = sym called ∙ ap (λ (x : Table). is_meta x.name) new.3 ∙ new.1.named in cc)
+  ];
+  unreferred = λ t r h k. elim (a.news t h) [
+    | inl before ↦ it.unreferred t r before k
+    | inr new ↦ new.1.unreferring r (subst (λ (x : Table). Has x.references r) new.3 k)
+  ];
+}
+
+pub migrates_beside : (old mid new : Database) → Adds IsOther old mid → UpdatesMeta mid new → HasMetaApart old.schema
+    → KeepsOthers old new
+migrates_beside old mid new a updates it =
+    let there = stays_apart old mid a it in
+    let wrote = updates there in
+    record {
+      tables = λ t h. subst (λ (s : Schema). Has s.tables t) (sym wrote.schema_is) (a.tables t h);
+      rows = λ t h other. wrote.rows t (a.tables t h) (λ m k called e. there.apart m t k (a.tables t h) called other (sym e))
+          ∙ a.rows t h;
+      indexes = λ i h. subst (λ (s : Schema). Has s.indexes i) (sym wrote.schema_is) (a.indexes i h);
+      views = λ v h. subst (λ (s : Schema). Has s.views v) (sym wrote.schema_is) (a.views v h);
+    }
+
+pub adds_other : (name : TableName) → (name ≡ Meta → ⊥) → (old new : Database) → Adds (IsMadeAs name) old new
+    → Adds IsOther old new
+adds_other name off old new a = adds_weaker (IsMadeAs name) IsOther (other_made name off) old new a
+
+-- ---- a step of which two things are known
+
+pub steps_both : {A B D E F G : Type 0} (First : A → Change) (Other : B → Change) (Next : D → Change) (a b : State) (x : A)
+    (y : B) (z : D) → ((old new : Database) → First x old new → Other y old new → Next z old new)
+    → StepsBy {E = E} First a b (Ok x) → StepsBy {E = F} Other a b (Ok y) → StepsBy {E = G} Next a b (Ok z)
+steps_both First Other Next a b x y z weaker one two = record {
+  changed = λ clean inside.
+      let it = one.changed clean inside in (weaker _ _ it.0 (two.changed clean inside).0, it.1);
+  kept = one.kept;
+  survives = one.survives;
+}
+
+-- what was added, and then a table more
+pub adds_more : {E : Type 0} (name : TableName) (a b d : State) (y : Unit {0})
+    → StepsBy {T = Unit {0}} {E = E} (λ _. AddsUncounted) a b (Ok tt)
+    → StepsBy {T = Unit {0}} {E = E} (λ _. Adds (IsMadeAs name)) b d (Ok y)
+    → StepsBy {T = Unit {0}} {E = E} (λ _. AddsUncounted) a d (Ok tt)
+unfolding AddsUncounted
+adds_more name a b d y before one =
+    steps_as (λ _. Then AddsUncounted (Adds (IsMadeAs name))) (λ _. AddsUncounted) a d y (tt {0})
+    (λ old new done. adds_then IsUncounted old done.0 new done.1
+    (adds_weaker (IsMadeAs name) IsUncounted (λ x h. h.uncounted) done.0 new done.2))
+    (steps_then (λ _. AddsUncounted) (λ _. Adds (IsMadeAs name)) a b d (tt {0}) (Ok y) before one)
+
+-- and an index more
+pub adds_again : {E : Type 0} (a b d : State) (y : Unit {0})
+    → StepsBy {T = Unit {0}} {E = E} (λ _. AddsUncounted) a b (Ok tt)
+    → StepsBy {T = Unit {0}} {E = E} (λ _. AddsUncounted) b d (Ok y)
+    → StepsBy {T = Unit {0}} {E = E} (λ _. AddsUncounted) a d (Ok tt)
+unfolding AddsUncounted
+adds_again a b d y before one =
+    steps_as (λ _. Then AddsUncounted AddsUncounted) (λ _. AddsUncounted) a d y (tt {0})
+    (λ old new done. adds_then IsUncounted old done.0 new done.1 done.2)
+    (steps_then (λ _. AddsUncounted) (λ _. AddsUncounted) a b d (tt {0}) (Ok y) before one)
+
+-- nothing, so far
+pub adds_nothing : {E : Type 0} (a : State) → StepsBy {T = Unit {0}} {E = E} (λ _. AddsUncounted) a a (Ok tt)
+unfolding AddsUncounted
+adds_nothing a =
+    stays (λ _. AddsUncounted) a (tt {0}) (adds_none IsUncounted a.now a.now refl) (survives_none a)
+
+-- ---- one index more
+
+abbrev index_at : ℕ → KeyIndex
+index_at i = get_or (Activation ∷ Deactivation ∷ ProtectStop ∷ []) i Activation
+
+pub indexes_more : {E : Type 0} (i : ℕ) → i < 3 → (a b d : State) (y : Unit {0})
+    → StepsBy {T = Unit {0}} {E = E} (λ _. MakesIndexes i) a b (Ok tt)
+    → StepsBy {T = Unit {0}} {E = E} (λ _. MakesIndex (index_at i)) b d (Ok y)
+    → StepsBy {T = Unit {0}} {E = E} (λ _. MakesIndexes (i + 1)) a d (Ok tt)
+indexes_more i low a b d y before one = grind (arith, common_steps)

@@ -1,0 +1,267 @@
+-- What a text comes to in a schema of which nothing is known: it is a command of its statement's kind, or is refused.
+use Rattle.std.proofs.Common.{◌≡◌, ◌⊎◌, inl, inr, ℕ, Bool, true, false, cond, List, [], Option, None, Some, Ok}
+use Rattle.std.proofs.Common.{Err, refl, sym, ap, subst, ◌∙◌}
+use Rattle.std.specs.Prelude.{◌+◌}
+use Rattle.sqlite.specs.Command.{Command}
+use Rattle.sqlite.specs.Command.TheVariants.{CreateTable as MakeTable, CreateIndex as MakeIndex, Insert, Update, Nothing}
+use Rattle.sqlite.specs.Listing.{understood, listing_schema, misses_table, if_select, is_select}
+use Rattle.sqlite.specs.Clock.{timed as timed_params}
+use Rattle.sqlite.specs.Does.{AtPlace}
+use Rattle.sqlite.specs.Order.{Row}
+use Rattle.sqlite.specs.Rows.{Part}
+use Rattle.sqlite.specs.State.{State, Executes, ExecutesIn, Runs, shows_rows, text_of}
+use Rattle.sqlite.specs.declared.error.Error.TheVariants.{InvalidQuery}
+use Rattle.std.proofs.Common.{subst₂}
+use Rattle.std.proofs.lemmas.Bool.{cases_Bool}
+use Rattle.sqlite_resolve.specs.declared.error.CompileError.TheVariants.{Misuse, Unsupported}
+use Rattle.std.specs.Prelude.{slice_range, length, not, ◌&&◌, nat_eq}
+use Rattle.sqlite.specs.Schema.{Schema}
+use Rattle.sqlite.specs.Table.{Table}
+use Rattle.sqlite_ast.specs.declared.CreateTable.{CreateTable}
+use Rattle.sqlite_ast.specs.declared.CreateIndex.{CreateIndex}
+use Rattle.sqlite_ast.specs.declared.Expr.{Expr}
+use Rattle.sqlite_ast.specs.declared.Rows.{Rows}
+use Rattle.sqlite_ast.specs.declared.Conflict.TheVariants as conflict
+use Rattle.sqlite_ast.specs.declared.Statement.TheVariants as written
+use Rattle.sqlite_resolve.specs.Lowering.{Checked, and_then}
+use Rattle.sqlite_resolve.specs.Compile.{first, compiled, planned, meaning, returning, timed, command, create_table}
+use Rattle.sqlite_resolve.specs.Compile.{create_index, creates, insert, update, insert_or_abort, target, shows, small}
+use Rattle.sqlite_resolve.specs.Compile.{is_attached, is_reserved, formats_of, with_command}
+use Rattle.sqlite_resolve.specs.Body.{table_at}
+use Rattle.sqlite_resolve.specs.declared.compiled.Compiled.{Compiled}
+use Rattle.sqlite_resolve.specs.declared.error.CompileError.{CompileError}
+use Rattle.sqlite_resolve.specs.declared.error.CompileError.TheVariants.{NoSuchTable}
+use Rattle.sqlite_resolve.specs.Compile.{new_rows}
+use Rattle.sqlite_resolve.specs.Define as define
+use Rattle.sqlite_resolve.specs.Program.{program}
+use Rattle.sqlite_resolve.specs.Write.{updated}
+use Rattle.sqlite_draft.specs.declared.query.Draft.{Draft}
+use Rattle.sqlite.specs.Source.{Source}
+use Rattle.sqlite_schema.specs.declared.program.Program.{Program}
+use Rattle.sqlite_schema.specs.Names.{table_named, index_named, view_named}
+use Rattle.std.specs.Option.{option_or}
+use Rattle.std.specs.Prelude.{◌++◌}
+use Rattle.sql_steps.proofs.Statements.{same_value}
+use Rattle.register_store.proofs.NextTexts.{IsText}
+use Rattle.sqlite_syntax.specs.declared.statement.Parsed.{Parsed}
+
+-- the text comes to a command of which P holds, and gives no rows
+pub record Comes (p : Parsed) (P : Command → Type 0) (c : Compiled) : Type 0 where
+  pub returning : c.returning ≡ None
+  pub command : P c.command
+  pub start : c.start ≡ p.start
+  pub end : c.end ≡ p.end
+
+-- so it is of a text that no query on the list of tables can be
+module _ (text : List ℕ) (p : Parsed) (P : Schema → Command → Type 0)
+    (no_select : (s : Schema) (k : Command) → P s k → is_select k ≡ false)
+    (each : (s : Schema) (c : Compiled) → compiled s text ≡ Ok c → Comes p (P s) c) where
+  no_listing : (r : Checked Compiled) → compiled listing_schema text ≡ r → (c : Compiled) → if_select r ≡ Ok c
+      → ⊥
+  no_listing (Ok k) is c h =
+      let off = no_select listing_schema k.command (each listing_schema k is).command in
+      let same : cond (is_select k.command) (Ok k) (Err NoSuchTable) ≡ Ok c = h in
+      let other : Err NoSuchTable ≡ Ok c = subst (λ b. cond b (Ok k) (Err NoSuchTable) ≡ Ok c) off same in cc
+  no_listing (Err e) is c h = cc
+
+  by : (s : Schema) (r : Checked Compiled) → compiled s text ≡ r → (c : Compiled)
+      → cond (misses_table r) (if_select (compiled listing_schema text)) r ≡ Ok c → Comes p (P s) c
+  by s (Ok k) is c h = each s c (is ∙ h)
+  by s (Err NoSuchTable) is c h = absurd (no_listing (compiled listing_schema text) refl c h)
+  by s (Err e) is c h = absurd (cc)
+
+  pub understood_so : (s : Schema) (c : Compiled) → understood s text ≡ Ok c → Comes p (P s) c
+  unfolding understood
+  understood_so s c h = by s (compiled s text) refl c h
+
+-- what gives a value gave it through each of its parts
+through : {A B : Type 0} (r : Checked A) (f : A → Checked B) (b : B) → and_then r f ≡ Ok b
+    → (a : A) × (r ≡ Ok a) × (f a ≡ Ok b)
+through (Ok a) f b h = (a, refl, h)
+through (Err e) f b h = absurd (cc)
+
+unrefused : {A : Type 0} (refused : Bool) (e : CompileError) (r : Checked A) (a : A) → cond refused (Err e) r ≡ Ok a → r ≡ Ok a
+unrefused true e r a h = absurd (cc)
+unrefused false e r a h = h
+
+-- a statement whose command is this one comes to it
+comes_to : (p : Parsed) (P : Command → Type 0) (formats : List (List ℕ)) (r : Checked Command) (c : Compiled)
+    → and_then r (λ k. Ok (with_command p (formats, (k, None)))) ≡ Ok c → ((k : Command) → r ≡ Ok k → P k) → Comes p P c
+comes_to p P formats r c h shape =
+    let it = through r (λ k. Ok (with_command p (formats, (k, None)))) c h in
+    subst (Comes p P) (same_value it.2)
+    (record { returning = refl; command = shape it.0 it.1; start = refl; end = refl })
+
+-- ---- CREATE TABLE
+
+module _ (text : List ℕ) (p : Parsed) (def : CreateTable) (table : Table) (t : IsText text p def table) where
+  abbrev pub MakesTable : Schema → Command → Type 0
+  MakesTable s k = (k ≡ MakeTable) ⊎ (k ≡ Nothing)
+
+  table_planned : (s : Schema) (r : Checked Command) → create_table s p.formats def ≡ r
+      → compiled s text ≡ and_then r (λ k. Ok (with_command p ([], (k, None))))
+  unfolding compiled planned meaning returning timed command
+  table_planned s (Ok k) h = rw (t.parsed, t.is, h) refl
+  table_planned s (Err e) h = rw (t.parsed, t.is, h) refl
+
+  abbrev table_is_new : Schema → Checked Bool
+  table_is_new s =
+      creates def.if_missing def.name (option_or (table_named s def.name) (view_named s def.name)) (index_named s def.name)
+
+  abbrev checked : Table → Checked Command
+  checked t =
+      cond (nat_eq (length t.computed) (length t.stamps.places) && not def.resolves) (Ok MakeTable) (Err Unsupported)
+
+  abbrev table_where : Bool → Checked Command
+  table_where is_new = cond is_new (and_then (define.table p.formats def) checked) (Ok Nothing)
+
+  table_shape : (s : Schema) (k : Command) → create_table s p.formats def ≡ Ok k → MakesTable s k
+  unfolding create_table
+  table_shape s k h =
+      let it = through (table_is_new s) table_where k
+      (unrefused (is_attached s def.name) Unsupported (and_then (table_is_new s) table_where) k h) in by it.0 it.2
+    where
+      by : (is_new : Bool) → table_where is_new ≡ Ok k → MakesTable s k
+      by true h = let made = rw (t.defined, t.computed) at h in inl (sym (same_value made))
+      by false h = inr (sym (same_value h))
+
+  pub table_understood : (s : Schema) (c : Compiled) → understood s text ≡ Ok c → Comes p (MakesTable s) c
+  table_understood =
+      understood_so text p MakesTable (λ s k it. elim it [ inl is ↦ ap is_select is | inr is ↦ ap is_select is ])
+      (λ s c h. comes_to p (MakesTable s) [] (create_table s p.formats def) c (sym (table_planned s _ refl) ∙ h) (table_shape s))
+
+-- ---- CREATE INDEX
+
+module _ (text : List ℕ) (p : Parsed) (def : CreateIndex) (parsed : first text ≡ Ok p)
+    (is : p.statement ≡ written.CreateIndex def) where
+  abbrev pub MakesIndex : Schema → Command → Type 0
+  MakesIndex s k = ((at : ℕ) × (k ≡ MakeIndex at)) ⊎ (k ≡ Nothing)
+
+  index_planned : (s : Schema) (r : Checked Command) → create_index s def ≡ r
+      → compiled s text ≡ and_then r (λ k. Ok (with_command p (p.formats, (k, None))))
+  unfolding compiled planned meaning returning timed command
+  index_planned s (Ok k) h = rw (parsed, is, h) refl
+  index_planned s (Err e) h = rw (parsed, is, h) refl
+
+  abbrev index_is_new : Schema → Checked Bool
+  index_is_new s =
+      creates def.if_missing def.name (index_named s def.name) (option_or (table_named s def.name) (view_named s def.name))
+
+  abbrev index_where : ℕ → Table → Bool → Checked Command
+  index_where at table is_new = cond is_new (and_then (define.index table def) (λ _. Ok (MakeIndex at))) (Ok Nothing)
+
+  abbrev indexed_at : Schema → ℕ → Checked Command
+  indexed_at s at = and_then (table_at s at) (λ table. and_then (index_is_new s) (index_where at table))
+
+  index_shape : (s : Schema) (k : Command) → create_index s def ≡ Ok k → MakesIndex s k
+  unfolding create_index
+  index_shape s k h =
+      let at = through (target s def.table) (indexed_at s) k
+      (unrefused (is_reserved def.table) Misuse (and_then (target s def.table) (indexed_at s)) k h) in
+      let table = through (table_at s at.0) (λ table. and_then (index_is_new s) (index_where at.0 table)) k at.2 in
+      let is_new = through (index_is_new s) (index_where at.0 table.0) k table.2 in by at.0 table.0 is_new.0 is_new.2
+    where
+      by : (at : ℕ) (table : Table) (is_new : Bool) → index_where at table is_new ≡ Ok k → MakesIndex s k
+      by at table true h =
+          inl (at, sym (same_value (through (define.index table def) (λ _. Ok (MakeIndex at)) k h).2))
+      by at table false h = inr (sym (same_value h))
+
+  pub index_understood : (s : Schema) (c : Compiled) → understood s text ≡ Ok c → Comes p (MakesIndex s) c
+  index_understood =
+      understood_so text p MakesIndex (λ s k it. elim it [ inl (at, is) ↦ ap is_select is | inr is ↦ ap is_select is ])
+      (λ s c h. comes_to p (MakesIndex s) p.formats (create_index s def) c (sym (index_planned s _ refl) ∙ h) (index_shape s))
+
+-- ---- INSERT
+
+module _ (text : List ℕ) (p : Parsed) (name : List ℕ) (columns : List (List ℕ)) (rows : Rows)
+    (parsed : first text ≡ Ok p) (is : p.statement ≡ written.Insert conflict.Abort name columns rows [] []) where
+  abbrev pub Inserts : Schema → Command → Type 0
+  Inserts s k = (at : ℕ) × (from : Source) × (target s name ≡ Ok at) × (k ≡ Insert at from)
+
+  abbrev wanted : Schema → List (List ℕ)
+  wanted s = p.formats ++ formats_of s name
+
+  abbrev inserting : Schema → Checked Command
+  inserting s = insert s (small p.names + small (wanted s)) name columns rows
+
+  insert_planned : (s : Schema) (r : Checked Command) → inserting s ≡ r
+      → compiled s text ≡ and_then r (λ k. Ok (with_command p (wanted s, (k, None))))
+  unfolding compiled planned meaning returning timed command shows insert_or_abort
+  insert_planned s (Ok k) h = rw (parsed, is, h) refl
+  insert_planned s (Err e) h = rw (parsed, is, h) refl
+
+  abbrev rows_put : Schema → ℕ → Table → Checked Command
+  rows_put s at table =
+      and_then (new_rows s table (small p.names + small (wanted s)) columns rows) (λ from. Ok (Insert at from))
+
+  insert_shape : (s : Schema) (k : Command) → inserting s ≡ Ok k → Inserts s k
+  unfolding insert
+  insert_shape s k h =
+      let at = through (target s name) (λ at. and_then (table_at s at) (rows_put s at)) k h in
+      let table = through (table_at s at.0) (rows_put s at.0) k at.2 in
+      let from = through (new_rows s table.0 (small p.names + small (wanted s)) columns rows) (λ from. Ok (Insert at.0 from)) k
+      table.2 in (at.0, from.0, at.1, sym (same_value from.2))
+
+  pub insert_understood : (s : Schema) (c : Compiled) → understood s text ≡ Ok c → Comes p (Inserts s) c
+  insert_understood =
+      understood_so text p Inserts (λ s k it. ap is_select it.3)
+      (λ s c h. comes_to p (Inserts s) (wanted s) (inserting s) c (sym (insert_planned s _ refl) ∙ h) (insert_shape s))
+
+-- ---- UPDATE
+
+module _ (text : List ℕ) (p : Parsed) (name : List ℕ) (sets : List (List ℕ × Expr)) (test : Option Expr)
+    (parsed : first text ≡ Ok p) (is : p.statement ≡ written.Update name sets test []) where
+  abbrev pub Updates : Schema → Command → Type 0
+  Updates s k = (at : ℕ) × (q : Program) × (target s name ≡ Ok at) × (k ≡ Update at q)
+
+  update_planned : (s : Schema) (r : Checked Command) → update s name sets test ≡ r
+      → compiled s text ≡ and_then r (λ k. Ok (with_command p (p.formats, (k, None))))
+  unfolding compiled planned meaning returning timed command shows
+  update_planned s (Ok k) h = rw (parsed, is, h) refl
+  update_planned s (Err e) h = rw (parsed, is, h) refl
+
+  abbrev rows_set : Schema → ℕ → Draft → Checked Command
+  rows_set s at d = and_then (program s [] d) (λ q. Ok (Update at q))
+
+  abbrev drafted : Schema → ℕ → Table → Checked Command
+  drafted s at table = and_then (updated s at table sets test) (rows_set s at)
+
+  update_shape : (s : Schema) (k : Command) → update s name sets test ≡ Ok k → Updates s k
+  unfolding update
+  update_shape s k h =
+      let at = through (target s name) (λ at. and_then (table_at s at) (drafted s at)) k h in
+      let table = through (table_at s at.0) (drafted s at.0) k at.2 in
+      let draft = through (updated s at.0 table.0 sets test) (rows_set s at.0) k table.2 in
+      let q = through (program s [] draft.0) (λ q. Ok (Update at.0 q)) k draft.2 in (at.0, q.0, at.1, sym (same_value q.2))
+
+  pub update_understood : (s : Schema) (c : Compiled) → understood s text ≡ Ok c → Comes p (Updates s) c
+  update_understood =
+      understood_so text p Updates (λ s k it. ap is_select it.3)
+      (λ s c h. comes_to p (Updates s) p.formats (update s name sets test) c (sym (update_planned s _ refl) ∙ h)
+      (update_shape s))
+
+-- ---- what is run
+
+-- a text that was executed ran the command that it comes to
+pub ran_as : (text : List ℕ) (p : Parsed) (P : Schema → Command → Type 0)
+    → ((s : Schema) (c : Compiled) → understood s text ≡ Ok c → Comes p (P s) c)
+    → (old new : State) (params : Row) (count : ℕ) → Executes text params old new (Ok count)
+    → (k : Command) × P old.now.schema k × (given : Row) × Runs old new None k (slice_range text p.start p.end) given count
+unfolding ExecutesIn
+ran_as text p P understood_as old new params count h =
+    let it = understood_as old.now.schema h.0 h.1.is in
+    let given = timed_params params h.0.formats h.1.now in
+    let ran : Runs old new h.0.returning h.0.command (text_of text h.0) given count =
+    elim (cases_Bool (shows_rows false h.0)) [
+      | inl shows ↦ absurd (let e = (rw shows at h.2).0 in cc)
+      | inr runs ↦ rw runs at h.2
+    ] in
+    let sql : text_of text h.0 ≡ slice_range text p.start p.end = ap (slice_range text h.0.start) it.end
+    ∙ ap (λ s. slice_range text s p.end) it.start in
+    (h.0.command, it.command, given, subst₂ (λ r s. Runs old new r h.0.command s given count) it.returning sql ran)
+
+-- what is done at a place is done where something stands there
+pub at_place : {X A : Type 0} (P : X → Part A) (o : Option X) (a : A) → AtPlace P o (Ok a)
+    → (x : X) × (o ≡ Some x) × P x (Ok a)
+at_place P None a h = absurd (let e : Ok a ≡ Err (Some InvalidQuery) = h in cc)
+at_place P (Some x) a h = (x, refl, h)

@@ -1,0 +1,37 @@
+use Rattle.std.proofs.Common.{◌≡◌, true, false, sym, subst}
+use Rattle.register_store.specs.declared.found.Found.{Found}
+use Rattle.register_store.specs.CheckedTables.{ShowsKeyNeed, counts_of}
+use Rattle.register_store.specs.CheckedRows.{key_need}
+use Rattle.register_store.specs.OpeningChecks.{IsNeedOf}
+use Rattle.register_store.proofs.EachChecked.{one_more, one_odd}
+use Rattle.register_store.proofs.SettingsChecked.{one_need}
+use Rattle.register_store.proofs.setting_check.NeedCheckRowCheck.take_row.Goals as goal
+
+pub returns-in_default-clause-refused : goal.returns-in_default-clause-refused
+returns-in_default-clause-refused c result first rows taken =
+    one_odd ShowsKeyNeed (IsNeedOf (counts_of first.found)) rows c.args.row.now
+    (λ set shows is. c.in_default.ensures set shows)
+
+pub returns-in_default-clause-taken : goal.returns-in_default-clause-taken
+returns-in_default-clause-taken c result first rows taken = absurd (cc)
+
+pub returns-clause-taken : goal.returns-clause-taken
+returns-clause-taken c result first rows taken =
+    let set = key_need c.in-Some.shown.key c.in-Some.shown.need in
+    let passed : c.is_need_of_counted_key.result ≡ true = cc in
+    let own = c.is_need_of_counted_key.ensures.0 passed in (
+      taken.0,
+      one_more ShowsKeyNeed (IsNeedOf (counts_of first.found)) rows c.args.row.now set taken.1 c.in-Some.ensures
+          (subst (λ (f : Found). IsNeedOf (counts_of f) set) taken.0 own),
+    )
+
+pub returns-clause-refused : goal.returns-clause-refused
+returns-clause-refused c result first rows taken =
+    let set = key_need c.in-Some.shown.key c.in-Some.shown.need in
+    one_odd ShowsKeyNeed (IsNeedOf (counts_of first.found)) rows c.args.row.now (λ other shows is.
+    let same = one_need c.args.row.now other set shows c.in-Some.ensures in
+    let own = subst (λ (f : Found). IsNeedOf (counts_of f) set) (sym taken.0)
+    (subst (IsNeedOf (counts_of first.found)) same is) in
+    let passed = c.is_need_of_counted_key.ensures.1 own in
+    let off : c.is_need_of_counted_key.result ≡ false = cc in
+    absurd (cc))

@@ -1,0 +1,463 @@
+//! A key in its tables: its row, which is found, added and changed in what can change of it, and its
+//! custody. How values stand in cells, here and in the rows of other tables.
+ghost use Rattle.std.specs.Prelude.{◌≡◌, ◌≢◌, ◌≤◌, ℕ, pos, List, MatchOption, ◌+◌, Option, length};
+ghost use Rattle.std.specs.Prelude.{IfOk, IfErr};
+ghost use Rattle.sqlite.specs.Order.{column};
+ghost use Rattle.sqlite.specs.declared.types.Value.TheVariants.{Int, Text as Words};
+ghost use Rattle.moment_core.specs.Moment.{IsMoment};
+ghost use Rattle.lifecycle_core.specs.State.{state_code};
+ghost use Rattle.lifecycle_core.specs.declared.state.State.{State};
+ghost use Rattle.period_core.specs.KeyType.{key_type_code};
+ghost use Rattle.period_core.specs.Period.{max_months};
+ghost use Rattle.period_core.specs.declared.key_type.KeyType.{KeyType};
+ghost use Rattle.register_requests.specs.Name.{IsName};
+ghost use Rattle.register_requests.specs.Quorum.{IsQuorum};
+ghost use Rattle.register_requests.specs.Request.{max_key_number, IsDate};
+ghost use Rattle.sqlite_value.specs.Value.{owned};
+ghost use Rattle.sqlite.specs.Held.{state};
+ghost use Rattle.lifecycle_core.specs.declared.dates.Dates.{Dates};
+ghost use Rattle.register_requests.specs.Purpose.{IsPurpose};
+ghost use Rattle.register_core.specs.declared.key.Key.{Key};
+ghost use Rattle.register_store.specs.StepCount.{Writes};
+ghost use Rattle.register_store.specs.Tables.{AreDates, IsKey, date_cell};
+ghost use Rattle.register_store.specs.TableChanges.{Makes, Always, with_key, with_key_at, held_by};
+ghost use Rattle.register_store.specs.TableChanges.{without_approvals};
+ghost use Rattle.register_store.specs.TableReads.{seen, Calls, HasRow, KeepsSight, Reads};
+ghost use Rattle.register_store.specs.TableReads.{ShowsDates, ShowsKey, AreNamesOf, CallsOver};
+ghost use Rattle.register_store.specs.TableReads.{count_at, HasKey, HasNames, HasNoName};
+ghost use Rattle.register_store.specs.TableReads.{load_steps};
+ghost use Rattle.register_store.specs.Roles.{change_text, select_text, with_role_changed};
+
+use crate::columns::{KeyCell, columns};
+use crate::counted::{Counted, Inside, StepCount};
+use crate::error::StoreError;
+use lifecycle_core::{Dates, Row, State};
+use moment_core::{LAST_SECOND, Moment};
+use period_core::KeyType;
+use register_core::{Held, Key, Name, Names, Purpose, Quorum};
+use sqlite::types::{ToSql, ValueRef};
+use sqlite::{Alter, params};
+use std::alloc::Global;
+
+/// A moment, kept as its second.
+#[derive(Clone, Copy)]
+pub(crate) struct MomentCell(pub(crate) Moment);
+
+impl<'a> ToSql<'a> for MomentCell {
+    ghost to_sql = { λ moment. Int (pos moment.0) };
+
+    fn to_sql(self) -> ValueRef<'a>
+        ensures value { owned result ≡ Int (pos self.0) }
+        ensures in_range { IsMoment self.0 }
+    {
+        ValueRef::Int(self.0.seconds() as i64)
+    }
+}
+
+/// The number in the cell.
+pub(crate) fn number_in(row: &sqlite::Row, at: usize) -> Option<u64>
+    ensures { MatchOption result ((n : ℕ) → column row.now at ≢ Int (pos n))
+        (λ n. column row.now at ≡ Int (pos n)) }
+{
+    let Ok(ValueRef::Int(cell)) = row.get_ref(at) else {
+        return None;
+    };
+    u64::try_from(cell).ok()
+}
+
+/// The bytes of the text in the cell.
+pub(crate) fn text_in(row: &sqlite::Row, at: usize) -> Option<&[u8]>
+    ensures { MatchOption result ((text : List ℕ) → column row.now at ≢ Words text)
+        (λ text. column row.now at ≡ Words text.now) }
+{
+    let Ok(ValueRef::Text(bytes)) = row.get_ref(at) else {
+        return None;
+    };
+    Some(bytes)
+}
+
+/// The type of key in the cell.
+pub(crate) fn key_type_in(row: &sqlite::Row, at: usize) -> Option<KeyType>
+    ensures { MatchOption result
+        ((kind : KeyType) → column row.now at ≢ Int (pos (key_type_code kind)))
+        (λ kind. column row.now at ≡ Int (pos (key_type_code kind))) }
+{
+    KeyType::from_code(u8::try_from(number_in(row, at)?).ok()?)
+}
+
+/// A number of months in the cell.
+pub(crate) fn months_in(row: &sqlite::Row, at: usize) -> Option<u16>
+    ensures { MatchOption result
+        ((months : ℕ) → months ≤ max_months → column row.now at ≢ Int (pos months))
+        (λ months. column row.now at ≡ Int (pos months)) }
+{
+    u16::try_from(number_in(row, at)?).ok()
+}
+
+/// How many approvals the cell says that a destruction needs.
+pub(crate) fn quorum_in(row: &sqlite::Row, at: usize) -> Option<Quorum>
+    ensures { MatchOption result
+        ((need : ℕ) → IsQuorum need → column row.now at ≢ Int (pos need))
+        (λ need. column row.now at ≡ Int (pos need)) }
+{
+    Quorum::new(u8::try_from(number_in(row, at)?).ok()?)
+}
+
+/// The state in the cell.
+pub(crate) fn state_in(row: &sqlite::Row, at: usize) -> Option<State>
+    ensures { MatchOption result
+        ((state : State) → column row.now at ≢ Int (pos (state_code state)))
+        (λ state. column row.now at ≡ Int (pos (state_code state))) }
+{
+    State::from_code(u8::try_from(number_in(row, at)?).ok()?)
+}
+
+/// The name in the cell.
+pub(crate) fn name_in(row: &sqlite::Row, at: usize) -> Option<Name>
+    ensures { MatchOption result ((name : List ℕ) → IsName name → column row.now at ≢ Words name)
+        (λ name. column row.now at ≡ Words name) }
+{
+    Name::new(text_in(row, at)?)
+}
+
+/// The moment in the cell.
+pub(crate) fn moment_in(row: &sqlite::Row, at: usize) -> Option<Moment>
+    ensures { MatchOption result
+        ((second : ℕ) → IsMoment second → column row.now at ≢ Int (pos second))
+        (λ moment. column row.now at ≡ Int (pos moment)) }
+{
+    Moment::new(number_in(row, at)?)
+}
+
+/// The number of a key in the cell, or the 0 that stands for none.
+pub(crate) fn key_number_in(row: &sqlite::Row, at: usize) -> Option<u32>
+    ensures { MatchOption result
+        ((key : ℕ) → key ≤ max_key_number → column row.now at ≢ Int (pos key))
+        (λ key. column row.now at ≡ Int (pos key)) }
+{
+    u32::try_from(number_in(row, at)?).ok()
+}
+
+/// The search for the row of a key by its number.
+const FIND_KEY: &str = columns!(keys listed "SELECT ", " FROM keys WHERE number = ?1");
+
+/// The statement that sets these columns of the key with the number ?1, where one of them is not so
+/// already.
+macro_rules! update_where_other {
+    ($set:literal $(, $more:literal)+) => {
+        concat!(
+            "UPDATE keys SET ", $set $(, ", ", $more)+,
+            " WHERE number = ?1 AND NOT (", $set $(, " AND ", $more)+, ")"
+        )
+    };
+}
+
+/// What stands for a date that is not set: the second past the last moment, so that it comes after
+/// every moment.
+const UNSET: u64 = LAST_SECOND + 1;
+
+/// A date that may be unset, kept as its second or [`UNSET`].
+#[derive(Clone, Copy)]
+struct DateCell(Option<Moment>);
+
+impl<'a> ToSql<'a> for DateCell {
+    ghost to_sql = { λ date. Int (pos (date_cell date.0)) };
+
+    fn to_sql(self) -> ValueRef<'a>
+        ensures value { owned result ≡ Int (pos (date_cell self.0)) }
+        ensures in_range { IsDate self.0 }
+    {
+        match self.0 {
+            Some(moment) => ValueRef::Int(moment.seconds() as i64),
+            None => ValueRef::Int(UNSET as i64),
+        }
+    }
+}
+
+/// The purpose in the cell.
+fn purpose_in(row: &sqlite::Row, at: usize) -> Option<Purpose>
+    ensures { MatchOption result ((text : List ℕ) → IsPurpose text → column row.now at ≢ Words text)
+        (λ purpose. column row.now at ≡ Words purpose) }
+{
+    Purpose::new(text_in(row, at)?)
+}
+
+/// The date in the cell, which may be one that is not set.
+fn date_in(row: &sqlite::Row, at: usize) -> Option<Option<Moment>>
+    ensures { MatchOption result
+        ((date : Option ℕ) → IsDate date → column row.now at ≢ Int (pos (date_cell date)))
+        (λ date. (column row.now at ≡ Int (pos (date_cell date))) × IsDate date) }
+{
+    if number_in(row, at)? == UNSET {
+        return Some(None);
+    }
+    moment_in(row, at).map(Some)
+}
+
+/// The dates that the row shows.
+fn dates_in(row: &sqlite::Row) -> Option<Dates>
+    ensures { MatchOption result
+        ((d : Dates) → AreDates d → ¬ ShowsDates row.now d) (ShowsDates row.now) }
+{
+    Some(Dates {
+        initial: moment_in(row, KeyCell::Initial as usize)?,
+        activation: date_in(row, KeyCell::Activation as usize)?,
+        protect_stop: date_in(row, KeyCell::ProtectStop as usize)?,
+        deactivation: date_in(row, KeyCell::Deactivation as usize)?,
+        destroy: date_in(row, KeyCell::Destroyed as usize)?,
+        compromise: date_in(row, KeyCell::Compromised as usize)?,
+        compromise_occurrence: date_in(row, KeyCell::Occurrence as usize)?,
+    })
+}
+
+/// The key whose cells these are.
+pub(crate) fn key_in(row: &sqlite::Row) -> Option<Key>
+    ensures { MatchOption result ((k : Key) → IsKey k → ¬ ShowsKey row.now k) (ShowsKey row.now) }
+{
+    Some(Key {
+        kind: key_type_in(row, KeyCell::Kind as usize)?,
+        owner: name_in(row, KeyCell::Owner as usize)?,
+        purpose: purpose_in(row, KeyCell::Purpose as usize)?,
+        row: Row {
+            state: state_in(row, KeyCell::State as usize)?,
+            dates: dates_in(row)?,
+        },
+    })
+}
+
+/// The row of the key with this number, or `None` where there is none. It changes nothing.
+///
+/// # Errors
+/// [`StoreError::Database`] where the database refused, and [`StoreError::NoRegister`] where the
+/// row is one that no register holds.
+pub fn find_key_row<S: Alter>(
+    connection: &mut Counted<S>,
+    number: u32,
+) -> Result<Option<Key>, StoreError>
+    ensures counted { Calls 2 connection.old connection.new }
+    ensures sight { KeepsSight (seen S.Store connection.old) (seen S.Store connection.new) }
+    ensures reads { Reads S.Store (HasRow number) connection.old connection.new result }
+{
+    connection.find_one_row(FIND_KEY, params![number], key_in)
+}
+
+/// Adds a key after the others; `number` is the one that it gets, one more than there are keys.
+pub(crate) fn add_key<T: Inside>(
+    tx: &mut T,
+    steps: &mut StepCount,
+    number: u32,
+    key: &Key,
+) -> Result<(), StoreError>
+    ensures { Writes T.Inside.sees T.Inside.name 1
+        (Makes (λ t. number ≡ length t.keys + 1) (with_key key.now))
+        tx.old tx.new steps.old steps.new result }
+{
+    let dates = &key.row.dates;
+    tx.execute(
+        steps,
+        columns!(keys given "INSERT INTO keys (number", ") VALUES (:number", ")"),
+        params![
+            number,
+            u32::from(key.kind.code()),
+            key.owner.text(),
+            key.purpose.text(),
+            u32::from(key.row.state.code()),
+            MomentCell(dates.initial),
+            DateCell(dates.activation),
+            DateCell(dates.protect_stop),
+            DateCell(dates.deactivation),
+            DateCell(dates.destroy),
+            DateCell(dates.compromise),
+            DateCell(dates.compromise_occurrence)
+        ],
+    )?;
+    Ok(())
+}
+
+/// Gives the key with this number an owner and a row. Its type, its purpose and its Initial Date
+/// stay. A row that stands so already is not written.
+pub(crate) fn update_key<T: Inside>(
+    tx: &mut T,
+    steps: &mut StepCount,
+    number: u32,
+    owner: &Name,
+    row: &Row,
+) -> Result<(), StoreError>
+    ensures { Writes T.Inside.sees T.Inside.name 1
+        (Makes Always (with_key_at number (held_by owner.now row.now)))
+        tx.old tx.new steps.old steps.new result }
+{
+    let dates = &row.dates;
+    tx.execute(
+        steps,
+        update_where_other!(
+            "owner = ?2",
+            "state = ?3",
+            "activation = ?4",
+            "protect_stop = ?5",
+            "deactivation = ?6",
+            "destroyed = ?7",
+            "compromised = ?8",
+            "occurrence = ?9"
+        ),
+        params![
+            number,
+            owner.text(),
+            u32::from(row.state.code()),
+            DateCell(dates.activation),
+            DateCell(dates.protect_stop),
+            DateCell(dates.deactivation),
+            DateCell(dates.destroy),
+            DateCell(dates.compromise),
+            DateCell(dates.compromise_occurrence)
+        ],
+    )?;
+    Ok(())
+}
+
+/// What a name may be at a key.
+#[derive(Clone, Copy, Debug, PartialEq, Eq)]
+pub(crate) enum Role {
+    /// One of the key's custodians.
+    Custodian,
+    /// A custodian whose approval of the key's destruction stands.
+    Approver,
+}
+
+impl Role {
+    fn select_sql(self) -> &'static str
+        ensures { result.now ≡ select_text self }
+    {
+        match self {
+            Role::Custodian => "SELECT name FROM custodian WHERE key_no = ?1",
+            Role::Approver => "SELECT name FROM approval WHERE key_no = ?1",
+        }
+    }
+}
+
+/// What becomes of a role that a name may have at a key.
+#[derive(Clone, Copy, Debug, PartialEq, Eq)]
+pub(crate) enum RoleChange {
+    Given(Role),
+    Taken(Role),
+}
+
+impl RoleChange {
+    fn sql(self) -> &'static str
+        ensures { result.now ≡ change_text self }
+    {
+        match self {
+            RoleChange::Given(Role::Custodian) => {
+                "INSERT INTO custodian (key_no, name) VALUES (?1, ?2)"
+            }
+            RoleChange::Given(Role::Approver) => {
+                "INSERT INTO approval (key_no, name) VALUES (?1, ?2)"
+            }
+            RoleChange::Taken(Role::Custodian) => {
+                "DELETE FROM custodian WHERE key_no = ?1 AND name = ?2"
+            }
+            RoleChange::Taken(Role::Approver) => {
+                "DELETE FROM approval WHERE key_no = ?1 AND name = ?2"
+            }
+        }
+    }
+}
+
+/// Gives the name a role at the key, or takes it. With a custodian its approval goes too. The
+/// database refuses to give a role where the name has it already, where there is no such key, and
+/// for an approver where the name is no custodian.
+pub(crate) fn give_or_take_role<T: Inside>(
+    tx: &mut T,
+    steps: &mut StepCount,
+    change: RoleChange,
+    key: u32,
+    name: &Name,
+) -> Result<(), StoreError>
+    ensures { Writes T.Inside.sees T.Inside.name 1
+        (Makes Always (with_role_changed change key name.now))
+        tx.old tx.new steps.old steps.new result }
+{
+    tx.execute(steps, change.sql(), params![key, name.text()])?;
+    Ok(())
+}
+
+/// Takes back every approval of the key's destruction.
+pub(crate) fn end_approvals<T: Inside>(
+    tx: &mut T,
+    steps: &mut StepCount,
+    key: u32,
+) -> Result<(), StoreError>
+    ensures { Writes T.Inside.sees T.Inside.name 1 (Makes Always (without_approvals key))
+        tx.old tx.new steps.old steps.new result }
+{
+    tx.execute(
+        steps,
+        "DELETE FROM approval WHERE key_no = ?1",
+        params![key],
+    )?;
+    Ok(())
+}
+
+/// The names in the first cell of each row, in order of their bytes.
+fn sorted_names_in(alloc: Global, rows: &[sqlite::Row]) -> Result<Names, StoreError>
+    ensures names { IfOk result (AreNamesOf rows.now) }
+    ensures unregistered { IfErr result (λ error. error ≡ StoreError.NoRegister
+        → HasNoName rows.now) }
+{
+    let mut shown = Vec::new(alloc);
+    for row in rows {
+        let name = name_in(row, 0).ok_or(StoreError::NoRegister)?;
+        shown.push(name)?;
+    }
+    // The search has no ORDER BY: a decision looks at a handful of names.
+    let mut names = Names::from_vec(shown);
+    names.sort();
+    Ok(names)
+}
+
+/// The names with this role at the key, in order of their bytes. It changes nothing.
+fn find_names_in_role<S: Alter>(
+    alloc: Global,
+    connection: &mut Counted<S>,
+    role: Role,
+    key: u32,
+) -> Result<Names, StoreError>
+    ensures counted { CallsOver S.Store (λ t. 1 + count_at key role t)
+        connection.old connection.new }
+    ensures reads { Reads S.Store (HasNames role key) connection.old connection.new result }
+{
+    let rows = connection.query_all(role.select_sql(), params![key])?;
+    sorted_names_in(alloc, &rows)
+}
+
+/// The key with this number as a decision sees it where its destruction needs so many approvals,
+/// with its purpose, or `None` where there is none. The names are in order of their bytes. It
+/// changes nothing.
+///
+/// # Errors
+/// [`StoreError::Database`] where the database refused, [`StoreError::Memory`] where memory gave
+/// out after its answer, and [`StoreError::NoRegister`] where a row is one that no register holds.
+pub fn load_key<S: Alter>(
+    alloc: Global,
+    connection: &mut Counted<S>,
+    number: u32,
+    need: u8,
+) -> Result<Option<(Held, Purpose)>, StoreError>
+    ensures counted { CallsOver S.Store (load_steps number) connection.old connection.new }
+    ensures reads { Reads S.Store (HasKey number need) connection.old connection.new result }
+{
+    let Some(key) = find_key_row(connection, number)? else {
+        return Ok(None);
+    };
+    let custodians = find_names_in_role(alloc, connection, Role::Custodian, number)?;
+    let approvals = find_names_in_role(alloc, connection, Role::Approver, number)?;
+    let held = Held {
+        kind: key.kind,
+        owner: key.owner,
+        row: key.row,
+        need,
+        custodians,
+        approvals,
+    };
+    Ok(Some((held, key.purpose)))
+}
