@@ -26,7 +26,7 @@ impl<S: Start> DiskFiles<S> {
 }
 
 /// Copies the log into the database file, if that can be done.
-fn close_store<D: Disk + Drop>(mut store: FileStore<D>) -> Closed<FileStore<D>>
+fn checkpoint_store<D: Disk + Drop>(mut store: FileStore<D>) -> Closed<FileStore<D>>
     ensures { ClosesFiles over_files (λ left. (files.state left).may_leave) store result }
 {
     if store.is_broken() {
@@ -82,6 +82,6 @@ impl<S: Start> Files for DiskFiles<S> {
     }
 
     fn close(store: FileStore<FileFrom<S>>) -> Closed<FileStore<FileFrom<S>>> {
-        close_store(store)
+        checkpoint_store(store)
     }
 }

@@ -169,7 +169,7 @@ pub struct Asking {
 
 impl Asking {
     /// Where nothing is read.
-    fn unread(asked: Result<Option<Asked>, AskFault>) -> Self
+    fn with_nothing_read(asked: Result<Option<Asked>, AskFault>) -> Self
         ensures { result ≡ record { read = 0; asked = asked } }
     {
         Asking { read: 0, asked }
@@ -179,7 +179,7 @@ impl Asking {
     fn rejected(rejection: Rejection) -> Self
         ensures { result ≡ record { read = 0; asked = Ok (Some (Asked.Reject rejection)) } }
     {
-        Asking::unread(Ok(Some(Asked::Reject(rejection))))
+        Asking::with_nothing_read(Ok(Some(Asked::Reject(rejection))))
     }
 }
 
@@ -202,7 +202,7 @@ struct Post {
 }
 
 /// The number that the digits write, or one past the limit where it is greater.
-fn content_length_of(text: &[u8]) -> Option<u32>
+fn capped_content_length_of(text: &[u8]) -> Option<u32>
     ensures found { IfSome result (λ n. (m : ℕ) × IsLength text.now m
         × (n ≡ min m (max_body_length + 1))) }
     ensures none { IfNone result ((m : ℕ) → IsLength text.now m → ⊥) }
@@ -234,7 +234,7 @@ fn sender_of(fields: &HeaderFields<'_>) -> Option<Sender>
 }
 
 /// What the header lines say of the body, or why the request is refused.
-fn post_of(fields: &HeaderFields<'_>) -> Result<Post, Rejection>
+fn body_length_and_sender_of(fields: &HeaderFields<'_>) -> Result<Post, Rejection>
     ensures ok { (lines : Lines) → AreGathered lines fields.now → IfOk result (Says lines) }
     ensures err { (lines : Lines) → AreGathered lines fields.now
         → IfErr result (λ r. (rest : List ℕ) → AsksPost lines rest (Reject r)) }
@@ -247,7 +247,7 @@ fn post_of(fields: &HeaderFields<'_>) -> Result<Post, Rejection>
         Values::One(text) => text,
         Values::Several => return Err(Rejection::BadRequest),
     };
-    let Some(length) = content_length_of(text) else {
+    let Some(length) = capped_content_length_of(text) else {
         return Err(Rejection::BadRequest);
     };
     if length > MAX_BODY_LENGTH {
@@ -260,7 +260,7 @@ fn post_of(fields: &HeaderFields<'_>) -> Result<Post, Rejection>
 }
 
 /// What a body asks for whose head said this.
-fn ask_body(alloc: Global, post: Post, body: &[u8]) -> Result<Option<Asked>, AskFault>
+fn asked_by_body(alloc: Global, post: Post, body: &[u8]) -> Result<Option<Asked>, AskFault>
     ensures asks { (after : List ℕ) (n : ℕ) → n ≤ length after → body.now ≡ take n after →
         IfOk result (λ o. IsSomeAnd o (AsksBody n post.sender.caller post.sender.number after)) }
     ensures in_range { IfOk result (λ o. IfSome o IsInRange) }
@@ -280,7 +280,12 @@ fn ask_body(alloc: Global, post: Post, body: &[u8]) -> Result<Option<Asked>, Ask
 }
 
 /// What a POST asks for whose head said this, with these bytes after its head already read.
-fn ask_post<R: Read>(alloc: Global, after: &[u8], post: Post, reader: &mut Watched<R>) -> Asking
+fn read_asked_by_post<R: Read>(
+    alloc: Global,
+    after: &[u8],
+    post: Post,
+    reader: &mut Watched<R>,
+) -> Asking
     ensures asks { (left : List ℕ) → R.remaining reader.old.inner ≡ Some left →
         IfOk result.asked (λ o. IsSomeAnd o (AsksBody post.length post.sender.caller
         post.sender.number (after.now ++ left))) }
@@ -290,7 +295,7 @@ fn ask_post<R: Read>(alloc: Global, after: &[u8], post: Post, reader: &mut Watch
     match body {
         Ok(Some(body)) => Asking {
             read,
-            asked: ask_body(alloc, post, &body),
+            asked: asked_by_body(alloc, post, &body),
         },
         Ok(None) => Asking {
             read,
@@ -328,7 +333,7 @@ fn check_host(minor: u8, fields: &HeaderFields<'_>) -> Result<(), Rejection>
 }
 
 /// The route that the head is for, or why it is for none.
-fn route_of_head(
+fn route_or_rejection_of_head(
     router: &Router<RoutePattern>,
     head: &Head<'_>,
     fields: &HeaderFields<'_>,
@@ -355,7 +360,7 @@ fn route_of_head(
 }
 
 /// What a head asks for.
-fn ask_head<R: Read>(
+fn read_asked_by_head<R: Read>(
     alloc: Global,
     routes: &mut Routes,
     head: &Head<'_>,
@@ -370,19 +375,19 @@ fn ask_head<R: Read>(
     ensures reads { ReadsInput R.remaining reader.old reader.new result.read result }
 {
     let fields = HeaderFields::gather_lines(head.bytes, &head.headers[..head.spans.headers]);
-    let router = match routes.router(alloc) {
+    let router = match routes.router_made_if_missing(alloc) {
         Ok(router) => router,
-        Err(fault) => return Asking::unread(Err(fault)),
+        Err(fault) => return Asking::with_nothing_read(Err(fault)),
     };
-    let route = match route_of_head(router, head, &fields) {
+    let route = match route_or_rejection_of_head(router, head, &fields) {
         Ok(route) => route,
         Err(rejection) => return Asking::rejected(rejection),
     };
     match route {
-        Route::Show(key) => Asking::unread(Ok(Some(Asked::ShowKey(key)))),
-        Route::Usage(key) => Asking::unread(Ok(Some(Asked::ShowUsage(key)))),
-        Route::Requests => match post_of(&fields) {
-            Ok(post) => ask_post(alloc, &head.bytes[head.spans.len..], post, reader),
+        Route::Show(key) => Asking::with_nothing_read(Ok(Some(Asked::ShowKey(key)))),
+        Route::Usage(key) => Asking::with_nothing_read(Ok(Some(Asked::ShowUsage(key)))),
+        Route::Requests => match body_length_and_sender_of(&fields) {
+            Ok(post) => read_asked_by_post(alloc, &head.bytes[head.spans.len..], post, reader),
             Err(rejection) => Asking::rejected(rejection),
         },
     }
@@ -390,7 +395,7 @@ fn ask_head<R: Read>(
 
 /// Looks for a head with this prefix, and reads what is asked for. What is counted as read is what
 /// was read beside the prefix.
-fn ask_after_prefix<R: Read>(
+fn read_head_then_asked<R: Read>(
     alloc: Global,
     routes: &mut Routes,
     prefix: &mut Prefix,
@@ -404,8 +409,8 @@ fn ask_after_prefix<R: Read>(
 {
     let mut headers = [EMPTY_HEADER_SPAN; MAX_HEADERS];
     match prefix.read_head(&mut headers, reader) {
-        Err(ReadFault) => Asking::unread(Err(AskFault::ReadFault)),
-        Ok(HeadSearch::Nothing) => Asking::unread(Ok(None)),
+        Err(ReadFault) => Asking::with_nothing_read(Err(AskFault::ReadFault)),
+        Ok(HeadSearch::Nothing) => Asking::with_nothing_read(Ok(None)),
         Ok(HeadSearch::Bad) => Asking::rejected(Rejection::BadRequest),
         Ok(HeadSearch::TooLarge) => Asking::rejected(Rejection::TooLarge),
         Ok(HeadSearch::Whole(spans)) => {
@@ -414,14 +419,14 @@ fn ask_after_prefix<R: Read>(
                 headers: &headers,
                 spans,
             };
-            ask_head(alloc, routes, &head, reader)
+            read_asked_by_head(alloc, routes, &head, reader)
         }
     }
 }
 
 /// Reads what the reader's bytes ask for. It reads no more than the answer needs, but for what a
 /// read brings beyond a head.
-pub fn ask<R: Read>(alloc: Global, routes: &mut Routes, reader: &mut Watched<R>) -> Asking
+pub fn read_asked<R: Read>(alloc: Global, routes: &mut Routes, reader: &mut Watched<R>) -> Asking
     ensures asks { (input : List ℕ) → R.remaining reader.old.inner ≡ Some input →
         IfOk result.asked (AsksFor input) }
     ensures read { HasRead (R.remaining reader.old.inner) (R.remaining reader.new.inner)
@@ -434,7 +439,7 @@ pub fn ask<R: Read>(alloc: Global, routes: &mut Routes, reader: &mut Watched<R>)
         → reader.new.turns ≤ MAX_EXCHANGE_READS }
 {
     let mut prefix = Prefix::new();
-    let after = ask_after_prefix(alloc, routes, &mut prefix, reader);
+    let after = read_head_then_asked(alloc, routes, &mut prefix, reader);
     Asking {
         read: prefix.bytes().len() + after.read,
         asked: after.asked,

@@ -27,7 +27,7 @@ ghost use Rattle.http_messages.specs.CommandValue.{keyed_members, named_members,
 ghost use Rattle.http_messages.specs.CommandValue.{set_members, register_members};
 
 use crate::member_values::{
-    date_of, edit_of, key_number_of, key_type_of, name_of, period_of, purpose_of, quorum_of,
+    date_of, edit_of, key_number_of, key_type_of, name_of, period_of_months, purpose_of, quorum_of,
     reason_of,
 };
 use register_core::{Command, CommandKind, Fields, Name, Quorum, Shape};
@@ -95,7 +95,7 @@ fn lone_key_number_of(members: &Map<String, Value>) -> Option<u32>
 }
 
 /// No fields: there is no member beside the kind.
-fn no_fields_of(members: &Map<String, Value>) -> Option<Fields>
+fn empty_fields_of(members: &Map<String, Value>) -> Option<Fields>
     ensures found { IfSome result (IsShaped shapes.Nothing (members_view members.now.entries)) }
     ensures none { IfNone result (HasMembers (members_view members.now.entries) Nothing → ⊥) }
 {
@@ -193,7 +193,7 @@ fn type_and_period_fields_of(members: &Map<String, Value>) -> Option<Fields>
         "type",
     )?;
     let kind = key_type_of(key_type)?;
-    let period = period_of(originator, recipient)?;
+    let period = period_of_months(originator, recipient)?;
     Some(Fields::TypeAndPeriod { kind, period })
 }
 
@@ -343,7 +343,7 @@ fn fields_of_shape(shape: Shape, members: &Map<String, Value>) -> Option<Fields>
         IsShaped shape (members_view members.now.entries) fields → ⊥) }
 {
     match shape {
-        Shape::Nothing => no_fields_of(members),
+        Shape::Nothing => empty_fields_of(members),
         Shape::Key => lone_key_number_of(members).map(|key| Fields::Key { key }),
         Shape::KeyAndName => {
             let (key, name) = key_and_name_of(members, "name")?;

@@ -71,7 +71,7 @@ impl Prefix {
     }
 
     /// Reads once more, where there is room, and returns how many bytes came.
-    fn refill<R: Read>(&mut self, reader: &mut Watched<R>) -> Result<usize, ReadFault>
+    fn read_more_bytes<R: Read>(&mut self, reader: &mut Watched<R>) -> Result<usize, ReadFault>
         requires { length self.old < MAX_HEAD_LENGTH }
         ensures bytes { IfOk result (λ n. (more : List ℕ) × (self.new ≡ self.old ++ more)
             × (length more ≡ n)
@@ -121,7 +121,7 @@ impl Prefix {
             if self.bytes().len() == MAX_HEAD_LENGTH {
                 return Ok(HeadSearch::TooLarge);
             }
-            if self.refill(reader)? == 0 {
+            if self.read_more_bytes(reader)? == 0 {
                 // A client may connect and leave without a word, which is no fault of it.
                 if self.bytes().is_empty() {
                     return Ok(HeadSearch::Nothing);

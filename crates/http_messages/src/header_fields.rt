@@ -52,7 +52,7 @@ impl<'b> Values<'b> {
 
     /// With the value of one line more, where that line has this name, which is given in lower
     /// case.
-    fn with_line(self, prefix: &'b [u8], line: &HeaderSpan, name: &[u8]) -> Self
+    fn with_value_if_named(self, prefix: &'b [u8], line: &HeaderSpan, name: &[u8]) -> Self
         requires within { IsHeaderWithin (length prefix.now) line.now }
         requires lower { map to_ascii_lowercase name.now ≡ name.now }
         ensures { (lines : Lines) → AreFound (values_of name.now lines) self.entry
@@ -84,17 +84,17 @@ impl<'b> HeaderFields<'b> {
             → AreGathered (lines ++ header_bytes prefix.now line.now ∷ []) result }
     {
         HeaderFields {
-            host: self.host.with_line(prefix, line, b"host"),
+            host: self.host.with_value_if_named(prefix, line, b"host"),
             transfer_encoding: self
                 .transfer_encoding
-                .with_line(prefix, line, b"transfer-encoding"),
+                .with_value_if_named(prefix, line, b"transfer-encoding"),
             content_length: self
                 .content_length
-                .with_line(prefix, line, b"content-length"),
-            caller: self.caller.with_line(prefix, line, b"caller"),
+                .with_value_if_named(prefix, line, b"content-length"),
+            caller: self.caller.with_value_if_named(prefix, line, b"caller"),
             request_number: self
                 .request_number
-                .with_line(prefix, line, b"request-number"),
+                .with_value_if_named(prefix, line, b"request-number"),
         }
     }
 

@@ -3,7 +3,7 @@
 //!
 //! ```
 //! let mut routes = Routes::new();
-//! let asking = ask(alloc, &mut routes, &mut reader);
+//! let asking = read_asked(alloc, &mut routes, &mut reader);
 //! let text = outcome_reply_text(alloc, &outcome)?;
 //! ```
 #![tactic(auto)]
@@ -19,7 +19,7 @@ mod reply_text;
 mod route;
 
 pub use asked::{AskFault, Asked, Rejection, Sent};
-pub use asking::{Asking, MAX_BODY_LENGTH, ask};
+pub use asking::{Asking, MAX_BODY_LENGTH, read_asked};
 pub use head::{MAX_EXCHANGE_READS, MAX_HEAD_LENGTH, MAX_HEADERS};
 pub use reply_text::{key_reply_text, outcome_reply_text, rejection_text, usage_reply_text};
 pub use route::{Route, Routes};

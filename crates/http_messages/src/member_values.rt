@@ -49,7 +49,7 @@ fn months_of(value: &Value) -> Option<u16>
 }
 
 /// The period whose months of originator use and of recipient use the values are.
-pub(crate) fn period_of(originator: &Value, recipient: &Value) -> Option<Period>
+pub(crate) fn period_of_months(originator: &Value, recipient: &Value) -> Option<Period>
     ensures found { IfSome result (λ period. IsPeriod period ×
         (view originator.now ≡ number_data period.originator) ×
         (view recipient.now ≡ number_data period.recipient)) }

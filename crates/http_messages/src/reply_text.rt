@@ -105,7 +105,7 @@ fn state_value(alloc: Global, state: Option<State>) -> Result<Value, AllocError>
 }
 
 /// Puts a text among members.
-fn put_text(
+fn put_text_member(
     members: &mut Map<String, Value>,
     alloc: Global,
     name: &str,
@@ -119,7 +119,7 @@ fn put_text(
 }
 
 /// Puts a date among members, or null where there is none.
-fn put_date(
+fn put_date_member(
     members: &mut Map<String, Value>,
     alloc: Global,
     name: &str,
@@ -137,7 +137,7 @@ fn reply_value(alloc: Global, reply: &Reply) -> Result<Value, AllocError>
 {
     let mut members = Map::new(alloc);
     put(&mut members, alloc, "key", Value::from(reply.key))?;
-    put_date(&mut members, alloc, "moment", Some(reply.moment))?;
+    put_date_member(&mut members, alloc, "moment", Some(reply.moment))?;
     put(
         &mut members,
         alloc,
@@ -161,7 +161,7 @@ fn put_refusal_details(
         Refusal::MomentBehind { latest } => {
             put(members, alloc, "latest", Value::from(latest.seconds()))
         }
-        Refusal::WrongState { state } => put_text(members, alloc, "state", state.text()),
+        Refusal::WrongState { state } => put_text_member(members, alloc, "state", state.text()),
         Refusal::PeriodTooLong { limit } => {
             put(members, alloc, "limit", Value::from(limit.seconds()))
         }
@@ -178,7 +178,7 @@ fn refusal_value(alloc: Global, refusal: &Refusal) -> Result<Value, AllocError>
     ensures { IfOk result (λ v. view v ≡ refusal_data refusal.now) }
 {
     let mut members = Map::new(alloc);
-    put_text(&mut members, alloc, "name", refusal.name())?;
+    put_text_member(&mut members, alloc, "name", refusal.name())?;
     put(
         &mut members,
         alloc,
@@ -227,18 +227,18 @@ fn date_members(alloc: Global, dates: &Dates) -> Result<Map<String, Value>, Allo
     ensures { IfOk result (λ m. members_view m.entries ≡ date_members dates.now) }
 {
     let mut members = Map::new(alloc);
-    put_date(&mut members, alloc, "activation", dates.activation)?;
-    put_date(&mut members, alloc, "compromised", dates.compromise)?;
-    put_date(&mut members, alloc, "deactivation", dates.deactivation)?;
-    put_date(&mut members, alloc, "destroyed", dates.destroy)?;
-    put_date(&mut members, alloc, "initial", Some(dates.initial))?;
-    put_date(
+    put_date_member(&mut members, alloc, "activation", dates.activation)?;
+    put_date_member(&mut members, alloc, "compromised", dates.compromise)?;
+    put_date_member(&mut members, alloc, "deactivation", dates.deactivation)?;
+    put_date_member(&mut members, alloc, "destroyed", dates.destroy)?;
+    put_date_member(&mut members, alloc, "initial", Some(dates.initial))?;
+    put_date_member(
         &mut members,
         alloc,
         "occurrence",
         dates.compromise_occurrence,
     )?;
-    put_date(&mut members, alloc, "protect_stop", dates.protect_stop)?;
+    put_date_member(&mut members, alloc, "protect_stop", dates.protect_stop)?;
     Ok(members)
 }
 
@@ -258,15 +258,15 @@ fn key_value(alloc: Global, shown: &Record) -> Result<Value, AllocError>
     )?;
     put(&mut members, alloc, "need", Value::from(shown.need))?;
     put(&mut members, alloc, "number", Value::from(key.number))?;
-    put_text(&mut members, alloc, "owner", key.owner.text())?;
-    put_text(&mut members, alloc, "purpose", key.purpose.text())?;
-    put_text(&mut members, alloc, "state", key.row.state.text())?;
-    put_text(&mut members, alloc, "type", key.kind.text())?;
+    put_text_member(&mut members, alloc, "owner", key.owner.text())?;
+    put_text_member(&mut members, alloc, "purpose", key.purpose.text())?;
+    put_text_member(&mut members, alloc, "state", key.row.state.text())?;
+    put_text_member(&mut members, alloc, "type", key.kind.text())?;
     Ok(Value::Object(members))
 }
 
 /// The text of a reply with this status and JSON value.
-fn value_text(alloc: Global, status: StatusCode, value: &Value) -> Result<String, AllocError>
+fn json_reply_text(alloc: Global, status: StatusCode, value: &Value) -> Result<String, AllocError>
     requires { has_float (view value.now) ≡ false }
     ensures { IfOk result (λ s.
         string_bytes s ≡ reply_bytes (json_reply status (view value.now))) }
@@ -291,7 +291,7 @@ fn accepted_text(alloc: Global, reply: &Reply) -> Result<String, AllocError>
     ensures { IfOk result (λ s. string_bytes s ≡ reply_bytes (outcome_reply (Ok reply.now))) }
 {
     let value = reply_value(alloc, reply)?;
-    value_text(alloc, StatusCode::OK, &value)
+    json_reply_text(alloc, StatusCode::OK, &value)
 }
 
 /// The reply to a request that was refused.
@@ -299,7 +299,7 @@ fn refused_text(alloc: Global, refusal: &Refusal) -> Result<String, AllocError>
     ensures { IfOk result (λ s. string_bytes s ≡ reply_bytes (outcome_reply (Err refusal.now))) }
 {
     let value = refusal_value(alloc, refusal)?;
-    value_text(alloc, refusal_status(refusal), &value)
+    json_reply_text(alloc, refusal_status(refusal), &value)
 }
 
 /// The text of the reply to a request: the register's reply, or why it refused.
@@ -326,7 +326,7 @@ pub fn usage_reply_text(alloc: Global, usage: &Usage) -> Result<String, AllocErr
     ensures { IfOk result (λ s. string_bytes s ≡ reply_bytes (usage_reply usage.now)) }
 {
     let value = usage_value(alloc, usage)?;
-    value_text(alloc, StatusCode::OK, &value)
+    json_reply_text(alloc, StatusCode::OK, &value)
 }
 
 /// The text of the reply that shows a key with how many approvals its destruction needs, its
@@ -338,5 +338,5 @@ pub fn key_reply_text(alloc: Global, shown: &Record) -> Result<String, AllocErro
     ensures { IfOk result (λ s. string_bytes s ≡ reply_bytes (key_reply shown.now)) }
 {
     let value = key_value(alloc, shown)?;
-    value_text(alloc, StatusCode::OK, &value)
+    json_reply_text(alloc, StatusCode::OK, &value)
 }

@@ -70,7 +70,10 @@ impl Routes {
     }
 
     /// The router.
-    pub(crate) fn router(&mut self, alloc: Global) -> Result<&Router<RoutePattern>, AskFault>
+    pub(crate) fn router_made_if_missing(
+        &mut self,
+        alloc: Global,
+    ) -> Result<&Router<RoutePattern>, AskFault>
         ensures ok { IfOk result (λ router. router.now ≡ routes) }
         ensures err { IfErr result (λ fault. fault ≡ AskFault.Memory) }
     {

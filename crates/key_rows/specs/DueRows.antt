@@ -4,7 +4,7 @@ use Rattle.std.specs.List.{AllByRecursion}
 use Rattle.lifecycle_core.specs.declared.state.State.TheVariants.{Active}
 use Rattle.lifecycle_core.specs.State.{is_reached_at, state_code}
 use Rattle.period_core.specs.declared.key_type.KeyType.{KeyType}
-use Rattle.period_core.specs.Fitting.{is_long}
+use Rattle.period_core.specs.Fitting.{is_either_use_too_long}
 use Rattle.period_core.specs.Period.{Period}
 use Rattle.key_rows.specs.declared.key_row.KeyRow.{KeyRow}
 
@@ -45,7 +45,7 @@ AreDue all until rows = AreThose (is_due until) all rows
 abbrev pub is_listed : ℕ → (KeyType → Period) → KeyRow → Bool
 is_listed until periods r =
     (state_code r.row.state == state_code Active)
-    && (is_reached_at r.row.dates.protect_stop until || is_long (periods r.kind) r.row.dates)
+    && (is_reached_at r.row.dates.protect_stop until || is_either_use_too_long (periods r.kind) r.row.dates)
 
 -- these are the rows of all of them that are to be listed, in order
 abbrev pub AreListed : List KeyRow → ℕ → (KeyType → Period) → List KeyRow → Type 0

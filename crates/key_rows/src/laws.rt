@@ -5,7 +5,7 @@ ghost use Rattle.key_rows.specs.declared.key_row.KeyRow.{KeyRow};
 ghost use Rattle.key_rows.specs.DueRows.{AreDue, AreFirstDue, AreThose, HaveOwnNumbers};
 
 /// The rows for which something holds, in their order, are one list only.
-pub fn selected_rows_are_one_list()
+pub fn selection_of_rows_is_unique()
     ensures { (holds : KeyRow → Bool) (all rows others : List KeyRow) →
         AreThose holds all rows → AreThose holds all others → rows ≡ others }
 {}
@@ -18,7 +18,7 @@ pub fn first_rows_begin_the_due_rows()
 {}
 
 /// Of rows with a number each there is a list of those for which something holds.
-pub fn selected_rows_have_a_list()
+pub fn selection_of_rows_exists()
     ensures { (holds : KeyRow → Bool) (all : List KeyRow) → HaveOwnNumbers all →
         (rows : List KeyRow) × AreThose holds all rows }
 {}

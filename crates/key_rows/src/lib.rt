@@ -20,4 +20,6 @@ mod report;
 pub use export::{export_header, export_row};
 pub use key_row::KeyRow;
 pub use record::Record;
-pub use report::{horizon, is_due_or_long, last_moment, report_head, report_line, report_total};
+pub use report::{
+    horizon, is_listed_in_report, last_moment, report_head, report_line, report_total,
+};

@@ -9,7 +9,7 @@ use crate::date_text::date_text;
 use crate::key_row::KeyRow;
 use lifecycle_core::State;
 use moment_core::{LAST_SECOND, Moment};
-use period_core::{OfficePeriods, is_long};
+use period_core::{OfficePeriods, is_either_use_too_long};
 use std::alloc::{AllocError, Global};
 
 /// The last moment of a report for so many days from the latest moment on.
@@ -39,13 +39,13 @@ pub fn report_head(alloc: Global, until: Moment) -> Result<String, AllocError>
 
 /// Whether the key is in a report up to this horizon: it is Active, and its Protect Stop Date is up
 /// to the horizon or it is used for longer than the period of its type.
-pub fn is_due_or_long(until: Moment, periods: &OfficePeriods, row: &KeyRow) -> bool
+pub fn is_listed_in_report(until: Moment, periods: &OfficePeriods, row: &KeyRow) -> bool
     ensures { result ≡ is_listed until (period_in periods.now) row.now }
 {
     let dates = &row.row.dates;
     row.row.state == State::Active
         && (dates.protect_stop.is_some_and(|stop| stop <= until)
-            || is_long(periods.period(row.kind), dates))
+            || is_either_use_too_long(periods.period(row.kind), dates))
 }
 
 /// Whether the key's Protect Stop Date is reached, or will be by the horizon, or the key is long.

@@ -17,7 +17,7 @@ const LAST_DAY: u64 = 2_932_896;
 const DAYS_BEFORE: u32 = 4_371_587;
 
 /// The date of a day counted from 1970-01-01.
-pub(crate) fn date_of(day: u64) -> Date
+pub(crate) fn date_of_day_number(day: u64) -> Date
     requires { day ≤ LAST_DAY }
     ensures { HasParts result (civil day) }
 {
@@ -87,7 +87,7 @@ impl Moment {
         ensures { result ≡ months_after self months }
     {
         let seconds = self.seconds();
-        let day = day_number_after_months(date_of(seconds / DAY_SECONDS), months)?;
+        let day = day_number_after_months(date_of_day_number(seconds / DAY_SECONDS), months)?;
         Moment::new(day * DAY_SECONDS + seconds % DAY_SECONDS)
     }
 

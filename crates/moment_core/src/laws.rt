@@ -20,6 +20,6 @@ pub fn dates_invert_day_numbers()
 {}
 
 /// A moment some months on is no earlier.
-pub fn months_go_forward()
+pub fn plus_months_is_not_earlier()
     ensures { (m n later : ℕ) → months_after m n ≡ Some later → m ≤ later }
 {}

@@ -8,14 +8,14 @@ use crate::calendar::{self, DAY_SECONDS};
 use crate::moment::Moment;
 
 /// The digit of a number's tens.
-fn tens_digit(n: u32) -> u8
+fn ascii_tens_digit(n: u32) -> u8
     ensures { result ≡ 48 + n / 10 % 10 }
 {
     b'0' + (n / 10 % 10) as u8
 }
 
 /// The digit of a number's ones.
-fn ones_digit(n: u32) -> u8
+fn ascii_ones_digit(n: u32) -> u8
     ensures { result ≡ 48 + n % 10 }
 {
     b'0' + (n % 10) as u8
@@ -28,25 +28,25 @@ fn format_date_and_time(year: u32, month: u32, day: u32, second: u32) -> [u8; 20
     let (century, hour, minute) = (year / 100, second / 3600, second / 60 % 60);
     let (year, second) = (year % 100, second % 60);
     [
-        tens_digit(century),
-        ones_digit(century),
-        tens_digit(year),
-        ones_digit(year),
+        ascii_tens_digit(century),
+        ascii_ones_digit(century),
+        ascii_tens_digit(year),
+        ascii_ones_digit(year),
         b'-',
-        tens_digit(month),
-        ones_digit(month),
+        ascii_tens_digit(month),
+        ascii_ones_digit(month),
         b'-',
-        tens_digit(day),
-        ones_digit(day),
+        ascii_tens_digit(day),
+        ascii_ones_digit(day),
         b'T',
-        tens_digit(hour),
-        ones_digit(hour),
+        ascii_tens_digit(hour),
+        ascii_ones_digit(hour),
         b':',
-        tens_digit(minute),
-        ones_digit(minute),
+        ascii_tens_digit(minute),
+        ascii_ones_digit(minute),
         b':',
-        tens_digit(second),
-        ones_digit(second),
+        ascii_tens_digit(second),
+        ascii_ones_digit(second),
         b'Z',
     ]
 }
@@ -64,7 +64,7 @@ fn read_two_digits(digits: &[u8]) -> Option<u8>
 
 /// The moment whose text this is, if it is a moment's. Of another text it is some moment, or
 /// `None`.
-fn moment_of_digits(text: &[u8]) -> Option<Moment>
+fn moment_ignoring_separators(text: &[u8]) -> Option<Moment>
     ensures { (m : ℕ) → IsMoment m → text.now ≡ moment_text m → result ≡ Some m }
 {
     if text.len() != 20 {
@@ -95,7 +95,7 @@ impl Moment {
         ensures found { IfSome result (λ m. text.now ≡ moment_text m) }
         ensures none { IfNone result ((m : ℕ) → IsMoment m → text.now ≢ moment_text m) }
     {
-        let moment = moment_of_digits(text)?;
+        let moment = moment_ignoring_separators(text)?;
         if &moment.write()[..] == text {
             Some(moment)
         } else {
@@ -109,7 +109,7 @@ impl Moment {
         ensures { result ≡ moment_text self }
     {
         let seconds = self.seconds();
-        let date = calendar::date_of(seconds / DAY_SECONDS);
+        let date = calendar::date_of_day_number(seconds / DAY_SECONDS);
         let (month, day) = (u32::from(date.month), u32::from(date.day));
         format_date_and_time(
             calendar::year_of(&date),

@@ -40,8 +40,8 @@ pub record Fits (p : Period) (d : Dates) : Type 0 where
   pub recipient : IsTrue (is_not_after d.deactivation (recipient_limit p d))
 
 -- either use is longer than its months
-abbrev pub is_long : Period → Dates → Bool
-is_long p d =
+abbrev pub is_either_use_too_long : Period → Dates → Bool
+is_either_use_too_long p d =
     not (is_not_after d.protect_stop (originator_limit p d)) || not (is_not_after d.deactivation (recipient_limit p d))
 
 -- ---- defaults
@@ -74,8 +74,8 @@ abbrev pub dates_with_defaults : Period → Dates → Dates
 dates_with_defaults p d = with_default_deactivation p (with_default_protect_stop p d)
 
 -- the dates of an activation: each step's date cut to its limit
-abbrev pub dates_within_limits : Period → Dates → Dates
-dates_within_limits p d =
+abbrev pub defaulted_dates_cut_to_limits : Period → Dates → Dates
+defaulted_dates_cut_to_limits p d =
     let first = with_default_protect_stop p d in
     let stop = cut_to_limit first.protect_stop (originator_limit p first) in
     let stopped = record first { protect_stop = stop } in
@@ -129,7 +129,7 @@ fill_of p d =
 -- Trim: no period is too long after it, so it refuses for the order and the range alone
 abbrev pub trim_of : Period → Dates → Result Dates DateRefusal
 trim_of p d =
-    let full = dates_within_limits p d in
+    let full = defaulted_dates_cut_to_limits p d in
     unless_refused (first_that_holds (order_refusal full ∷ range_refusal full ∷ [])) full
 
 -- ---- what they owe

@@ -1,6 +1,5 @@
 -- Usage periods, in months. The months and their ranges are this register's own; what they bound is modelled on SP
--- 800-57
--- Part 1 Revision 5, sections 5.3.4 and 5.3.5.
+-- 800-57 Part 1 Revision 5, sections 5.3.4 and 5.3.5.
 use Rattle.std.specs.Prelude.{ℕ, ◌≤◌}
 use Rattle.period_core.specs.declared.key_type.KeyType.{KeyType}
 use Rattle.period_core.specs.declared.key_type.KeyType.TheVariants.{DataEncryption, Authentication, KeyWrapping}

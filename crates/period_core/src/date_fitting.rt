@@ -4,11 +4,11 @@ ghost use Rattle.std.specs.Prelude.{◌≡◌, ◌≢◌, ◌↔◌, ◌||◌, �
 ghost use Rattle.std.specs.Prelude.{IsSome, IfErr, OnOk};
 ghost use Rattle.period_core.specs.Fitting.{Fits, is_not_after, are_dates_in_order};
 ghost use Rattle.period_core.specs.Fitting.{originator_limit};
-ghost use Rattle.period_core.specs.Fitting.{recipient_limit, is_long, earlier_of, cut_to_limit};
+ghost use Rattle.period_core.specs.Fitting.{recipient_limit, is_either_use_too_long, earlier_of, cut_to_limit};
 ghost use Rattle.period_core.specs.Fitting.{months_on_date};
 ghost use Rattle.period_core.specs.Fitting.{with_default_protect_stop, with_default_deactivation};
 ghost use Rattle.period_core.specs.Fitting.{dates_with_defaults};
-ghost use Rattle.period_core.specs.Fitting.{dates_within_limits, order_refusal, length_refusal};
+ghost use Rattle.period_core.specs.Fitting.{defaulted_dates_cut_to_limits, order_refusal, length_refusal};
 ghost use Rattle.period_core.specs.Fitting.{range_refusal, fill_of, trim_of, Checks, KeepsGiven};
 ghost use Rattle.period_core.specs.Fitting.{Gives};
 
@@ -79,8 +79,8 @@ pub fn fits(period: Period, dates: &Dates) -> bool
 
 /// Whether either use is longer than its months, whatever the order of the dates. A limit past the
 /// last moment limits nothing.
-pub fn is_long(period: Period, dates: &Dates) -> bool
-    ensures { result ≡ is_long period dates.now }
+pub fn is_either_use_too_long(period: Period, dates: &Dates) -> bool
+    ensures { result ≡ is_either_use_too_long period dates.now }
 {
     !is_not_after(dates.protect_stop, originator_limit(period, dates))
         || !is_not_after(dates.deactivation, recipient_limit(period, dates))
@@ -147,7 +147,7 @@ struct Limited {
 
 /// The dates with their defaults, and their limits: a default moves no date that a limit before it
 /// goes by, so each limit is one sum of months.
-fn dates_with_limits(period: Period, dates: &Dates) -> Limited
+fn dates_with_defaults_and_limits(period: Period, dates: &Dates) -> Limited
     ensures dates { result.dates ≡ dates_with_defaults period dates.now }
     ensures originator { result.originator ≡ originator_limit period result.dates }
     ensures recipient { result.recipient ≡ recipient_limit period result.dates }
@@ -166,12 +166,12 @@ fn dates_with_limits(period: Period, dates: &Dates) -> Limited
 pub fn dates_with_defaults(period: Period, dates: Dates) -> Dates
     ensures { result ≡ dates_with_defaults period dates }
 {
-    dates_with_limits(period, &dates).dates
+    dates_with_defaults_and_limits(period, &dates).dates
 }
 
 /// The dates with their defaults, each cut to its limit.
-pub fn dates_within_limits(period: Period, dates: Dates) -> Dates
-    ensures { result ≡ dates_within_limits period dates }
+pub fn defaulted_dates_cut_to_limits(period: Period, dates: Dates) -> Dates
+    ensures { result ≡ defaulted_dates_cut_to_limits period dates }
 {
     let originator = originator_limit(period, &dates);
     let first = with_default_protect_stop(&originator, &dates);
@@ -240,7 +240,7 @@ pub fn fill(period: Period, dates: &mut Dates) -> Result<(), DateRefusal>
         dates: full,
         originator,
         recipient,
-    } = dates_with_limits(period, dates);
+    } = dates_with_defaults_and_limits(period, dates);
     check_order(&full)?;
     check_within_limit(full.protect_stop, originator)?;
     check_within_limit(full.deactivation, recipient)?;
@@ -261,7 +261,7 @@ pub fn trim(period: Period, dates: &mut Dates) -> Result<(), DateRefusal>
     ensures never_too_long { IfErr result (λ refusal.
         (limit : ℕ) → refusal ≢ DateRefusal.PeriodTooLong limit) }
 {
-    let full = dates_within_limits(period, *dates);
+    let full = defaulted_dates_cut_to_limits(period, *dates);
     check_order(&full)?;
     check_defaults_are_set(&full)?;
     *dates = full;

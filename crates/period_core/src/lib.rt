@@ -17,8 +17,8 @@ mod office;
 mod period;
 
 pub use date_fitting::{
-    DateRefusal, are_dates_in_order, dates_with_defaults, dates_within_limits, fill, fits, is_long,
-    is_not_after, trim,
+    DateRefusal, are_dates_in_order, dates_with_defaults, defaulted_dates_cut_to_limits, fill,
+    fits, is_either_use_too_long, is_not_after, trim,
 };
 pub use key_type::KeyType;
 pub use office::OfficePeriods;

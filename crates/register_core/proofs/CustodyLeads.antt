@@ -30,10 +30,12 @@ use Rattle.register_core.proofs.CustodyGrow.{filter_every, all_custodians_grow, 
 
 -- ---- a name that is not among those of the key
 
-pub any_with : (p : List ℕ → Bool) (name : List ℕ) (names : List (List ℕ)) → list_any p (with_name name names) ≡ p name || list_any p names
+pub any_with : (p : List ℕ → Bool) (name : List ℕ) (names : List (List ℕ)) → list_any p (with_name name names)
+    ≡ p name || list_any p names
 any_with p name [] = refl
 any_with p name (first ∷ others) =
-    elim (is_gt (slice_cmp nat_cmp name first)) as (λ b. list_any p (cond b (first ∷ with_name name others) (name ∷ first ∷ others)) ≡ p name || (p first || list_any p others)) [
+    elim (is_gt (slice_cmp nat_cmp name first)) as (λ b. list_any p
+    (cond b (first ∷ with_name name others) (name ∷ first ∷ others)) ≡ p name || (p first || list_any p others)) [
       | true ↦ ap (λ (b : Bool). p first || b) (any_with p name others) ∙ swapped (p first) (p name) (list_any p others)
       | false ↦ refl
     ]
@@ -45,14 +47,19 @@ any_with p name (first ∷ others) =
 
 pub any_sorted_names : (p : List ℕ → Bool) (names : List (List ℕ)) → list_any p (sorted_names names) ≡ list_any p names
 any_sorted_names p [] = refl
-any_sorted_names p (name ∷ others) = any_with p name (sorted_names others) ∙ ap (λ (b : Bool). p name || b) (any_sorted_names p others)
+any_sorted_names p (name ∷ others) = any_with p name (sorted_names others)
+    ∙ ap (λ (b : Bool). p name || b) (any_sorted_names p others)
 
-pub any_of_key : (key : ℕ) (name : List ℕ) (entries : List (KeyName)) → list_any (λ other. bytes_eq other name) (names_at key entries) ≡ list_any (is_key_name key name) entries
+pub any_of_key : (key : ℕ) (name : List ℕ) (entries : List (KeyName))
+    → list_any (λ other. bytes_eq other name) (names_at key entries) ≡ list_any (is_key_name key name) entries
 any_of_key key name [] = refl
 any_of_key key name (entry ∷ entries) = by (is_at key entry) (any_of_key key name entries)
   where
-    by : (b : Bool) → list_any (λ other. bytes_eq other name) (names_at key entries) ≡ list_any (is_key_name key name) entries
-        → list_any (λ other. bytes_eq other name) (map (λ (p : KeyName). p.name) (cond b (entry ∷ filter (is_at key) entries) (filter (is_at key) entries))) ≡ (b && bytes_eq entry.name name) || list_any (is_key_name key name) entries
+    by : (b : Bool) → list_any (λ other. bytes_eq other name) (names_at key entries)
+        ≡ list_any (is_key_name key name) entries
+        → list_any (λ other. bytes_eq other name)
+        (map (λ (p : KeyName). p.name) (cond b (entry ∷ filter (is_at key) entries) (filter (is_at key) entries)))
+        ≡ (b && bytes_eq entry.name name) || list_any (is_key_name key name) entries
     by true same = ap (λ (x : Bool). bytes_eq entry.name name || x) same
     by false same = same
 
@@ -66,9 +73,12 @@ none_taken p (x ∷ xs) none = by (p x) none (none_taken p xs)
     by false e rest = ap (λ l. x ∷ l) (rest e)
 
 -- nothing of the entries goes where the name is not among those of its key
-absent : (key : ℕ) (name : List ℕ) (entries : List (KeyName)) → is_among name (sorted_names (names_at key entries)) ≡ false → filter (λ entry. not (is_key_name key name entry)) entries ≡ entries
+absent : (key : ℕ) (name : List ℕ) (entries : List (KeyName))
+    → is_among name (sorted_names (names_at key entries)) ≡ false
+    → filter (λ entry. not (is_key_name key name entry)) entries ≡ entries
 absent key name entries none =
-    none_taken (is_key_name key name) entries (sym (any_of_key key name entries) ∙ sym (any_sorted_names (λ other. bytes_eq other name) (names_at key entries)) ∙ none)
+    none_taken (is_key_name key name) entries (sym (any_of_key key name entries)
+    ∙ sym (any_sorted_names (λ other. bytes_eq other name) (names_at key entries)) ∙ none)
 
 pub not_refused : (b : Bool) (refusal : Refusal) → cond b (Some refusal) None ≡ None → b ≡ false
 not_refused true refusal none = absurd cc
@@ -88,15 +98,19 @@ custodians_then c entries = filter (λ entry. not (is_about entry c)) entries ++
 abbrev approvals_then : List Request → List ℕ → Command → List (KeyName) → List (KeyName)
 approvals_then h caller c entries = filter (λ entry. not (ends_by h entry caller c)) entries ++ approved_by caller c
 
-same_entries : (p : KeyName → Bool) → ((entry : KeyName) → p entry ≡ false) → (entries : List (KeyName)) → filter (λ entry. not (p entry)) entries ++ [] ≡ entries
-same_entries p none entries = append-nil _ ∙ filter_every (λ entry. not (p entry)) (λ entry. ap not (none entry)) entries
+same_entries : (p : KeyName → Bool) → ((entry : KeyName) → p entry ≡ false) → (entries : List (KeyName))
+    → filter (λ entry. not (p entry)) entries ++ [] ≡ entries
+same_entries p none entries = append-nil _
+    ∙ filter_every (λ entry. not (p entry)) (λ entry. ap not (none entry)) entries
 
 lead : (h : List Request) (q : Request) (c : Command) (key : ℕ) (custody : CustodyChange) → q.command ≡ c
-    → custodians_then c (all_custodians h) ≡ custodians_by key custody (all_custodians h) → approvals_then h q.caller c (all_approvals h) ≡ approvals_by key custody (all_approvals h)
+    → custodians_then c (all_custodians h) ≡ custodians_by key custody (all_custodians h)
+    → approvals_then h q.caller c (all_approvals h) ≡ approvals_by key custody (all_approvals h)
     → needs_after (all_needs h) c ≡ needs_by key custody (all_needs h) → CustodyLead h q key custody
 lead h q c key custody is cs given needs = record {
   custodians_are = all_custodians_grow h q ∙ ap (λ (x : Command). custodians_then x (all_custodians h)) is ∙ cs;
-  approvals_are = all_approvals_grow h q ∙ ap (λ (x : Command). approvals_then h q.caller x (all_approvals h)) is ∙ given;
+  approvals_are = all_approvals_grow h q ∙ ap (λ (x : Command). approvals_then h q.caller x (all_approvals h)) is
+      ∙ given;
   needs_are = needs_next h q ∙ ap (needs_after (all_needs h)) is ∙ needs;
 }
 
@@ -110,10 +124,12 @@ record LeavesNames (h : List Request) (caller : List ℕ) (c : Command) : Type 0
 
 -- One that names no key does. The last row has every command that names one, and every other that does not.
 leaves : (h : List Request) (caller : List ℕ) (c : Command) → named c ≡ None → LeavesNames h caller c
-leaves h caller Advance none = record { about = λ entry. refl; added = refl; ends = λ entry. refl; approved = refl; needs = λ sets. refl }
+leaves h caller Advance none =
+    record { about = λ entry. refl; added = refl; ends = λ entry. refl; approved = refl; needs = λ sets. refl }
 leaves h caller (SetPeriod kind period) none =
     record { about = λ entry. refl; added = refl; ends = λ entry. refl; approved = refl; needs = λ sets. refl }
-leaves h caller c none = record { about = λ entry. cc; added = cc; ends = λ entry. cc; approved = cc; needs = λ sets. cc }
+leaves h caller c none =
+    record { about = λ entry. cc; added = cc; ends = λ entry. cc; approved = cc; needs = λ sets. cc }
 
 left : (p : KeyName → Bool) (more entries : List (KeyName)) → ((entry : KeyName) → p entry ≡ false) → more ≡ []
     → filter (λ entry. not (p entry)) entries ++ more ≡ entries
@@ -139,15 +155,21 @@ and_not false b c both = refl
 
 filter_same : {X : Type 0} (p r : X → Bool) → ((x : X) → p x ≡ r x) → (xs : List X) → filter p xs ≡ filter r xs
 filter_same p r same [] = refl
-filter_same p r same (x ∷ xs) = ap (λ (b : Bool). cond b (x ∷ filter p xs) (filter p xs)) (same x) ∙ ap (λ l. cond (r x) (x ∷ l) l) (filter_same p r same xs)
+filter_same p r same (x ∷ xs) = ap (λ (b : Bool). cond b (x ∷ filter p xs) (filter p xs)) (same x)
+    ∙ ap (λ l. cond (r x) (x ∷ l) l) (filter_same p r same xs)
 
 revoked : (h : List Request) (q : Request) (k : ℕ) (compromise kept : Bool) (entries : List (KeyName))
-    → filter (λ entry. not (is_at k entry && compromise && kept)) entries ++ [] ≡ approvals_by k (cond (compromise && kept) ApprovalsEnded Kept) entries
-revoked h q k true true entries = append-nil _ ∙ filter_same _ _ (λ entry. ap not (and_both (is_at k entry) true true refl)) entries
-revoked h q k true false entries = same_entries (λ entry. is_at k entry && true && false) (λ entry. and_not (is_at k entry) true false refl) entries
-revoked h q k false kept entries = same_entries (λ entry. is_at k entry && false && kept) (λ entry. and_not (is_at k entry) false kept refl) entries
+    → filter (λ entry. not (is_at k entry && compromise && kept)) entries ++ []
+    ≡ approvals_by k (cond (compromise && kept) ApprovalsEnded Kept) entries
+revoked h q k true true entries = append-nil _
+    ∙ filter_same _ _ (λ entry. ap not (and_both (is_at k entry) true true refl)) entries
+revoked h q k true false entries =
+    same_entries (λ entry. is_at k entry && true && false) (λ entry. and_not (is_at k entry) true false refl) entries
+revoked h q k false kept entries =
+    same_entries (λ entry. is_at k entry && false && kept) (λ entry. and_not (is_at k entry) false kept refl) entries
 
-pub kept_custodians : (k : ℕ) (ends : Bool) (entries : List (KeyName)) → custodians_by k (cond ends ApprovalsEnded Kept) entries ≡ entries
+pub kept_custodians : (k : ℕ) (ends : Bool) (entries : List (KeyName))
+    → custodians_by k (cond ends ApprovalsEnded Kept) entries ≡ entries
 kept_custodians k true entries = refl
 kept_custodians k false entries = refl
 
@@ -158,31 +180,41 @@ kept_needs k false sets = refl
 same_key : (n k : ℕ) → ◌≡◌ {A = Option ℕ} (Some n) (Some k) → n ≡ k
 same_key n k e = cc
 
-pub custody_lead : (h : List Request) (q : Request) (k : ℕ) → named q.command ≡ Some k → IsNew h q k → CustodyLead h q k (custody_change (dates h k) q.caller q.command)
+pub custody_lead : (h : List Request) (q : Request) (k : ℕ) → named q.command ≡ Some k → IsNew h q k
+    → CustodyLead h q k (custody_change (dates h k) q.caller q.command)
 custody_lead h q k names new = by q.command refl names
   where
     unchanged : (c : Command) → q.command ≡ c → custody_change (dates h k) q.caller c ≡ Kept
-        → ((entry : KeyName) → is_about entry c ≡ false) → added_by c ≡ [] → ((entry : KeyName) → ends_by h entry q.caller c ≡ false) → approved_by q.caller c ≡ []
+        → ((entry : KeyName) → is_about entry c ≡ false) → added_by c ≡ []
+        → ((entry : KeyName) → ends_by h entry q.caller c ≡ false) → approved_by q.caller c ≡ []
         → needs_after (all_needs h) c ≡ all_needs h
         → CustodyLead h q k (custody_change (dates h k) q.caller q.command)
     unchanged c is kept no_one none_added ends_none none_given same_needs =
         subst (CustodyLead h q k) (sym (ap (custody_change (dates h k) q.caller) is ∙ kept))
         (lead h q c k Kept is
-        (ap (λ l. filter (λ entry. not (is_about entry c)) (all_custodians h) ++ l) none_added ∙ same_entries (λ entry. is_about entry c) no_one (all_custodians h))
-        (ap (λ l. filter (λ entry. not (ends_by h entry q.caller c)) (all_approvals h) ++ l) none_given ∙ same_entries (λ entry. ends_by h entry q.caller c) ends_none (all_approvals h)) same_needs)
+        (ap (λ l. filter (λ entry. not (is_about entry c)) (all_custodians h) ++ l) none_added
+        ∙ same_entries (λ entry. is_about entry c) no_one (all_custodians h))
+        (ap (λ l. filter (λ entry. not (ends_by h entry q.caller c)) (all_approvals h) ++ l) none_given
+        ∙ same_entries (λ entry. ends_by h entry q.caller c) ends_none (all_approvals h)) same_needs)
 
     changed : (c : Command) → q.command ≡ c
-        → custodians_then c (all_custodians h) ≡ custodians_by k (custody_change (dates h k) q.caller c) (all_custodians h)
-        → approvals_then h q.caller c (all_approvals h) ≡ approvals_by k (custody_change (dates h k) q.caller c) (all_approvals h)
+        → custodians_then c (all_custodians h)
+        ≡ custodians_by k (custody_change (dates h k) q.caller c) (all_custodians h)
+        → approvals_then h q.caller c (all_approvals h)
+        ≡ approvals_by k (custody_change (dates h k) q.caller c) (all_approvals h)
         → needs_after (all_needs h) c ≡ needs_by k (custody_change (dates h k) q.caller c) (all_needs h)
         → CustodyLead h q k (custody_change (dates h k) q.caller q.command)
-    changed c is cs given needs = subst (CustodyLead h q k) (sym (ap (custody_change (dates h k) q.caller) is)) (lead h q c k _ is cs given needs)
+    changed c is cs given needs =
+        subst (CustodyLead h q k) (sym (ap (custody_change (dates h k) q.caller) is)) (lead h q c k _ is cs given needs)
 
-    by : (c : Command) → q.command ≡ c → named c ≡ Some k → CustodyLead h q k (custody_change (dates h k) q.caller q.command)
+    by : (c : Command) → q.command ≡ c → named c ≡ Some k
+        → CustodyLead h q k (custody_change (dates h k) q.caller q.command)
     by (Revoke n reason occurrence) is e =
-        let here : q.command ≡ Revoke k reason occurrence = is ∙ ap (λ (x : ℕ). Revoke x reason occurrence) (same_key n k e) in
+        let here : q.command ≡ Revoke k reason occurrence = is
+        ∙ ap (λ (x : ℕ). Revoke x reason occurrence) (same_key n k e) in
         changed (Revoke k reason occurrence) here
-        (same_entries (λ entry. false) (λ entry. refl) (all_custodians h) ∙ sym (kept_custodians k (is_compromise reason && is_none (dates h k).destroy) (all_custodians h)))
+        (same_entries (λ entry. false) (λ entry. refl) (all_custodians h)
+        ∙ sym (kept_custodians k (is_compromise reason && is_none (dates h k).destroy) (all_custodians h)))
         (revoked h q k (is_compromise reason) (is_none (dates h k).destroy) (all_approvals h))
         (sym (kept_needs k (is_compromise reason && is_none (dates h k).destroy) (all_needs h)))
     by (AddCustodian n name) is e =

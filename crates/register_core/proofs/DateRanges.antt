@@ -10,7 +10,7 @@ use Rattle.lifecycle_core.specs.Reason.{is_compromise}
 use Rattle.moment_core.specs.Calendar.{in_range, months_after}
 use Rattle.moment_core.specs.Moment.{IsMoment, last_second}
 use Rattle.period_core.specs.Fitting.{cut_to_limit, earlier_of, dates_with_defaults, months_on_date, originator_limit}
-use Rattle.period_core.specs.Fitting.{recipient_limit, dates_within_limits, with_default_deactivation}
+use Rattle.period_core.specs.Fitting.{recipient_limit, defaulted_dates_cut_to_limits, with_default_deactivation}
 use Rattle.period_core.specs.Fitting.{with_default_protect_stop}
 use Rattle.period_core.specs.Period.{Period}
 use Rattle.register_requests.specs.declared.request.Command.{Command}
@@ -94,7 +94,7 @@ with_end p d are =
 filled_in : (p : Period) (d : Dates) → AreDates d → AreDates (dates_with_defaults p d)
 filled_in p d are = with_end p (with_default_protect_stop p d) (with_stop p d are)
 
-trimmed_in : (p : Period) (d : Dates) → AreDates d → AreDates (dates_within_limits p d)
+trimmed_in : (p : Period) (d : Dates) → AreDates d → AreDates (defaulted_dates_cut_to_limits p d)
 trimmed_in p d are =
     let first = with_default_protect_stop p d in
     let in_first = with_stop p d are in

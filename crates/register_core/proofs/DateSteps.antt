@@ -13,7 +13,7 @@ use Rattle.moment_core.proofs.Forward.{months_forward}
 use Rattle.period_core.specs.declared.key_type.KeyType.{KeyType}
 use Rattle.period_core.specs.Period.{Period}
 use Rattle.period_core.specs.Fitting.{is_not_after, months_on_date, Fits, KeepsDate, cut_to_limit, dates_with_defaults}
-use Rattle.period_core.specs.Fitting.{dates_within_limits}
+use Rattle.period_core.specs.Fitting.{defaulted_dates_cut_to_limits}
 use Rattle.register_requests.specs.declared.request.Command.{Command}
 use Rattle.register_requests.specs.declared.request.Command.TheVariants.{Register as Registers, Activate, SetDates}
 use Rattle.register_requests.specs.declared.request.Command.TheVariants.{Revoke, Destroy}
@@ -82,7 +82,7 @@ sound_by period d new fits keeps occurs = record {
 -- ---- Activate
 
 activated_moves : (period : Period) (d : Dates) (t : ℕ) → state_at d t ≡ PreActive
-    → MovesOnly d t (dates_within_limits period (record d { activation = Some t }))
+    → MovesOnly d t (defaulted_dates_cut_to_limits period (record d { activation = Some t }))
 activated_moves period d t early =
     let given : Dates = record d { activation = Some t } in
     let keeps = trimmed_keeps period given in

@@ -9,7 +9,7 @@ use Rattle.period_core.specs.declared.date_fitting.DateRefusal.{DateRefusal}
 use Rattle.period_core.specs.declared.date_fitting.DateRefusal.TheVariants.{DateOrder, PeriodTooLong, DateRange}
 use Rattle.period_core.specs.Fitting.{is_not_after, originator_limit, recipient_limit, Fits, earlier_of}
 use Rattle.period_core.specs.Fitting.{with_default_protect_stop, with_default_deactivation, cut_to_limit}
-use Rattle.period_core.specs.Fitting.{dates_with_defaults, dates_within_limits}
+use Rattle.period_core.specs.Fitting.{dates_with_defaults, defaulted_dates_cut_to_limits}
 use Rattle.period_core.specs.Fitting.{length_refusal, order_refusal, range_refusal, unless_refused, fill_of, trim_of}
 use Rattle.register_core.specs.Verdict.{refused_dates}
 use Rattle.register_core.proofs.Filling.{past}
@@ -43,7 +43,7 @@ stopped period d =
     record first { protect_stop = cut_to_limit first.protect_stop (originator_limit period first) }
 
 trimmed_kept : {X : Type 0} (f : Dates → X) → IsApart f → (period : Period) (d : Dates)
-    → f (dates_within_limits period d) ≡ f d
+    → f (defaulted_dates_cut_to_limits period d) ≡ f d
 trimmed_kept f apart period d =
     apart.end (with_default_deactivation period (stopped period d)) _
     ∙ end_kept f apart period (stopped period d)
@@ -72,8 +72,8 @@ keeps_by old new kept_by = record {
 pub filled_keeps : (period : Period) (d : Dates) → KeepsOthers d (dates_with_defaults period d)
 filled_keeps period d = keeps_by d (dates_with_defaults period d) (λ X f apart. filled_kept f apart period d)
 
-pub trimmed_keeps : (period : Period) (d : Dates) → KeepsOthers d (dates_within_limits period d)
-trimmed_keeps period d = keeps_by d (dates_within_limits period d) (λ X f apart. trimmed_kept f apart period d)
+pub trimmed_keeps : (period : Period) (d : Dates) → KeepsOthers d (defaulted_dates_cut_to_limits period d)
+trimmed_keeps period d = keeps_by d (defaulted_dates_cut_to_limits period d) (λ X f apart. trimmed_kept f apart period d)
 
 never_empty : (b : Bool) (o : Option ℕ) (x : ℕ) → o ≡ Some x → b && is_none o ≡ false
 never_empty true None x set = absurd cc
@@ -96,22 +96,24 @@ pub filled_stop : (period : Period) (d : Dates) (x : ℕ) → d.protect_stop ≡
     → (dates_with_defaults period d).protect_stop ≡ Some x
 filled_stop period d x set =
     kept (λ (y : Dates). y.protect_stop)
-    (is_some (with_default_protect_stop period d).activation && is_none (with_default_protect_stop period d).deactivation) _
+    (is_some (with_default_protect_stop period d).activation
+    && is_none (with_default_protect_stop period d).deactivation) _
     (with_default_protect_stop period d) refl
     ∙ given_stop period d x set
 
 -- Trim's Protect Stop
 trimmed_stop_is : (period : Period) (d : Dates)
-    → (dates_within_limits period d).protect_stop ≡ (stopped period d).protect_stop
+    → (defaulted_dates_cut_to_limits period d).protect_stop ≡ (stopped period d).protect_stop
 trimmed_stop_is period d =
     kept (λ (y : Dates). y.protect_stop)
     (is_some (stopped period d).activation && is_none (stopped period d).deactivation) _ (stopped period d) refl
 
 pub trimmed_stop : (period : Period) (d : Dates) (x : ℕ) → d.protect_stop ≡ Some x
-    → (dates_within_limits period d).protect_stop ≡ cut_to_limit (Some x) (originator_limit period d)
+    → (defaulted_dates_cut_to_limits period d).protect_stop ≡ cut_to_limit (Some x) (originator_limit period d)
 trimmed_stop period d x set =
     trimmed_stop_is period d
-    ∙ ap (λ (o : Option ℕ). cut_to_limit o (originator_limit period (with_default_protect_stop period d))) (given_stop period d x set)
+    ∙ ap (λ (o : Option ℕ). cut_to_limit o (originator_limit period (with_default_protect_stop period d)))
+    (given_stop period d x set)
     ∙ ap (λ (o : Option ℕ). cut_to_limit (Some x) o)
     (stop_kept (originator_limit period) (record { stop = λ y date. refl; end = λ y date. refl }) period d)
 
@@ -185,9 +187,9 @@ cut_within (Some date) None = refl
 cut_within (Some date) (Some limit) = le-leb (min date limit) limit (omega arith)
 
 pub trimmed_fits : (period : Period) (d : Dates) → refused_dates (trim_of period d) ≡ None
-    → Fits period (dates_within_limits period d) × IsWhole (dates_within_limits period d)
+    → Fits period (defaulted_dates_cut_to_limits period d) × IsWhole (defaulted_dates_cut_to_limits period d)
 trimmed_fits period d e =
-    let full = dates_within_limits period d in
+    let full = defaulted_dates_cut_to_limits period d in
     let first = with_default_protect_stop period d in
     let second = with_default_deactivation period (stopped period d) in
     let ordering = past (order_refusal full) (range_refusal full ∷ []) (passes _ full e) in

@@ -112,7 +112,8 @@ held_made h q r makes =
     let counted : count all ≡ k = count_grows h q ∙ ap (λ (s : Subject). count h + count_by s) makes in
     assembled_same (need all k) (custodians all k) (approvals all k) (is_there all k) (type all k) r.kind
     (owner all k) r.owner
-    (dates all k) (dates_with_defaults (period h r.kind) (given_dates q.moment r.activation r.protect_stop r.deactivation))
+    (dates all k)
+    (dates_with_defaults (period h r.kind) (given_dates q.moment r.activation r.protect_stop r.deactivation))
     (latest all) q.moment
     (there all k (omega arith) (omega (arith, counted)))
     (kind_made h q r makes)

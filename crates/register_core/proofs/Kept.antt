@@ -348,7 +348,8 @@ decided_in_range view q request few accepted =
       command = request.command;
       key = key_decided view.keys q.moment (always view.period) view.key q (subject q.command) few
           (λ k names. (number k names).1);
-      moment = subst IsMoment (sym (moment_decided view.keys q.moment (change_by_request (always view.period) view.key q)))
+      moment = subst IsMoment
+          (sym (moment_decided view.keys q.moment (change_by_request (always view.period) view.key q)))
           request.moment;
       whole = whole_decided view.keys q.moment (always view.period) view.key q (subject q.command)
           (λ k names. (number k names).0) (key_known view q accepted);

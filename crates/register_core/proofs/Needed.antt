@@ -110,7 +110,8 @@ change_so periods others (Names k) (Some held) q is same =
 change_so periods others NoKey key q is same = refl
 
 pub changed_by : (periods others : KeyType → Period) (key : Option Held) (q : Request)
-    → AreSoFor (needed_period_type key q.command) periods others → change_by_request periods key q ≡ change_by_request others key q
+    → AreSoFor (needed_period_type key q.command) periods others → change_by_request periods key q
+    ≡ change_by_request others key q
 changed_by periods others key q same = change_so periods others (subject q.command) key q refl same
 
 -- ---- a moment below the latest
@@ -156,7 +157,8 @@ changed_so h q accepted = by (nat_lt q.moment (latest h)) (named_key h q.command
   where
     by : (b : Bool) (key : Option Held) → nat_lt q.moment (latest h) ≡ b
         → judge (latest h) (count h) (period h) key q ≡ None
-        → change_by_request (period h) (cond b None (option_map (needed_of q.command) key)) q ≡ change_by_request (period h) key q
+        → change_by_request (period h) (cond b None (option_map (needed_of q.command) key)) q
+        ≡ change_by_request (period h) key q
     by true key is accepted = let refused = is_early (latest h) (count h) (period h) key q is in absurd cc
     by false key is accepted = change_same (period h) (subject q.command) q.command key q
 

@@ -11,7 +11,7 @@ use Rattle.lifecycle_core.specs.Reason.{is_compromise}
 use Rattle.lifecycle_core.specs.Transition.{IsPath, Leads}
 use Rattle.lifecycle_core.proofs.Transitions.{is_transition, listed}
 use Rattle.period_core.specs.Period.{Period}
-use Rattle.period_core.specs.Fitting.{dates_with_defaults, dates_within_limits}
+use Rattle.period_core.specs.Fitting.{dates_with_defaults, defaulted_dates_cut_to_limits}
 use Rattle.register_requests.specs.declared.request.Command.{Command}
 use Rattle.register_requests.specs.declared.request.Command.TheVariants.{Register as Registers, Activate, SetDates}
 use Rattle.register_requests.specs.declared.request.Command.TheVariants.{Revoke, Destroy}
@@ -94,9 +94,9 @@ still_unset : (old new : Option ℕ) → new ≡ old → is_some old ≡ false �
 still_unset old new same none = ap is_some same ∙ none
 
 activated_path : (period : Period) (d : Dates) (t : ℕ) → state_at d t ≡ PreActive
-    → Goes d t (dates_within_limits period (record d { activation = Some t }))
+    → Goes d t (defaulted_dates_cut_to_limits period (record d { activation = Some t }))
 activated_path period d t early =
-    let new : Dates = dates_within_limits period (record d { activation = Some t }) in
+    let new : Dates = defaulted_dates_cut_to_limits period (record d { activation = Some t }) in
     let keeps = trimmed_keeps period (record d { activation = Some t }) in
     let old = its_shows d t PreActive early in
     as_from d new t PreActive early

@@ -6,7 +6,7 @@ use Rattle.std.proofs.lemmas.List.Sums.{fold-append}
 use Rattle.period_core.specs.declared.key_type.KeyType.{KeyType}
 use Rattle.period_core.specs.KeyType.{key_type_code}
 use Rattle.period_core.specs.Period.{Period, periods}
-use Rattle.period_core.specs.Fitting.{Fits, is_long, is_not_after, originator_limit, recipient_limit}
+use Rattle.period_core.specs.Fitting.{Fits, is_either_use_too_long, is_not_after, originator_limit, recipient_limit}
 use Rattle.lifecycle_core.specs.declared.dates.Dates.{Dates}
 use Rattle.register_requests.specs.declared.request.Request.{Request}
 use Rattle.register_requests.specs.declared.request.Command.{Command}
@@ -67,7 +67,7 @@ module _ (kind : KeyType) where
       (subst (λ (h : List Request). set_period h kind ≡ None) (sym (append_assoc before (q ∷ []) later)) none)
 
 -- dates that fit are not long
-fitting : (p : Period) (d : Dates) → Fits p d → is_long p d ≡ false
+fitting : (p : Period) (d : Dates) → Fits p d → is_either_use_too_long p d ≡ false
 fitting p d fits =
     by (is_not_after d.protect_stop (originator_limit p d)) (is_not_after d.deactivation (recipient_limit p d))
     fits.originator fits.recipient
@@ -86,7 +86,7 @@ unset_fit h lawful k has nothing =
 
 -- where no period of its type was ever set, a key is not long
 pub none_long : (h : List Request) → IsLawful h → (k : ℕ) → HasKey h k → set_period h (type h k) ≡ None
-    → is_long (period h (type h k)) (dates h k) ≡ false
+    → is_either_use_too_long (period h (type h k)) (dates h k) ≡ false
 none_long h lawful k has nothing =
     let now_so : period h (type h k) ≡ periods (type h k) =
     ap (λ (o : Option Period). unwrap_or o (periods (type h k))) nothing in

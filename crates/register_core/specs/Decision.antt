@@ -51,7 +51,8 @@ registered_key periods t new = record {
   kind = new.kind;
   owner = new.owner;
   purpose = new.purpose;
-  row = row_with_dates_at (dates_with_defaults (periods new.kind) (given_dates t new.activation new.protect_stop new.deactivation)) t;
+  row = row_with_dates_at
+      (dates_with_defaults (periods new.kind) (given_dates t new.activation new.protect_stop new.deactivation)) t;
 }
 
 -- what an accepted command that is about no key changes of what the register keeps besides keys
@@ -140,9 +141,8 @@ Stands h k kind owner row = held h k ≡ Some (record {
 })
 
 -- The key that the change is of stands as the change says, once the request is at the end of this history. Its
--- custodians
--- and approvals are those that the change leaves; at no other key does anybody come or go. So are the periods that
--- are set.
+-- custodians and approvals are those that the change leaves; at no other key does anybody come or go. So are the
+-- periods that are set.
 abbrev pub LeadsTo : List Request → Request → Change → Type 0
 LeadsTo h q (change.Made key) =
     Stands (h ++ q ∷ []) (count h + 1) key.kind key.owner key.row × CustodyLead h q (count h + 1) Kept

@@ -9,7 +9,7 @@ use Rattle.period_core.specs.declared.key_type.KeyType.{KeyType}
 use Rattle.period_core.specs.KeyType.{key_type_code}
 use Rattle.period_core.specs.Period.{Period}
 use Rattle.period_core.specs.declared.date_fitting.DateRefusal.{DateRefusal}
-use Rattle.period_core.specs.Fitting.{dates_with_defaults, dates_within_limits, fill_of, trim_of}
+use Rattle.period_core.specs.Fitting.{dates_with_defaults, defaulted_dates_cut_to_limits, fill_of, trim_of}
 use Rattle.register_requests.specs.declared.request.Command.{Command}
 use Rattle.register_requests.specs.declared.request.Command.TheVariants.{Register, Activate, SetDates, Revoke, Assign}
 use Rattle.register_requests.specs.declared.request.Command.TheVariants.{AddCustodian, RemoveCustodian, Approve}
@@ -45,7 +45,12 @@ unset_dates = record { initial = 0; activation = None; protect_stop = None; deac
 -- the dates that a registration at the moment t gives, before Fill
 abbrev pub given_dates : ℕ → Option ℕ → Option ℕ → Option ℕ → Dates
 given_dates t activation protect_stop deactivation =
-    record unset_dates { initial = t; activation = activation; protect_stop = protect_stop; deactivation = deactivation }
+    record unset_dates {
+      initial = t;
+      activation = activation;
+      protect_stop = protect_stop;
+      deactivation = deactivation;
+    }
 
 abbrev pub date_after_edit : Edit → Option ℕ → Option ℕ
 date_after_edit Keep before = before
@@ -55,7 +60,12 @@ date_after_edit (Set date) before = Some date
 -- the dates with these edits, before Fill
 abbrev pub edited_dates : Edit → Edit → Edit → Dates → Dates
 edited_dates activation protect_stop deactivation d =
-    record d { activation = date_after_edit activation d.activation; protect_stop = date_after_edit protect_stop d.protect_stop; deactivation = date_after_edit deactivation d.deactivation }
+    record d {
+      activation = date_after_edit activation d.activation;
+      protect_stop = date_after_edit protect_stop d.protect_stop;
+      deactivation =
+          date_after_edit deactivation d.deactivation;
+    }
 
 -- a date that is later than t becomes t
 abbrev pub cut_date_at : ℕ → Option ℕ → Option ℕ
@@ -64,7 +74,8 @@ cut_date_at t (Some date) = Some (min date t)
 
 -- a key that is compromised at t, with the occurrence that is given, or the Initial Date
 abbrev pub compromised : ℕ → Option ℕ → Dates → Dates
-compromised t occurrence d = record d { compromise = Some t; compromise_occurrence = Some (unwrap_or occurrence d.initial) }
+compromised t occurrence d =
+    record d { compromise = Some t; compromise_occurrence = Some (unwrap_or occurrence d.initial) }
 
 -- a key that is deactivated at t: its originator use ends no later
 abbrev pub deactivated : ℕ → Dates → Dates
@@ -74,7 +85,7 @@ deactivated t d = record d { deactivation = Some t; protect_stop = cut_date_at t
 abbrev pub dates_after : Period → Dates → ℕ → Command → Dates
 dates_after p d t (Register kind owner activation protect_stop deactivation purpose) =
     dates_with_defaults p (given_dates t activation protect_stop deactivation)
-dates_after p d t (Activate key) = dates_within_limits p (record d { activation = Some t })
+dates_after p d t (Activate key) = defaulted_dates_cut_to_limits p (record d { activation = Some t })
 dates_after p d t (SetDates key activation protect_stop deactivation) =
     dates_with_defaults p (edited_dates activation protect_stop deactivation d)
 dates_after p d t (Revoke key reason occurrence) =
@@ -83,13 +94,13 @@ dates_after p d t (Destroy key) = record d { destroy = Some t }
 dates_after p d t _ = d
 
 -- the same, unless Fill, or at an activation Trim, refuses the dates that the command gives
-abbrev pub dates_or_refusal : Period → Dates → ℕ → Command → Result Dates DateRefusal
-dates_or_refusal p d t (Register kind owner activation protect_stop deactivation purpose) =
+abbrev pub commanded_dates_or_refusal : Period → Dates → ℕ → Command → Result Dates DateRefusal
+commanded_dates_or_refusal p d t (Register kind owner activation protect_stop deactivation purpose) =
     fill_of p (given_dates t activation protect_stop deactivation)
-dates_or_refusal p d t (Activate key) = trim_of p (record d { activation = Some t })
-dates_or_refusal p d t (SetDates key activation protect_stop deactivation) =
+commanded_dates_or_refusal p d t (Activate key) = trim_of p (record d { activation = Some t })
+commanded_dates_or_refusal p d t (SetDates key activation protect_stop deactivation) =
     fill_of p (edited_dates activation protect_stop deactivation d)
-dates_or_refusal p d t c = Ok (dates_after p d t c)
+commanded_dates_or_refusal p d t c = Ok (dates_after p d t c)
 
 -- dates, with the state that they give at t
 abbrev pub row_with_dates_at : Dates → ℕ → Row
@@ -119,7 +130,8 @@ need_after before _ = before
 
 -- what becomes of the custody of a key with these dates, by a caller's command
 abbrev pub custody_change : Dates → List ℕ → Command → CustodyChange
-custody_change d caller (Revoke key reason occurrence) = if is_compromise reason && is_none d.destroy then ApprovalsEnded else Kept
+custody_change d caller (Revoke key reason occurrence) =
+    if is_compromise reason && is_none d.destroy then ApprovalsEnded else Kept
 custody_change d caller (AddCustodian key name) = CustodianAdded name
 custody_change d caller (RemoveCustodian key name) = CustodianRemoved name
 custody_change d caller (Approve key) = Approved caller

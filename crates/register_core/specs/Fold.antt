@@ -1,6 +1,5 @@
 -- What a list of items makes of a history, and what they are answered. An item is a request, or none for a line that
--- is no
--- request. The words that end in _in are said of a version, the others of this program's.
+-- is no request. The words that end in _in are said of a version, the others of this program's.
 use Rattle.std.specs.Prelude.{◌≡◌, List, [], ◌∷◌, ◌++◌, map, fold, Option, None, Some, Result, Err, if◌then◌else◌}
 use Rattle.std.specs.List.{AllByRecursion}
 use Rattle.register_requests.specs.declared.request.Request.{Request}

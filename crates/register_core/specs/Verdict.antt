@@ -155,8 +155,7 @@ refusals version last keys periods key q =
     ∷ []
 
 -- The refusal of a request in a version where the latest moment, the number of keys, the periods of the types and the
--- key
--- that it names are these, or none: it is accepted.
+-- key that it names are these, or none: it is accepted.
 abbrev pub judge_in : Version → ℕ → ℕ → (KeyType → Period) → Option Held → Request → Option Refusal
 judge_in version last keys periods key q = first_that_holds (refusals version last keys periods key q)
 

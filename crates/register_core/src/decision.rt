@@ -19,7 +19,7 @@ ghost use Rattle.register_core.specs.KeptReply.{reply};
 ghost use Rattle.register_core.specs.Need.{Suffices};
 
 use crate::change::{Accept, Change};
-use crate::effect::{change_by_request, named_key_dates_after};
+use crate::effect::{change_by_request, key_dates_after_command};
 use crate::limits::MAX_KEYS;
 use crate::reply::{Refusal, Reply};
 use crate::view::{Held, View};
@@ -113,7 +113,7 @@ fn check_freeze(key: &Option<Held>, at: Moment, command: &Command) -> Result<(),
 }
 
 /// The name to add is no custodian yet.
-fn check_new_custodian(key: &Option<Held>, command: &Command) -> Result<(), Refusal>
+fn check_added_is_no_custodian(key: &Option<Held>, command: &Command) -> Result<(), Refusal>
     ensures { Checks (already_custodian key.now command.now) result }
 {
     match (key, command) {
@@ -125,7 +125,7 @@ fn check_new_custodian(key: &Option<Held>, command: &Command) -> Result<(), Refu
 }
 
 /// The name to remove is a custodian.
-fn check_removed_custodian(key: &Option<Held>, command: &Command) -> Result<(), Refusal>
+fn check_removed_is_custodian(key: &Option<Held>, command: &Command) -> Result<(), Refusal>
     ensures { Checks (no_such_custodian key.now command.now) result }
 {
     match (key, command) {
@@ -166,7 +166,7 @@ fn check_owner_is_no_custodian(key: &Option<Held>, command: &Command) -> Result<
 }
 
 /// The caller approves only where no approval of its stands.
-fn check_new_approval(key: &Option<Held>, caller: &Name, command: &Command) -> Result<(), Refusal>
+fn check_first_approval(key: &Option<Held>, caller: &Name, command: &Command) -> Result<(), Refusal>
     ensures { Checks (already_approved key.now caller.now command.now) result }
 {
     match (key, command) {
@@ -178,7 +178,7 @@ fn check_new_approval(key: &Option<Held>, caller: &Name, command: &Command) -> R
 }
 
 /// The caller withdraws only where its approval stands.
-fn check_withdrawn_approval(
+fn check_withdrawn_approval_stands(
     key: &Option<Held>,
     caller: &Name,
     command: &Command,
@@ -194,7 +194,7 @@ fn check_withdrawn_approval(
 }
 
 /// The key is destroyed only where as many approvals stand as that needs.
-fn check_approvals(key: &Option<Held>, command: &Command) -> Result<(), Refusal>
+fn check_approvals_suffice(key: &Option<Held>, command: &Command) -> Result<(), Refusal>
     ensures { Checks (approvals_missing key.now command.now) result }
 {
     let (Some(held), Command::Destroy { .. }) = (key, command) else {
@@ -213,17 +213,17 @@ fn check_approvals(key: &Option<Held>, command: &Command) -> Result<(), Refusal>
 fn check_custody(key: &Option<Held>, caller: &Name, command: &Command) -> Result<(), Refusal>
     ensures { Checks (custody_refusal key.now caller.now command.now) result }
 {
-    check_new_custodian(key, command)?;
-    check_removed_custodian(key, command)?;
+    check_added_is_no_custodian(key, command)?;
+    check_removed_is_custodian(key, command)?;
     check_room_for_custodian(key, command)?;
     check_owner_is_no_custodian(key, command)?;
-    check_new_approval(key, caller, command)?;
-    check_withdrawn_approval(key, caller, command)?;
-    check_approvals(key, command)
+    check_first_approval(key, caller, command)?;
+    check_withdrawn_approval_stands(key, caller, command)?;
+    check_approvals_suffice(key, command)
 }
 
 /// The occurrence of a compromise is not after the moment.
-fn check_occurrence(at: Moment, command: &Command) -> Result<(), Refusal>
+fn check_occurrence_is_not_later(at: Moment, command: &Command) -> Result<(), Refusal>
     ensures { Checks (occurrence_refusal at command.now) result }
 {
     match *command {
@@ -246,7 +246,7 @@ fn check_key_limit(keys: u32, command: &Command) -> Result<(), Refusal>
 }
 
 /// No refusal of who asks, of which key and when, holds; else the first.
-fn check_entry(view: &View, request: &Request) -> Result<(), Refusal>
+fn check_moment_key_giver_state(view: &View, request: &Request) -> Result<(), Refusal>
     ensures { Checks (entry_refusal view.now.latest view.now.key request.now) result }
 {
     let at = request.moment;
@@ -262,18 +262,18 @@ fn check_entry(view: &View, request: &Request) -> Result<(), Refusal>
 ///
 /// # Errors
 /// The first refusal of the request that holds.
-pub(crate) fn accepted_dates(view: &View, request: &Request) -> Result<Dates, Refusal>
+pub(crate) fn dates_after_or_first_refusal(view: &View, request: &Request) -> Result<Dates, Refusal>
     ensures accepted { OnOk result (judge_view view.now request.now ≡ None) }
     ensures dates { IfOk result (AreDatesAfter view.now.period view.now.key request.now) }
     ensures refused { IfErr result (λ refusal. judge_view view.now request.now ≡ Some refusal) }
 {
     let at = request.moment;
     let command = &request.command;
-    check_entry(view, request)?;
+    check_moment_key_giver_state(view, request)?;
     check_freeze(&view.key, at, command)?;
-    let dates = named_key_dates_after(view.period, &view.key, at, command)?;
+    let dates = key_dates_after_command(view.period, &view.key, at, command)?;
     check_custody(&view.key, &request.caller, command)?;
-    check_occurrence(at, command)?;
+    check_occurrence_is_not_later(at, command)?;
     check_key_limit(view.keys, command)?;
     Ok(dates)
 }
@@ -282,7 +282,7 @@ pub(crate) fn accepted_dates(view: &View, request: &Request) -> Result<Dates, Re
 pub fn judge(view: &View, request: &Request) -> Option<Refusal>
     ensures { result ≡ judge_view view.now request.now }
 {
-    match accepted_dates(view, request) {
+    match dates_after_or_first_refusal(view, request) {
         Ok(_) => None,
         Err(refusal) => Some(refusal),
     }
@@ -334,7 +334,7 @@ pub fn decide(view: &View, request: &Request) -> Result<Accept, Refusal>
         × IfOk result (λ accept. (judgement h request.now ≡ None)
         × (accept.reply ≡ reply h request.now) × LeadsTo h request.now accept.change) }
 {
-    match accepted_dates(view, request) {
+    match dates_after_or_first_refusal(view, request) {
         Err(refusal) => Err(refusal),
         Ok(dates) => {
             let change = change_by_request(dates, &view.key, request);

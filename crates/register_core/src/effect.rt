@@ -6,7 +6,7 @@ ghost use Rattle.period_core.specs.Period.{Period as UsagePeriod};
 ghost use Rattle.register_core.specs.Effect.{owner_after, unset_dates, given_dates};
 ghost use Rattle.register_core.specs.Effect.{date_after_edit};
 ghost use Rattle.register_core.specs.Effect.{edited_dates, cut_date_at, dates_after};
-ghost use Rattle.register_core.specs.Effect.{dates_or_refusal};
+ghost use Rattle.register_core.specs.Effect.{commanded_dates_or_refusal};
 ghost use Rattle.register_core.specs.Effect.{row_with_dates_at, custody_change};
 ghost use Rattle.register_core.specs.Decision.{change_by_request, change_without_key};
 ghost use Rattle.register_core.specs.Decision.{change_of_held_key};
@@ -129,13 +129,13 @@ fn trimmed_dates(period: Period, mut dates: Dates) -> Result<Dates, DateRefusal>
 ///
 /// # Errors
 /// Why the dates that the command gives do not fit the period.
-fn dates_or_refusal(
+fn commanded_dates_or_refusal(
     period: Period,
     dates: &Dates,
     at: Moment,
     command: &Command,
 ) -> Result<Dates, DateRefusal>
-    ensures { result ≡ dates_or_refusal period dates.now at command.now }
+    ensures { result ≡ commanded_dates_or_refusal period dates.now at command.now }
 {
     match *command {
         Command::Register {
@@ -187,7 +187,7 @@ fn dates_or_refusal(
 
 /// The dates after the command at the moment of the key that it makes or names, by this period, or
 /// their refusal.
-pub(crate) fn named_key_dates_after(
+pub(crate) fn key_dates_after_command(
     period: Period,
     key: &Option<Held>,
     at: Moment,
@@ -200,7 +200,7 @@ pub(crate) fn named_key_dates_after(
     ensures err { key_refusal key.now command.now ≡ None → IfErr result (λ refusal.
         dates_refusal (always period) key.now at command.now ≡ Some refusal) }
 {
-    Ok(dates_or_refusal(period, &dates_before(key), at, command)?)
+    Ok(commanded_dates_or_refusal(period, &dates_before(key), at, command)?)
 }
 
 /// What becomes of the custody of a key with these dates, by the caller's command.

@@ -14,7 +14,7 @@ pub struct KeptReply {
 
 impl KeptReply {
     ghost use Rattle.std.specs.Prelude.{◌≡◌};
-    ghost use Rattle.register_core.specs.KeptReply.{is_whole, kept_with};
+    ghost use Rattle.register_core.specs.KeptReply.{fits_its_command, kept_with};
     ghost use Rattle.register_core.specs.declared.reply.Reply.{Reply};
     ghost use Rattle.register_core.specs.Verdict.{answer_by, is_same_command, repeated};
 
@@ -32,8 +32,8 @@ impl KeptReply {
 
     /// Whether the reply has a key and a state exactly where the command is about a key: one with
     /// no fields, or with a type and its period, is about none.
-    pub fn is_whole(&self) -> bool
-        ensures { result ≡ is_whole self.now }
+    pub fn fits_its_command(&self) -> bool
+        ensures { result ≡ fits_its_command self.now }
     {
         match self.command.fields() {
             Fields::Nothing | Fields::TypeAndPeriod { .. } => self.reply.key == 0

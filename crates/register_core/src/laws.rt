@@ -7,7 +7,7 @@ ghost use Rattle.std.specs.List.{AllByRecursion};
 ghost use Rattle.std.specs.Ordering.{nat_cmp};
 ghost use Rattle.lifecycle_core.specs.State.{state_at};
 ghost use Rattle.lifecycle_core.specs.Transition.{Leads};
-ghost use Rattle.period_core.specs.Fitting.{Fits, is_long, is_not_after};
+ghost use Rattle.period_core.specs.Fitting.{Fits, is_either_use_too_long, is_not_after};
 ghost use Rattle.period_core.specs.Period.{periods};
 ghost use Rattle.register_requests.specs.declared.request.Request.{Request};
 ghost use Rattle.register_requests.specs.declared.request.Command.{Command};
@@ -49,7 +49,7 @@ pub fn command_texts_are_short()
 {}
 
 /// Names in order are those that were given, each as often as it was, in order of their bytes.
-pub fn sorted_names_are_the_same()
+pub fn sorted_names_are_ordered_permutation()
     ensures same { (names : List (List ℕ)) → IsPermutation names (sorted_names names) }
     ensures order { (names : List (List ℕ)) → IsSorted (slice_cmp nat_cmp) (sorted_names names) }
 {}
@@ -75,7 +75,7 @@ pub fn repeats_give_the_first_reply()
 
 /// What is kept of a lawful history's requests is in its ranges: each reply is to its command, of a
 /// key that is there and no later than the latest moment.
-pub fn kept_replies_are_in_range()
+pub fn kept_replies_fit_their_history()
     ensures { (h : List Request) → IsLawful h → AllByRecursion (IsKeptIn h) (kept h) }
 {}
 
@@ -91,7 +91,7 @@ pub fn dates_fit_their_period()
 pub fn no_key_is_long_without_office_period()
     ensures { (h : List Request) → IsLawful h → (k : ℕ) → HasKey h k
         → set_period h (type h k) ≡ None
-        → is_long (period h (type h k)) (dates h k) ≡ false }
+        → is_either_use_too_long (period h (type h k)) (dates h k) ≡ false }
 {}
 
 /// A Protect Stop Date of a key is a moment.
@@ -122,7 +122,7 @@ pub fn destroyed_keys_have_two_approvals()
 {}
 
 /// A key that is not made yet has no custodian, and nobody approves of its destruction.
-pub fn unmade_keys_have_nobody()
+pub fn unmade_keys_have_no_custody()
     ensures { (h : List Request) → IsLawful h → (k : ℕ) → count h < k →
         (custodians h k ≡ []) × (approvals h k ≡ []) }
 {}
@@ -189,7 +189,7 @@ pub fn occurrence_is_with_compromise()
 {}
 
 /// What is lawful in a version is lawful in this program's, and its requests are answered alike.
-pub fn lawful_histories_stay_lawful()
+pub fn older_histories_are_lawful_now()
     ensures lawful { (version : Version) (h : List Request) → IsLawfulIn version h → IsLawful h }
     ensures answers { (version : Version) (h : List Request) → IsLawfulIn version h →
         answers [] (items h) ≡ answers_in version [] (items h) }

@@ -12,7 +12,7 @@ use Rattle.lifecycle_core.specs.declared.state.State.TheVariants.{Active}
 use Rattle.lifecycle_core.specs.State.{is_reached_at, state_code}
 use Rattle.moment_core.specs.Moment.{last_second}
 use Rattle.period_core.specs.declared.key_type.KeyType.{KeyType}
-use Rattle.period_core.specs.Fitting.{is_long}
+use Rattle.period_core.specs.Fitting.{is_either_use_too_long}
 use Rattle.period_core.specs.Period.{Period}
 use Rattle.key_rows.specs.declared.key_row.KeyRow.{KeyRow}
 use Rattle.key_rows.specs.DueRows.{HaveOwnNumbers, is_due, is_listed}
@@ -83,11 +83,11 @@ own_numbers h r s of_r of_s same =
 
 -- ---- those that are listed
 
-long_stop : (p : Period) (d : Dates) → is_long p d ≡ true → (stop : ℕ) × (d.protect_stop ≡ Some stop)
+long_stop : (p : Period) (d : Dates) → is_either_use_too_long p d ≡ true → (stop : ℕ) × (d.protect_stop ≡ Some stop)
 long_stop p d long = by d.protect_stop d.deactivation refl long
   where
     by : (stop deactivation : Option ℕ) → d.protect_stop ≡ stop
-        → is_long p (record d { protect_stop = stop; deactivation = deactivation }) ≡ true
+        → is_either_use_too_long p (record d { protect_stop = stop; deactivation = deactivation }) ≡ true
         → (x : ℕ) × (d.protect_stop ≡ Some x)
     by (Some x) deactivation is long = (x, is)
     by None None is long = absurd cc
@@ -122,7 +122,7 @@ module _ (h : List Request) (lawful : IsLawful h) (until : ℕ) (r : KeyRow) (th
   pub listed_is_due : until ≤ last_second → is_listed until (period h) r ≡ true → is_due last_second r ≡ true
   listed_is_due le =
       either_so (state_code r.row.state == state_code Active) (is_reached_at r.row.dates.protect_stop until)
-      (is_long (period h r.kind) r.row.dates) (is_reached_at r.row.dates.protect_stop last_second)
+      (is_either_use_too_long (period h r.kind) r.row.dates) (is_reached_at r.row.dates.protect_stop last_second)
       (λ reached. reached_by r.row.dates.protect_stop until last_second reached le)
       (λ long.
       let stop = long_stop (period h r.kind) r.row.dates long in
@@ -134,11 +134,11 @@ module _ (h : List Request) (lawful : IsLawful h) (until : ℕ) (r : KeyRow) (th
   listed_if_due none =
       let stop = r.row.dates.protect_stop in
       either_so (state_code r.row.state == state_code Active) (is_reached_at stop until)
-      (is_long (period h r.kind) r.row.dates) (is_reached_at stop until) (λ reached. reached)
+      (is_either_use_too_long (period h r.kind) r.row.dates) (is_reached_at stop until) (λ reached. reached)
       (λ long. absurd (let not_so = not_long in let both = sym not_so ∙ long in cc))
     where
-      not_long : is_long (period h r.kind) r.row.dates ≡ false
+      not_long : is_either_use_too_long (period h r.kind) r.row.dates ≡ false
       not_long =
-          ap (λ (k : KeyType). is_long (period h k) r.row.dates) is.kind
-          ∙ ap (is_long (period h (type h r.number))) is.dates_are
+          ap (λ (k : KeyType). is_either_use_too_long (period h k) r.row.dates) is.kind
+          ∙ ap (is_either_use_too_long (period h (type h r.number))) is.dates_are
           ∙ none_long h lawful r.number is.there (none (type h r.number))

@@ -7,7 +7,7 @@ use Rattle.key_rows.specs.DueRows.{AreDue, AreFirstDue, stop_of}
 use Rattle.register_core.specs.declared.key.Key.{Key}
 use Rattle.register_requests.specs.declared.request.Request.{Request}
 use Rattle.register_store.specs.declared.key_scan.DueCursor.{DueCursor}
-use Rattle.register_store.specs.KeyScan.{HasNextDue, run_of_next_key}
+use Rattle.register_store.specs.KeyScan.{HasNextDue, date_run_of_next_key}
 use Rattle.register_store.specs.TableChanges.{key_at}
 use Rattle.register_store.specs.Tables.{Tables, numbered}
 use Rattle.register_desk.specs.declared.rows.KeyRows.{KeyRows}
@@ -77,7 +77,7 @@ CountsOn keys (ByStop until last run) found = Unit {0}
 
 abbrev pub after_row : Scan → KeyRow → Scan
 after_row (ByNumber last) r = ByNumber r.number
-after_row (ByStop until last run) r = ByStop until (cursor_of_row r) (run_of_next_key last (stop_of r))
+after_row (ByStop until last run) r = ByStop until (cursor_of_row r) (date_run_of_next_key last (stop_of r))
 
 -- the row after the scan's last, or none where there is none
 abbrev pub HasNextRow : Scan → Tables → Option KeyRow → Type 0

@@ -94,8 +94,7 @@ LeavesBehind Store old new = LeavesMigrated old new
 LeavesBehind refusal old new = LeavesCommitted old new
 
 -- after the refusal of tables that are committed and meet the checks of their version: what was committed, or tables
--- of the
--- first version in this program's
+-- of the first version in this program's
 abbrev pub LeavesStored : Stored → State → State → Type 0
 LeavesStored t old new = IsTrue old.is_open → HasCleanDisk new → (trees : Trees) → new.may_leave trees
     → (trees ≡ old.committed.trees)

@@ -1,6 +1,5 @@
 -- A key by itself, and what a decision sees over tables, of a key and of the usage periods, whatever history these
--- are of
--- if any.
+-- are of if any.
 use Rattle.std.specs.Prelude.{◌≡◌, ℕ, nat_lt, [], length, Option, None, IfSome, unwrap_or, if◌then◌else◌}
 use Rattle.std.specs.Option.{option_and_then, option_map}
 use Rattle.period_core.specs.declared.key_type.KeyType.{KeyType}

@@ -42,7 +42,8 @@ module _ {S : Type 0} (g : Ghosts S) (may_leave : S → Image → Type 0) where
   -- The files of a store were closed: what may be found in them is a database that it could come back as.
   pub record ClosesFiles (store : S) (closed : Closed S) : Type 0 where
     pub clean : IsCleanStore (g.view closed.store) → IsCleanStore (g.view store)
-    pub leaves : IsCleanStore (g.view closed.store) → IsTrue (g.view store).is_numbered → AreDatabases (g.recovers store)
+    pub leaves : IsCleanStore (g.view closed.store) → IsTrue (g.view store).is_numbered
+        → AreDatabases (g.recovers store)
         → (left : Image) → LeftIn closed left → HoldsStored store left
 
   -- This is said of what a stop leaves in the files up to their closing, and of what may be found in them from then on.

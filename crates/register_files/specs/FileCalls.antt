@@ -41,7 +41,8 @@ module _ {S : Type 0} (g : Ghosts S) (may_leave : S → Image → Type 0) (found
     -- Where it is made, none of a register's tables was there.
     pub made : IfOk result (λ files. IsCleanStore (g.view files.store) → FindsNoTable g found)
     -- In files that hold a register none is made.
-    pub spares : (h : List Request) → HoldsRegister h found → IfOk result (λ files. IsCleanStore (g.view files.store) → ⊥)
+    pub spares : (h : List Request) → HoldsRegister h found
+        → IfOk result (λ files. IsCleanStore (g.view files.store) → ⊥)
     -- A table of a register that is there is the one reason to refuse a database, and is as it was; and so is the
     -- register that the files hold.
     pub refuses : IfErr result (RefusesMaking g may_leave found)

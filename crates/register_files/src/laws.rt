@@ -10,7 +10,7 @@ use crate::files::{Closed, Files, LogCopy};
 
 /// Where the log was copied, what is said of files that were closed is said of the two files, and
 /// of the database file alone.
-pub fn copied_files_hold_alone<F: Files>(closed: &Closed<F::Opened>)
+pub fn database_file_holds_alone<F: Files>(closed: &Closed<F::Opened>)
     requires { closed.now.log ≡ LogCopy.Copied }
     ensures { (h : List Request) (other : List Request) →
         LeavesInFiles h other (LeftIn F.Opened.Store F.may_leave closed.now) → (whole : Image) →

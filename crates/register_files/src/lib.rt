@@ -11,4 +11,4 @@ pub use register_file::{
     Life, Refused, export_file, import_file, init_file, open_file, report_file, run_file,
     serve_file,
 };
-pub use serving::{Clocks, MachineClock, Now, listen, serve_at, serve_on};
+pub use serving::{Clocks, MachineClock, Now, listen_at_localhost, serve_at, serve_on};

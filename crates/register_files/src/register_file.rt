@@ -61,13 +61,13 @@ impl<S: Alter + Drop> From<Unopened<S>> for Refused<S> {
         } = unopened;
         Refused {
             refusal,
-            store: Some(close_connection(connection)),
+            store: Some(close_connection_into_store(connection)),
         }
     }
 }
 
 /// The files of a connection that nobody uses any more.
-fn close_connection<S: Alter + Drop>(connection: Connection<S>) -> S
+fn close_connection_into_store<S: Alter + Drop>(connection: Connection<S>) -> S
     ensures { ClosesAs S.Store connection result }
 {
     connection.into_store()
@@ -82,7 +82,7 @@ fn close_desk<F: Files>(desk: Desk<F::Opened>) -> Closed<F::Opened>
     ensures closes { IsCleanStore (F.Opened.Store.view result.store)
         → ClosesDesk F.Opened.Store F.may_leave desk result }
 {
-    F::close(close_connection(desk.into_connection()))
+    F::close(close_connection_into_store(desk.into_connection()))
 }
 
 /// Makes an empty register in the file, which is made where there is none. Gives the files as it
@@ -251,7 +251,7 @@ pub fn serve_file<F: Files + Drop>(
     let mut desk = open_file(rt, file, files)?;
     let end = serve_at(rt, &mut desk, bounds.port, bounds.exchanges);
     Ok(Life {
-        outcome: Outcome::ended(end),
+        outcome: Outcome::ended_without_bytes(end),
         files: close_desk::<F>(desk),
     })
 }

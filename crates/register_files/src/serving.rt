@@ -119,7 +119,7 @@ impl<C: Clock> Write for Timed<'_, C> {
 /// Takes off the connection what the client has sent after its request, as far as it is there:
 /// bytes that nobody read would have the system break the connection before the client has its
 /// reply.
-fn drain_client(stream: &TcpStream) {
+fn shut_down_and_drain_client(stream: &TcpStream) {
     if stream.shutdown(Shutdown::Write).is_err() || stream.set_nonblocking(true).is_err() {
         return;
     }
@@ -151,7 +151,7 @@ fn serve_connection<S: Alter, C: Clock>(
     let mut reader = Watched::new(client.timed_from(start));
     let mut writer = Watched::new(client.timed_from(start));
     let outcome = exchange(alloc, routes, desk, moment, &mut reader, &mut writer);
-    drain_client(client.stream);
+    shut_down_and_drain_client(client.stream);
     outcome.end
 }
 
@@ -211,19 +211,19 @@ pub fn serve_on<S: Alter, C: Clock, N: Now>(
 ///
 /// # Errors
 /// As the system refused it.
-pub fn listen(rt: &HostRuntime, port: u16) -> io::Result<TcpListener> {
+pub fn listen_at_localhost(rt: &HostRuntime, port: u16) -> io::Result<TcpListener> {
     TcpListener::bind(rt, (Ipv4Addr::LOCALHOST, port))
 }
 
-/// Serves so many connections that come to [`listen`], as [`serve_on`], by the machine's clock. It
-/// ends by [`End::ReadFault`], too, where the port cannot be listened at.
+/// Serves so many connections that come to [`listen_at_localhost`], as [`serve_on`], by the
+/// machine's clock. It ends by [`End::ReadFault`], too, where the port cannot be listened at.
 pub fn serve_at<S: Alter>(rt: &HostRuntime, desk: &mut Desk<S>, port: u16, exchanges: u32) -> Finish
     ensures leaves { (h : List Request) → StandsFor S.Store desk.old h → IsWhole desk.old
         → IsClean S.Store desk.new → LeavesSome S.Store h exchanges desk.new }
     ensures clean { IsClean S.Store desk.new → IsClean S.Store desk.old }
     ensures ends { EndsServing result }
 {
-    let Ok(listener) = listen(rt, port) else {
+    let Ok(listener) = listen_at_localhost(rt, port) else {
         return Finish::Ended(End::ReadFault);
     };
     let moments = MachineClock::new(rt);

@@ -9,9 +9,12 @@ use Rattle.register_desk.specs.Run.{IsPrefixOf}
 -- The replies to ends, which are fixed bytes: 503 where memory gave out, 500 where the database refused or the desk is
 -- broken. After the ends of a stream nothing is written.
 abbrev pub end_reply : End → List ℕ
-end_reply Memory = codes "HTTP/1.1 503 Service Unavailable\r\nContent-Type: application/json\r\nContent-Length: 26\r\nConnection: close\r\n\r\n{\"end\":30,\"name\":\"Memory\"}"
-end_reply Store = codes "HTTP/1.1 500 Internal Server Error\r\nContent-Type: application/json\r\nContent-Length: 25\r\nConnection: close\r\n\r\n{\"end\":31,\"name\":\"Store\"}"
-end_reply Broken = codes "HTTP/1.1 500 Internal Server Error\r\nContent-Type: application/json\r\nContent-Length: 26\r\nConnection: close\r\n\r\n{\"end\":32,\"name\":\"Broken\"}"
+end_reply Memory =
+    codes "HTTP/1.1 503 Service Unavailable\r\nContent-Type: application/json\r\nContent-Length: 26\r\nConnection: close\r\n\r\n{\"end\":30,\"name\":\"Memory\"}"
+end_reply Store =
+    codes "HTTP/1.1 500 Internal Server Error\r\nContent-Type: application/json\r\nContent-Length: 25\r\nConnection: close\r\n\r\n{\"end\":31,\"name\":\"Store\"}"
+end_reply Broken =
+    codes "HTTP/1.1 500 Internal Server Error\r\nContent-Type: application/json\r\nContent-Length: 26\r\nConnection: close\r\n\r\n{\"end\":32,\"name\":\"Broken\"}"
 end_reply ReadFault = []
 end_reply WriteFault = []
 end_reply BadHeader = []

@@ -15,7 +15,7 @@ ghost use Rattle.register_http.specs.OneItem.{LeavesOne};
 ghost use Rattle.register_http.specs.SentReply.{Sends, end_reply, reply_text};
 
 use http_messages::{
-    AskFault, Asked, Routes, Sent, ask, key_reply_text, outcome_reply_text, rejection_text,
+    AskFault, Asked, Routes, Sent, key_reply_text, outcome_reply_text, read_asked, rejection_text,
     usage_reply_text,
 };
 use moment_core::Moment;
@@ -59,7 +59,11 @@ fn unknown_key_text(alloc: Global) -> Result<String, AllocError>
 }
 
 /// Shows a key.
-fn show_reply<S: Alter>(alloc: Global, desk: &mut Desk<S>, key: u32) -> Result<String, End>
+fn reply_text_showing_key<S: Alter>(
+    alloc: Global,
+    desk: &mut Desk<S>,
+    key: u32,
+) -> Result<String, End>
     ensures { (moment : ℕ) → Acts S.Store moment (Asked.ShowKey key) desk.old desk.new result }
 {
     match desk.show(key)? {
@@ -92,7 +96,7 @@ fn request_at(moment: Moment, sent: &Sent) -> Request
 }
 
 /// Applies what was sent at this moment.
-fn apply_reply<S: Alter>(
+fn reply_text_after_applying<S: Alter>(
     alloc: Global,
     desk: &mut Desk<S>,
     moment: Moment,
@@ -122,9 +126,9 @@ fn answer_asked<S: Alter>(
 {
     match asked {
         Asked::Reject(rejection) => text_or_end(rejection_text(alloc, *rejection)),
-        Asked::ShowKey(key) => show_reply(alloc, desk, *key),
+        Asked::ShowKey(key) => reply_text_showing_key(alloc, desk, *key),
         Asked::ShowUsage(key) => usage_reply(alloc, desk, *key),
-        Asked::Apply(sent) => apply_reply(alloc, desk, moment, sent),
+        Asked::Apply(sent) => reply_text_after_applying(alloc, desk, moment, sent),
     }
 }
 
@@ -201,16 +205,16 @@ pub fn exchange<R: Read, W: Write, S: Alter>(
     ensures reader { LeavesReader R.remaining reader.old reader.new result }
     ensures writer { LeavesWriter writer.new result }
 {
-    reader.start_counting();
-    writer.start_counting();
-    let asking = ask(alloc, routes, reader);
+    reader.reset_turn_counts();
+    writer.reset_turn_counts();
+    let asking = read_asked(alloc, routes, reader);
     let read = asking.read as u64;
     let answered = match asking.asked {
         Ok(Some(asked)) => answer_asked(alloc, desk, moment, &asked),
-        Ok(None) => return Outcome::ended(Finish::AtEnd { rest: 0 }).with_read(read),
+        Ok(None) => return Outcome::ended_without_bytes(Finish::AtEnd { rest: 0 }).with_read(read),
         Err(AskFault::Memory) => Err(End::Memory),
         Err(AskFault::ReadFault) => {
-            return Outcome::ended(Finish::Ended(End::ReadFault)).with_read(read);
+            return Outcome::ended_without_bytes(Finish::Ended(End::ReadFault)).with_read(read);
         }
     };
     send_reply(writer, &answered, read)

@@ -19,7 +19,7 @@ use Rattle.register_desk.specs.KeyRows.{all_rows}
 use Rattle.register_desk.proofs.KeyRowsOf.{listed_if_due, listed_is_due, own_numbers}
 use Rattle.register_report.specs.declared.key_table.KeyTable.{KeyTable}
 use Rattle.register_report.specs.declared.key_table.KeyTable.TheVariants.{Report}
-use Rattle.register_report.specs.KeyTable.{head_text, lines_text, lists, table_text}
+use Rattle.register_report.specs.KeyTable.{head_text, lines_text, has_line_for, table_text}
 
 same_filter : (p q : KeyRow → Bool) → ((r : KeyRow) → p r ≡ q r) → (rows : List KeyRow) → filter p rows ≡ filter q rows
 same_filter p q same [] = refl
@@ -33,17 +33,18 @@ module _ (latest until : ℕ) (set : OfficePeriods) where
 
   -- the lines of rows are those of the rows that are listed
   lines_of : (rows : List KeyRow)
-      → lines_text table rows ≡ flat_map (report_line latest until) (filter (lists table) rows)
+      → lines_text table rows ≡ flat_map (report_line latest until) (filter (has_line_for table) rows)
   lines_of [] = refl
-  lines_of (r ∷ rows) = by (lists table r) (lines_of rows)
+  lines_of (r ∷ rows) = by (has_line_for table r) (lines_of rows)
     where
-      by : (b : Bool) → lines_text table rows ≡ flat_map (report_line latest until) (filter (lists table) rows)
+      by : (b : Bool) → lines_text table rows ≡ flat_map (report_line latest until) (filter (has_line_for table) rows)
           → cond b (report_line latest until r) [] ++ lines_text table rows
-          ≡ flat_map (report_line latest until) (cond b (r ∷ filter (lists table) rows) (filter (lists table) rows))
+          ≡ flat_map (report_line latest until)
+          (cond b (r ∷ filter (has_line_for table) rows) (filter (has_line_for table) rows))
       by true rest = ap (λ lines. report_line latest until r ++ lines) rest
       by false rest = rest
 
-  text_of : (wide rows : List KeyRow) → filter (lists table) wide ≡ rows
+  text_of : (wide rows : List KeyRow) → filter (has_line_for table) wide ≡ rows
       → table_text table wide ≡ report_text latest until rows
   text_of wide rows is =
       ap₂ (λ lines count. head_text table ++ (lines ++ report_total count))
@@ -52,7 +53,7 @@ module _ (latest until : ℕ) (set : OfficePeriods) where
 
   module _ (h : List Request) (lawful : IsLawful h) (found : (kind : KeyType)
       → set_in set kind ≡ set_period h kind) where
-    listed_same : (r : KeyRow) → lists table r ≡ is_listed until (period h) r
+    listed_same : (r : KeyRow) → has_line_for table r ≡ is_listed until (period h) r
     listed_same r =
         ap (λ (o : Option Period). is_listed until (λ kind. unwrap_or o (periods r.kind)) r) (found r.kind)
 
@@ -75,6 +76,6 @@ module _ (latest until : ℕ) (set : OfficePeriods) where
         let narrow = is_listed until (period h) in
         let wide = a_list (is_due last) (all_rows h) (own_numbers h) in
         let those = fewer (is_due last) narrow (all_rows h) wide.0 wide.1 (within last le end) in
-        let same = same_filter (lists table) narrow listed_same wide.0
+        let same = same_filter (has_line_for table) narrow listed_same wide.0
         ∙ one_list narrow (all_rows h) (filter narrow wide.0) rows those listed in
         (wide.0, wide.1, text_of wide.0 rows same)

@@ -18,7 +18,7 @@ use Rattle.register_desk.specs.Register.{StandsFor}
 use Rattle.register_desk.specs.KeyRows.{AreAll, AreSoFar, GiveNext, HaveGiven, all_rows, until_of}
 use Rattle.register_desk.proofs.Readings.{nothing_done, nothing_then, stands_still}
 use Rattle.register_report.specs.declared.key_table.KeyTable.{KeyTable}
-use Rattle.register_report.specs.KeyTable.{count_in, lines_text, lists, row_text}
+use Rattle.register_report.specs.KeyTable.{count_in, lines_text, has_line_for, row_text}
 use Rattle.register_report.specs.TextWriter.{Puts, PutsRows, PutsText}
 use Rattle.register_report.proofs.TextLemmas.{prefix_whole, no_fault, passed_on, puts_nothing, puts_well, text_failed}
 use Rattle.register_report.proofs.TextLemmas.{text_same, text_then}
@@ -39,17 +39,19 @@ at_most_one true = omega arith
 at_most_one false = omega arith
 
 count_more : (table : KeyTable) (given : List KeyRow) (row : KeyRow)
-    → count_in table (given ++ row ∷ []) ≡ count_in table given + one_if (lists table row)
-count_more table [] row = by (lists table row)
+    → count_in table (given ++ row ∷ []) ≡ count_in table given + one_if (has_line_for table row)
+count_more table [] row = by (has_line_for table row)
   where
     by : (b : Bool) → length (cond b (row ∷ []) []) ≡ 0 + one_if b
     by true = refl
     by false = refl
-count_more table (r ∷ given) row = by (lists table r) (count_more table given row)
+count_more table (r ∷ given) row = by (has_line_for table r) (count_more table given row)
   where
-    by : (b : Bool) → count_in table (given ++ row ∷ []) ≡ count_in table given + one_if (lists table row)
-        → length (cond b (r ∷ filter (lists table) (given ++ row ∷ [])) (filter (lists table) (given ++ row ∷ [])))
-        ≡ length (cond b (r ∷ filter (lists table) given) (filter (lists table) given)) + one_if (lists table row)
+    by : (b : Bool) → count_in table (given ++ row ∷ []) ≡ count_in table given + one_if (has_line_for table row)
+        → length (cond b (r ∷ filter (has_line_for table) (given ++ row ∷ []))
+        (filter (has_line_for table) (given ++ row ∷ [])))
+        ≡ length (cond b (r ∷ filter (has_line_for table) given) (filter (has_line_for table) given)) + one_if
+        (has_line_for table row)
     by true rest = omega (arith, rest)
     by false rest = rest
 
@@ -140,7 +142,7 @@ module _ {W S : Type 0} {contents : W → Option (List ℕ)} {g : Ghosts S} {tab
         (text_then (text_as {T = Unit {0}} (Ok tt) (no_fault (tt {0}))) line)
 
     -- one line more
-    pub one_more : (more : ℕ) → more ≡ count + one_if (lists table row)
+    pub one_more : (more : ℕ) → more ≡ count + one_if (has_line_for table row)
         → {listed : Bool} → PutsText {T = Bool} contents now new after later (row_text table row) (Ok listed)
         → SoFar contents g table old new before later start next more
     one_more more is {listed} line =

@@ -159,7 +159,8 @@ module _ (moment : ℕ) (caller : List ℕ) (number : ℕ) where
 
     parts_in : Decided (RowParts moment caller number u v w x y z)
     parts_in =
-        let dates = both (date_of_field w) (both (date_of_field x) (both (date_of_field y) (read_or_none purpose_reader z))) in
+        let dates =
+        both (date_of_field w) (both (date_of_field x) (both (date_of_field y) (read_or_none purpose_reader z))) in
         let all = both (read_or_none key_type_reader u) (both (read_or_none name_reader v) dates) in
         elim (both (may_have moment caller number) all) [
           | inl it ↦ inl (record {

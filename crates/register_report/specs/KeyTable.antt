@@ -10,9 +10,9 @@ use Rattle.register_report.specs.declared.key_table.KeyTable.{KeyTable}
 use Rattle.register_report.specs.declared.key_table.KeyTable.TheVariants.{Export, Report}
 
 -- the row has a line
-abbrev pub lists : KeyTable → KeyRow → Bool
-lists Export row = true
-lists (Report latest until periods) row = is_listed until (period_in periods) row
+abbrev pub has_line_for : KeyTable → KeyRow → Bool
+has_line_for Export row = true
+has_line_for (Report latest until periods) row = is_listed until (period_in periods) row
 
 abbrev pub head_text : KeyTable → List ℕ
 head_text Export = export_header
@@ -28,14 +28,14 @@ foot_text (Report latest until periods) count = report_total count
 
 -- its line, where the row has one
 abbrev pub row_text : KeyTable → KeyRow → List ℕ
-row_text table row = if lists table row then line_text table row else []
+row_text table row = if has_line_for table row then line_text table row else []
 
 -- the lines of rows, and how many they are
 abbrev pub lines_text : KeyTable → List KeyRow → List ℕ
 lines_text table rows = flat_map (row_text table) rows
 
 abbrev pub count_in : KeyTable → List KeyRow → ℕ
-count_in table rows = length (filter (lists table) rows)
+count_in table rows = length (filter (has_line_for table) rows)
 
 -- the head, the lines of these rows, and the foot
 abbrev pub table_text : KeyTable → List KeyRow → List ℕ

@@ -31,7 +31,7 @@ fn outcome_of_output(written: u64, done: Result<(), End>) -> Outcome
         Ok(()) => Finish::AtEnd { rest: 0 },
         Err(end) => Finish::Ended(end),
     };
-    Outcome::ended(end).with_written(written, 0)
+    Outcome::ended_without_bytes(end).with_written_and_replies(written, 0)
 }
 
 /// Writes the export of all keys.
@@ -102,7 +102,7 @@ pub fn export<W: Write, S: Alter>(
     ensures ends { EndsAs result.end }
     ensures uncounted { (result.read ≡ 0) × (result.replies ≡ 0) }
 {
-    writer.start_counting();
+    writer.reset_turn_counts();
     let mut written: u64 = 0;
     let done = put_export(alloc, desk, writer, &mut written);
     outcome_of_output(written, done)
@@ -133,7 +133,7 @@ pub fn rotation<W: Write, S: Alter>(
     ensures writer { LeavesWriter W.contents writer.old writer.new result }
     ensures ends { EndsAs result.end }
 {
-    writer.start_counting();
+    writer.reset_turn_counts();
     let mut written: u64 = 0;
     let done = put_rotation_report(alloc, desk, days, writer, &mut written);
     outcome_of_output(written, done)

@@ -224,7 +224,7 @@ pub fn import<R: Read + Drop, W: Write, S: Alter>(
     ensures uncounted { result.read ≡ 0 }
     ensures no_rest { (rest : ℕ) → result.end ≡ Finish.AtEnd rest → rest ≡ 0 }
 {
-    writer.start_counting();
+    writer.reset_turn_counts();
     let mut reader = ReaderBuilder::new()
         .has_headers(false)
         .flexible(true)
@@ -237,6 +237,6 @@ pub fn import<R: Read + Drop, W: Write, S: Alter>(
     };
     match read_header(&mut reader, &mut row) {
         Ok(()) => import_rows(&mut reader, &mut row, &series, writer, desk),
-        Err(end) => Outcome::ended(Finish::Ended(end)),
+        Err(end) => Outcome::ended_without_bytes(Finish::Ended(end)),
     }
 }

@@ -1,9 +1,9 @@
 //! The texts that a register is written out as, piece by piece.
 ghost use Rattle.std.specs.Prelude.{◌≡◌, IfOk};
-ghost use Rattle.register_report.specs.KeyTable.{foot_text, head_text, line_text, lists};
+ghost use Rattle.register_report.specs.KeyTable.{foot_text, head_text, line_text, has_line_for};
 
 use key_rows::{
-    KeyRow, export_header, export_row, is_due_or_long, report_head, report_line, report_total,
+    KeyRow, export_header, export_row, is_listed_in_report, report_head, report_line, report_total,
 };
 use moment_core::Moment;
 use period_core::OfficePeriods;
@@ -21,12 +21,12 @@ pub(crate) enum KeyTable {
 
 impl KeyTable {
     /// Whether the row has a line.
-    pub(crate) fn lists(&self, row: &KeyRow) -> bool
-        ensures { result ≡ lists self.now row.now }
+    pub(crate) fn has_line_for(&self, row: &KeyRow) -> bool
+        ensures { result ≡ has_line_for self.now row.now }
     {
         match self {
             KeyTable::Export => true,
-            KeyTable::Report(_, until, periods) => is_due_or_long(*until, periods, row),
+            KeyTable::Report(_, until, periods) => is_listed_in_report(*until, periods, row),
         }
     }
 

@@ -1,6 +1,6 @@
 //! Writing out what a desk has, a row at a time.
 ghost use Rattle.std.specs.Prelude.{◌≡◌, ◌≢◌, Ok, IfOk, IfErr};
-ghost use Rattle.register_report.specs.KeyTable.{lists, row_text};
+ghost use Rattle.register_report.specs.KeyTable.{has_line_for, row_text};
 ghost use Rattle.register_report.specs.TextWriter.{IsEndOfWriting, PassesRows, PutsRows, PutsTable};
 ghost use Rattle.register_report.specs.TextWriter.{PutsText};
 
@@ -44,7 +44,7 @@ fn put_text<W: Write>(writer: &mut Watched<W>, written: &mut u64, text: &[u8]) -
 }
 
 /// Writes the line of the row, if it has one, and tells whether it has.
-fn put_row<W: Write>(
+fn put_row_if_listed<W: Write>(
     alloc: Global,
     table: &KeyTable,
     row: &KeyRow,
@@ -53,11 +53,11 @@ fn put_row<W: Write>(
 ) -> Result<bool, End>
     ensures puts { PutsText W.contents writer.old writer.new written.old written.new
         (row_text table.now row.now) result }
-    ensures listed { IfOk result (λ listed. listed ≡ lists table.now row.now) }
+    ensures listed { IfOk result (λ listed. listed ≡ has_line_for table.now row.now) }
     ensures end { IfErr result IsEndOfWriting }
     ensures sound { IfErr result (λ end. end ≢ End.Broken) }
 {
-    if !table.lists(row) {
+    if !table.has_line_for(row) {
         return Ok(false);
     }
     let line = text_or_end(table.line_text(alloc, row))?;
@@ -66,7 +66,7 @@ fn put_row<W: Write>(
 }
 
 /// Writes a line for each row that comes and has one, and counts them.
-fn put_rows<W: Write, S: Alter>(
+fn put_and_count_listed_rows<W: Write, S: Alter>(
     alloc: Global,
     table: &KeyTable,
     rows: &mut KeyRows<'_, S>,
@@ -82,7 +82,7 @@ fn put_rows<W: Write, S: Alter>(
         let Some(row) = rows.next_key()? else {
             return Ok(count);
         };
-        if put_row(alloc, table, &row, writer, written)? {
+        if put_row_if_listed(alloc, table, &row, writer, written)? {
             count += 1;
         }
     }
@@ -104,7 +104,7 @@ pub(crate) fn put_table<W: Write, S: Alter>(
 {
     let head = text_or_end(table.head_text(alloc))?;
     put_text(writer, written, &head)?;
-    let count = put_rows(alloc, table, rows, writer, written)?;
+    let count = put_and_count_listed_rows(alloc, table, rows, writer, written)?;
     let foot = text_or_end(table.foot_text(alloc, count))?;
     put_text(writer, written, &foot)
 }

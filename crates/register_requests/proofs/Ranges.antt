@@ -5,10 +5,11 @@ use Rattle.std.proofs.lemmas.Bool.{lt-ltb}
 use Rattle.lifecycle_core.specs.Reason.{is_compromise}
 use Rattle.register_requests.specs.declared.request.Command.{Command}
 use Rattle.register_requests.specs.declared.command_fields.Fields.{Fields}
-use Rattle.register_requests.specs.declared.command_fields.Fields.TheVariants.{Nothing, TypeAndPeriod, Registration, Revocation}
+use Rattle.register_requests.specs.declared.command_fields.Fields.TheVariants.{Nothing, TypeAndPeriod}
+use Rattle.register_requests.specs.declared.command_fields.Fields.TheVariants.{Registration, Revocation}
 use Rattle.register_requests.specs.Fields.{fields_of}
-use Rattle.register_requests.specs.Request.{AreFields, IsCommand, IsKeyNumber, is_numbered, is_occurrence_allowed}
-use Rattle.register_requests.specs.Request.{has_text}
+use Rattle.register_requests.specs.Request.{AreFields, IsCommand, IsKeyNumber, is_numbered, has_occurrence_only_with_compromise}
+use Rattle.register_requests.specs.Request.{is_in_range}
 use Rattle.register_requests.specs.Subject.{subject_by, named_by, named}
 
 both : (key : ℕ) (b : Bool) → IsKeyNumber key → b ≡ true → (nat_lt 0 key && b) ≡ true
@@ -19,7 +20,7 @@ of_compromise true x only = refl
 of_compromise false x only = absurd (let e = only refl in cc)
 
 -- The last row has all other fields: each names a key, and has nothing else that its types leave open.
-fields_in_range : (f : Fields) → AreFields f → (is_numbered (named_by (subject_by f)) && is_occurrence_allowed f) ≡ true
+fields_in_range : (f : Fields) → AreFields f → (is_numbered (named_by (subject_by f)) && has_occurrence_only_with_compromise f) ≡ true
 fields_in_range Nothing is = refl
 fields_in_range (TypeAndPeriod kind period) is = refl
 fields_in_range (Registration kind owner activation protect_stop deactivation purpose) is = refl
@@ -27,8 +28,8 @@ fields_in_range (Revocation key reason (Some occurrence)) is =
     both key (is_compromise reason) is.0 (of_compromise (is_compromise reason) occurrence is.2)
 fields_in_range f is = both _ true (omega arith, omega arith) refl
 
-pub in_range_has_text : (c : Command) → IsCommand c → has_text c ≡ true
-in_range_has_text c is = fields_in_range (fields_of c) is
+pub command_is_in_range : (c : Command) → IsCommand c → is_in_range c ≡ true
+command_is_in_range c is = fields_in_range (fields_of c) is
 
 same_number : (key k : ℕ) → Some key ≡ Some k → IsKeyNumber key → IsKeyNumber k
 same_number key k names in_range = let same : key ≡ k = cc in subst IsKeyNumber same in_range

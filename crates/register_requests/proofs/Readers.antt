@@ -112,7 +112,8 @@ unfolding date_at
 date_takes field x e =
     elim (chosen (bytes_eq field (codes "-")) (Some None) (moment_at field >>= λ m. Some (Some m)) x e) [
       | inl none ↦ date_of_none field x ((bytes_eq-Decides field (codes "-")).0 none.0) none.1
-      | inr some ↦ let m = bind_some (moment_at field) (λ m. Some (Some m)) x some.1 in date_of_moment field m.0 x m.1 m.2
+      | inr some ↦ let m =
+          bind_some (moment_at field) (λ m. Some (Some m)) x some.1 in date_of_moment field m.0 x m.1 m.2
     ]
 
 date_again : (x : Option ℕ) → IsDate x → date_at (date_text x) ≡ Some x
@@ -151,7 +152,8 @@ edit_takes field x e =
       | inl keep ↦ edit_of_sign field (codes "=") Keep x keep.0 tt refl keep.1
       | inr other ↦ elim (chosen (bytes_eq field (codes "-")) (Some Clear) (set_to field) x other.1) [
         | inl clear ↦ edit_of_sign field (codes "-") Clear x clear.0 tt refl clear.1
-        | inr some ↦ let m = bind_some (moment_at field) (λ m. Some (Set m)) x some.1 in edit_of_moment field m.0 x m.1 m.2
+        | inr some ↦ let m =
+            bind_some (moment_at field) (λ m. Some (Set m)) x some.1 in edit_of_moment field m.0 x m.1 m.2
       ]
     ]
 

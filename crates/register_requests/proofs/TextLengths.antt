@@ -82,7 +82,12 @@ fields_short (KeyAndOwner key owner) is = simp length-append (omega (arith, key_
 fields_short (KeyAndNeed key need) is = simp length-append (omega (arith, key_short key is.0, need_short need is.1))
 fields_short (TypeAndPeriod kind period) is =
     simp length-append
-    (omega (arith, type_short kind, months_short period.originator is.originator, months_short period.recipient is.recipient))
+    (omega (
+      arith,
+      type_short kind,
+      months_short period.originator is.originator,
+      months_short period.recipient is.recipient,
+    ))
 fields_short (Registration kind owner activation protect_stop deactivation purpose) is =
     simp length-append
     (omega (

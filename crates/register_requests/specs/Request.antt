@@ -78,21 +78,21 @@ is_numbered None = true
 is_numbered (Some key) = nat_lt 0 key
 
 -- and an occurrence is given only with a compromise.
-abbrev pub is_occurrence_allowed : Fields → Bool
-is_occurrence_allowed (Revocation key reason (Some occurrence)) = is_compromise reason
-is_occurrence_allowed (Revocation key reason None) = true
-is_occurrence_allowed Nothing = true
-is_occurrence_allowed (Key key) = true
-is_occurrence_allowed (KeyAndName key name) = true
-is_occurrence_allowed (KeyAndOwner key owner) = true
-is_occurrence_allowed (KeyAndNeed key need) = true
-is_occurrence_allowed (TypeAndPeriod kind period) = true
-is_occurrence_allowed (Registration kind owner activation protect_stop deactivation purpose) = true
-is_occurrence_allowed (DateEdits key activation protect_stop deactivation) = true
+abbrev pub has_occurrence_only_with_compromise : Fields → Bool
+has_occurrence_only_with_compromise (Revocation key reason (Some occurrence)) = is_compromise reason
+has_occurrence_only_with_compromise (Revocation key reason None) = true
+has_occurrence_only_with_compromise Nothing = true
+has_occurrence_only_with_compromise (Key key) = true
+has_occurrence_only_with_compromise (KeyAndName key name) = true
+has_occurrence_only_with_compromise (KeyAndOwner key owner) = true
+has_occurrence_only_with_compromise (KeyAndNeed key need) = true
+has_occurrence_only_with_compromise (TypeAndPeriod kind period) = true
+has_occurrence_only_with_compromise (Registration kind owner activation protect_stop deactivation purpose) = true
+has_occurrence_only_with_compromise (DateEdits key activation protect_stop deactivation) = true
 
 -- the command has a text
-abbrev pub has_text : Command → Bool
-has_text c = is_numbered (named c) && is_occurrence_allowed (fields_of c)
+abbrev pub is_in_range : Command → Bool
+is_in_range c = is_numbered (named c) && has_occurrence_only_with_compromise (fields_of c)
 
 -- ---- texts
 

@@ -85,7 +85,8 @@ key_number_at field = number_at 1 4_294_967_295 field
 
 -- each reason once
 abbrev pub reasons : List Reason
-reasons = Unspecified ∷ KeyCompromise ∷ CaCompromise ∷ AffiliationChanged ∷ Superseded ∷ CessationOfOperation ∷ PrivilegeWithdrawn ∷ []
+reasons = Unspecified ∷ KeyCompromise ∷ CaCompromise ∷ AffiliationChanged ∷ Superseded ∷ CessationOfOperation
+    ∷ PrivilegeWithdrawn ∷ []
 
 -- the reason whose code the field writes
 unfoldable pub reason_at : List ℕ → Option Reason
@@ -95,7 +96,8 @@ reason_at field = do
 
 -- the occurrence that the field writes, which only a compromise has
 unfoldable pub occurrence_at : Reason → List ℕ → Option (Option ℕ)
-occurrence_at reason field = if is_compromise reason then date_at field else if bytes_eq field (codes "-") then Some None else None
+occurrence_at reason field = if is_compromise reason then date_at field
+    else if bytes_eq field (codes "-") then Some None else None
 
 -- a request's number that the field writes
 unfoldable pub request_number_at : List ℕ → Option ℕ
@@ -116,7 +118,8 @@ recipient_at field = number_at 0 max_months field
 -- the name that the field is
 unfoldable pub name_at : List ℕ → Option (List ℕ)
 name_at field =
-    if nat_le 1 (length field) && nat_le (length field) max_name_length && list_all is_name_byte field then Some field else None
+    if nat_le 1 (length field) && nat_le (length field) max_name_length && list_all is_name_byte field then Some field
+    else None
 
 -- neither the first nor the last byte is a space
 abbrev pub is_trimmed : List ℕ → Bool
@@ -125,12 +128,14 @@ is_trimmed bytes = not (is_space (slice_index bytes 0)) && not (is_space (slice_
 -- the purpose that the bytes are
 unfoldable pub purpose_at : List ℕ → Option (List ℕ)
 purpose_at bytes =
-    if nat_le 1 (length bytes) && nat_le (length bytes) max_purpose_length && is_utf8 bytes && list_all is_purpose_byte bytes && is_trimmed bytes
+    if nat_le 1 (length bytes) && nat_le (length bytes) max_purpose_length && is_utf8 bytes
+    && list_all is_purpose_byte bytes && is_trimmed bytes
     then Some bytes else None
 
 -- each type once
 abbrev pub key_types : List KeyType
-key_types = DataEncryption ∷ Authentication ∷ KeyWrapping ∷ PrivateSignature ∷ PrivateAuthentication ∷ PrivateTransport ∷ Master ∷ []
+key_types = DataEncryption ∷ Authentication ∷ KeyWrapping ∷ PrivateSignature ∷ PrivateAuthentication
+    ∷ PrivateTransport ∷ Master ∷ []
 
 -- the type whose text the field is
 unfoldable pub key_type_at : List ℕ → Option KeyType
@@ -140,7 +145,8 @@ key_type_at field = find (λ kind. bytes_eq (key_type_text kind) field) key_type
 abbrev pub command_kinds : List CommandKind
 command_kinds =
     kinds.Register ∷ kinds.Activate ∷ kinds.SetDates ∷ kinds.Revoke ∷ kinds.Assign ∷ kinds.AddCustodian
-    ∷ kinds.RemoveCustodian ∷ kinds.Approve ∷ kinds.Withdraw ∷ kinds.Destroy ∷ kinds.Advance ∷ kinds.SetQuorum ∷ kinds.SetPeriod ∷ []
+    ∷ kinds.RemoveCustodian ∷ kinds.Approve ∷ kinds.Withdraw ∷ kinds.Destroy ∷ kinds.Advance ∷ kinds.SetQuorum
+    ∷ kinds.SetPeriod ∷ []
 
 -- the kind whose word this is
 unfoldable pub kind_at : List ℕ → Option CommandKind
@@ -170,7 +176,9 @@ registered (kind, (owner, (activation, (protect_stop, (deactivation, purpose))))
 -- the fields of a registration
 unfoldable pub register_at : List ℕ → Option Fields
 register_at bytes = do
-  read ← field_then key_type_at (λ _. field_then name_at (λ _. field_then date_at (λ _. field_then date_at (λ _. field_then date_at (λ _. purpose_at))))) bytes
+  read ← field_then key_type_at
+      (λ _. field_then name_at
+      (λ _. field_then date_at (λ _. field_then date_at (λ _. field_then date_at (λ _. purpose_at))))) bytes
   Some (registered read)
 
 -- the number of a key, and the name after it
@@ -264,7 +272,8 @@ command_at bytes = do
 
 -- the request of the fields that fields_at reads
 abbrev pub requested : ℕ × (List ℕ × (ℕ × Command)) → Request
-requested (moment, (caller, (number, command))) = record { moment = moment; caller = caller; number = number; command = command }
+requested (moment, (caller, (number, command))) =
+    record { moment = moment; caller = caller; number = number; command = command }
 
 -- all fields of a line, whatever its length
 unfoldable pub fields_at : List ℕ → Option Request

@@ -46,7 +46,7 @@ struct Form {
 impl CommandKind {
     ghost use Rattle.std.specs.Prelude.{◌≢◌, ◌≤◌, IfSome, IfNone, All, length};
     ghost use Rattle.register_requests.specs.declared.command_fields.CommandKind.{CommandKind};
-    ghost use Rattle.register_requests.specs.CommandKind.{form, command_kind_text, command_shape};
+    ghost use Rattle.register_requests.specs.CommandKind.{word_shape_and_version, command_kind_text, command_shape};
     ghost use Rattle.register_requests.specs.CommandKind.{first_version};
 
     /// Each kind once.
@@ -68,11 +68,11 @@ impl CommandKind {
 
     /// The one table of all kinds.
     #[rattlefmt::skip]
-    fn form(self) -> Form
-        ensures word { result.word.now ≡ (form self).word }
+    fn word_shape_and_version(self) -> Form
+        ensures word { result.word.now ≡ (word_shape_and_version self).word }
         ensures short { length result.word.now ≤ MAX_WORD_LENGTH }
-        ensures shape { result.shape ≡ (form self).shape }
-        ensures since { result.since ≡ (form self).since }
+        ensures shape { result.shape ≡ (word_shape_and_version self).shape }
+        ensures since { result.since ≡ (word_shape_and_version self).since }
     {
         use Version::{First, Second};
         match self {
@@ -97,21 +97,21 @@ impl CommandKind {
         ensures text { result.now ≡ command_kind_text self }
         ensures short { length result.now ≤ MAX_WORD_LENGTH }
     {
-        self.form().word
+        self.word_shape_and_version().word
     }
 
     /// The shape of the fields after that word.
     pub fn shape(self) -> Shape
         ensures { result ≡ command_shape self }
     {
-        self.form().shape
+        self.word_shape_and_version().shape
     }
 
     /// The first version of the register that knows the kind (this register's own).
     pub fn since(self) -> Version
         ensures { result ≡ first_version self }
     {
-        self.form().since
+        self.word_shape_and_version().since
     }
 
     /// The kind whose word this is, or `None` where it is the word of none.
@@ -196,7 +196,7 @@ pub enum Fields {
 
 impl Fields {
     ghost use Rattle.register_requests.specs.Subject.{subject_by, named_by};
-    ghost use Rattle.register_requests.specs.Request.{is_occurrence_allowed};
+    ghost use Rattle.register_requests.specs.Request.{has_occurrence_only_with_compromise};
 
     /// The number of the key that they name, if they name one.
     fn key(&self) -> Option<u32>
@@ -214,8 +214,8 @@ impl Fields {
     }
 
     /// An occurrence is given only with a reason that is a compromise.
-    fn is_occurrence_allowed(&self) -> bool
-        ensures { result ≡ is_occurrence_allowed self.now }
+    fn has_occurrence_only_with_compromise(&self) -> bool
+        ensures { result ≡ has_occurrence_only_with_compromise self.now }
     {
         match *self {
             Fields::Revocation {
@@ -274,7 +274,7 @@ fn command_with_key_and_name(kind: CommandKind, key: u32, name: Name) -> Option<
 }
 
 impl Command {
-    ghost use Rattle.register_requests.specs.Request.{has_text};
+    ghost use Rattle.register_requests.specs.Request.{is_in_range};
     ghost use Rattle.register_requests.specs.Subject.{named};
 
     /// The number of the key that the command names, if it names one.
@@ -287,15 +287,15 @@ impl Command {
     /// Whether the command has a text, as that of each line has: a key that it names has a number
     /// from 1 on, and an occurrence is given only with a reason that is a compromise (this
     /// register's own). The rest is in its ranges by its types.
-    pub fn has_text(&self) -> bool
-        ensures { result ≡ has_text self.now }
+    pub fn is_in_range(&self) -> bool
+        ensures { result ≡ is_in_range self.now }
     {
         let fields = self.fields();
         let is_numbered = match fields.key() {
             Some(key) => key > 0,
             None => true,
         };
-        is_numbered && fields.is_occurrence_allowed()
+        is_numbered && fields.has_occurrence_only_with_compromise()
     }
 
     /// What stands after the command's word.

@@ -35,7 +35,7 @@ pub fn put_number<const N: usize>(line: &mut ArrayString<N>, number: u64)
 }
 
 /// Appends a space, and after it the date, `-` for none.
-fn put_date<const N: usize>(line: &mut ArrayString<N>, date: Option<Moment>)
+fn put_spaced_date<const N: usize>(line: &mut ArrayString<N>, date: Option<Moment>)
     requires { array_string_len line.old + 21 ≤ N }
     ensures bytes { line.new.bytes ≡ line.old.bytes ++ codes " " ++ date_text date }
     ensures short { array_string_len line.new ≤ array_string_len line.old + 21 }
@@ -48,7 +48,7 @@ fn put_date<const N: usize>(line: &mut ArrayString<N>, date: Option<Moment>)
 }
 
 /// Appends a space, and after it what becomes of a date.
-fn put_edit<const N: usize>(line: &mut ArrayString<N>, edit: Edit)
+fn put_spaced_edit<const N: usize>(line: &mut ArrayString<N>, edit: Edit)
     requires { array_string_len line.old + 21 ≤ N }
     ensures bytes { line.new.bytes ≡ line.old.bytes ++ codes " " ++ edit_text edit }
     ensures short { array_string_len line.new ≤ array_string_len line.old + 21 }
@@ -62,7 +62,7 @@ fn put_edit<const N: usize>(line: &mut ArrayString<N>, edit: Edit)
 }
 
 /// Appends a space, and after it the number of a key.
-fn put_key(text: &mut ArrayString<MAX_COMMAND_LENGTH>, key: u32)
+fn put_spaced_key_number(text: &mut ArrayString<MAX_COMMAND_LENGTH>, key: u32)
     requires { array_string_len text.old ≤ MAX_WORD_LENGTH }
     ensures bytes { text.new.bytes ≡ text.old.bytes ++ codes " " ++ decimal key }
     ensures short { array_string_len text.new ≤ array_string_len text.old + 21 }
@@ -72,29 +72,33 @@ fn put_key(text: &mut ArrayString<MAX_COMMAND_LENGTH>, key: u32)
 }
 
 /// The same with a name after the number.
-fn put_key_and_name(text: &mut ArrayString<MAX_COMMAND_LENGTH>, key: u32, name: &Name)
+fn put_spaced_key_and_name(text: &mut ArrayString<MAX_COMMAND_LENGTH>, key: u32, name: &Name)
     requires { array_string_len text.old ≤ MAX_WORD_LENGTH }
     ensures { text.new.bytes ≡ text.old.bytes ++
         (codes " " ++ decimal key ++ codes " " ++ name.now) }
 {
-    put_key(text, key);
+    put_spaced_key_number(text, key);
     text.push_str(" ");
     text.push_str(name.text());
 }
 
 /// The same with a number of approvals after it.
-fn put_key_and_need(text: &mut ArrayString<MAX_COMMAND_LENGTH>, key: u32, need: Quorum)
+fn put_spaced_key_and_need(text: &mut ArrayString<MAX_COMMAND_LENGTH>, key: u32, need: Quorum)
     requires { array_string_len text.old ≤ MAX_WORD_LENGTH }
     ensures { text.new.bytes ≡ text.old.bytes ++
         (codes " " ++ decimal key ++ codes " " ++ decimal need) }
 {
-    put_key(text, key);
+    put_spaced_key_number(text, key);
     text.push_str(" ");
     put_number(text, u64::from(need.get()));
 }
 
 /// Appends a type with its period.
-fn put_type_and_period(text: &mut ArrayString<MAX_COMMAND_LENGTH>, kind: KeyType, period: Period)
+fn put_spaced_type_and_period(
+    text: &mut ArrayString<MAX_COMMAND_LENGTH>,
+    kind: KeyType,
+    period: Period,
+)
     requires { array_string_len text.old ≤ MAX_WORD_LENGTH }
     ensures { text.new.bytes ≡ text.old.bytes ++ fields_text (TypeAndPeriod kind period) }
 {
@@ -107,7 +111,11 @@ fn put_type_and_period(text: &mut ArrayString<MAX_COMMAND_LENGTH>, kind: KeyType
 }
 
 /// Appends a type with an owner.
-fn put_type_and_owner(text: &mut ArrayString<MAX_COMMAND_LENGTH>, kind: KeyType, owner: &Name)
+fn put_spaced_type_and_owner(
+    text: &mut ArrayString<MAX_COMMAND_LENGTH>,
+    kind: KeyType,
+    owner: &Name,
+)
     requires { array_string_len text.old ≤ MAX_WORD_LENGTH }
     ensures bytes { text.new.bytes ≡ text.old.bytes ++
         (codes " " ++ key_type_text kind ++ codes " " ++ owner.now) }
@@ -120,7 +128,7 @@ fn put_type_and_owner(text: &mut ArrayString<MAX_COMMAND_LENGTH>, kind: KeyType,
 }
 
 /// Appends the fields of a change of dates.
-fn put_date_edits(
+fn put_spaced_date_edits(
     text: &mut ArrayString<MAX_COMMAND_LENGTH>,
     key: u32,
     activation: Edit,
@@ -131,14 +139,14 @@ fn put_date_edits(
     ensures { text.new.bytes ≡ text.old.bytes ++
         fields_text (DateEdits key activation protect_stop deactivation) }
 {
-    put_key(text, key);
-    put_edit(text, activation);
-    put_edit(text, protect_stop);
-    put_edit(text, deactivation);
+    put_spaced_key_number(text, key);
+    put_spaced_edit(text, activation);
+    put_spaced_edit(text, protect_stop);
+    put_spaced_edit(text, deactivation);
 }
 
 /// Appends the fields of a revocation.
-fn put_revocation(
+fn put_spaced_revocation(
     text: &mut ArrayString<MAX_COMMAND_LENGTH>,
     key: u32,
     reason: Reason,
@@ -147,27 +155,27 @@ fn put_revocation(
     requires { array_string_len text.old ≤ MAX_WORD_LENGTH }
     ensures { text.new.bytes ≡ text.old.bytes ++ fields_text (Revocation key reason occurrence) }
 {
-    put_key(text, key);
+    put_spaced_key_number(text, key);
     text.push_str(" ");
     put_number(text, u64::from(reason.code()));
-    put_date(text, occurrence);
+    put_spaced_date(text, occurrence);
 }
 
 /// Appends the fields, each with a space before it.
-fn put_fields(text: &mut ArrayString<MAX_COMMAND_LENGTH>, fields: &Fields)
+fn put_spaced_fields(text: &mut ArrayString<MAX_COMMAND_LENGTH>, fields: &Fields)
     requires { array_string_len text.old ≤ MAX_WORD_LENGTH }
     ensures { text.new.bytes ≡ text.old.bytes ++ fields_text fields.now }
 {
     match *fields {
         Fields::Nothing => {}
-        Fields::Key { key } => put_key(text, key),
+        Fields::Key { key } => put_spaced_key_number(text, key),
         Fields::KeyAndName { key, ref name }
         | Fields::KeyAndOwner {
             key,
             owner: ref name,
-        } => put_key_and_name(text, key, name),
-        Fields::KeyAndNeed { key, need } => put_key_and_need(text, key, need),
-        Fields::TypeAndPeriod { kind, period } => put_type_and_period(text, kind, period),
+        } => put_spaced_key_and_name(text, key, name),
+        Fields::KeyAndNeed { key, need } => put_spaced_key_and_need(text, key, need),
+        Fields::TypeAndPeriod { kind, period } => put_spaced_type_and_period(text, kind, period),
         Fields::Registration {
             kind,
             ref owner,
@@ -176,10 +184,10 @@ fn put_fields(text: &mut ArrayString<MAX_COMMAND_LENGTH>, fields: &Fields)
             deactivation,
             ref purpose,
         } => {
-            put_type_and_owner(text, kind, owner);
-            put_date(text, activation);
-            put_date(text, protect_stop);
-            put_date(text, deactivation);
+            put_spaced_type_and_owner(text, kind, owner);
+            put_spaced_date(text, activation);
+            put_spaced_date(text, protect_stop);
+            put_spaced_date(text, deactivation);
             text.push_str(" ");
             text.push_str(purpose.text());
         }
@@ -188,12 +196,12 @@ fn put_fields(text: &mut ArrayString<MAX_COMMAND_LENGTH>, fields: &Fields)
             ref activation,
             ref protect_stop,
             ref deactivation,
-        } => put_date_edits(text, key, *activation, *protect_stop, *deactivation),
+        } => put_spaced_date_edits(text, key, *activation, *protect_stop, *deactivation),
         Fields::Revocation {
             key,
             reason,
             occurrence,
-        } => put_revocation(text, key, reason, occurrence),
+        } => put_spaced_revocation(text, key, reason, occurrence),
     }
 }
 
@@ -204,6 +212,6 @@ pub fn command_text(command: &Command) -> CommandText
 {
     let mut text = ArrayString::new();
     text.push_str(command.kind().text());
-    put_fields(&mut text, &command.fields());
+    put_spaced_fields(&mut text, &command.fields());
     ShortText::new(text)
 }

@@ -4,7 +4,9 @@ ghost use Rattle.register_requests.specs.Request.{IsItem};
 ghost use Rattle.register_requests.specs.RequestLine.{fields_at, request_at};
 
 use crate::request::Request;
-use crate::request_reading::{command_of, next_moment, next_name, next_request_number};
+use crate::request_reading::{
+    command_of, take_moment_before_space, take_name_before_space, take_request_number_before_space,
+};
 
 /// How many bytes a request line has at most, without its LF.
 pub const MAX_LINE_LENGTH: usize = 1024;
@@ -27,9 +29,9 @@ fn request_of_any_length(line: &[u8]) -> Option<Request>
 {
     let mut rest = line;
     Some(Request {
-        moment: next_moment(&mut rest)?,
-        caller: next_name(&mut rest)?,
-        number: next_request_number(&mut rest)?,
+        moment: take_moment_before_space(&mut rest)?,
+        caller: take_name_before_space(&mut rest)?,
+        number: take_request_number_before_space(&mut rest)?,
         command: command_of(rest)?,
     })
 }

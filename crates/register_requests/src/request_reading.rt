@@ -46,7 +46,7 @@ fn split_first_field(bytes: &[u8]) -> Option<(&[u8], &[u8])>
 }
 
 /// Takes the field before the first space, and leaves what stands after that space.
-fn next_field<'a>(rest: &mut &'a [u8]) -> Option<&'a [u8]>
+fn take_field_before_space<'a>(rest: &mut &'a [u8]) -> Option<&'a [u8]>
     ensures { Gives (λ field. (field.now, rest.new.now)) result (field_at rest.old.now) }
 {
     let (field, after) = split_first_field(rest)?;
@@ -76,17 +76,17 @@ pub fn read_decimal(field: &[u8]) -> Option<u64>
 }
 
 /// The moment that the field writes.
-fn moment_of(field: &[u8]) -> Option<Moment>
+fn moment_of_decimal_seconds(field: &[u8]) -> Option<Moment>
     ensures { result ≡ moment_at field.now }
 {
     Moment::new(read_decimal(field)?)
 }
 
 /// Takes the moment before the first space, and leaves what stands after that space.
-pub(crate) fn next_moment(rest: &mut &[u8]) -> Option<Moment>
+pub(crate) fn take_moment_before_space(rest: &mut &[u8]) -> Option<Moment>
     ensures { Gives (λ moment. (moment, rest.new.now)) result (field_as moment_at rest.old.now) }
 {
-    moment_of(next_field(rest)?)
+    moment_of_decimal_seconds(take_field_before_space(rest)?)
 }
 
 /// The date that the field writes, `-` for none.
@@ -97,15 +97,15 @@ fn date_of(field: &[u8]) -> Option<Option<Moment>>
     if field == b"-".as_slice() {
         return Some(None);
     }
-    let moment = moment_of(field)?;
+    let moment = moment_of_decimal_seconds(field)?;
     Some(Some(moment))
 }
 
 /// Takes the date before the first space, and leaves what stands after that space.
-fn next_date(rest: &mut &[u8]) -> Option<Option<Moment>>
+fn take_date_before_space(rest: &mut &[u8]) -> Option<Option<Moment>>
     ensures { Gives (λ date. (date, rest.new.now)) result (field_as date_at rest.old.now) }
 {
-    date_of(next_field(rest)?)
+    date_of(take_field_before_space(rest)?)
 }
 
 /// What the field says of a date: `=` that it stays, `-` that it is unset, or the moment to set it
@@ -120,15 +120,15 @@ fn edit_of(field: &[u8]) -> Option<Edit>
     if field == b"-".as_slice() {
         return Some(Edit::Clear);
     }
-    let moment = moment_of(field)?;
+    let moment = moment_of_decimal_seconds(field)?;
     Some(Edit::Set(moment))
 }
 
 /// Takes what is said of a date before the first space, and leaves what stands after that space.
-fn next_edit(rest: &mut &[u8]) -> Option<Edit>
+fn take_edit_before_space(rest: &mut &[u8]) -> Option<Edit>
     ensures { Gives (λ edit. (edit, rest.new.now)) result (field_as edit_at rest.old.now) }
 {
-    edit_of(next_field(rest)?)
+    edit_of(take_field_before_space(rest)?)
 }
 
 /// The number as that of a key, or `None` out of the range.
@@ -151,10 +151,10 @@ pub fn read_key_number(field: &[u8]) -> Option<u32>
 }
 
 /// Takes the key's number before the first space, and leaves what stands after that space.
-fn next_key_number(rest: &mut &[u8]) -> Option<u32>
+fn take_key_number_before_space(rest: &mut &[u8]) -> Option<u32>
     ensures { Gives (λ key. (key, rest.new.now)) result (field_as key_number_at rest.old.now) }
 {
-    read_key_number(next_field(rest)?)
+    read_key_number(take_field_before_space(rest)?)
 }
 
 /// The reason with this code, or `None` where no reason has it.
@@ -174,10 +174,10 @@ fn reason_of(field: &[u8]) -> Option<Reason>
 }
 
 /// Takes the code of a reason before the first space, and leaves what stands after that space.
-fn next_reason(rest: &mut &[u8]) -> Option<Reason>
+fn take_reason_before_space(rest: &mut &[u8]) -> Option<Reason>
     ensures { Gives (λ reason. (reason, rest.new.now)) result (field_as reason_at rest.old.now) }
 {
-    reason_of(next_field(rest)?)
+    reason_of(take_field_before_space(rest)?)
 }
 
 /// The occurrence that the field writes: a date with a compromise, else `-` alone.
@@ -203,11 +203,11 @@ fn request_number_of(field: &[u8]) -> Option<RequestNumber>
 }
 
 /// Takes the request's number before the first space, and leaves what stands after that space.
-pub(crate) fn next_request_number(rest: &mut &[u8]) -> Option<RequestNumber>
+pub(crate) fn take_request_number_before_space(rest: &mut &[u8]) -> Option<RequestNumber>
     ensures { Gives (λ number. (number, rest.new.now)) result
         (field_as request_number_at rest.old.now) }
 {
-    request_number_of(next_field(rest)?)
+    request_number_of(take_field_before_space(rest)?)
 }
 
 /// So many approvals, or `None` out of the range.
@@ -243,11 +243,11 @@ fn originator_months_of(field: &[u8]) -> Option<u16>
 
 /// Takes the months of originator use before the first space, and leaves what stands after that
 /// space.
-fn next_originator_months(rest: &mut &[u8]) -> Option<u16>
+fn take_originator_months_before_space(rest: &mut &[u8]) -> Option<u16>
     ensures { Gives (λ months. (months, rest.new.now)) result
         (field_as originator_at rest.old.now) }
 {
-    originator_months_of(next_field(rest)?)
+    originator_months_of(take_field_before_space(rest)?)
 }
 
 /// How many months of recipient use the field writes.
@@ -265,10 +265,10 @@ fn name_of(field: &[u8]) -> Option<Name>
 }
 
 /// Takes the name before the first space, and leaves what stands after that space.
-pub(crate) fn next_name(rest: &mut &[u8]) -> Option<Name>
+pub(crate) fn take_name_before_space(rest: &mut &[u8]) -> Option<Name>
     ensures { Gives (λ name. (name, rest.new.now)) result (field_as name_at rest.old.now) }
 {
-    name_of(next_field(rest)?)
+    name_of(take_field_before_space(rest)?)
 }
 
 /// The type whose text the field is.
@@ -279,10 +279,10 @@ fn key_type_of(field: &[u8]) -> Option<KeyType>
 }
 
 /// Takes the type before the first space, and leaves what stands after that space.
-fn next_key_type(rest: &mut &[u8]) -> Option<KeyType>
+fn take_key_type_before_space(rest: &mut &[u8]) -> Option<KeyType>
     ensures { Gives (λ kind. (kind, rest.new.now)) result (field_as key_type_at rest.old.now) }
 {
-    key_type_of(next_field(rest)?)
+    key_type_of(take_field_before_space(rest)?)
 }
 
 /// The kind of command whose word the field is.
@@ -306,11 +306,11 @@ fn registration_fields_of(bytes: &[u8]) -> Option<Fields>
 {
     let mut rest = bytes;
     Some(Fields::Registration {
-        kind: next_key_type(&mut rest)?,
-        owner: next_name(&mut rest)?,
-        activation: next_date(&mut rest)?,
-        protect_stop: next_date(&mut rest)?,
-        deactivation: next_date(&mut rest)?,
+        kind: take_key_type_before_space(&mut rest)?,
+        owner: take_name_before_space(&mut rest)?,
+        activation: take_date_before_space(&mut rest)?,
+        protect_stop: take_date_before_space(&mut rest)?,
+        deactivation: take_date_before_space(&mut rest)?,
         purpose: purpose_of(rest)?,
     })
 }
@@ -321,7 +321,7 @@ fn key_and_name_of(bytes: &[u8]) -> Option<(u32, Name)>
     ensures { result ≡ key_and_name_at bytes.now }
 {
     let mut rest = bytes;
-    let key = next_key_number(&mut rest)?;
+    let key = take_key_number_before_space(&mut rest)?;
     let name = name_of(rest)?;
     Some((key, name))
 }
@@ -332,7 +332,7 @@ fn key_and_need_fields_of(bytes: &[u8]) -> Option<Fields>
     ensures { result ≡ key_and_need_at bytes.now }
 {
     let mut rest = bytes;
-    let key = next_key_number(&mut rest)?;
+    let key = take_key_number_before_space(&mut rest)?;
     let need = quorum_of(rest)?;
     Some(Fields::KeyAndNeed { key, need })
 }
@@ -343,8 +343,8 @@ fn type_and_period_fields_of(bytes: &[u8]) -> Option<Fields>
     ensures { result ≡ type_and_period_at bytes.now }
 {
     let mut rest = bytes;
-    let kind = next_key_type(&mut rest)?;
-    let originator = next_originator_months(&mut rest)?;
+    let kind = take_key_type_before_space(&mut rest)?;
+    let originator = take_originator_months_before_space(&mut rest)?;
     let recipient = recipient_months_of(rest)?;
     let period = Period::new(originator, recipient)?;
     Some(Fields::TypeAndPeriod { kind, period })
@@ -357,9 +357,9 @@ fn date_edit_fields_of(bytes: &[u8]) -> Option<Fields>
 {
     let mut rest = bytes;
     Some(Fields::DateEdits {
-        key: next_key_number(&mut rest)?,
-        activation: next_edit(&mut rest)?,
-        protect_stop: next_edit(&mut rest)?,
+        key: take_key_number_before_space(&mut rest)?,
+        activation: take_edit_before_space(&mut rest)?,
+        protect_stop: take_edit_before_space(&mut rest)?,
         deactivation: edit_of(rest)?,
     })
 }
@@ -370,8 +370,8 @@ fn revocation_fields_of(bytes: &[u8]) -> Option<Fields>
     ensures { result ≡ revoke_at bytes.now }
 {
     let mut rest = bytes;
-    let key = next_key_number(&mut rest)?;
-    let reason = next_reason(&mut rest)?;
+    let key = take_key_number_before_space(&mut rest)?;
+    let reason = take_reason_before_space(&mut rest)?;
     let occurrence = occurrence_of(reason, rest)?;
     Some(Fields::Revocation {
         key,

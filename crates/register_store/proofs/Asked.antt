@@ -74,7 +74,8 @@ asks_for First name low l = (_, record { p = _; select = _; d = _; by = _; parse
 asks_for Second Meta low l = (_, record { p = _; select = _; d = _; by = _; parsed = refl; untimed = refl; is = refl; drafted = refl; same = refl; from = refl; accepted = refl })
 asks_for Second name low l = (_, record { p = _; select = _; d = _; by = _; parsed = refl; untimed = refl; is = refl; drafted = refl; same = refl; from = refl; accepted = refl })
 
-pub asked_is : (version : Version) (name : TableName) (within : IsWithin name version) (l : Layout) → IsPlacedIn version l
+pub asked_is : (version : Version) (name : TableName) (within : IsWithin name version) (l : Layout)
+    → IsPlacedIn version l
     → Meant (schema_in version l) (check_text name)
     (Select (record { lets = []; body = asked l name }) (asks_for version name within l).0)
 asked_is version name within l at =
@@ -142,14 +143,17 @@ module _ (name : TableName) (t : Stored) (within : IsWithin name t.version) wher
       it.plain it.unlisted rows begins in
       (first.1.0, first.1.1)
 
-  module _ (own : (db : Database) (rows : List Row) (holds : HoldsStored t db) → AnswersTo holds.schema.layout name db rows
+  module _ (own : (db : Database) (rows : List Row) (holds : HoldsStored t db)
+      → AnswersTo holds.schema.layout name db rows
       → ShowsOwn name t rows) where
     -- all rows that are shown
-    pub shown_own : {P : List Row → Type 0} (old new : State) → HoldsStored t old.now → (all : ShowsAll (check_text name) P old new) → ShowsOwn name t all.rows
+    pub shown_own : {P : List Row → Type 0} (old new : State) → HoldsStored t old.now
+        → (all : ShowsAll (check_text name) P old new) → ShowsOwn name t all.rows
     shown_own old new holds all = own old.now all.rows holds (shown_answers old new all.rows holds all.shown)
 
     -- the first rows
-    pub begun_own : {P : List Row → Type 0} (old new : State) → HoldsStored t old.now → (some : ShowsFirst (check_text name) P old new) → (tail : List Row) × ShowsOwn name t (some.rows ++ tail)
+    pub begun_own : {P : List Row → Type 0} (old new : State) → HoldsStored t old.now
+        → (some : ShowsFirst (check_text name) P old new) → (tail : List Row) × ShowsOwn name t (some.rows ++ tail)
     begun_own old new holds some =
         let here = subst (HoldsStored t) (sym some.same.0.now_is) holds in
         let begun = begun_answers new some.rows here some.shown in
@@ -166,26 +170,32 @@ module _ (name : TableName) (t : Stored) (within : IsWithin name t.version) wher
         all.holds.fails it.c it.shows (it.meets meets)
 
     module _ (newer_not : (found : ℕ) (old new : State) → HoldsStored t old.now → HasNewer found old new → ⊥) where
-      pub blames_none : {T : Type 0} (old new : State) (q : Result T CheckError) → HoldsStored t old.now → MeetsChecks t → IfErr q (IsReasonAt name t old new) → IfErr q BlamesNone
+      pub blames_none : {T : Type 0} (old new : State) (q : Result T CheckError) → HoldsStored t old.now
+          → MeetsChecks t → IfErr q (IsReasonAt name t old new) → IfErr q BlamesNone
       blames_none old new (Ok x) holds meets why = tt
       blames_none old new (Err NotARegister) holds meets why = fails_not old new holds (meets name) why.0
       blames_none old new (Err (NewerVersion found)) holds meets why = newer_not found old new holds why
       blames_none old new (Err Memory) holds meets why = tt
       blames_none old new (Err (Refused error)) holds meets why = tt
 
-      module _ {T : Type 0} (Says : Part name → T → Type 0) (respects : (c d : Part name) (x : T) → IsLike name c d → Says c x → Says d x)
+      module _ {T : Type 0} (Says : Part name → T → Type 0) (respects : (c d : Part name) (x : T)
+          → IsLike name c d → Says c x → Says d x)
           (one : (rows : List Row) (c d : Part name) → ShowsRows name rows c → ShowsRows name rows d → c ≡ d) where
         abbrev IsPassed : State → State → T → Type 0
-        IsPassed old new found = (c : Part name) × ShowsAll (check_text name) (λ rows. ShowsRows name rows c) old new × MeetsCheck name (with_part name c t) × Says c found
+        IsPassed old new found = (c : Part name) × ShowsAll (check_text name) (λ rows. ShowsRows name rows c) old new
+            × MeetsCheck name (with_part name c t) × Says c found
 
-        told : (old new : State) (q : Result T CheckError) → HoldsStored t old.now → IfOk q (IsPassed old new) → IfOk q (Says (part name t))
+        told : (old new : State) (q : Result T CheckError) → HoldsStored t old.now → IfOk q (IsPassed old new)
+            → IfOk q (Says (part name t))
         told old new (Err e) holds passed = tt
         told old new (Ok x) holds passed =
             let it = shown_own old new holds passed.1 in
             let same = one passed.1.rows passed.0 it.c passed.1.holds it.shows in
             respects it.c (part name t) x it.like (subst (λ c. Says c x) same passed.3)
 
-        pub checks_table : (old new : State) (q : Result T CheckError) → (HasCleanDisk new → IfOk q (IsPassed old new)) → (HasCleanDisk new → IfErr q (IsReasonAt name t old new)) → Survives old new (λ _. ⊥)
+        pub checks_table : (old new : State) (q : Result T CheckError)
+            → (HasCleanDisk new → IfOk q (IsPassed old new)) → (HasCleanDisk new → IfErr q (IsReasonAt name t old new))
+            → Survives old new (λ _. ⊥)
             → ChecksTable name t Says old new q
         checks_table old new q passed refused survives = record {
           passed = passed;

@@ -1,7 +1,7 @@
 -- Making a register and migrating one leave what the file has beside it.
 use Rattle.std.proofs.Common.{◌≡◌, ◌==◌, ◌<◌, inl, inr, ℕ, Bool, true, false, List, [], codes, Option, None, Some}
 use Rattle.std.proofs.Common.{Result, Ok, Err, refl, sym, ap, subst, ◌∙◌, arith}
-use Rattle.std.specs.Prelude.{find, slice_range, ◌+◌, get_or, ◌∷◌}
+use Rattle.std.specs.Prelude.{find, ◌+◌, get_or, ◌∷◌}
 use Rattle.std.proofs.lemmas.Grind.{common_steps}
 use Rattle.register_store.specs.Creation.{MakesIndex, MakesIndexes}
 use Rattle.std.proofs.lemmas.Bool.{eqb-true}
@@ -33,43 +33,41 @@ use Rattle.sqlite_syntax.specs.declared.statement.Parsed.{Parsed}
 use Rattle.sqlite_tied.specs.Compute.{everything}
 use Rattle.sql_steps.specs.Steps.{Change, StepsBy, Then}
 use Rattle.sql_steps.proofs.Stepping.{stays, steps_as, steps_then}
-use Rattle.register_store.specs.Beside.{Adds, AddsUncounted, HasMetaApart, InsertsMeta, IsMadeAs, IsUncounted, KeepsOthers, LacksMeta}
+use Rattle.register_store.specs.Beside.{Adds, AddsUncounted, HasMetaApart, InsertsMeta, IsMadeAs}
+use Rattle.register_store.specs.Beside.{IsUncounted, KeepsOthers, LacksMeta}
 use Rattle.register_store.specs.Beside.{UpdatesMeta, WritesMeta, is_meta}
 use Rattle.register_store.specs.Schema.{index_text}
 use Rattle.register_store.specs.Tables.{create_text}
 use Rattle.register_store.specs.declared.key_index.KeyIndex.{KeyIndex}
 use Rattle.register_store.specs.declared.key_index.KeyIndex.TheVariants.{Activation, Deactivation, ProtectStop}
 use Rattle.register_store.specs.declared.table.TableName.{TableName}
-use Rattle.register_store.specs.declared.table.TableName.TheVariants.{Approval, Custodian, Keys as KeysTable, Meta, Period}
+use Rattle.register_store.specs.declared.table.TableName.TheVariants.{Approval, Custodian}
+use Rattle.register_store.specs.declared.table.TableName.TheVariants.{Keys as KeysTable, Meta, Period}
 use Rattle.register_store.specs.declared.table.TableName.TheVariants.{Quorum, Request}
 use Rattle.register_store.proofs.BesideMade.{adds_by_index, adds_by_table, adds_none, adds_then}
 use Rattle.register_store.proofs.BesideMeta.{WritesOne, filter_none, flat_none, inserts_one, updates_one}
 use Rattle.register_store.proofs.Creating.{row_params, row_text}
 use Rattle.register_store.proofs.EachTable.{unplaced}
-use Rattle.register_store.proofs.NewTables.{below_next, def_of, parsed, read_as}
-use Rattle.register_store.proofs.NextTexts.{IsText}
+use Rattle.register_store.proofs.NewTables.{below_next}
+use Rattle.register_store.proofs.TableTexts.{def_of, parsed, read_as, whole_is}
 use Rattle.register_store.proofs.Readings.{survives_none}
 use Rattle.register_store.proofs.VersionSet.{version_params, version_text}
 
 -- ---- the tables
 
--- the text is that of the table, from its first byte to its last
-record IsWhole (name : TableName) : Type 0 where
-  text : IsText (create_text name) (parsed name) (def_of name) (unplaced name)
-  whole : slice_range (create_text name) (parsed name).start (parsed name).end ≡ create_text name
-  defined : table_defined_by (create_text name) ≡ Ok (unplaced name)
+record IsApart (name : TableName) : Type 0 where
   uncounted : IsUncounted (unplaced name)
   named : is_meta (unplaced name).name ≡ true → name ≡ Meta
 
-whole_is : (name : TableName) → IsWhole name
+apart_is : (name : TableName) → IsApart name
 unfolding everything
-whole_is Meta = record { text = record { parsed = refl; is = refl; always = refl; own = refl; defined = refl; computed = refl }; whole = refl; defined = refl; uncounted = refl; named = λ h. refl }
-whole_is KeysTable = record { text = record { parsed = refl; is = refl; always = refl; own = refl; defined = refl; computed = refl }; whole = refl; defined = refl; uncounted = refl; named = λ h. absurd (cc) }
-whole_is Custodian = record { text = record { parsed = refl; is = refl; always = refl; own = refl; defined = refl; computed = refl }; whole = refl; defined = refl; uncounted = refl; named = λ h. absurd (cc) }
-whole_is Approval = record { text = record { parsed = refl; is = refl; always = refl; own = refl; defined = refl; computed = refl }; whole = refl; defined = refl; uncounted = refl; named = λ h. absurd (cc) }
-whole_is Request = record { text = record { parsed = refl; is = refl; always = refl; own = refl; defined = refl; computed = refl }; whole = refl; defined = refl; uncounted = refl; named = λ h. absurd (cc) }
-whole_is Period = record { text = record { parsed = refl; is = refl; always = refl; own = refl; defined = refl; computed = refl }; whole = refl; defined = refl; uncounted = refl; named = λ h. absurd (cc) }
-whole_is Quorum = record { text = record { parsed = refl; is = refl; always = refl; own = refl; defined = refl; computed = refl }; whole = refl; defined = refl; uncounted = refl; named = λ h. absurd (cc) }
+apart_is Meta = record { uncounted = refl; named = λ h. refl }
+apart_is KeysTable = record { uncounted = refl; named = λ h. absurd (cc) }
+apart_is Custodian = record { uncounted = refl; named = λ h. absurd (cc) }
+apart_is Approval = record { uncounted = refl; named = λ h. absurd (cc) }
+apart_is Request = record { uncounted = refl; named = λ h. absurd (cc) }
+apart_is Period = record { uncounted = refl; named = λ h. absurd (cc) }
+apart_is Quorum = record { uncounted = refl; named = λ h. absurd (cc) }
 
 unreferring : (name : TableName) (r : Reference) → Has (unplaced name).references r → is_meta r.parent ≡ false
 unfolding everything
@@ -86,9 +84,9 @@ unreferring Quorum r (inr none) = absurd none
 
 pub made_as : (name : TableName) → IsMadeAs name (unplaced name)
 made_as name = record {
-  uncounted = (whole_is name).uncounted;
+  uncounted = (apart_is name).uncounted;
   unreferring = unreferring name;
-  named = (whole_is name).named;
+  named = (apart_is name).named;
 }
 
 -- the table that the database makes by itself, where one with AUTOINCREMENT was there without it
@@ -143,7 +141,8 @@ pub index_adds : (index : KeyIndex) (old new : State) (count : ℕ) → Executes
 unfolding AddsUncounted
 index_adds index =
     let r = index_read index in
-    adds_by_index IsUncounted (index_text index) (parsed_index index) (no_index (parsed_index index).statement) r.read r.is
+    adds_by_index IsUncounted (index_text index) (parsed_index index)
+    (no_index (parsed_index index).statement) r.read r.is
 
 -- ---- the writes of `meta`
 
@@ -169,7 +168,8 @@ pub inserts_meta : (old new : State) (count : ℕ) → Executes row_text row_par
     → InsertsMeta old.now new.now
 unfolding everything
 inserts_meta old new count h uncounted =
-    let it = inserts_one row_text (read_text row_text) (codes "meta") are_read.row _ _ refl old new row_params count uncounted h in
+    let it = inserts_one row_text (read_text row_text)
+    (codes "meta") are_read.row _ _ refl old new row_params count uncounted h in
     writes_meta old.now new.now it.0 it.1 it.2 it.3
 
 -- a foreign key leads to a table of the name that it gives
@@ -205,8 +205,10 @@ other_name t name same other = by (is_meta t.name) refl
 
 -- so no change of `meta` sets off an action
 module _ (s : Schema) (apart : HasMetaApart s) (m : Table) (has : Has s.tables m) (called : is_meta m.name ≡ true) where
-  work_none : (child : Table) → Has s.tables child → (r : Reference) → Has child.references r → (moves : List (Row × Row))
-      (deed : Option Deed) (key : Option ParentKey) → parent_key s.tables r ≡ key → work_by 0 m.tree moves child r deed key ≡ None
+  work_none : (child : Table) → Has s.tables child → (r : Reference) → Has child.references r
+      → (moves : List (Row × Row))
+      (deed : Option Deed) (key : Option ParentKey) → parent_key s.tables r ≡ key
+      → work_by 0 m.tree moves child r deed key ≡ None
   work_none child h r k moves None key is = refl
   work_none child h r k moves (Some deed) None is = refl
   work_none child h r k moves (Some deed) (Some key) is = by (key.0 == m.tree) refl
@@ -226,7 +228,8 @@ pub updates_meta : (old new : State) (count : ℕ) → Executes version_text ver
     → UpdatesMeta old.now new.now
 unfolding everything
 updates_meta old new count h apart =
-    let it = updates_one version_text (read_text version_text) (codes "meta") are_read.version _ _ refl old new version_params count
+    let it = updates_one version_text (read_text version_text)
+    (codes "meta") are_read.version _ _ refl old new version_params count
     (λ t has called olds news. idle_update old.now.schema apart t has called (mode_of old).keys olds news) h in
     writes_meta old.now new.now it.0 it.1 it.2 it.3
 
@@ -299,7 +302,8 @@ migrates_beside old mid new a updates it =
     let wrote = updates there in
     record {
       tables = λ t h. subst (λ (s : Schema). Has s.tables t) (sym wrote.schema_is) (a.tables t h);
-      rows = λ t h other. wrote.rows t (a.tables t h) (λ m k called e. there.apart m t k (a.tables t h) called other (sym e))
+      rows = λ t h other. wrote.rows t (a.tables t h)
+          (λ m k called e. there.apart m t k (a.tables t h) called other (sym e))
           ∙ a.rows t h;
       indexes = λ i h. subst (λ (s : Schema). Has s.indexes i) (sym wrote.schema_is) (a.indexes i h);
       views = λ v h. subst (λ (s : Schema). Has s.views v) (sym wrote.schema_is) (a.views v h);
@@ -311,7 +315,8 @@ adds_other name off old new a = adds_weaker (IsMadeAs name) IsOther (other_made 
 
 -- ---- a step of which two things are known
 
-pub steps_both : {A B D E F G : Type 0} (First : A → Change) (Other : B → Change) (Next : D → Change) (a b : State) (x : A)
+pub steps_both : {A B D E F G : Type 0} (First : A → Change) (Other : B → Change) (Next : D → Change)
+    (a b : State) (x : A)
     (y : B) (z : D) → ((old new : Database) → First x old new → Other y old new → Next z old new)
     → StepsBy {E = E} First a b (Ok x) → StepsBy {E = F} Other a b (Ok y) → StepsBy {E = G} Next a b (Ok z)
 steps_both First Other Next a b x y z weaker one two = record {

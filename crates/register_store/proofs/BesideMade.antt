@@ -57,7 +57,8 @@ more_trees : {X : Type 0} (tree : X → ℕ) (xs ys : List X) (n m : ℕ) → n 
     → fold (λ k x. max k (tree x + 1)) n xs ≤ fold (λ k x. max k (tree x + 1)) m (xs ++ ys)
 more_trees tree [] [] n m low = low
 more_trees tree [] (y ∷ ys) n m low = more_trees tree [] ys n (max m (tree y + 1)) (omega (arith, low))
-more_trees tree (x ∷ xs) ys n m low = more_trees tree xs ys (max n (tree x + 1)) (max m (tree x + 1)) (omega (arith, low))
+more_trees tree (x ∷ xs) ys n m low =
+    more_trees tree xs ys (max n (tree x + 1)) (max m (tree x + 1)) (omega (arith, low))
 
 as_many : {X : Type 0} (tree : X → ℕ) (xs : List X) (n m : ℕ) → n ≤ m
     → fold (λ k x. max k (tree x + 1)) n xs ≤ fold (λ k x. max k (tree x + 1)) m xs
@@ -72,7 +73,8 @@ index_higher : (s : Schema) (t : Table) (i : Index) → next_tree s ≤ next_tre
 index_higher s t i = more_trees (λ (j : Index). j.tree) s.indexes _ _ _ (omega arith)
 
 module _ (P : Table → Type 0) where
-  pub adds_created : (old new : Database) (sql : List ℕ) (made : CreatesTable old.schema sql old.trees new.schema new.trees)
+  pub adds_created : (old new : Database) (sql : List ℕ)
+      (made : CreatesTable old.schema sql old.trees new.schema new.trees)
       → P made.table → Adds P old new
   adds_created old new sql made holds = record {
     tables = λ t h. subst (λ (s : Schema). Has s.tables t) (sym made.is) (has_left old.schema.tables _ t h);
@@ -84,7 +86,8 @@ module _ (P : Table → Type 0) where
       | inr (inl same) ↦ inr (made.table, holds, next_tree old.schema, same, omega arith)
       | inr (inr none) ↦ absurd none
     ];
-    higher = subst (λ (s : Schema). next_tree old.schema ≤ next_tree s) (sym made.is) (table_higher old.schema made.table);
+    higher = subst (λ (s : Schema). next_tree old.schema ≤ next_tree s) (sym made.is)
+        (table_higher old.schema made.table);
   }
 
   pub adds_index : (old new : Database) (table : Table) (sql : List ℕ)
@@ -115,7 +118,8 @@ module _ (P : Table → Type 0) where
             let given : Ok after ≡ Ok mid = rw is at h in adds_none P mid after (same_value given)
 
     module _ (text : List ℕ) (p : Parsed) (def : CreateTable) (table : Table) (t : IsText text p def table)
-        (whole : slice_range text p.start p.end ≡ text) (defined : table_defined_by text ≡ Ok table) (holds : P table) where
+        (whole : slice_range text p.start p.end ≡ text) (defined : table_defined_by text ≡ Ok table)
+        (holds : P table) where
       made_table : (old new : State) (params : Row) (count : ℕ) → Writes old new None MakeTable text params count
           → Adds P old.now new.now
       made_table old new params count w =
@@ -130,7 +134,8 @@ module _ (P : Table → Type 0) where
 
       pub adds_by_table : (old new : State) (count : ℕ) → Executes text [] old new (Ok count) → Adds P old.now new.now
       adds_by_table old new count h =
-          let ran = ran_as text p (MakesTable text p def table t) (table_understood text p def table t) old new [] count h in
+          let ran =
+          ran_as text p (MakesTable text p def table t) (table_understood text p def table t) old new [] count h in
           elim ran.1 [
             | inl is ↦ made_table old new ran.2 count (rw (is, whole) at ran.3)
             | inr is ↦ let idle = rw is at ran.3 in adds_none P old.now new.now idle.0.0.now_is
@@ -141,7 +146,8 @@ module _ (P : Table → Type 0) where
     made_index : (old new : State) (at : ℕ) (sql : List ℕ) (params : Row) (count : ℕ)
         → Writes old new None (MakeIndex at) sql params count → Adds P old.now new.now
     made_index old new at sql params count w =
-        let table = at_place (λ t. Defines (mode_of old) (MakesIndex sql old.now t)) (slice_get old.now.schema.tables at) _
+        let table =
+        at_place (λ t. Defines (mode_of old) (MakesIndex sql old.now t)) (slice_get old.now.schema.tables at) _
         w.changed in
         let all = went table.2 in
         let made : CreatesIndex old.now.schema table.0 sql old.now.trees all.0.schema all.0.trees = all.1 in
@@ -150,7 +156,8 @@ module _ (P : Table → Type 0) where
 
     pub adds_by_index : (old new : State) (count : ℕ) → Executes text [] old new (Ok count) → Adds P old.now new.now
     adds_by_index old new count h =
-        let ran = ran_as text p (Makes text p def parsed is_index) (index_understood text p def parsed is_index) old new []
+        let ran =
+        ran_as text p (Makes text p def parsed is_index) (index_understood text p def parsed is_index) old new []
         count h in
         elim ran.1 [
           | inl (at, is) ↦ made_index old new at (slice_range text p.start p.end) ran.2 count (rw is at ran.3)

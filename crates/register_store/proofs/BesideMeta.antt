@@ -34,7 +34,7 @@ use Rattle.sqlite_schema.specs.declared.schema.Keys.{Keys}
 use Rattle.sqlite_schema.specs.declared.schema.Reference.{Reference}
 use Rattle.sqlite_syntax.specs.declared.statement.Parsed.{Parsed}
 use Rattle.std.proofs.lemmas.Option.{same_Some}
-use Rattle.sql_steps.proofs.Statements.{same_value, went}
+use Rattle.sql_steps.proofs.Statements.{inserts_from, same_value, went}
 use Rattle.register_store.proofs.BesideShapes.{at_place, ran_as, Inserts, Updates, insert_understood, update_understood}
 
 -- the rows of one table alone are written
@@ -104,10 +104,17 @@ idle_insert s keys tree news =
 
 abbrev task_of : State → Table → Row → Task
 task_of old table params =
-    record { limit = old.step_limit; keys = (mode_of old).keys; schema = old.now.schema; table = table; params = params }
+    record {
+      limit = old.step_limit;
+      keys = (mode_of old).keys;
+      schema = old.now.schema;
+      table = table;
+      params = params;
+    }
 
 module _ (old new : State) (table : Table) (there : Has old.now.schema.tables table) where
-  written_one : (edit : Edit) → edit.table ≡ table → Applies old.now.schema (mode_of old).keys old.now.trees edit new.now.trees
+  written_one : (edit : Edit) → edit.table ≡ table
+      → Applies old.now.schema (mode_of old).keys old.now.trees edit new.now.trees
       → new.now.schema ≡ old.now.schema → WritesOne table old.now new.now
   written_one edit is did same = record {
     schema = same;
@@ -123,23 +130,14 @@ module _ (old new : State) (table : Table) (there : Has old.now.schema.tables ta
   insert_one uncounted params from tally h =
       let plain : Table = record table { is_counted = false } in
       let same : table ≡ plain = ap (λ b. record table { is_counted = b }) uncounted in
-      let it = subst (λ x. OnRows (task_of old x params)
-      (mode_of old) None (Insert 0 from) old.now.trees (Ok (tally, new.now))) same h in
-      let done = went it in
-      let now : new.now ≡ record { schema = old.now.schema; trees = done.0.trees } = ap (λ (p : Tally × Database). p.1)
-      (same_value (went (went done.2).2).2) in
-      let given = went done.1 in
-      let written = went (went given.2).2 in
-      let counted = went written.2 in
-      let trees : done.0.trees ≡ written.0 = ap (λ (it : Written). it.trees) (same_value counted.2)
-      ∙ same_value counted.1 in
-      let whole : new.now.trees ≡ written.0 = ap (λ (d : Database). d.trees) now ∙ trees in
-      let edit = edit_of old.now.trees plain [] Chosen 0 given.0 in
-      let did = one_step old.now.schema (mode_of old).keys old.now.trees written.0 edit
-      (idle_insert old.now.schema (mode_of old).keys plain.tree edit.news) written.1 in
-      written_one edit (sym same)
-      (subst (Applies old.now.schema (mode_of old).keys old.now.trees edit) (sym whole) did)
-      (ap (λ (d : Database). d.schema) now)
+      let left =
+      inserts_from old.step_limit (mode_of old) params old.now old.now.schema refl 0 table from tally new.now
+      (subst (λ x. OnRows (task_of old x params)
+      (mode_of old) None (Insert 0 from) old.now.trees (Ok (tally, new.now))) same h) in
+      let edit = edit_of old.now.trees plain [] Chosen 0 left.1 in
+      let did = one_step old.now.schema (mode_of old).keys old.now.trees new.now.trees edit
+      (idle_insert old.now.schema (mode_of old).keys plain.tree edit.news) left.3 in
+      written_one edit (sym same) did left.0
 
   update_one : (idle : (olds news : List Row) → works old.now.schema (mode_of old).keys 0 table.tree olds news ≡ [])
       (params : Row) (q : Program) (tally : Tally)
@@ -194,7 +192,8 @@ module _ (text : List ℕ) (p : Parsed) (name : List ℕ) (parsed : first text �
       let ran = ran_as text p (Inserts text p name columns rows parsed is)
       (insert_understood text p name columns rows parsed is) old new params count h in
       let it = ran.1 in
-      let wrote : Writes old new None (Insert it.0 it.1) (slice_range text p.start p.end) ran.2 count = rw it.3 at ran.3 in
+      let wrote : Writes old new None (Insert it.0 it.1) (slice_range text p.start p.end) ran.2 count =
+      rw it.3 at ran.3 in
       written_of name old new it.0 ran.2 (Insert it.0 it.1) wrote.tally it.2 wrote.changed
       (λ t has called h. insert_one old new t has (uncounted t has called) ran.2 it.1 wrote.tally h)
 
@@ -204,9 +203,11 @@ module _ (text : List ℕ) (p : Parsed) (name : List ℕ) (parsed : first text �
       → (olds news : List Row) → works old.now.schema (mode_of old).keys 0 t.tree olds news ≡ [])
       → Executes text params old new (Ok count) → WritesOneOf name old new
   updates_one sets test is old new params count idle h =
-      let ran = ran_as text p (Updates text p name sets test parsed is) (update_understood text p name sets test parsed is)
+      let ran =
+      ran_as text p (Updates text p name sets test parsed is) (update_understood text p name sets test parsed is)
       old new params count h in
       let it = ran.1 in
-      let did : Writes old new None (Update it.0 it.1) (slice_range text p.start p.end) ran.2 count = rw it.3 at ran.3 in
+      let did : Writes old new None (Update it.0 it.1) (slice_range text p.start p.end) ran.2 count =
+      rw it.3 at ran.3 in
       written_of name old new it.0 ran.2 (Update it.0 it.1) did.tally it.2 did.changed
       (λ t has called. update_one old new t has (idle t has called) ran.2 it.1 did.tally)

@@ -3,7 +3,8 @@ use Rattle.std.proofs.Common.{◌≡◌, ◌⊎◌, inl, inr, ℕ, Bool, true, f
 use Rattle.std.proofs.Common.{Err, refl, sym, ap, subst, ◌∙◌}
 use Rattle.std.specs.Prelude.{◌+◌}
 use Rattle.sqlite.specs.Command.{Command}
-use Rattle.sqlite.specs.Command.TheVariants.{CreateTable as MakeTable, CreateIndex as MakeIndex, Insert, Update, Nothing}
+use Rattle.sqlite.specs.Command.TheVariants.{CreateTable as MakeTable, CreateIndex as MakeIndex, Insert}
+use Rattle.sqlite.specs.Command.TheVariants.{Update, Nothing}
 use Rattle.sqlite.specs.Listing.{understood, listing_schema, misses_table, if_select, is_select}
 use Rattle.sqlite.specs.Clock.{timed as timed_params}
 use Rattle.sqlite.specs.Does.{AtPlace}
@@ -42,7 +43,7 @@ use Rattle.sqlite_schema.specs.Names.{table_named, index_named, view_named}
 use Rattle.std.specs.Option.{option_or}
 use Rattle.std.specs.Prelude.{◌++◌}
 use Rattle.sql_steps.proofs.Statements.{same_value}
-use Rattle.register_store.proofs.NextTexts.{IsText}
+use Rattle.register_store.proofs.NextTexts.{IsText, planned_as}
 use Rattle.sqlite_syntax.specs.declared.statement.Parsed.{Parsed}
 
 -- the text comes to a command of which P holds, and gives no rows
@@ -80,7 +81,8 @@ through : {A B : Type 0} (r : Checked A) (f : A → Checked B) (b : B) → and_t
 through (Ok a) f b h = (a, refl, h)
 through (Err e) f b h = absurd (cc)
 
-unrefused : {A : Type 0} (refused : Bool) (e : CompileError) (r : Checked A) (a : A) → cond refused (Err e) r ≡ Ok a → r ≡ Ok a
+unrefused : {A : Type 0} (refused : Bool) (e : CompileError) (r : Checked A) (a : A)
+    → cond refused (Err e) r ≡ Ok a → r ≡ Ok a
 unrefused true e r a h = absurd (cc)
 unrefused false e r a h = h
 
@@ -98,15 +100,10 @@ module _ (text : List ℕ) (p : Parsed) (def : CreateTable) (table : Table) (t :
   abbrev pub MakesTable : Schema → Command → Type 0
   MakesTable s k = (k ≡ MakeTable) ⊎ (k ≡ Nothing)
 
-  table_planned : (s : Schema) (r : Checked Command) → create_table s p.formats def ≡ r
-      → compiled s text ≡ and_then r (λ k. Ok (with_command p ([], (k, None))))
-  unfolding compiled planned meaning returning timed command
-  table_planned s (Ok k) h = rw (t.parsed, t.is, h) refl
-  table_planned s (Err e) h = rw (t.parsed, t.is, h) refl
-
   abbrev table_is_new : Schema → Checked Bool
   table_is_new s =
-      creates def.if_missing def.name (option_or (table_named s def.name) (view_named s def.name)) (index_named s def.name)
+      creates def.if_missing def.name (option_or (table_named s def.name) (view_named s def.name))
+      (index_named s def.name)
 
   abbrev checked : Table → Checked Command
   checked t =
@@ -128,7 +125,9 @@ module _ (text : List ℕ) (p : Parsed) (def : CreateTable) (table : Table) (t :
   pub table_understood : (s : Schema) (c : Compiled) → understood s text ≡ Ok c → Comes p (MakesTable s) c
   table_understood =
       understood_so text p MakesTable (λ s k it. elim it [ inl is ↦ ap is_select is | inr is ↦ ap is_select is ])
-      (λ s c h. comes_to p (MakesTable s) [] (create_table s p.formats def) c (sym (table_planned s _ refl) ∙ h) (table_shape s))
+      (λ s c h. comes_to p (MakesTable s) [] (create_table s p.formats def) c
+      (sym (planned_as text p def table t s _ refl) ∙ h)
+      (table_shape s))
 
 -- ---- CREATE INDEX
 
@@ -145,7 +144,8 @@ module _ (text : List ℕ) (p : Parsed) (def : CreateIndex) (parsed : first text
 
   abbrev index_is_new : Schema → Checked Bool
   index_is_new s =
-      creates def.if_missing def.name (index_named s def.name) (option_or (table_named s def.name) (view_named s def.name))
+      creates def.if_missing def.name (index_named s def.name)
+      (option_or (table_named s def.name) (view_named s def.name))
 
   abbrev index_where : ℕ → Table → Bool → Checked Command
   index_where at table is_new = cond is_new (and_then (define.index table def) (λ _. Ok (MakeIndex at))) (Ok Nothing)
@@ -169,7 +169,8 @@ module _ (text : List ℕ) (p : Parsed) (def : CreateIndex) (parsed : first text
   pub index_understood : (s : Schema) (c : Compiled) → understood s text ≡ Ok c → Comes p (MakesIndex s) c
   index_understood =
       understood_so text p MakesIndex (λ s k it. elim it [ inl (at, is) ↦ ap is_select is | inr is ↦ ap is_select is ])
-      (λ s c h. comes_to p (MakesIndex s) p.formats (create_index s def) c (sym (index_planned s _ refl) ∙ h) (index_shape s))
+      (λ s c h. comes_to p (MakesIndex s) p.formats (create_index s def) c (sym (index_planned s _ refl) ∙ h)
+      (index_shape s))
 
 -- ---- INSERT
 
@@ -199,7 +200,8 @@ module _ (text : List ℕ) (p : Parsed) (name : List ℕ) (columns : List (List 
   insert_shape s k h =
       let at = through (target s name) (λ at. and_then (table_at s at) (rows_put s at)) k h in
       let table = through (table_at s at.0) (rows_put s at.0) k at.2 in
-      let from = through (new_rows s table.0 (small p.names + small (wanted s)) columns rows) (λ from. Ok (Insert at.0 from)) k
+      let from =
+      through (new_rows s table.0 (small p.names + small (wanted s)) columns rows) (λ from. Ok (Insert at.0 from)) k
       table.2 in (at.0, from.0, at.1, sym (same_value from.2))
 
   pub insert_understood : (s : Schema) (c : Compiled) → understood s text ≡ Ok c → Comes p (Inserts s) c
@@ -232,7 +234,12 @@ module _ (text : List ℕ) (p : Parsed) (name : List ℕ) (sets : List (List ℕ
       let at = through (target s name) (λ at. and_then (table_at s at) (drafted s at)) k h in
       let table = through (table_at s at.0) (drafted s at.0) k at.2 in
       let draft = through (updated s at.0 table.0 sets test) (rows_set s at.0) k table.2 in
-      let q = through (program s [] draft.0) (λ q. Ok (Update at.0 q)) k draft.2 in (at.0, q.0, at.1, sym (same_value q.2))
+      let q = through (program s [] draft.0) (λ q. Ok (Update at.0 q)) k draft.2 in (
+        at.0,
+        q.0,
+        at.1,
+        sym (same_value q.2),
+      )
 
   pub update_understood : (s : Schema) (c : Compiled) → understood s text ≡ Ok c → Comes p (Updates s) c
   update_understood =
@@ -246,7 +253,8 @@ module _ (text : List ℕ) (p : Parsed) (name : List ℕ) (sets : List (List ℕ
 pub ran_as : (text : List ℕ) (p : Parsed) (P : Schema → Command → Type 0)
     → ((s : Schema) (c : Compiled) → understood s text ≡ Ok c → Comes p (P s) c)
     → (old new : State) (params : Row) (count : ℕ) → Executes text params old new (Ok count)
-    → (k : Command) × P old.now.schema k × (given : Row) × Runs old new None k (slice_range text p.start p.end) given count
+    → (k : Command) × P old.now.schema k × (given : Row)
+    × Runs old new None k (slice_range text p.start p.end) given count
 unfolding ExecutesIn
 ran_as text p P understood_as old new params count h =
     let it = understood_as old.now.schema h.0 h.1.is in

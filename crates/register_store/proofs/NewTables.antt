@@ -1,10 +1,9 @@
 -- What the statements that make the two tables of the second version do, whatever trees the file has.
 use Rattle.std.proofs.Common.{◌≡◌, ◌⊎◌, ◌<◌, ◌≤◌, ◌==◌, ℕ, ◌+◌, max, true, false, Option, None, Some, List, inl, inr}
-use Rattle.std.proofs.Common.{[], ◌∷◌, ◌++◌, fold, Result, Ok, Err, refl, sym, ap, subst, ◌∙◌, arith}
+use Rattle.std.proofs.Common.{[], ◌∷◌, ◌++◌, fold, Ok, Err, refl, sym, ap, subst, ◌∙◌, arith}
 use Rattle.std.proofs.lemmas.Bool.{cases_Bool, cases_lt, eq-eqb, eqb-true}
 use Rattle.sqlite.specs.Change.{created, next_tree, past_views, KeepsRows}
 use Rattle.sqlite.specs.Command.TheVariants.{CreateTable as MakeTable}
-use Rattle.sqlite.specs.Compile.{table_defined_by}
 use Rattle.sqlite.specs.Does.{lacks_sequence}
 use Rattle.sqlite.specs.Effect.{Database, IsDatabase}
 use Rattle.sqlite.specs.Listing.{understood}
@@ -12,17 +11,13 @@ use Rattle.sqlite.specs.Schema.{Schema}
 use Rattle.sqlite.specs.State.{State, Executes, ExecutesIn}
 use Rattle.sqlite.specs.Table.{Table}
 use Rattle.sqlite.proofs.Callers.{IsPlain, command_of, statement_of, runs_as}
-use Rattle.sqlite_ast.specs.declared.CreateTable.{CreateTable}
-use Rattle.sqlite_ast.specs.declared.Statement.{Statement}
-use Rattle.sqlite_ast.specs.declared.Statement.TheVariants as written
-use Rattle.sqlite_resolve.specs.Compile.{first, is_attached}
+use Rattle.sqlite_resolve.specs.Compile.{is_attached}
 use Rattle.sqlite_resolve.specs.declared.error.CompileError.{CompileError}
 use Rattle.sqlite_resolve.specs.declared.error.CompileError.TheVariants.{Exists}
 use Rattle.sqlite_rules.proofs.ListLemmas.{all_has}
 use Rattle.sqlite_rules.specs.Lists.{Has}
 use Rattle.sqlite_schema.specs.declared.schema.Index.{Index}
 use Rattle.sqlite_schema.specs.Names.{table_named, index_named, view_named}
-use Rattle.sqlite_syntax.specs.declared.statement.Parsed.{Parsed}
 use Rattle.sqlite_tied.specs.Compute.{everything}
 use Rattle.sql_steps.specs.CreatedTables.{Created}
 use Rattle.sql_steps.proofs.Creating.{makes}
@@ -34,7 +29,8 @@ use Rattle.register_store.specs.Migration.{MakesNext}
 use Rattle.register_store.specs.Schema.{rows_of, schema_below}
 use Rattle.register_store.specs.Tables.{AreApartBelow, Layout, ShowsIn, content, create_text, place_of, table_count}
 use Rattle.register_store.proofs.EachTable.{unplaced, same_place}
-use Rattle.register_store.proofs.NextTexts.{IsText, made, makes_table, refused}
+use Rattle.register_store.proofs.NextTexts.{makes_table, refused}
+use Rattle.register_store.proofs.TableTexts.{def_of, parsed, whole_is}
 
 -- one of the two tables
 abbrev IsNew : TableName → Type 0
@@ -42,40 +38,7 @@ IsNew Period = Unit {0}
 IsNew Quorum = Unit {0}
 IsNew _ = ⊥
 
--- ---- what the texts mean
-
--- what stands where a text is none of a statement
-abbrev no_text : Parsed
-no_text = record { statement = written.Empty; names = []; formats = []; start = 0; end = 0; tail = 0 }
-
-abbrev pub read_as : Result Parsed CompileError → Parsed
-read_as (Ok p) = p
-read_as (Err e) = no_text
-
-abbrev pub parsed : TableName → Parsed
-parsed name = read_as (first (create_text name))
-
-abbrev no_table : CreateTable
-no_table = record {
-  if_missing = true;
-  name = [];
-  body = record { columns = []; rules = [] };
-  is_strict = false;
-  resolves = false;
-}
-
-abbrev written_as : Statement → CreateTable
-written_as (written.CreateTable def) = def
-written_as _ = no_table
-
-abbrev pub def_of : TableName → CreateTable
-def_of name = written_as (parsed name).statement
-
-text_is : (name : TableName) → IsNew name → IsText (create_text name) (parsed name) (def_of name) (unplaced name)
-unfolding everything
-text_is Period is = record { parsed = refl; is = refl; always = refl; own = refl; defined = refl; computed = refl }
-text_is Quorum is = record { parsed = refl; is = refl; always = refl; own = refl; defined = refl; computed = refl }
-text_is name is = absurd is
+-- ---- what the texts come to
 
 record IsFree (name : TableName) (s : Schema) : Type 0 where
   bare : is_attached s (def_of name).name ≡ false
@@ -92,27 +55,11 @@ is_free Period is l = record { bare = refl; no_table = refl; no_view = refl }
 is_free Quorum is l = record { bare = refl; no_table = refl; no_view = refl }
 is_free name is l = absurd is
 
-record IsMade (name : TableName) : Type 0 where
-  whole : statement_of (create_text name) (Ok (made (parsed name))) ≡ create_text name
-  plain : IsPlain (Ok (made (parsed name)))
-
-is_made : (name : TableName) → IsNew name → IsMade name
-unfolding everything
-is_made Period is = record { whole = refl; plain = (refl, refl) }
-is_made Quorum is = record { whole = refl; plain = (refl, refl) }
-is_made name is = absurd is
-
 uncounted : (name : TableName) → IsNew name → (l : Layout) → lacks_sequence (created (before name l) (unplaced name))
     ≡ false
 uncounted Period is l = refl
 uncounted Quorum is l = refl
 uncounted name is l = absurd is
-
-defined_as : (name : TableName) → IsNew name → table_defined_by (create_text name) ≡ Ok (unplaced name)
-unfolding everything
-defined_as Period is = refl
-defined_as Quorum is = refl
-defined_as name is = absurd is
 
 not_executed : (text : List ℕ) (old new : State) (count : ℕ) (s : Schema) (e : CompileError) → old.now.schema ≡ s
     → understood s text ≡ Err e → Executes text [] old new (Ok count) → ⊥
@@ -132,20 +79,20 @@ creates name is l old new count h has = by (index_named (before name l) (def_of 
         × IsDatabase new.now
     by None none =
         let free = is_free name is l in
-        let known = makes_table (create_text name) (parsed name) (def_of name) (unplaced name) (text_is name is) s
+        let it = whole_is name in
+        let known = makes_table (create_text name) (parsed name) (def_of name) (unplaced name) it.text s
         free.bare free.no_table free.no_view none in
-        let m = is_made name is in
-        let plain : IsPlain (understood s (create_text name)) = subst IsPlain (sym known) m.plain in
+        let plain : IsPlain (understood s (create_text name)) = subst IsPlain (sym known) (refl, refl) in
         let w = runs_as (create_text name) [] old new s has MakeTable (ap command_of known) plain count h in (
           makes s (unplaced name) (create_text name) (ap command_of known) (ap (statement_of (create_text name)) known
-              ∙ m.whole) plain (unplaced name) (defined_as name is) refl
+              ∙ it.whole) plain (unplaced name) it.defined refl
               (uncounted name is l) old new count h has,
           w.sound,
         )
     by (Some n) some =
         let free = is_free name is l in
         absurd (not_executed (create_text name) old new count s Exists has
-        (refused (create_text name) (parsed name) (def_of name) (unplaced name) (text_is name is) s free.bare
+        (refused (create_text name) (parsed name) (def_of name) (unplaced name) (whole_is name).text s free.bare
         free.no_table free.no_view n some) h)
 
 -- ---- trees

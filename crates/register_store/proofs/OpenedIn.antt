@@ -84,7 +84,8 @@ check_fails a b e (Err x) is checks = subst (λ x. OpensBy a b (Err x)) (sym is)
 })
 
 -- a file of the second version
-pub second_opens : (a b : State) (found : Found) → found.version ≡ Second → ChecksBy a b (Ok found) → OpensBy a b (Ok found)
+pub second_opens : (a b : State) (found : Found) → found.version ≡ Second → ChecksBy a b (Ok found)
+    → OpensBy a b (Ok found)
 second_opens a b found second checks = record {
   passed = λ clean.
       let it = checks.passed clean in
@@ -193,7 +194,8 @@ first_opens a b d found first checks x did = record {
 
 -- or is not
 pub first_fails : (a b d : State) (found : Found) → found.version ≡ First → ChecksBy a b (Ok found) → (e : CreateError)
-    → TransactsBy {T = Unit {0}} Migrates b d (Err e) → (e ≡ HasTables → FindsBy HasNewTable b d) → (q : Result Found CheckError)
+    → TransactsBy {T = Unit {0}} Migrates b d (Err e) → (e ≡ HasTables → FindsBy HasNewTable b d)
+    → (q : Result Found CheckError)
     → IsErrAnd q (λ x. x ≡ migration_error e) → OpensBy a d q
 first_fails a b d found first checks e did there (Ok y) is = absurd is
 first_fails a b d found first checks e did there (Err x) is = subst (λ x. OpensBy a d (Err x)) (sym is) (record {
@@ -207,7 +209,8 @@ first_fails a b d found first checks e did there (Err x) is = subst (λ x. Opens
   clean = through a b d found first checks (Err e) did;
 })
   where
-    why : (e : CreateError) → TransactsBy {T = Unit {0}} Migrates b d (Err e) → (e ≡ HasTables → FindsBy HasNewTable b d)
+    why : (e : CreateError) → TransactsBy {T = Unit {0}} Migrates b d (Err e)
+        → (e ≡ HasTables → FindsBy HasNewTable b d)
         → HasCleanDisk d → IsRefusal a d (migration_error e)
     why HasTables did there clean =
         let it = checks.passed (early a b d found first checks (Err HasTables) did clean) in
@@ -227,7 +230,8 @@ first_fails a b d found first checks e did there (Err x) is = subst (λ x. Opens
         (there refl).survives
     kept (Refused error) there nothing = absurd nothing
 
-    none : (e : CreateError) → TransactsBy {T = Unit {0}} Migrates b d (Err e) → (e ≡ HasTables → FindsBy HasNewTable b d)
+    none : (e : CreateError) → TransactsBy {T = Unit {0}} Migrates b d (Err e)
+        → (e ≡ HasTables → FindsBy HasNewTable b d)
         → HasCleanDisk d → (t : Stored) → HoldsStored t a.now → MeetsChecks t → BlamesNone (migration_error e)
     none HasTables did there clean t holds meets =
         let own = own_first a b d found first checks (Err HasTables) did clean t holds meets in

@@ -32,7 +32,9 @@ period_shown = shown_from 2 period_columns
 abbrev period_names : List (List ℕ)
 period_names = map name_of period_columns
 
-asks_period : (l : Layout) → Asks (schema_with l) (table_of l Period) period_text (plain_query (l.tree Period) has_number period_shown) period_names
+asks_period : (l : Layout)
+    → Asks (schema_with l) (table_of l Period) period_text
+    (plain_query (l.tree Period) has_number period_shown) period_names
 unfolding everything first
 asks_period l = record { p = _; select = _; d = _; by = _; parsed = refl; untimed = refl; is = refl; drafted = refl; same = refl; from = refl; accepted = refl }
 

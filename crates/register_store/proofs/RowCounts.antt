@@ -96,7 +96,8 @@ lacks_next {E = E} n a b d found none so_far look =
     steps_as {E = E} {F = E} (λ (there : Bool). Then (LacksFirst n) (Answers (IsThere (table_at n)) there))
     (λ (_ : Unit {0}). LacksFirst (n + 1)) a d false tt
     (λ old new done. lacks_more n old done.0 new done.1 done.2)
-    (steps_then {E = E} {F = E} (λ (_ : Unit {0}). LacksFirst n) (Answers (IsThere (table_at n))) a b d tt (Ok false) so_far
+    (steps_then {E = E} {F = E} (λ (_ : Unit {0}). LacksFirst n) (Answers (IsThere (table_at n))) a b d tt
+    (Ok false) so_far
     (subst (λ (is : Bool). StepsBy {E = E} (Answers (IsThere (table_at n))) b d (Ok is)) none look))
 
 -- ---- a register's tables are there

@@ -45,7 +45,8 @@ pub record Adds (P : Table → Type 0) (old new : Database) : Type 0 where
   pub indexes : (i : Index) → Has old.schema.indexes i → Has new.schema.indexes i
   pub views : (v : View) → Has old.schema.views v → Has new.schema.views v
   pub news : (t : Table) → Has new.schema.tables t
-      → Has old.schema.tables t ⊎ ((x : Table) × P x × (n : ℕ) × (t ≡ record x { tree = n }) × (next_tree old.schema ≤ n))
+      → Has old.schema.tables t
+      ⊎ ((x : Table) × P x × (n : ℕ) × (t ≡ record x { tree = n }) × (next_tree old.schema ≤ n))
   pub higher : next_tree old.schema ≤ next_tree new.schema
 
 -- the table has no AUTOINCREMENT

@@ -150,8 +150,7 @@ pub record HasNewer (found : ℕ) (old new : State) : Type 0 where
 -- ---- checks that fail
 
 -- Nothing that the rows of a table show meets the table's check, where the tables before it are those of t; and they
--- are
--- of no later version.
+-- are of no later version.
 pub record IsOdd (name : TableName) (t : Stored) (rows : List Row) : Type 0 where
   pub fails : (c : Part name) → ShowsRows name rows c → MeetsCheck name (with_part name c t) → ⊥
   pub no_newer : AreNewer name rows → ⊥
@@ -204,9 +203,8 @@ BlamesNone Memory = Unit {0}
 BlamesNone (Database error) = Unit {0}
 
 -- What a check does: where it succeeds the tables that are shown pass, and have this version and these counts; a
--- refusal
--- has its reason; tables of a register that meet the checks are not refused, and give their version and counts; a stop
--- leaves what it left before.
+-- refusal has its reason; tables of a register that meet the checks are not refused, and give their version and
+-- counts; a stop leaves what it left before.
 pub record ChecksBy (old new : State) (result : Result Found CheckError) : Type 0 where
   pub passed : HasCleanDisk new → IfOk result (λ found. (t : Stored) × Passes t old new × (mark_of found ≡ mark t))
   pub refused : HasCleanDisk new → IfErr result (IsReason old new)

@@ -55,7 +55,8 @@ cell_cursor x = record { stop = stop_cell x; number = x.0 }
 pub record IsFirst (check : ℕ × Key → Bool) (t : Tables) (x : ℕ × Key) : Type 0 where
   pub there : Has (numbered t.keys) x
   pub passes : check x ≡ true
-  pub first : (y : ℕ × Key) → Has (numbered t.keys) y → check y ≡ true → (y ≡ x) ⊎ IsAfter (cell_cursor x) (cell_cursor y)
+  pub first : (y : ℕ × Key) → Has (numbered t.keys) y → check y ≡ true
+      → (y ≡ x) ⊎ IsAfter (cell_cursor x) (cell_cursor y)
 
 -- the first of the keys that pass the check, by Protect Stop and number, or none where none passes
 abbrev pub HasFirst : (ℕ × Key → Bool) → Tables → Option (ℕ × Key) → Type 0

@@ -22,8 +22,8 @@ abbrev pub IsAfter : DueCursor → DueCursor → Type 0
 IsAfter a b = (a.stop < b.stop) ⊎ ((a.stop ≡ b.stop) × (a.number < b.number))
 
 -- how the key stands that comes next after a cursor, by its Protect Stop Date
-abbrev pub run_of_next_key : DueCursor → ℕ → DateRun
-run_of_next_key last stop = if stop == last.stop then Later else First
+abbrev pub date_run_of_next_key : DueCursor → ℕ → DateRun
+date_run_of_next_key last stop = if stop == last.stop then Later else First
 
 -- the key is due, and its cursor is after this one
 pub record ComesAfter (until : ℕ) (last : DueCursor) (t : Tables) (x : ℕ × Key) : Type 0 where

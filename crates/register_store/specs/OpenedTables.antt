@@ -90,12 +90,9 @@ ChangesNothing (Stopped error) = ⊥
 ChangesNothing error = Unit {0}
 
 -- Where it succeeds, what is shown passed the checks of its version; a refusal has its reason. Tables that are
--- committed in
--- a version and meet its checks are not refused, and stand in this program's version after it. A stop leaves what it
--- left
--- before, or the tables taken to this program's version, where they pass the checks of the first; no such thing where
--- they
--- are of this program's, or after a refusal that changes nothing.
+-- committed in a version and meet its checks are not refused, and stand in this program's version after it. A stop
+-- leaves what it left before, or the tables taken to this program's version, where they pass the checks of the first;
+-- no such thing where they are of this program's, or after a refusal that changes nothing.
 pub record OpensBy (old new : State) (result : Result Found CheckError) : Type 0 where
   pub passed : HasCleanDisk new → IfOk result (λ found. Opens old new (mark_of found))
   pub refused : HasCleanDisk new → IfErr result (IsRefusal old new)

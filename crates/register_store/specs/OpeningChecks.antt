@@ -23,8 +23,7 @@ use Rattle.register_store.specs.Stored.{Stored, mark}
 use Rattle.register_store.specs.Tables.{Counts, all_tables, place_of, table_count}
 
 -- The dates of a key: in the first version they fit the period of its type; from the second on, where the office may
--- set
--- another, they are in order.
+-- set another, they are in order.
 abbrev pub DatesFit : Version → KeyType → Dates → Type 0
 DatesFit First kind d = Fits (periods kind) d
 DatesFit Second kind d = IsTrue (are_dates_in_order d)

@@ -26,8 +26,7 @@ abbrev pub schema_after : ℕ → Schema
 schema_after n = fold (λ schema name. created schema (table_of (fresh []) name)) no_schema (take n all_tables)
 
 -- The schema with the first n of a register's tables, which stand so. Indexes are free, since they change no row: it
--- may
--- have any beside those of the primary keys.
+-- may have any beside those of the primary keys.
 abbrev pub schema_below : ℕ → Layout → Schema
 schema_below n l = record {
   tables = map (table_of l) (take n all_tables);

@@ -18,7 +18,7 @@ use Rattle.period_core.specs.Period.{IsPeriod, Period}
 use Rattle.register_core.specs.declared.kept_reply.KeptReply.{KeptReply}
 use Rattle.register_core.specs.declared.key.Key.{Key}
 use Rattle.register_core.specs.declared.view.Held.{Held}
-use Rattle.register_core.specs.KeptReply.{is_whole, kept_under}
+use Rattle.register_core.specs.KeptReply.{fits_its_command, kept_under}
 use Rattle.register_core.specs.KeyName.{names_at}
 use Rattle.register_requests.specs.Name.{IsName}
 use Rattle.register_core.specs.Names.{sorted_names}
@@ -104,8 +104,8 @@ abbrev pub HoldsWhereOpen : Tables → State → Type 0
 HoldsWhereOpen t s = IsTrue s.is_open → Holds t s.now
 
 -- Outside a transaction, where the database holds tables and the disk is clean: what is given is found in them, and
--- nothing is
--- changed; a failure is as above. Only an open connection gives anything, and a stop leaves what it left before.
+-- nothing is changed; a failure is as above. Only an open connection gives anything, and a stop leaves what it left
+-- before.
 pub record ReadsBy {T : Type 0} (Found : Tables → T → Type 0) (old new : State) (result : Result T StoreError) : Type
     0 where
   pub found : HasCleanDisk new → (t : Tables) → HoldsWhereOpen t old
@@ -191,7 +191,7 @@ pub record HasCellsOf (whose : List ℕ) (which : ℕ) (row : Row) (k : KeptRepl
 -- and shows it where it is whole
 pub record ShowsRequest (whose : List ℕ) (which : ℕ) (row : Row) (k : KeptReply) : Type 0 where
   pub cells : HasCellsOf whose which row k
-  pub whole : is_whole k ≡ true
+  pub whole : fits_its_command k ≡ true
 
 -- what a reader that gives this of a row answers
 abbrev pub given_of : {A : Type 0} → Option A → Result (Option A) StoreError

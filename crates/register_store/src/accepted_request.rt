@@ -28,8 +28,8 @@ use crate::error::StoreError;
 use crate::setting::{set_need, set_period};
 use crate::stored_key::RoleChange::{Given, Taken};
 use crate::stored_key::{
-    MomentCell, Role, add_key, end_approvals, give_or_take_role, key_number_in, moment_in,
-    number_in, state_in, text_in, update_key,
+    MomentCell, Role, add_key, end_approvals, give_or_take_role, key_number_or_zero_in, moment_in,
+    set_owner_state_and_dates, state_in, text_in, unsigned_integer_in,
 };
 use lifecycle_core::State;
 use moment_core::Moment;
@@ -75,12 +75,12 @@ impl<'a> ToSql<'a> for ReplyStateCell {
 }
 
 /// The state of a reply in the cell, which may be none.
-fn reply_state_in(row: &Row, at: usize) -> Option<Option<State>>
+fn state_or_none_in(row: &Row, at: usize) -> Option<Option<State>>
     ensures { MatchOption result
         ((state : Option State) → column row.now at ≢ Int (pos (state_cell state)))
         (λ state. column row.now at ≡ Int (pos (state_cell state))) }
 {
-    if number_in(row, at)? == 0 {
+    if unsigned_integer_in(row, at)? == 0 {
         return Some(None);
     }
     state_in(row, at).map(Some)
@@ -92,7 +92,7 @@ pub(crate) fn request_number_in(row: &Row, at: usize) -> Option<RequestNumber>
         ((number : ℕ) → IsNumber number → column row.now at ≢ Int (pos number))
         (λ number. column row.now at ≡ Int (pos number)) }
 {
-    RequestNumber::new(number_in(row, at)?)
+    RequestNumber::new(unsigned_integer_in(row, at)?)
 }
 
 /// The command in the cell.
@@ -117,12 +117,16 @@ pub(crate) fn kept_reply_in(row: &Row, caller: &Name, number: RequestNumber) -> 
         number,
         command: command_in(row, RequestCell::Command as usize)?,
         reply: Reply {
-            key: key_number_in(row, RequestCell::Key as usize)?,
-            state: reply_state_in(row, RequestCell::State as usize)?,
+            key: key_number_or_zero_in(row, RequestCell::Key as usize)?,
+            state: state_or_none_in(row, RequestCell::State as usize)?,
             moment: moment_in(row, RequestCell::Moment as usize)?,
         },
     };
-    if kept.is_whole() { Some(kept) } else { None }
+    if kept.fits_its_command() {
+        Some(kept)
+    } else {
+        None
+    }
 }
 
 /// What is kept of the caller's request under this number, or `None` where none was accepted. It
@@ -325,7 +329,7 @@ fn write_change<T: Inside>(
             row,
             custody,
         } => {
-            update_key(tx, steps, *key, owner, row)?;
+            set_owner_state_and_dates(tx, steps, *key, owner, row)?;
             write_custody(tx, steps, *key, custody)
         }
         Change::PeriodSet { kind, period } => set_period(tx, steps, *kind, *period),
@@ -334,7 +338,7 @@ fn write_change<T: Inside>(
 }
 
 /// How many keys there are after the change.
-fn keys_after(keys: u32, change: &Change) -> u32
+fn key_count_after_change(keys: u32, change: &Change) -> u32
     requires { keys ≤ max_keys }
     ensures { result ≡ keys + made_count change.now }
 {
@@ -371,7 +375,7 @@ impl Work for AcceptedRequest<'_> {
     fn run<T: Inside>(&self, tx: &mut T, steps: &mut StepCount) -> Result<(), StoreError> {
         advance_due(tx, steps, self.latest, self.kept.reply.moment)?;
         write_change(tx, steps, self.keys, self.change)?;
-        let keys = keys_after(self.keys, self.change);
+        let keys = key_count_after_change(self.keys, self.change);
         record_request(tx, steps, self.kept, keys)
     }
 }
@@ -405,5 +409,5 @@ pub fn commit_request<S: Alter>(
         kept,
     };
     connection.transact(&request)?;
-    Ok(keys_after(keys, change))
+    Ok(key_count_after_change(keys, change))
 }

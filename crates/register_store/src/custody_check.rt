@@ -12,7 +12,7 @@ ghost use Rattle.register_store.specs.declared.table.TableName.TheVariants.{Appr
 
 use crate::columns::{NameCell, columns};
 use crate::error::CheckError;
-use crate::stored_key::{name_in, number_in};
+use crate::stored_key::{name_in, unsigned_integer_in};
 use register_core::{Name, Version};
 use row_checks::{RowCheck, check_rows};
 use sqlite::{Alter, Connection, Row};
@@ -26,12 +26,12 @@ struct NameAtKey {
 }
 
 /// The name at a key that the row shows.
-fn name_at_key_in(row: &Row) -> Option<NameAtKey>
+fn key_number_and_name_in(row: &Row) -> Option<NameAtKey>
     ensures { MatchOption result ((entry : KeyName) → ¬ ShowsName row.now entry)
         (λ shown. ShowsName row.now (key_name shown.key shown.name)) }
 {
     Some(NameAtKey {
-        key: number_in(row, NameCell::Key as usize)?,
+        key: unsigned_integer_in(row, NameCell::Key as usize)?,
         name: name_in(row, NameCell::Name as usize)?,
     })
 }
@@ -44,7 +44,7 @@ fn index_of_key_number(key: u64) -> Option<usize>
 }
 
 /// Adds a name to the list at this place.
-fn add_name(lists: &mut Vec<Vec<Name>>, at: usize, name: Name) -> Result<(), AllocError>
+fn add_name_to_list_at(lists: &mut Vec<Vec<Name>>, at: usize, name: Name) -> Result<(), AllocError>
     requires { at < length lists.old.items }
     ensures counted { OnOk result (length lists.new.items ≡ length lists.old.items) }
     ensures added { OnOk result ((names : _) → slice_get lists.new.items at ≡ Some names →
@@ -89,7 +89,7 @@ impl RowCheck for CustodianCheck {
     ghost refuses = { λ first check rows. RefusesCustodians first.most first.owners.items rows };
 
     fn take_row(&mut self, row: &Row) -> Result<bool, AllocError> {
-        let Some(shown) = name_at_key_in(row) else {
+        let Some(shown) = key_number_and_name_in(row) else {
             return Ok(false);
         };
         let Some(at) = index_of_key_number(shown.key) else {
@@ -102,7 +102,7 @@ impl RowCheck for CustodianCheck {
         if self.custodians[at].len() >= self.most || self.owners[at] == shown.name {
             return Ok(false);
         }
-        add_name(&mut self.custodians, at, shown.name)?;
+        add_name_to_list_at(&mut self.custodians, at, shown.name)?;
         Ok(true)
     }
 }
@@ -112,7 +112,7 @@ impl RowCheck for CustodianCheck {
 ///
 /// # Errors
 /// As the check of all tables.
-pub(crate) fn check_custodians<S: Alter>(
+pub(crate) fn check_and_list_custodians<S: Alter>(
     alloc: Global,
     connection: &mut Connection<S>,
     version: Version,
@@ -160,7 +160,7 @@ impl RowCheck for ApprovalCheck {
         RefusesEach ShowsName (IsListed first.custodians.items) rows };
 
     fn take_row(&mut self, row: &Row) -> Result<bool, AllocError> {
-        let Some(shown) = name_at_key_in(row) else {
+        let Some(shown) = key_number_and_name_in(row) else {
             return Ok(false);
         };
         let Some(at) = index_of_key_number(shown.key) else {

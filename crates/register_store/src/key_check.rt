@@ -12,7 +12,7 @@ ghost use Rattle.register_store.specs.CheckedRows.{AreOwners};
 use crate::columns::{KeyCell, columns};
 use crate::error::CheckError;
 use crate::found::Found;
-use crate::stored_key::{key_in, number_in};
+use crate::stored_key::{key_in, unsigned_integer_in};
 use lifecycle_core::Dates;
 use moment_core::Moment;
 use period_core::{KeyType, are_dates_in_order, fits, is_not_after, period_of};
@@ -22,7 +22,7 @@ use sqlite::{Alter, Connection, Row};
 use std::alloc::{AllocError, Global};
 
 /// Whether the dates are those of a key whose latest request was at this moment or before.
-fn are_done_dates_past(dates: &Dates, latest: Moment) -> bool
+fn are_event_dates_past(dates: &Dates, latest: Moment) -> bool
     ensures { IsTrue result ↔ ArePast latest dates.now }
 {
     dates.initial <= latest
@@ -33,7 +33,7 @@ fn are_done_dates_past(dates: &Dates, latest: Moment) -> bool
 }
 
 /// Whether the dates are those of a key of this type, as the version has it.
-fn are_dates_of_version(version: Version, kind: KeyType, dates: &Dates) -> bool
+fn are_dates_allowed_in_version(version: Version, kind: KeyType, dates: &Dates) -> bool
     ensures { IsTrue result ↔ DatesFit version kind dates.now }
 {
     match version {
@@ -47,10 +47,10 @@ fn is_sound_key(version: Version, key: &Key, latest: Moment) -> bool
     ensures { IsTrue result ↔ IsSoundAt version latest key.now }
 {
     let dates = &key.row.dates;
-    are_dates_of_version(version, key.kind, dates)
+    are_dates_allowed_in_version(version, key.kind, dates)
         && (dates.activation.is_none() || dates.protect_stop.is_some())
         && (dates.activation.is_none() || dates.deactivation.is_some())
-        && are_done_dates_past(dates, latest)
+        && are_event_dates_past(dates, latest)
         && key.row.has_right_state_at(latest)
 }
 
@@ -60,7 +60,7 @@ fn sound_key_in(row: &Row, number: u32, found: Found) -> Option<Key>
         ((k : Key) → ShowsNumbered row.now (number, k) → ¬ IsSoundAt found.version found.latest k)
         (λ k. ShowsNumbered row.now (number, k) × IsSoundAt found.version found.latest k) }
 {
-    let shown = number_in(row, KeyCell::Number as usize)?;
+    let shown = unsigned_integer_in(row, KeyCell::Number as usize)?;
     let key = key_in(row)?;
     if shown == u64::from(number) && is_sound_key(found.version, &key, found.latest) {
         Some(key)
@@ -106,7 +106,7 @@ impl RowCheck for KeyCheck {
 ///
 /// # Errors
 /// As the check of all tables.
-pub(crate) fn check_keys<S: Alter>(
+pub(crate) fn check_keys_and_list_owners<S: Alter>(
     alloc: Global,
     connection: &mut Connection<S>,
     found: &Found,

@@ -3,7 +3,7 @@ ghost use Rattle.std.specs.Prelude.{◌≡◌, ◌+◌, ◌≤◌, ℕ, MatchOpt
 ghost use Rattle.moment_core.specs.Moment.{IsMoment};
 ghost use Rattle.register_core.specs.declared.key.Key.{Key};
 ghost use Rattle.register_core.specs.Verdict.{max_keys};
-ghost use Rattle.register_store.specs.KeyScan.{HasNextDue, run_of_next_key};
+ghost use Rattle.register_store.specs.KeyScan.{HasNextDue, date_run_of_next_key};
 ghost use Rattle.register_store.specs.TableReads.{seen, Calls, HasRow, KeepsSight, Reads, ShowsAt};
 ghost use Rattle.register_store.specs.DueSearch.{HasFirst, IsNumbered, is_found, is_later};
 ghost use Rattle.register_store.specs.DueSearch.{search_text};
@@ -12,7 +12,7 @@ ghost use Rattle.register_store.specs.declared.key_scan.DateRun.{DateRun};
 use crate::columns::{KeyCell, columns};
 use crate::counted::Counted;
 use crate::error::StoreError;
-use crate::stored_key::{MomentCell, find_key_row, key_in, number_in};
+use crate::stored_key::{MomentCell, find_key_row, key_in, unsigned_integer_in};
 use moment_core::Moment;
 use register_core::Key;
 use sqlite::{Alter, Row, params};
@@ -44,8 +44,8 @@ pub enum DateRun {
 
 impl DueCursor {
     /// How the key stands that comes next after this cursor, by its Protect Stop Date.
-    pub fn run_of_next_key(self, stop: Moment) -> DateRun
-        ensures { result ≡ run_of_next_key self stop }
+    pub fn date_run_of_next_key(self, stop: Moment) -> DateRun
+        ensures { result ≡ date_run_of_next_key self stop }
     {
         if stop == self.stop {
             DateRun::Later
@@ -89,11 +89,14 @@ fn numbered_key_in(row: &Row) -> Option<(u64, Key)>
     ensures { MatchOption result ((x : ℕ × Key) → IsNumbered x → ¬ ShowsAt row.now x)
         (λ x. ShowsAt row.now (x.0, x.1)) }
 {
-    Some((number_in(row, KeyCell::Number as usize)?, key_in(row)?))
+    Some((
+        unsigned_integer_in(row, KeyCell::Number as usize)?,
+        key_in(row)?,
+    ))
 }
 
 /// The first of the keys that the search finds after this cursor.
-fn find_first_due<S: Alter>(
+fn find_next_due_by_search<S: Alter>(
     connection: &mut Counted<S>,
     by: DueSearch,
     until: Moment,
@@ -134,7 +137,7 @@ fn find_due_with_later_stop<S: Alter>(
 /// The first of the keys that are due after this cursor, by the two searches that go past no key:
 /// among those with the date of this cursor, and where there is none after it, among those with a
 /// later one.
-fn find_within_run<S: Alter>(
+fn find_due_in_two_searches<S: Alter>(
     connection: &mut Counted<S>,
     until: Moment,
     last: DueCursor,
@@ -144,7 +147,7 @@ fn find_within_run<S: Alter>(
     ensures reads { Reads S.Store (HasNextDue until last) connection.old connection.new result }
 {
     let stop = last.stop;
-    let found = find_first_due(connection, DueSearch::SameStop, until, last)?;
+    let found = find_next_due_by_search(connection, DueSearch::SameStop, until, last)?;
     if found.is_some() {
         return Ok(found);
     }
@@ -184,7 +187,7 @@ pub fn each_due<S: Alter>(
     ensures reads { Reads S.Store (HasNextDue until last) connection.old connection.new result }
 {
     match run {
-        DateRun::First => find_first_due(connection, DueSearch::Past, until, last),
-        DateRun::Later => find_within_run(connection, until, last),
+        DateRun::First => find_next_due_by_search(connection, DueSearch::Past, until, last),
+        DateRun::Later => find_due_in_two_searches(connection, until, last),
     }
 }

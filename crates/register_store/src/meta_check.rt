@@ -10,7 +10,7 @@ ghost use Rattle.register_store.specs.CheckedRows.{IsCounts, RefusesMeta, TellsM
 use crate::columns::{MetaCell, columns};
 use crate::error::CheckError;
 use crate::found::Found;
-use crate::stored_key::{key_number_in, moment_in, number_in};
+use crate::stored_key::{key_number_or_zero_in, moment_in, unsigned_integer_in};
 use register_core::{MAX_KEYS, Version};
 use row_checks::{RowCheck, check_rows};
 use sqlite::{Alter, Connection, Row};
@@ -43,17 +43,17 @@ impl MetaRow {
 fn meta_row_in(row: &Row) -> Option<MetaRow>
     ensures { MatchOption result (RefusesMeta (row.now ∷ [])) (TellsMeta row.now) }
 {
-    if number_in(row, MetaCell::Id as usize)? != 1 {
+    if unsigned_integer_in(row, MetaCell::Id as usize)? != 1 {
         return None;
     }
-    let number = number_in(row, MetaCell::Version as usize)?;
+    let number = unsigned_integer_in(row, MetaCell::Version as usize)?;
     // Before any other cell is looked at: a later version may mean something else by it.
     if number > u64::from(Version::CURRENT.number()) {
         return Some(MetaRow::Newer(number));
     }
     let version = Version::of_number(number)?;
     let latest = moment_in(row, MetaCell::Latest as usize)?;
-    let keys = key_number_in(row, MetaCell::KeyCount as usize)?;
+    let keys = key_number_or_zero_in(row, MetaCell::KeyCount as usize)?;
     if keys > MAX_KEYS {
         return None;
     }
@@ -91,7 +91,9 @@ impl RowCheck for MetaCheck {
 /// # Errors
 /// [`CheckError::NewerVersion`] where the version is above this program's, and else as the check of
 /// all tables.
-pub(crate) fn check_meta<S: Alter>(connection: &mut Connection<S>) -> Result<Found, CheckError>
+pub(crate) fn check_and_read_meta<S: Alter>(
+    connection: &mut Connection<S>,
+) -> Result<Found, CheckError>
     requires { connection.old.in_transaction ≡ false }
     ensures idle { connection.new.in_transaction ≡ false }
     ensures checks { (t : Stored) → ChecksTable Meta t IsCounts

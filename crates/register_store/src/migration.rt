@@ -35,7 +35,10 @@ impl SchemaChange for Migration {
     ghost makes = { TakesToSecond };
 
     /// Whether one of the new tables is there.
-    fn finds_a_table<S: Alter>(&self, tx: &mut Transaction<'_, S>) -> Result<bool, Error> {
+    fn finds_table_it_would_make<S: Alter>(
+        &self,
+        tx: &mut Transaction<'_, S>,
+    ) -> Result<bool, Error> {
         if is_table_there(tx, TableName::Period)? {
             return Ok(true);
         }

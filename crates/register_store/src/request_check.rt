@@ -30,7 +30,7 @@ fn kept_request_in(row: &Row) -> Option<KeptReply>
 }
 
 /// Whether a register of this version, with these counts, may have given the reply.
-fn is_possible_reply(kept: &KeptReply, found: Found) -> bool
+fn is_reply_of_found_register(kept: &KeptReply, found: Found) -> bool
     ensures { IsTrue result ↔ IsReplyOf (mark_of found) kept.now }
 {
     kept.reply.is_within_counts(found.latest, found.keys) && found.version.knows(&kept.command)
@@ -58,7 +58,7 @@ impl RowCheck for RequestCheck {
         let Some(kept) = kept_request_in(row) else {
             return Ok(false);
         };
-        Ok(is_possible_reply(&kept, self.found))
+        Ok(is_reply_of_found_register(&kept, self.found))
     }
 }
 

@@ -32,7 +32,10 @@ pub(crate) trait SchemaChange {
     ///
     /// # Errors
     /// As the database refused it.
-    fn finds_a_table<S: Alter>(&self, tx: &mut Transaction<'_, S>) -> Result<bool, Error>
+    fn finds_table_it_would_make<S: Alter>(
+        &self,
+        tx: &mut Transaction<'_, S>,
+    ) -> Result<bool, Error>
         ensures same_reference { tx.new.conn.ghost_name ≡ tx.old.conn.ghost_name }
         ensures answer { Steps S.Store (Answers has_one) tx.old.conn.now tx.new.conn.now result };
 
@@ -93,7 +96,7 @@ fn make_where_no_table_is<S: Alter, C: SchemaChange>(
     ensures there { result ≡ Err CreateError.HasTables → FindsInside C.SchemaChange.has_one
         (state S.Store tx.old.conn.now) (state S.Store tx.new.conn.now) }
 {
-    if change.finds_a_table(tx)? {
+    if change.finds_table_it_would_make(tx)? {
         return Err(CreateError::HasTables);
     }
     change.make(tx)?;

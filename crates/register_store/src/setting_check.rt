@@ -14,7 +14,7 @@ ghost use Rattle.register_store.specs.declared.table.TableName.TheVariants as ta
 use crate::columns::columns;
 use crate::error::CheckError;
 use crate::found::Found;
-use crate::stored_key::{key_type_in, months_in, number_in, quorum_in};
+use crate::stored_key::{key_type_in, months_in, quorum_in, unsigned_integer_in};
 use period_core::{KeyType, Period};
 use register_core::Quorum;
 use row_checks::{RowCheck, check_rows};
@@ -48,11 +48,11 @@ fn period_row_in(row: &Row) -> Option<PeriodRow>
 }
 
 /// The need of a key that the row shows.
-fn quorum_row_in(row: &Row) -> Option<NeedRow>
+fn need_row_in(row: &Row) -> Option<NeedRow>
     ensures { MatchOption result ((set : KeyNeed) → ¬ ShowsKeyNeed row.now set)
         (λ shown. ShowsKeyNeed row.now (key_need shown.key shown.need)) }
 {
-    let key = number_in(row, 0)?;
+    let key = unsigned_integer_in(row, 0)?;
     let need = quorum_in(row, 1)?;
     Some(NeedRow { key, need })
 }
@@ -121,7 +121,7 @@ impl RowCheck for NeedCheck {
         RefusesEach ShowsKeyNeed (IsNeedOf (counts_of first.found)) rows };
 
     fn take_row(&mut self, row: &Row) -> Result<bool, AllocError> {
-        let Some(shown) = quorum_row_in(row) else {
+        let Some(shown) = need_row_in(row) else {
             return Ok(false);
         };
         Ok(is_need_of_counted_key(shown, self.found))

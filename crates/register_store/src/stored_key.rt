@@ -55,7 +55,7 @@ impl<'a> ToSql<'a> for MomentCell {
 }
 
 /// The number in the cell.
-pub(crate) fn number_in(row: &sqlite::Row, at: usize) -> Option<u64>
+pub(crate) fn unsigned_integer_in(row: &sqlite::Row, at: usize) -> Option<u64>
     ensures { MatchOption result ((n : ℕ) → column row.now at ≢ Int (pos n))
         (λ n. column row.now at ≡ Int (pos n)) }
 {
@@ -82,7 +82,7 @@ pub(crate) fn key_type_in(row: &sqlite::Row, at: usize) -> Option<KeyType>
         ((kind : KeyType) → column row.now at ≢ Int (pos (key_type_code kind)))
         (λ kind. column row.now at ≡ Int (pos (key_type_code kind))) }
 {
-    KeyType::from_code(u8::try_from(number_in(row, at)?).ok()?)
+    KeyType::from_code(u8::try_from(unsigned_integer_in(row, at)?).ok()?)
 }
 
 /// A number of months in the cell.
@@ -91,7 +91,7 @@ pub(crate) fn months_in(row: &sqlite::Row, at: usize) -> Option<u16>
         ((months : ℕ) → months ≤ max_months → column row.now at ≢ Int (pos months))
         (λ months. column row.now at ≡ Int (pos months)) }
 {
-    u16::try_from(number_in(row, at)?).ok()
+    u16::try_from(unsigned_integer_in(row, at)?).ok()
 }
 
 /// How many approvals the cell says that a destruction needs.
@@ -100,7 +100,7 @@ pub(crate) fn quorum_in(row: &sqlite::Row, at: usize) -> Option<Quorum>
         ((need : ℕ) → IsQuorum need → column row.now at ≢ Int (pos need))
         (λ need. column row.now at ≡ Int (pos need)) }
 {
-    Quorum::new(u8::try_from(number_in(row, at)?).ok()?)
+    Quorum::new(u8::try_from(unsigned_integer_in(row, at)?).ok()?)
 }
 
 /// The state in the cell.
@@ -109,7 +109,7 @@ pub(crate) fn state_in(row: &sqlite::Row, at: usize) -> Option<State>
         ((state : State) → column row.now at ≢ Int (pos (state_code state)))
         (λ state. column row.now at ≡ Int (pos (state_code state))) }
 {
-    State::from_code(u8::try_from(number_in(row, at)?).ok()?)
+    State::from_code(u8::try_from(unsigned_integer_in(row, at)?).ok()?)
 }
 
 /// The name in the cell.
@@ -126,16 +126,16 @@ pub(crate) fn moment_in(row: &sqlite::Row, at: usize) -> Option<Moment>
         ((second : ℕ) → IsMoment second → column row.now at ≢ Int (pos second))
         (λ moment. column row.now at ≡ Int (pos moment)) }
 {
-    Moment::new(number_in(row, at)?)
+    Moment::new(unsigned_integer_in(row, at)?)
 }
 
 /// The number of a key in the cell, or the 0 that stands for none.
-pub(crate) fn key_number_in(row: &sqlite::Row, at: usize) -> Option<u32>
+pub(crate) fn key_number_or_zero_in(row: &sqlite::Row, at: usize) -> Option<u32>
     ensures { MatchOption result
         ((key : ℕ) → key ≤ max_key_number → column row.now at ≢ Int (pos key))
         (λ key. column row.now at ≡ Int (pos key)) }
 {
-    u32::try_from(number_in(row, at)?).ok()
+    u32::try_from(unsigned_integer_in(row, at)?).ok()
 }
 
 /// The search for the row of a key by its number.
@@ -188,7 +188,7 @@ fn date_in(row: &sqlite::Row, at: usize) -> Option<Option<Moment>>
         ((date : Option ℕ) → IsDate date → column row.now at ≢ Int (pos (date_cell date)))
         (λ date. (column row.now at ≡ Int (pos (date_cell date))) × IsDate date) }
 {
-    if number_in(row, at)? == UNSET {
+    if unsigned_integer_in(row, at)? == UNSET {
         return Some(None);
     }
     moment_in(row, at).map(Some)
@@ -276,7 +276,7 @@ pub(crate) fn add_key<T: Inside>(
 
 /// Gives the key with this number an owner and a row. Its type, its purpose and its Initial Date
 /// stay. A row that stands so already is not written.
-pub(crate) fn update_key<T: Inside>(
+pub(crate) fn set_owner_state_and_dates<T: Inside>(
     tx: &mut T,
     steps: &mut StepCount,
     number: u32,

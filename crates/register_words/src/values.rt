@@ -33,7 +33,7 @@ pub struct Terms {
 }
 
 /// The moment that the text writes in seconds since 1970-01-01T00:00:00Z, in decimal.
-fn read_moment(text: &str) -> Option<Moment>
+fn read_moment_in_seconds(text: &str) -> Option<Moment>
     ensures { Reads IsMoment text.now result }
 {
     Moment::new(read_decimal(text.as_bytes())?)
@@ -59,7 +59,7 @@ impl GivenTerms<'_> {
         ensures { Reads AreTerms self.now result }
     {
         Some(Terms {
-            moment: read_moment(self.moment)?,
+            moment: read_moment_in_seconds(self.moment)?,
             caller: read_caller(self.caller)?,
             first: read_first_number(self.first)?,
         })

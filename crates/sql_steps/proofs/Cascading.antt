@@ -42,14 +42,16 @@ module _ (schema : Schema) (parent child : Table) (ref : Reference) (places : Li
     pub rows : after child.tree ≡ without_all (next child.tree) ids
     pub others : AllByRecursion (λ t. t.tree ≢ child.tree → after t.tree ≡ next t.tree) schema.tables
 
-  module _ (cascade : (olds : List Row) → works schema Enforced 0 parent.tree olds [] ≡ cond (some_lose olds) (orphans olds ∷ []) [])
+  module _ (cascade : (olds : List Row) → works schema Enforced 0 parent.tree olds []
+      ≡ cond (some_lose olds) (orphans olds ∷ []) [])
       (idle : (olds : List Row) → works schema Enforced 1 child.tree olds [] ≡ []) where
     empty_leads : (n : ℕ) (db after : Trees) → Leads schema Enforced n db [] (Ok after) → after ≡ db
     empty_leads zero db after h = let e = h.1 in cc
     empty_leads (suc n) db after h = absurd (omega (arith, ap length h.2, length-append h.0 (h.1 ∷ [])))
 
     -- nothing is done where there is no orphan
-    no_drop : (olds : List Row) (next after : Trees) → AreChildren next (orphans olds) [] → after ≡ next → Drops olds next after
+    no_drop : (olds : List Row) (next after : Trees) → AreChildren next (orphans olds) [] → after ≡ next
+        → Drops olds next after
     no_drop olds next after none same = record {
       ids = [];
       are = none;
@@ -68,30 +70,41 @@ module _ (schema : Schema) (parent child : Table) (ref : Reference) (places : Li
           absurd (cc);
     }
 
-    acts : (n : ℕ) (next after : Trees) (olds : List Row) (ids : List ℤ) → AreChildren next (orphans olds) ids → ActsOn schema Enforced (Leads schema Enforced n) next (orphans olds) [] (Ok after) ids → Drops olds next after
+    acts : (n : ℕ) (next after : Trees) (olds : List Row) (ids : List ℤ) → AreChildren next (orphans olds) ids
+        → ActsOn schema Enforced (Leads schema Enforced n) next (orphans olds) [] (Ok after) ids → Drops olds next after
     acts n next after olds [] are h = no_drop olds next after are (empty_leads n next after h)
     acts n next after olds (id ∷ ids) are (inl refused) = absurd (let e = refused.2 in cc)
     acts n next after olds (id ∷ ids) are (inr (inl big)) = absurd (let e = big.3 in cc)
     acts n next after olds (id ∷ ids) are (inr (inr went)) =
         let e = action_edit next (orphans olds) (id ∷ ids) in
-        let last : after ≡ went.0 = empty_leads n went.0 after (subst (λ ws. Leads schema Enforced n went.0 ws (Ok after)) (idle (taken_by next e)) went.2) in
+        let last : after ≡ went.0 =
+        empty_leads n went.0 after
+        (subst (λ ws. Leads schema Enforced n went.0 ws (Ok after)) (idle (taken_by next e)) went.2) in
         let applies = subst (Applies schema Enforced next e) (sym last) went.1 in
         record { ids = id ∷ ids; are = are; rows = applies.rows; others = applies.tables }
 
-    settles : (b : Bool) (n : ℕ) (next after : Trees) (olds : List Row) → some_lose olds ≡ b → Leads schema Enforced n next (cond b (orphans olds ∷ []) []) (Ok after) → Drops olds next after
+    settles : (b : Bool) (n : ℕ) (next after : Trees) (olds : List Row) → some_lose olds ≡ b
+        → Leads schema Enforced n next (cond b (orphans olds ∷ []) []) (Ok after) → Drops olds next after
     settles false n next after olds is h = no_drop olds next after (no_orphan olds next is) (empty_leads n next after h)
     settles true zero next after olds is h = absurd (let e = h.0 in cc)
     settles true (suc n) next after olds is h =
         let one = single h.0 h.1 (orphans olds) (sym h.2) in
         let act : Acts schema Enforced (Leads schema Enforced n) next (orphans olds) [] (Ok after) =
-        subst (λ w. Acts schema Enforced (Leads schema Enforced n) next w [] (Ok after)) one.1 (subst (λ b. Acts schema Enforced (Leads schema Enforced n) next h.1 b (Ok after)) one.0 h.3) in
+        subst (λ w. Acts schema Enforced (Leads schema Enforced n) next w [] (Ok after)) one.1
+        (subst (λ b. Acts schema Enforced (Leads schema Enforced n) next h.1 b (Ok after)) one.0 h.3) in
         acts n next after olds act.0 act.1 act.2
 
     -- a DELETE takes the rows out, and then their orphans, and nothing else
-    pub drops_after : (db after : Trees) (gone : List ℤ) → Writes schema Enforced db (edit_of db parent gone Given 0 []) (Ok after)
-        → (next : Trees) × Applies schema Enforced db (edit_of db parent gone Given 0 []) next × Drops (taken_by db (edit_of db parent gone Given 0 [])) next after
+    pub drops_after : (db after : Trees) (gone : List ℤ)
+        → Writes schema Enforced db (edit_of db parent gone Given 0 []) (Ok after)
+        → (next : Trees) × Applies schema Enforced db (edit_of db parent gone Given 0 []) next
+        × Drops (taken_by db (edit_of db parent gone Given 0 [])) next after
     drops_after db after gone (inl refused) = absurd (let e = refused.2 in cc)
     drops_after db after gone (inr (inl big)) = absurd (let e = big.3 in cc)
     drops_after db after gone (inr (inr went)) =
-        let olds = taken_by db (edit_of db parent gone Given 0 []) in
-        (went.0, went.1, settles _ went.2.0 went.0 after olds refl (subst (λ ws. Leads schema Enforced went.2.0 went.0 ws (Ok after)) (cascade olds) went.2.1))
+        let olds = taken_by db (edit_of db parent gone Given 0 []) in (
+          went.0,
+          went.1,
+          settles _ went.2.0 went.0 after olds refl
+              (subst (λ ws. Leads schema Enforced went.2.0 went.0 ws (Ok after)) (cascade olds) went.2.1),
+        )

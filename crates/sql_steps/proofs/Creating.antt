@@ -15,39 +15,58 @@ use Rattle.sql_steps.specs.CreatedTables.{Creates, Indexes}
 use Rattle.sql_steps.proofs.Statements.{went, same_value}
 
 -- a CREATE that is understood makes its table; the tree that its text leaves open is the next one
-module _ (before : Schema) (table : Table) (sql : List ℕ) (is : command_of (understood before sql) ≡ CreateTable) (whole : statement_of sql (understood before sql) ≡ sql) (plain : IsPlain (understood before sql))
-    (written : Table) (defined : table_defined_by sql ≡ Ok written) (same : created before written ≡ created before table) (uncounted : lacks_sequence (created before table) ≡ false) where
+module _ (before : Schema) (table : Table) (sql : List ℕ) (is : command_of (understood before sql) ≡ CreateTable)
+    (whole : statement_of sql (understood before sql) ≡ sql) (plain : IsPlain (understood before sql))
+    (written : Table) (defined : table_defined_by sql ≡ Ok written)
+    (same : created before written ≡ created before table)
+    (uncounted : lacks_sequence (created before table) ≡ false) where
   pub makes : (old new : State) (count : ℕ) → Executes sql [] old new (Ok count) → Creates before table old.now new.now
   makes old new count h has =
-      let w = subst (λ t. Writes old new None CreateTable t [] count) whole (runs_as sql [] old new before has CreateTable is plain count h) in
+      let w = subst (λ t. Writes old new None CreateTable t [] count) whole
+      (runs_as sql [] old new before has CreateTable is plain count h) in
       let all = went w.changed in
       let first = went all.1 in
       let made = first.1 in
       let both : Ok made.table ≡ Ok written = sym made.defined ∙ defined in
       let table_is : made.table ≡ written = cc in
-      let schema : first.0.schema ≡ created before table = made.is ∙ ap (λ s. created s made.table) has ∙ ap (created before) table_is ∙ same in
+      let schema : first.0.schema ≡ created before table = made.is ∙ ap (λ s. created s made.table) has
+      ∙ ap (created before) table_is ∙ same in
       let uncounted' : lacks_sequence first.0.schema ≡ false = ap lacks_sequence schema ∙ uncounted in
-      let now : new.now ≡ first.0 = ap (λ (p : Tally × Database). p.1) (same_value all.2) ∙ same_value (rw uncounted' at first.2) in
+      let now : new.now ≡ first.0 = ap (λ (p : Tally × Database). p.1) (same_value all.2)
+      ∙ same_value (rw uncounted' at first.2) in
       record {
         schema = ap (λ (d : Database). d.schema) now ∙ schema;
-        empty = ap (λ (d : Database). d.trees (next_tree before)) now ∙ subst (λ (s : Schema). first.0.trees (next_tree s) ≡ []) has made.empty;
-        others = subst (λ (d : Database). KeepsRows before.tables old.now.trees d.trees) (sym now) (subst (λ (s : Schema). KeepsRows s.tables old.now.trees first.0.trees) has made.others);
+        empty = ap (λ (d : Database). d.trees (next_tree before)) now
+            ∙ subst (λ (s : Schema). first.0.trees (next_tree s) ≡ []) has made.empty;
+        others = subst (λ (d : Database). KeepsRows before.tables old.now.trees d.trees) (sym now)
+            (subst (λ (s : Schema). KeepsRows s.tables old.now.trees first.0.trees) has made.others);
       }
 
 -- the same of a CREATE INDEX
-module _ (before : Schema) (at : ℕ) (table : Table) (there : slice_get before.tables at ≡ Some table) (index : Index) (sql : List ℕ) (is : command_of (understood before sql) ≡ CreateIndex at)
-    (whole : statement_of sql (understood before sql) ≡ sql) (plain : IsPlain (understood before sql)) (written : Index) (defined : index_defined_by table sql ≡ Ok written) (same : indexed before table written ≡ indexed before table index) where
-  pub indexes : (old new : State) (count : ℕ) → Executes sql [] old new (Ok count) → Indexes before table index old.now new.now
+module _ (before : Schema) (at : ℕ) (table : Table) (there : slice_get before.tables at ≡ Some table)
+    (index : Index) (sql : List ℕ) (is : command_of (understood before sql) ≡ CreateIndex at)
+    (whole : statement_of sql (understood before sql) ≡ sql) (plain : IsPlain (understood before sql))
+    (written : Index) (defined : index_defined_by table sql ≡ Ok written)
+    (same : indexed before table written ≡ indexed before table index) where
+  pub indexes : (old new : State) (count : ℕ) → Executes sql [] old new (Ok count)
+      → Indexes before table index old.now new.now
   indexes old new count h has =
-      let w = subst (λ t. Writes old new None (CreateIndex at) t [] count) whole (runs_as sql [] old new before has (CreateIndex at) is plain count h) in
-      let place : slice_get old.now.schema.tables at ≡ Some table = ap (λ (s : Schema). slice_get s.tables at) has ∙ there in
-      let all = went (subst (λ o. AtPlace (λ t. Defines (mode_of old) (MakesIndex sql old.now t)) o (Ok (w.tally, new.now))) place w.changed) in
+      let w = subst (λ t. Writes old new None (CreateIndex at) t [] count) whole
+      (runs_as sql [] old new before has (CreateIndex at) is plain count h) in
+      let place : slice_get old.now.schema.tables at ≡ Some table =
+      ap (λ (s : Schema). slice_get s.tables at) has ∙ there in
+      let all =
+      went (subst
+      (λ o. AtPlace (λ t. Defines (mode_of old) (MakesIndex sql old.now t)) o (Ok (w.tally, new.now))) place
+      w.changed) in
       let made = all.1 in
       let both : Ok made.index ≡ Ok written = sym made.defined ∙ defined in
       let index_is : made.index ≡ written = cc in
-      let schema : all.0.schema ≡ indexed before table index = made.is ∙ ap (λ s. indexed s table made.index) has ∙ ap (indexed before table) index_is ∙ same in
+      let schema : all.0.schema ≡ indexed before table index = made.is
+      ∙ ap (λ s. indexed s table made.index) has ∙ ap (indexed before table) index_is ∙ same in
       let now : new.now ≡ all.0 = ap (λ (p : Tally × Database). p.1) (same_value all.2) in
       record {
         schema = ap (λ (d : Database). d.schema) now ∙ schema;
-        tables = subst (λ (d : Database). KeepsRows before.tables old.now.trees d.trees) (sym now) (subst (λ (s : Schema). KeepsRows s.tables old.now.trees all.0.trees) has made.rows);
+        tables = subst (λ (d : Database). KeepsRows before.tables old.now.trees d.trees) (sym now)
+            (subst (λ (s : Schema). KeepsRows s.tables old.now.trees all.0.trees) has made.rows);
       }

@@ -14,6 +14,7 @@ use Rattle.sqlite.specs.Program.{overlay}
 use Rattle.sqlite.specs.Kind.TheVariants.{Integer}
 use Rattle.sqlite.specs.Schema.{Schema}
 use Rattle.sqlite.specs.Table.{Table}
+use Rattle.sqlite.specs.Source.{Source}
 use Rattle.sqlite.specs.Source.TheVariants.{Values}
 use Rattle.sqlite.specs.Command.{Command}
 use Rattle.sqlite.specs.Command.TheVariants.{Insert, Update, Delete}
@@ -25,7 +26,7 @@ use Rattle.sqlite.specs.Cast.{cast}
 use Rattle.sqlite.specs.Rowids.TheVariants.{Chosen, Given}
 use Rattle.sqlite.specs.declared.run.Mode.{Mode}
 use Rattle.sqlite.specs.Does.{Tally, Does, AtPlace, OnRows, Concludes}
-use Rattle.sqlite.specs.Effect.{Database, value_rows}
+use Rattle.sqlite.specs.Effect.{Database, IsSource, value_rows}
 use Rattle.sqlite.specs.Rows.{Part, Then, Gives, Queried, Edited, Task, Written, stamped}
 use Rattle.sqlite.specs.Tree.{Trees}
 use Rattle.sqlite.specs.declared.error.Error.{Error}
@@ -78,18 +79,20 @@ module _ (limit : Option ℕ) (mode : Mode) (params : Row) (db : Database) (sche
       (λ table. OnRows (record { limit = limit; keys = mode.keys; schema = s; table = table; params = params }) mode
       None command db.trees) (slice_get s.tables at) out) has h)
 
-  abbrev pub inserted : List Term → ℕ → Edit
-  inserted terms width =
-      edit_of db.trees table [] Chosen 0 (value_rows (stamped table params) width (length terms / width) terms)
+  abbrev pub put : List Row → Edit
+  put rows = edit_of db.trees table [] Chosen 0 rows
 
-  -- an INSERT of VALUES applies its edit
-  pub inserts : slice_get schema.tables at ≡ Some table
-      → (terms : List Term) (width : ℕ) (text : List ℕ) (tally : Tally) (after : Database)
-      → works schema mode.keys 0 table.tree [] (inserted terms width).news ≡ []
-      → Does limit mode params db text None (Insert at (Values terms width)) (Ok (tally, after))
-      → (after.schema ≡ schema) × Applies schema mode.keys db.trees (inserted terms width) after.trees
-  inserts there terms width text tally after none h =
-      let done = went (on_table (Insert at (Values terms width)) text (Ok (tally, after)) there h) in
+  abbrev pub LeavesFrom : Source → Database → Type 0
+  LeavesFrom from after =
+      (after.schema ≡ schema) × (rows : List Row)
+      × IsSource (record { schema = schema; trees = db.trees }) (stamped table params) from rows
+      × Writes schema mode.keys db.trees (put rows) (Ok after.trees)
+
+  -- an INSERT puts the rows of its source
+  pub inserts_from : (from : Source) (tally : Tally) (after : Database)
+      → OnRows task mode None (Insert at from) db.trees (Ok (tally, after)) → LeavesFrom from after
+  inserts_from from tally after h =
+      let done = went h in
       let now : after
       ≡ record { schema = schema; trees = done.0.trees } = ap (λ (p : Tally × Database). p.1)
       (same_value (went (went done.2).2).2) in
@@ -98,14 +101,28 @@ module _ (limit : Option ℕ) (mode : Mode) (params : Row) (db : Database) (sche
       let counted = went written.2 in
       let trees : done.0.trees ≡ written.0 = ap (λ (it : Written). it.trees) (same_value counted.2)
       ∙ same_value counted.1 in
-      let whole : after.trees ≡ written.0 = ap (λ (d : Database). d.trees) now ∙ trees in
-      let wrote = subst
-      (λ rows. Writes schema mode.keys db.trees (edit_of db.trees table [] Chosen 0 rows) (Ok written.0))
-      given.1.1 written.1 in (
+      let whole : after.trees ≡ written.0 = ap (λ (d : Database). d.trees) now ∙ trees in (
         ap (λ (d : Database). d.schema) now,
-        subst (Applies schema mode.keys db.trees (inserted terms width)) (sym whole)
-            (one_step schema mode.keys db.trees written.0 (inserted terms width) none wrote),
+        given.0,
+        given.1,
+        subst (λ t. Writes schema mode.keys db.trees (put given.0) (Ok t)) (sym whole) written.1,
       )
+
+  abbrev pub inserted : List Term → ℕ → Edit
+  inserted terms width = put (value_rows (stamped table params) width (length terms / width) terms)
+
+  -- an INSERT of VALUES applies its edit
+  pub inserts : slice_get schema.tables at ≡ Some table
+      → (terms : List Term) (width : ℕ) (text : List ℕ) (tally : Tally) (after : Database)
+      → works schema mode.keys 0 table.tree [] (inserted terms width).news ≡ []
+      → Does limit mode params db text None (Insert at (Values terms width)) (Ok (tally, after))
+      → (after.schema ≡ schema) × Applies schema mode.keys db.trees (inserted terms width) after.trees
+  inserts there terms width text tally after none h =
+      let left = inserts_from (Values terms width) tally after
+      (on_table (Insert at (Values terms width)) text (Ok (tally, after)) there h) in
+      let wrote =
+      subst (λ rows. Writes schema mode.keys db.trees (put rows) (Ok after.trees)) left.2.1 left.3 in
+      (left.0, one_step schema mode.keys db.trees after.trees (inserted terms width) none wrote)
 
   -- what an UPDATE and a DELETE do: their query finds rows, and the edit of these is written
   abbrev Rewrites : Query → (List Row → Edit) → (List Row → List Row) → Part Written

@@ -155,7 +155,7 @@ impl<const MAX_LENGTH: usize> Lines<MAX_LENGTH> {
     }
 
     // Moves this many unread bytes to the line.
-    fn take_bytes(&mut self, count: usize)
+    fn move_bytes_to_line(&mut self, count: usize)
         requires { count ≤ length self.old.unread }
         ensures unread { self.new.unread ≡ drop count self.old.unread }
         ensures line { Extends MAX_LENGTH self.old self.new (take count self.old.unread) }
@@ -220,13 +220,13 @@ impl<const MAX_LENGTH: usize> Lines<MAX_LENGTH> {
     {
         match find_line_feed(self.unread_bytes()) {
             Some(at) => {
-                self.take_bytes(at);
+                self.move_bytes_to_line(at);
                 self.skip_byte();
                 true
             }
             None => {
                 let all = self.unread_bytes().len();
-                self.take_bytes(all);
+                self.move_bytes_to_line(all);
                 false
             }
         }

@@ -62,7 +62,8 @@ impl<T> Watched<T> {
         self.failed
     }
 
-    /// The turns since the last [`start_counting`](Watched::start_counting), which stop at `u64::MAX`.
+    /// The turns since the last [`reset_turn_counts`](Watched::reset_turn_counts), which stop at
+    /// `u64::MAX`.
     pub fn turns(&self) -> u64
         ensures { result ≡ self.now.turns }
     {
@@ -70,7 +71,7 @@ impl<T> Watched<T> {
     }
 
     /// The interrupted turns since the last turn that was not interrupted.
-    pub fn idle_turns(&self) -> u64
+    pub fn interruptions_in_a_row(&self) -> u64
         ensures { result ≡ self.now.idle }
     {
         self.idle
@@ -91,7 +92,7 @@ impl<T> Watched<T> {
     }
 
     /// Counts from 0 again. A call that is lent one does this first.
-    pub fn start_counting(&mut self)
+    pub fn reset_turn_counts(&mut self)
         ensures { self.new ≡ record self.old { turns = 0; idle = 0 } }
     {
         self.turns = 0;

@@ -1,7 +1,7 @@
 //! What Fill and Trim make of dates, compared with outcomes that were worked out by hand.
 use lifecycle_core::Dates;
 use moment_core::{LAST_SECOND, Moment};
-use period_core::{DateRefusal, KeyType, Period, fill, is_long, period_of, trim};
+use period_core::{DateRefusal, KeyType, Period, fill, is_either_use_too_long, period_of, trim};
 use std::test::Fail;
 
 /// Activation, Protect Stop and Deactivation, in seconds.
@@ -210,7 +210,7 @@ const USES: [(&str, Given, bool); 8] = [
 /// Whether the dates are so by that period.
 fn is_use(given: &Given, long: bool) -> bool {
     match (Period::new(12, 36), dates_of(given)) {
-        (Some(period), Some(dates)) => is_long(period, &dates) == long,
+        (Some(period), Some(dates)) => is_either_use_too_long(period, &dates) == long,
         _ => false,
     }
 }

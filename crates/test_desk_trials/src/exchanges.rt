@@ -177,7 +177,7 @@ fn is_troubled(alloc: Global, trouble: Trouble, taken: usize) -> Result<bool, Fa
         Trouble::IsInterrupted => MAX_IDLE_TURNS,
         Trouble::Fails | Trouble::FailsOnce | Trouble::TakesNothing => 0,
     };
-    let is_ended = outcome == Some(expected) && writer.idle_turns() == idle;
+    let is_ended = outcome == Some(expected) && writer.interruptions_in_a_row() == idle;
     let written = writer.into_inner().inner.inner;
     Ok(
         is_ended

@@ -33,7 +33,7 @@ pub fn fresh_run<R: Read + Drop, W: Write + Drop>(
         outcome,
         read_failed: reader.has_failed(),
         write_failed: writer.has_failed(),
-        idle: writer.idle_turns(),
+        idle: writer.interruptions_in_a_row(),
         stands: (desk.latest().seconds(), desk.count()),
         writer: writer.into_inner(),
     })

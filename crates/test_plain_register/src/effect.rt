@@ -5,7 +5,7 @@ ghost use Rattle.register_core.specs.Effect.{compromised};
 
 use lifecycle_core::Dates;
 use moment_core::Moment;
-use period_core::{Period, dates_with_defaults, dates_within_limits};
+use period_core::{Period, dates_with_defaults, defaulted_dates_cut_to_limits};
 use register_core::{Command, Edit, given_dates};
 
 /// The dates of a key that is deactivated at the moment: its originator use ends no later.
@@ -59,7 +59,7 @@ pub(crate) fn dates_after(period: Period, dates: &Dates, at: Moment, command: &C
         } => dates_with_defaults(period, given_dates(at, active, stop, end)),
         Command::Activate { .. } => {
             let activation = Some(at);
-            dates_within_limits(
+            defaulted_dates_cut_to_limits(
                 period,
                 Dates {
                     activation,

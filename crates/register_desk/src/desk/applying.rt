@@ -24,7 +24,7 @@ impl<S: Alter> Desk<S> {
     ghost use Rattle.sql_steps.specs.Steps.{TransactsBy};
     ghost use Rattle.register_core.specs.Answer.{UnlessAccepted};
     ghost use Rattle.register_core.specs.KeptReply.{kept_with};
-    ghost use Rattle.register_requests.specs.Request.{IsRequest, has_text};
+    ghost use Rattle.register_requests.specs.Request.{IsRequest, is_in_range};
     ghost use Rattle.register_core.specs.Verdict.{answer, max_keys};
     ghost use Rattle.register_core.specs.declared.reply.Reply.{Reply};
     ghost use Rattle.register_store.specs.Change.{made_count};
@@ -45,7 +45,7 @@ impl<S: Alter> Desk<S> {
         // The answer is the verdict over the history that the desk stands for.
         ensures answer { (h : List Request) → StandsFor S.Store self.old h → IsRequest request.now
             → IsClean S.Store self.new → IfOk result (λ given. given ≡ answer h request.now) }
-        ensures no_request { has_text request.now.command ≡ false → IsWhole self.old
+        ensures no_request { is_in_range request.now.command ≡ false → IsWhole self.old
             → result ≡ Ok (Answer.Refused Refusal.BadLine) }
         // The desk then stands for the history with the request at its end, if that was accepted.
         ensures stands { (h : List Request) → StandsFor S.Store self.old h → IsRequest request.now
@@ -54,7 +54,7 @@ impl<S: Alter> Desk<S> {
         ensures err { (h : List Request) → StandsFor S.Store self.old h
             → OnErr result (StandsFor S.Store self.new h) }
         // The connection is open, so that what stands is seen in full.
-        ensures opened { has_text request.now.command ≡ true
+        ensures opened { is_in_range request.now.command ≡ true
             → OnOk result (IsOpen S.Store self.new) }
         // A reply that is given again is one of this register's, whatever the tables hold.
         ensures within { IfOk result (RepeatsWithin (latest_of self.old) (keys_of self.old)) }
@@ -88,7 +88,7 @@ impl<S: Alter> Desk<S> {
         if self.is_broken {
             return Err(End::Broken);
         }
-        if !request.command.has_text() {
+        if !request.command.is_in_range() {
             return Ok(Answer::Refused(Refusal::BadLine));
         }
         match self.look_up_kept_reply(&request.caller, request.number)? {
@@ -183,10 +183,10 @@ impl<S: Alter> Desk<S> {
     {
         match find_request(&mut self.connection, caller, number) {
             Ok(Some(kept)) if !kept.reply.is_within_counts(self.latest, self.keys) => {
-                Err(self.break_on_store_error(StoreError::NoRegister))
+                Err(self.break_unless_out_of_memory(StoreError::NoRegister))
             }
             Ok(found) => Ok(found),
-            Err(_) => Err(self.break_on_store_error(StoreError::NoRegister)),
+            Err(_) => Err(self.break_unless_out_of_memory(StoreError::NoRegister)),
         }
     }
 }

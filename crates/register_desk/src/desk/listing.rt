@@ -37,7 +37,7 @@ impl<S: Alter> Desk<S> {
         if self.is_broken {
             return Err(End::Broken);
         }
-        Ok(self.scan_rows(Scan::ByNumber(0)))
+        Ok(self.begin_row_scan(Scan::ByNumber(0)))
     }
 
     /// The Active keys with a Protect Stop Date up to `until`, by that date and then by number, one
@@ -62,11 +62,11 @@ impl<S: Alter> Desk<S> {
             stop: FIRST_MOMENT,
             number: 0,
         };
-        Ok(self.scan_rows(Scan::ByStop(until, first, DateRun::First)))
+        Ok(self.begin_row_scan(Scan::ByStop(until, first, DateRun::First)))
     }
 
     /// Lends the desk to rows.
-    fn scan_rows(&mut self, scan: Scan) -> KeyRows<'_, S>
+    fn begin_row_scan(&mut self, scan: Scan) -> KeyRows<'_, S>
         ensures same_reference { result.desk.ghost_name ≡ self.entry.ghost_name }
         ensures same { result.desk.now ≡ self.old }
         ensures scan { result.scan ≡ scan }

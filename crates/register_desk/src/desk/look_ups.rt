@@ -88,7 +88,7 @@ impl<S: Alter> Desk<S> {
     {
         match find_office_period(&mut self.connection, kind) {
             Ok(found) => Ok(period_or_default(kind, found)),
-            Err(_) => Err(self.break_on_store_error(StoreError::NoRegister)),
+            Err(_) => Err(self.break_unless_out_of_memory(StoreError::NoRegister)),
         }
     }
 
@@ -129,7 +129,7 @@ impl<S: Alter> Desk<S> {
     {
         match found {
             Some(held) if !held.row.has_right_state_at(self.latest) => {
-                Err(self.break_on_store_error(StoreError::NoRegister))
+                Err(self.break_unless_out_of_memory(StoreError::NoRegister))
             }
             found => Ok(found),
         }
@@ -188,7 +188,7 @@ impl<S: Alter> Desk<S> {
         ensures broken { IfErr result (λ end. (end ≡ End.Store) × IsBroken self.new) }
     {
         if found.is_none() && self.is_counted_key(number) {
-            return Err(self.break_on_store_error(StoreError::NoRegister));
+            return Err(self.break_unless_out_of_memory(StoreError::NoRegister));
         }
         Ok(found)
     }
@@ -204,7 +204,7 @@ impl<S: Alter> Desk<S> {
     {
         match find_key_row(&mut self.connection, number) {
             Ok(found) => self.counted_row_or_broken(number, found),
-            Err(_) => Err(self.break_on_store_error(StoreError::NoRegister)),
+            Err(_) => Err(self.break_unless_out_of_memory(StoreError::NoRegister)),
         }
     }
 
@@ -218,7 +218,7 @@ impl<S: Alter> Desk<S> {
     {
         match find_key_need(&mut self.connection, number) {
             Ok(found) => Ok(need_or_default(found)),
-            Err(_) => Err(self.break_on_store_error(StoreError::NoRegister)),
+            Err(_) => Err(self.break_unless_out_of_memory(StoreError::NoRegister)),
         }
     }
 
@@ -254,7 +254,7 @@ impl<S: Alter> Desk<S> {
         }
         match load_key(self.alloc, &mut self.connection, number, need) {
             Ok(found) => self.counted_row_or_broken(number, found),
-            Err(error) => Err(self.break_on_store_error(error)),
+            Err(error) => Err(self.break_unless_out_of_memory(error)),
         }
     }
 }

@@ -1,5 +1,5 @@
 //! Inputs of exchanges, and what they ask for.
-use http_messages::{Asked, Rejection, Routes, ask};
+use http_messages::{Asked, Rejection, Routes, read_asked};
 use std::alloc::{AllocError, Global};
 use std::io::Read;
 use streams::Watched;
@@ -12,7 +12,7 @@ pub fn asked_of<R: Read + Drop>(alloc: Global, input: R) -> Option<Asked> {
 /// The same by these routes.
 pub fn asked_by<R: Read + Drop>(alloc: Global, routes: &mut Routes, input: R) -> Option<Asked> {
     let mut reader = Watched::new(input);
-    match ask(alloc, routes, &mut reader).asked {
+    match read_asked(alloc, routes, &mut reader).asked {
         Ok(asked) => asked,
         Err(_) => None,
     }

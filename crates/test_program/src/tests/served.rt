@@ -1,7 +1,7 @@
 //! Connections that are served, at a port that the system chooses.
 use moment_core::Moment;
 use register_desk::{Desk, End, Finish, create_in_memory};
-use register_files::{Clocks, MachineClock, Now, listen, serve_on};
+use register_files::{Clocks, MachineClock, Now, listen_at_localhost, serve_on};
 use sqlite::MemStore;
 use std::cell::Cell;
 use std::io::{self, ErrorKind, Write};
@@ -62,7 +62,7 @@ const AT_END: Finish = Finish::AtEnd { rest: 0 };
 /// latest moment.
 fn advance(rt: &HostRuntime, seconds: Option<u64>) -> Result<(Finish, TcpStream, u64), Fail> {
     let mut desk = create_in_memory(rt.alloc())?;
-    let listener = listen(rt, 0)?;
+    let listener = listen_at_localhost(rt, 0)?;
     let stream = send(rt, &listener, ADVANCE.as_bytes())?;
     let finish = serve_one(rt, &mut desk, &listener, seconds, 1);
     Ok((finish, stream, desk.latest().seconds()))
@@ -86,7 +86,7 @@ enum Silent {
 /// How many seconds a silent client and the one after it take, of which the second is served.
 fn seconds_after(rt: &HostRuntime, silent: Silent) -> Result<Option<u64>, Fail> {
     let mut desk = create_in_memory(rt.alloc())?;
-    let listener = listen(rt, 0)?;
+    let listener = listen_at_localhost(rt, 0)?;
     let first = send(rt, &listener, b"")?;
     let held = match silent {
         Silent::Leaves => {
@@ -135,7 +135,7 @@ const ADVANCE_AGAIN: &str =
 /// it is accepted.
 fn latest_after_two(rt: &HostRuntime) -> Result<u64, Fail> {
     let mut desk = create_in_memory(rt.alloc())?;
-    let listener = listen(rt, 0)?;
+    let listener = listen_at_localhost(rt, 0)?;
     let first = send(rt, &listener, ADVANCE.as_bytes())?;
     let second = send(rt, &listener, ADVANCE_AGAIN.as_bytes())?;
     let moments = Rising(Cell::new(100));
@@ -157,7 +157,7 @@ fn each_connection_has_its_own_moment(rt: HostRuntime) -> Result<(), Fail> {
 
 #[test]
 fn no_other_machine_is_served(rt: HostRuntime) -> Result<(), Fail> {
-    let address = listen(&rt, 0)?.local_addr()?;
+    let address = listen_at_localhost(&rt, 0)?.local_addr()?;
     assert!(rt; address.ip() == IpAddr::V4(Ipv4Addr::LOCALHOST));
     Ok(())
 }

@@ -23,5 +23,11 @@ returns-in-Err-kept-clause-read g c =
     let (more, long, took_more, kept) = c.read_body_piece-piece.ensures.bytes in (
       before ++ more,
       Consumes-trans _ _ _ _ _ took took_more,
-      omega (arith, length-append before more, counted, long, ap (λ (r : BodyRead). r.read) c.unfinished-in-Err-kept.ensures),
+      omega (
+        arith,
+        length-append before more,
+        counted,
+        long,
+        ap (λ (r : BodyRead). r.read) c.unfinished-in-Err-kept.ensures,
+      ),
     )

@@ -41,7 +41,8 @@ returns-in_err-number-clause-none c = λ lines all. if_none _ (AreOfNobody lines
     let small : read < 2 ^ 64 = omega arith in
     let fits : n < 2 ^ 64 = omega (arith, p.in_range.1) in
     let field = one_is _ (decimal n) _ (c.in_ok-only_value-2.ensures.found _ all.request_number) p.number_is in
-    let same : read ≡ n = decimal_injective read n small fits (sym c.in_ok-read_decimal.ensures.found ∙ field) in
+    let same : read ≡ n =
+    decimal_injective read n small fits (sym c.in_ok-read_decimal.ensures.found ∙ field) in
     absurd (cc (c.in_err-number.ensures.in_range.1 (subst IsNumber (sym same) p.in_range))))
 
 pub returns-clause-found : goal.returns-clause-found

@@ -7,7 +7,7 @@ use Rattle.http_messages.proofs.reply_text.refused_text.Goals as goal
 
 pub returns : goal.returns
 returns c =
-    IfOk-weaker c.value_text.result _ _
+    IfOk-weaker c.json_reply_text.result _ _
     (λ s written. written ∙ ap (λ v. reply_bytes (json_reply c.refusal_status.result v)) c.in_ok-value.ensures
     ∙ ap (λ n. reply_bytes (json_reply n (refusal_data c.args.refusal.now))) c.refusal_status.ensures)
-    c.value_text.ensures
+    c.json_reply_text.ensures

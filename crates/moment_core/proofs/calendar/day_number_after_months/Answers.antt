@@ -11,7 +11,8 @@ parts : (c : goal.After-days_since_min) (of : Civil) → HasParts c.args.date of
 parts c of has =
     let total = total_is c.args.date of c.args.months c.year_of.result c.from.result _ has c.year_of.ensures
     c.from.ensures (ap (λ (n : ℕ). c.year_of.result * 12 + c.from.result + n) c.from-2.ensures) in
-    later_parts c.args.date c.clamp_to_month_end-later.result of c.args.months _ has total c.clamp_to_month_end-later.ensures.year
+    later_parts c.args.date c.clamp_to_month_end-later.result of c.args.months _ has total
+    c.clamp_to_month_end-later.ensures.year
     c.clamp_to_month_end-later.ensures.month c.clamp_to_month_end-later.ensures.day
 
 pub overflow_sub-days_since_min : goal.overflow_sub-days_since_min

@@ -6,5 +6,5 @@ use Rattle.period_core.proofs.date_fitting.fill.Goals as goal
 
 pub returns-clause-keeps : goal.returns-clause-keeps
 returns-clause-keeps c =
-    subst (λ (new : Dates). KeepsGiven c.args.dates.now new) (sym c.dates_with_limits.ensures.dates)
+    subst (λ (new : Dates). KeepsGiven c.args.dates.now new) (sym c.dates_with_defaults_and_limits.ensures.dates)
     (filled_keeps c.args.period c.args.dates.now)

@@ -32,12 +32,12 @@ as_desk g desk connection store same closes may opens = record {
 pub returns-clause-clean : goal.returns-clause-clean
 returns-clause-clean g c clean =
     subst (λ (k : Held _). HasCleanDisk (state g.F.Opened.Store k)) c.into_connection.ensures.same
-    (c.close_connection.ensures.clean (c.close.ensures.clean clean))
+    (c.close_connection_into_store.ensures.clean (c.close.ensures.clean clean))
 
 pub returns-clause-closes : goal.returns-clause-closes
 returns-clause-closes g c clean =
-    let closes = c.close_connection.ensures in
-    let store = c.close_connection.result in
+    let closes = c.close_connection_into_store.ensures in
+    let store = c.close_connection_into_store.result in
     let sound = c.close.ensures.clean clean in
     let same = sym c.into_connection.ensures.same in
     let left_by = as_desk g.F.Opened.Store c.args.desk c.into_connection.result store same closes in

@@ -19,7 +19,7 @@ returns-in-Reject g c =
 pub returns-in-ShowKey : goal.returns-in-ShowKey
 returns-in-ShowKey g c =
     asked_same _ c.args.moment (ShowKey c.in-ShowKey.key) c.args.asked.now _ _ _ (sym c.in-ShowKey.is)
-    (c.show_reply.ensures c.args.moment)
+    (c.reply_text_showing_key.ensures c.args.moment)
 
 pub returns-in-ShowUsage : goal.returns-in-ShowUsage
 returns-in-ShowUsage g c =

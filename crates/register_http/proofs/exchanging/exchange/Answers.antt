@@ -11,114 +11,116 @@ use Rattle.register_http.proofs.exchanging.exchange.Goals as goal
 
 pub returns-in-Ok-None-clause-exchanges : goal.returns-in-Ok-None-clause-exchanges
 returns-in-Ok-None-clause-exchanges g c = record {
-  asked = c.ask-asking.result.asked;
-  asks = λ bytes known. c.ask-asking.ensures.asks bytes
-      (ap (λ (r : Watched g.row.R.Denot). g.R.Read.remaining r.inner) c.start_counting.ensures ∙ known);
+  asked = c.read_asked-asking.result.asked;
+  asks = λ bytes known. c.read_asked-asking.ensures.asks bytes
+      (ap (λ (r : Watched g.row.R.Denot). g.R.Read.remaining r.inner) c.reset_turn_counts.ensures ∙ known);
   serves = rw (c.with_read.ensures) (
-      served_after g.S.Store c.args.moment c.args.desk.now c.args.desk.now c.ask-asking.result.asked _
-      (g.W.Write.contents c.args.writer.now.inner) _ _ c.ask-asking.result.read
-      (ap (λ (w : Watched g.row.W.Denot). g.W.Write.contents w.inner) c.start_counting-2.ensures)
-      (sent_nothing g.S.Store c.args.moment c.args.desk.now c.args.desk.now c.ask-asking.result.asked _ c.ended.result
-      (search rules) refl c.ended.ensures));
+      served_after g.S.Store c.args.moment c.args.desk.now c.args.desk.now c.read_asked-asking.result.asked _
+      (g.W.Write.contents c.args.writer.now.inner) _ _ c.read_asked-asking.result.read
+      (ap (λ (w : Watched g.row.W.Denot). g.W.Write.contents w.inner) c.reset_turn_counts-2.ensures)
+      (sent_nothing g.S.Store c.args.moment c.args.desk.now c.args.desk.now c.read_asked-asking.result.asked _ c.ended_without_bytes.result
+      (search rules) refl c.ended_without_bytes.ensures));
 }
 
 pub returns-in-Ok-None-clause-leaves : goal.returns-in-Ok-None-clause-leaves
 unfolding returns-in-Ok-None-clause-exchanges
 returns-in-Ok-None-clause-leaves g c =
     let is_moment : IsMoment c.args.moment = search rules in
-    leaves_one g.S.Store c.args.moment c.args.desk.now c.args.desk.now is_moment c.ask-asking.result.asked
-    c.with_read.result _ _ c.ask-asking.ensures.in_range (returns-in-Ok-None-clause-exchanges g c).serves
+    leaves_one g.S.Store c.args.moment c.args.desk.now c.args.desk.now is_moment c.read_asked-asking.result.asked
+    c.with_read.result _ _ c.read_asked-asking.ensures.in_range (returns-in-Ok-None-clause-exchanges g c).serves
 
 pub returns-in-Ok-None-clause-clean : goal.returns-in-Ok-None-clause-clean
 unfolding returns-in-Ok-None-clause-exchanges
 returns-in-Ok-None-clause-clean g c =
-    was_clean g.S.Store c.args.moment c.args.desk.now c.args.desk.now c.ask-asking.result.asked
+    was_clean g.S.Store c.args.moment c.args.desk.now c.args.desk.now c.read_asked-asking.result.asked
     c.with_read.result _ _ (returns-in-Ok-None-clause-exchanges g c).serves
 
 pub returns-in-Ok-None-clause-reader : goal.returns-in-Ok-None-clause-reader
 unfolding returns-in-Ok-None-clause-exchanges
 returns-in-Ok-None-clause-reader g c =
-    let read = c.ask-asking.ensures.read in
-    leaves_reader g.S.Store c.args.moment c.args.desk.now c.args.desk.now c.ask-asking.result.asked _ _
+    let read = c.read_asked-asking.ensures.read in
+    leaves_reader g.S.Store c.args.moment c.args.desk.now c.args.desk.now c.read_asked-asking.result.asked _ _
     c.with_read.result (returns-in-Ok-None-clause-exchanges g c).serves g.R.Read.remaining c.args.reader.now
-    c.ask-asking.new.reader
+    c.read_asked-asking.new.reader
     (rw (c.with_read.ensures) (
       read.0,
-      rw (sym (ap (λ (r : Watched g.row.R.Denot). g.R.Read.remaining r.inner) c.start_counting.ensures)) read.1,
+      rw (sym (ap (λ (r : Watched g.row.R.Denot). g.R.Read.remaining r.inner) c.reset_turn_counts.ensures)) read.1,
       sym read.2,
     ))
-    (c.ask-asking.ensures.tells (ap (λ (r : Watched g.row.R.Denot). r.failed) c.start_counting.ensures ∙ c.requires.reader))
-    c.ask-asking.ensures.fault (search rules)
+    (c.read_asked-asking.ensures.tells (ap (λ (r : Watched g.row.R.Denot). r.failed) c.reset_turn_counts.ensures
+    ∙ c.requires.reader))
+    c.read_asked-asking.ensures.fault (search rules)
 
 pub returns-in-Ok-None-clause-writer : goal.returns-in-Ok-None-clause-writer
-returns-in-Ok-None-clause-writer g c = rw (c.with_read.ensures, c.ended.ensures) (search rules)
+returns-in-Ok-None-clause-writer g c = rw (c.with_read.ensures, c.ended_without_bytes.ensures) (search rules)
 
 -- ---- the reader failed
 
 pub returns-in-Err-ReadFault-clause-exchanges : goal.returns-in-Err-ReadFault-clause-exchanges
 returns-in-Err-ReadFault-clause-exchanges g c = record {
-  asked = c.ask-asking.result.asked;
-  asks = λ bytes known. c.ask-asking.ensures.asks bytes
-      (ap (λ (r : Watched g.row.R.Denot). g.R.Read.remaining r.inner) c.start_counting.ensures ∙ known);
+  asked = c.read_asked-asking.result.asked;
+  asks = λ bytes known. c.read_asked-asking.ensures.asks bytes
+      (ap (λ (r : Watched g.row.R.Denot). g.R.Read.remaining r.inner) c.reset_turn_counts.ensures ∙ known);
   serves = rw (c.with_read-in-Err-ReadFault.ensures) (
-      served_after g.S.Store c.args.moment c.args.desk.now c.args.desk.now c.ask-asking.result.asked _
-      (g.W.Write.contents c.args.writer.now.inner) _ _ c.ask-asking.result.read
-      (ap (λ (w : Watched g.row.W.Denot). g.W.Write.contents w.inner) c.start_counting-2.ensures)
-      (sent_no_reply g.S.Store c.args.moment c.args.desk.now c.args.desk.now c.ask-asking.result.asked _
-      c.ended-in-Err-ReadFault.result (search rules) refl
-      c.ended-in-Err-ReadFault.ensures));
+      served_after g.S.Store c.args.moment c.args.desk.now c.args.desk.now c.read_asked-asking.result.asked _
+      (g.W.Write.contents c.args.writer.now.inner) _ _ c.read_asked-asking.result.read
+      (ap (λ (w : Watched g.row.W.Denot). g.W.Write.contents w.inner) c.reset_turn_counts-2.ensures)
+      (sent_no_reply g.S.Store c.args.moment c.args.desk.now c.args.desk.now c.read_asked-asking.result.asked _
+      c.ended_without_bytes-in-Err-ReadFault.result (search rules) refl
+      c.ended_without_bytes-in-Err-ReadFault.ensures));
 }
 
 pub returns-in-Err-ReadFault-clause-leaves : goal.returns-in-Err-ReadFault-clause-leaves
 unfolding returns-in-Err-ReadFault-clause-exchanges
 returns-in-Err-ReadFault-clause-leaves g c =
     let is_moment : IsMoment c.args.moment = search rules in
-    leaves_one g.S.Store c.args.moment c.args.desk.now c.args.desk.now is_moment c.ask-asking.result.asked
-    c.with_read-in-Err-ReadFault.result _ _ c.ask-asking.ensures.in_range (returns-in-Err-ReadFault-clause-exchanges
+    leaves_one g.S.Store c.args.moment c.args.desk.now c.args.desk.now is_moment c.read_asked-asking.result.asked
+    c.with_read-in-Err-ReadFault.result _ _ c.read_asked-asking.ensures.in_range (returns-in-Err-ReadFault-clause-exchanges
     g c).serves
 
 pub returns-in-Err-ReadFault-clause-clean : goal.returns-in-Err-ReadFault-clause-clean
 unfolding returns-in-Err-ReadFault-clause-exchanges
 returns-in-Err-ReadFault-clause-clean g c =
-    was_clean g.S.Store c.args.moment c.args.desk.now c.args.desk.now c.ask-asking.result.asked
+    was_clean g.S.Store c.args.moment c.args.desk.now c.args.desk.now c.read_asked-asking.result.asked
     c.with_read-in-Err-ReadFault.result _ _ (returns-in-Err-ReadFault-clause-exchanges g c).serves
 
 pub returns-in-Err-ReadFault-clause-reader : goal.returns-in-Err-ReadFault-clause-reader
 unfolding returns-in-Err-ReadFault-clause-exchanges
 returns-in-Err-ReadFault-clause-reader g c =
-    let read = c.ask-asking.ensures.read in
-    leaves_reader g.S.Store c.args.moment c.args.desk.now c.args.desk.now c.ask-asking.result.asked _ _
+    let read = c.read_asked-asking.ensures.read in
+    leaves_reader g.S.Store c.args.moment c.args.desk.now c.args.desk.now c.read_asked-asking.result.asked _ _
     c.with_read-in-Err-ReadFault.result (returns-in-Err-ReadFault-clause-exchanges g c).serves g.R.Read.remaining
-    c.args.reader.now c.ask-asking.new.reader
+    c.args.reader.now c.read_asked-asking.new.reader
     (rw (c.with_read-in-Err-ReadFault.ensures) (
       read.0,
-      rw (sym (ap (λ (r : Watched g.row.R.Denot). g.R.Read.remaining r.inner) c.start_counting.ensures)) read.1,
+      rw (sym (ap (λ (r : Watched g.row.R.Denot). g.R.Read.remaining r.inner) c.reset_turn_counts.ensures)) read.1,
       sym read.2,
     ))
-    (c.ask-asking.ensures.tells (ap (λ (r : Watched g.row.R.Denot). r.failed) c.start_counting.ensures ∙ c.requires.reader))
-    c.ask-asking.ensures.fault (search rules)
+    (c.read_asked-asking.ensures.tells (ap (λ (r : Watched g.row.R.Denot). r.failed) c.reset_turn_counts.ensures
+    ∙ c.requires.reader))
+    c.read_asked-asking.ensures.fault (search rules)
 
 pub returns-in-Err-ReadFault-clause-writer : goal.returns-in-Err-ReadFault-clause-writer
 returns-in-Err-ReadFault-clause-writer g c =
-    rw (c.with_read-in-Err-ReadFault.ensures, c.ended-in-Err-ReadFault.ensures) (search rules)
+    rw (c.with_read-in-Err-ReadFault.ensures, c.ended_without_bytes-in-Err-ReadFault.ensures) (search rules)
 
 -- ---- a reply was sent
 
 pub returns-clause-exchanges : goal.returns-clause-exchanges
 returns-clause-exchanges g c = record {
-  asked = c.ask-asking.result.asked;
-  asks = λ bytes known. c.ask-asking.ensures.asks bytes
-      (ap (λ (r : Watched g.row.R.Denot). g.R.Read.remaining r.inner) c.start_counting.ensures ∙ known);
+  asked = c.read_asked-asking.result.asked;
+  asks = λ bytes known. c.read_asked-asking.ensures.asks bytes
+      (ap (λ (r : Watched g.row.R.Denot). g.R.Read.remaining r.inner) c.reset_turn_counts.ensures ∙ known);
   serves = rw (ap (λ (n : ℕ). record c.send_reply.result { read = n }) c.send_reply.ensures.read) (
-      served_after g.S.Store c.args.moment c.args.desk.now c.match-asking.desk c.ask-asking.result.asked _
-      (g.W.Write.contents c.args.writer.now.inner) _ _ c.ask-asking.result.read
-      (ap (λ (w : Watched g.row.W.Denot). g.W.Write.contents w.inner) c.start_counting-2.ensures)
+      served_after g.S.Store c.args.moment c.args.desk.now c.match-asking.desk c.read_asked-asking.result.asked _
+      (g.W.Write.contents c.args.writer.now.inner) _ _ c.read_asked-asking.result.read
+      (ap (λ (w : Watched g.row.W.Denot). g.W.Write.contents w.inner) c.reset_turn_counts-2.ensures)
       (elim c.match-asking.branch [
         | in-Ok-Some w ↦ sent_answer g.S.Store c.args.moment c.args.desk.now c.match-asking.desk
-            c.ask-asking.result.asked _ _ _ c.send_reply.result c.match-asking.answered _ _ w.desk-is w.answered-is
+            c.read_asked-asking.result.asked _ _ _ c.send_reply.result c.match-asking.answered _ _ w.desk-is w.answered-is
             w.answer_asked-answered.ensures c.send_reply.ensures.sends c.send_reply.ensures.ends (search rules)
         | in-Err-Memory w ↦ sent_memory g.S.Store c.args.moment c.args.desk.now c.match-asking.desk
-            c.ask-asking.result.asked _ _ c.send_reply.result c.match-asking.answered
+            c.read_asked-asking.result.asked _ _ c.send_reply.result c.match-asking.answered
             (search rules) w.desk-is w.answered-is c.send_reply.ensures.sends
             c.send_reply.ensures.ends
       ]));
@@ -128,28 +130,30 @@ pub returns-clause-leaves : goal.returns-clause-leaves
 unfolding returns-clause-exchanges
 returns-clause-leaves g c =
     let is_moment : IsMoment c.args.moment = search rules in
-    leaves_one g.S.Store c.args.moment c.args.desk.now c.match-asking.desk is_moment c.ask-asking.result.asked
-    c.send_reply.result _ _ c.ask-asking.ensures.in_range (returns-clause-exchanges g c).serves
+    leaves_one g.S.Store c.args.moment c.args.desk.now c.match-asking.desk is_moment c.read_asked-asking.result.asked
+    c.send_reply.result _ _ c.read_asked-asking.ensures.in_range (returns-clause-exchanges g c).serves
 
 pub returns-clause-clean : goal.returns-clause-clean
 unfolding returns-clause-exchanges
 returns-clause-clean g c =
-    was_clean g.S.Store c.args.moment c.args.desk.now c.match-asking.desk c.ask-asking.result.asked
+    was_clean g.S.Store c.args.moment c.args.desk.now c.match-asking.desk c.read_asked-asking.result.asked
     c.send_reply.result _ _ (returns-clause-exchanges g c).serves
 
 pub returns-clause-reader : goal.returns-clause-reader
 unfolding returns-clause-exchanges
 returns-clause-reader g c =
-    let read = c.ask-asking.ensures.read in
-    leaves_reader g.S.Store c.args.moment c.args.desk.now c.match-asking.desk c.ask-asking.result.asked _ _
-    c.send_reply.result (returns-clause-exchanges g c).serves g.R.Read.remaining c.args.reader.now c.ask-asking.new.reader
+    let read = c.read_asked-asking.ensures.read in
+    leaves_reader g.S.Store c.args.moment c.args.desk.now c.match-asking.desk c.read_asked-asking.result.asked _ _
+    c.send_reply.result (returns-clause-exchanges g c).serves g.R.Read.remaining c.args.reader.now
+    c.read_asked-asking.new.reader
     (rw (c.send_reply.ensures.read) (
       read.0,
-      rw (sym (ap (λ (r : Watched g.row.R.Denot). g.R.Read.remaining r.inner) c.start_counting.ensures)) read.1,
+      rw (sym (ap (λ (r : Watched g.row.R.Denot). g.R.Read.remaining r.inner) c.reset_turn_counts.ensures)) read.1,
       sym read.2,
     ))
-    (c.ask-asking.ensures.tells (ap (λ (r : Watched g.row.R.Denot). r.failed) c.start_counting.ensures ∙ c.requires.reader))
-    c.ask-asking.ensures.fault (search rules)
+    (c.read_asked-asking.ensures.tells (ap (λ (r : Watched g.row.R.Denot). r.failed) c.reset_turn_counts.ensures
+    ∙ c.requires.reader))
+    c.read_asked-asking.ensures.fault (search rules)
 
 pub returns-clause-writer : goal.returns-clause-writer
 returns-clause-writer g c = search rules

@@ -66,7 +66,10 @@ returns-in-Some-read_days g c =
       c.in-Some-read_days.ensures,
       c.report_file.result,
       refl,
-      (c.report_file.ensures.reports, untouched (λ w. g.W.Write.contents w.inner) _ _ _ c.report_file.ensures.untouched),
+      (
+        c.report_file.ensures.reports,
+        untouched (λ w. g.W.Write.contents w.inner) _ _ _ c.report_file.ensures.untouched,
+      ),
     ))
 
 pub returns-in-None-read_days : goal.returns-in-None-read_days

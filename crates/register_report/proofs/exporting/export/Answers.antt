@@ -8,6 +8,6 @@ use Rattle.register_report.proofs.exporting.export.Goals as goal
 
 pub returns-clause-agrees : goal.returns-clause-agrees
 returns-clause-agrees g c h stands clean =
-    let inner = ap (λ (w : Watched _). w.inner) c.start_counting.ensures in
+    let inner = ap (λ (w : Watched _). w.inner) c.reset_turn_counts.ensures in
     let end = ap (λ (o : Outcome). o.end) c.outcome_of_output.ensures in
     agrees c.put_export-done.ensures.puts inner end (export_text (all_rows h)) stands clean refl

@@ -8,7 +8,7 @@ use Rattle.register_report.proofs.exporting.rotation.Goals as goal
 
 pub returns-clause-agrees : goal.returns-clause-agrees
 returns-clause-agrees g c h rows stands clean listed =
-    let inner = ap (λ (w : Watched _). w.inner) c.start_counting.ensures in
+    let inner = ap (λ (w : Watched _). w.inner) c.reset_turn_counts.ensures in
     let end = ap (λ (o : Outcome). o.end) c.outcome_of_output.ensures in
     agrees c.put_rotation_report-done.ensures.puts inner end
     (report_text (latest h) (horizon (latest h) c.args.days) rows) stands clean (rows, listed, refl)

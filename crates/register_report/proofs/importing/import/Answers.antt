@@ -23,13 +23,13 @@ returns-in-Ok-clause-agrees g c h bytes items stands clean known has =
     c.from_reader-reader.ensures.state c.from_reader-reader.ensures.source known in
     let after = rows_after reads c.read_header.new.reader has.rows c.in-Ok.ensures.reads has.has in
     let over = over_so g.S.Store g.R.Read.remaining c.args.moment c.args.caller.now c.args.first
-    c.read_header.new.reader (g.W.Write.contents c.start_counting.new.self.inner) _ c.args.desk.now
+    c.read_header.new.reader (g.W.Write.contents c.reset_turn_counts.new.self.inner) _ c.args.desk.now
     c.import_rows.new.desk c.import_rows.result.replies after items has.each h stands clean
     c.import_rows.result.end c.import_rows.ensures.serves in
     subst (λ (old : Option (List ℕ)). RunsOver g.S.Store h items [] c.import_rows.result.end
     c.import_rows.result.replies old (g.W.Write.contents c.import_rows.new.writer.inner)
     c.import_rows.new.desk)
-    (ap (λ w. g.W.Write.contents w.inner) c.start_counting.ensures) over
+    (ap (λ w. g.W.Write.contents w.inner) c.reset_turn_counts.ensures) over
 
 pub returns-in-Ok-clause-leaves : goal.returns-in-Ok-clause-leaves
 returns-in-Ok-clause-leaves g c h bytes items stands whole clean known has =
@@ -41,12 +41,12 @@ pub returns-in-Ok-clause-lives : goal.returns-in-Ok-clause-lives
 returns-in-Ok-clause-lives g c h stands clean =
     let new = g.W.Write.contents c.import_rows.new.writer.inner in
     let lives = lives_so g.S.Store g.R.Read.remaining c.args.moment c.args.caller.now c.args.first
-    c.read_header.new.reader (g.W.Write.contents c.start_counting.new.self.inner) new c.args.desk.now
+    c.read_header.new.reader (g.W.Write.contents c.reset_turn_counts.new.self.inner) new c.args.desk.now
     c.import_rows.new.desk c.import_rows.result.replies h stands clean c.import_rows.result.end
     c.import_rows.ensures.desk c.import_rows.ensures.serves in
     subst (λ (old : Option (List ℕ)). LivesSome g.S.Store h c.import_rows.result.end
     c.import_rows.result.replies old new c.args.desk.now c.import_rows.new.desk)
-    (ap (λ w. g.W.Write.contents w.inner) c.start_counting.ensures) lives
+    (ap (λ w. g.W.Write.contents w.inner) c.reset_turn_counts.ensures) lives
 
 pub returns-in-Ok-clause-uses : goal.returns-in-Ok-clause-uses
 returns-in-Ok-clause-uses g c bytes items known has is =
@@ -54,7 +54,7 @@ returns-in-Ok-clause-uses g c bytes items known has is =
     c.from_reader-reader.ensures.state c.from_reader-reader.ensures.source known in
     let after = rows_after reads c.read_header.new.reader has.rows c.in-Ok.ensures.reads has.has in
     uses_so g.S.Store g.R.Read.remaining c.args.moment c.args.caller.now c.args.first
-    c.read_header.new.reader (g.W.Write.contents c.start_counting.new.self.inner) _ c.args.desk.now
+    c.read_header.new.reader (g.W.Write.contents c.reset_turn_counts.new.self.inner) _ c.args.desk.now
     c.import_rows.new.desk c.import_rows.result.replies after items has.each
     c.import_rows.result.end c.import_rows.ensures.serves is
 
@@ -64,12 +64,12 @@ returns-in-Ok-clause-broken g c bytes items broken known has =
     c.from_reader-reader.ensures.state c.from_reader-reader.ensures.source known in
     let after = rows_after reads c.read_header.new.reader has.rows c.in-Ok.ensures.reads has.has in
     let runs = broken_so g.S.Store g.R.Read.remaining c.args.moment c.args.caller.now c.args.first
-    c.read_header.new.reader (g.W.Write.contents c.start_counting.new.self.inner) _ c.args.desk.now
+    c.read_header.new.reader (g.W.Write.contents c.reset_turn_counts.new.self.inner) _ c.args.desk.now
     c.import_rows.new.desk c.import_rows.result.replies after items has.each broken
     c.import_rows.result.end c.import_rows.ensures.desk c.import_rows.ensures.serves in
     subst (λ (old : Option (List ℕ)). ImportsBroken items c.import_rows.result.end
     c.import_rows.result.replies old (g.W.Write.contents c.import_rows.new.writer.inner))
-    (ap (λ w. g.W.Write.contents w.inner) c.start_counting.ensures) runs
+    (ap (λ w. g.W.Write.contents w.inner) c.reset_turn_counts.ensures) runs
 
 pub returns-in-Ok-clause-cause : goal.returns-in-Ok-clause-cause
 returns-in-Ok-clause-cause g c is =
@@ -77,7 +77,7 @@ returns-in-Ok-clause-cause g c is =
     let started = subst (λ (old : Option (List ℕ)). EndsEarly g.S.Store g.R.Read.remaining c.args.moment
     c.args.caller.now c.args.first c.read_header.new.reader c.import_rows.new.reader old
     (g.W.Write.contents c.import_rows.new.writer.inner) c.args.desk.now c.import_rows.new.desk
-    c.import_rows.result.replies) (ap (λ w. g.W.Write.contents w.inner) c.start_counting.ensures) early in
+    c.import_rows.result.replies) (ap (λ w. g.W.Write.contents w.inner) c.reset_turn_counts.ensures) early in
     record {
       begun = c.from_reader-reader.result;
       start = c.read_header.new.reader;
@@ -88,14 +88,14 @@ returns-in-Ok-clause-cause g c is =
 
 pub returns-clause-cause : goal.returns-clause-cause
 returns-clause-cause g c is =
-    let fault = ended_is _ _ (sym (ap (λ (o : Outcome). o.end) c.ended.ensures) ∙ is) in
+    let fault = ended_is _ _ (sym (ap (λ (o : Outcome). o.end) c.ended_without_bytes.ensures) ∙ is) in
     record {
       begun = c.from_reader-reader.result;
       start = c.from_reader-reader.result;
       last = c.read_header.new.reader;
       given = c.from_reader-reader.ensures.source;
       why = inl (
-        ap (λ (o : Outcome). o.replies) c.ended.ensures,
+        ap (λ (o : Outcome). o.replies) c.ended_without_bytes.ensures,
         subst (λ (end : End). ExplainsNoHeader g.R.Read.remaining c.from_reader-reader.result
             c.read_header.new.reader end) fault c.in-Err.ensures.end,
       );
@@ -135,9 +135,10 @@ returns-clause-agrees g c h bytes items stands clean known has =
     let over = no_header_over reads c.read_header.new.reader has.rows has.has g.S.Store
     c.args.desk.now items
     (g.W.Write.contents c.args.writer.now.inner) c.in-Err.end c.in-Err.ensures.end h stands clean in
-    rw (c.ended.ensures) (subst (λ (new : Option (List ℕ)). RunsOver g.S.Store h items [] (Ended c.in-Err.end) 0
+    rw (c.ended_without_bytes.ensures)
+    (subst (λ (new : Option (List ℕ)). RunsOver g.S.Store h items [] (Ended c.in-Err.end) 0
     (g.W.Write.contents c.args.writer.now.inner) new c.args.desk.now)
-    (sym (ap (λ w. g.W.Write.contents w.inner) c.start_counting.ensures)) over)
+    (sym (ap (λ w. g.W.Write.contents w.inner) c.reset_turn_counts.ensures)) over)
 
 pub returns-clause-broken : goal.returns-clause-broken
 returns-clause-broken g c bytes items broken known has =
@@ -146,14 +147,15 @@ returns-clause-broken g c bytes items broken known has =
     let runs = no_header_refused reads c.read_header.new.reader has.rows has.has g.S.Store
     c.args.desk.now items
     (g.W.Write.contents c.args.writer.now.inner) c.in-Err.end c.in-Err.ensures.end broken in
-    rw (c.ended.ensures) (subst (λ (new : Option (List ℕ)). ImportsBroken items (Ended c.in-Err.end) 0
+    rw (c.ended_without_bytes.ensures) (subst (λ (new : Option (List ℕ)). ImportsBroken items (Ended c.in-Err.end) 0
     (g.W.Write.contents c.args.writer.now.inner) new)
-    (sym (ap (λ w. g.W.Write.contents w.inner) c.start_counting.ensures)) runs)
+    (sym (ap (λ w. g.W.Write.contents w.inner) c.reset_turn_counts.ensures)) runs)
 
 pub returns-clause-lives : goal.returns-clause-lives
 returns-clause-lives g c h stands clean =
     let old = g.W.Write.contents c.args.writer.now.inner in
     let lives = no_header_lives g.S.Store h c.args.desk.now old stands clean g.R.Read.remaining
     c.from_reader-reader.result c.read_header.new.reader c.in-Err.end c.in-Err.ensures.end in
-    rw (c.ended.ensures) (subst (λ (new : Option (List ℕ)). LivesSome g.S.Store h (Ended c.in-Err.end) 0 old new
-    c.args.desk.now c.args.desk.now) (sym (ap (λ w. g.W.Write.contents w.inner) c.start_counting.ensures)) lives)
+    rw (c.ended_without_bytes.ensures)
+    (subst (λ (new : Option (List ℕ)). LivesSome g.S.Store h (Ended c.in-Err.end) 0 old new
+    c.args.desk.now c.args.desk.now) (sym (ap (λ w. g.W.Write.contents w.inner) c.reset_turn_counts.ensures)) lives)

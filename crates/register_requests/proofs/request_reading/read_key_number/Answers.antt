@@ -3,7 +3,8 @@ use Rattle.register_requests.proofs.Readers.{key_number_reader, key_number_small
 use Rattle.register_requests.proofs.request_reading.read_key_number.Goals as goal
 
 pub returns-in_err-read_decimal : goal.returns-in_err-read_decimal
-returns-in_err-read_decimal c = c.from_residual.ensures ∙ no_number key_number_reader key_number_small c.args.field.now c.in_err-read_decimal.ensures.none
+returns-in_err-read_decimal c = c.from_residual.ensures
+    ∙ no_number key_number_reader key_number_small c.args.field.now c.in_err-read_decimal.ensures.none
 
 pub returns : goal.returns
 returns c =

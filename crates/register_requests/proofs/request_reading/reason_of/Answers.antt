@@ -3,7 +3,8 @@ use Rattle.register_requests.proofs.Readers.{made_of_code, no_code}
 use Rattle.register_requests.proofs.request_reading.reason_of.Goals as goal
 
 pub returns-in_err-read_decimal : goal.returns-in_err-read_decimal
-returns-in_err-read_decimal c = c.from_residual.ensures ∙ no_code c.args.field.now c.in_err-read_decimal.ensures.none
+returns-in_err-read_decimal c = c.from_residual.ensures
+    ∙ no_code c.args.field.now c.in_err-read_decimal.ensures.none
 
 pub returns : goal.returns
 returns c =

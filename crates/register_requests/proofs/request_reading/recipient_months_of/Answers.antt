@@ -11,4 +11,5 @@ pub returns : goal.returns
 returns c =
     made_of_number recipient_reader (months_small 0) c.args.field.now c.months_in_range.result
     c.in_ok-read_decimal.field-0
-    (omega arith) c.in_ok-read_decimal.ensures.found c.months_in_range.ensures.in_range c.months_in_range.ensures.value
+    (omega arith) c.in_ok-read_decimal.ensures.found c.months_in_range.ensures.in_range
+    c.months_in_range.ensures.value

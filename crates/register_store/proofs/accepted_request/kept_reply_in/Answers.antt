@@ -1,12 +1,12 @@
 use Rattle.std.proofs.Common.{◌≡◌, false, refl, sym, ap, ◌∙◌}
 use Rattle.register_core.specs.declared.kept_reply.KeptReply.{KeptReply}
-use Rattle.register_core.specs.KeptReply.{is_whole}
+use Rattle.register_core.specs.KeptReply.{fits_its_command}
 use Rattle.register_store.specs.TableReads.{HasCellsOf}
 use Rattle.register_store.proofs.Decoding.{same_request}
 use Rattle.register_store.proofs.accepted_request.kept_reply_in.Goals as goal
 
-pub returns-else-is_whole : goal.returns-else-is_whole
-returns-else-is_whole c k is shows =
+pub returns-else-fits_its_command : goal.returns-else-fits_its_command
+returns-else-fits_its_command c k is shows =
     let caller = c.args.caller.now in
     let number = c.args.number in
     let row = c.args.row.now in
@@ -15,8 +15,8 @@ returns-else-is_whole c k is shows =
       number = number;
       command = c.in_ok-command_in.field-0;
       reply = record {
-        key = c.in_ok-key_number_in.field-0;
-        state = c.in_ok-reply_state_in.field-0;
+        key = c.in_ok-key_number_or_zero_in.field-0;
+        state = c.in_ok-state_or_none_in.field-0;
         moment = c.in_ok-moment_in.field-0;
       };
     } in
@@ -24,10 +24,10 @@ returns-else-is_whole c k is shows =
       caller = refl;
       number = refl;
       command = c.in_ok-command_in.ensures;
-      key = c.in_ok-key_number_in.ensures;
-      state = c.in_ok-reply_state_in.ensures;
+      key = c.in_ok-key_number_or_zero_in.ensures;
+      state = c.in_ok-state_or_none_in.ensures;
       moment = c.in_ok-moment_in.ensures;
     } in
-    let broken : is_whole read ≡ false = sym c.is_whole.ensures ∙ c.if-is_whole.false in
-    let whole = ap is_whole (same_request caller number row read k shown shows.cells) ∙ is.whole in
+    let broken : fits_its_command read ≡ false = sym c.fits_its_command.ensures ∙ c.if-fits_its_command.false in
+    let whole = ap fits_its_command (same_request caller number row read k shown shows.cells) ∙ is.whole in
     cc

@@ -8,18 +8,18 @@ use Rattle.register_store.specs.TableChanges.{Makes, Always, HasKeys, held_by, w
 use Rattle.register_store.proofs.Wrote.{wrote}
 use Rattle.register_store.proofs.accepted_request.write_change.Goals as goal
 
-pub returns-in_ok-update_key-in-Held : goal.returns-in_ok-update_key-in-Held
-returns-in_ok-update_key-in-Held g c =
+pub returns-in_ok-set_owner_state_and_dates-in-Held : goal.returns-in_ok-set_owner_state_and_dates-in-Held
+returns-in_ok-set_owner_state_and_dates-in-Held g c =
     let arm = c.in-Held in
     let a = g.T.Inside.sees c.args.tx.now in
-    let b = g.T.Inside.sees c.update_key.new.tx in
+    let b = g.T.Inside.sees c.set_owner_state_and_dates.new.tx in
     let d = g.T.Inside.sees c.write_custody.new.tx in
     let key = arm.key in
     let Updates = Makes Always (with_key_at key (held_by arm.owner arm.row)) in
     let Custody = Makes Always (with_custody key arm.custody) in
     let All = λ (change : Change). Makes (HasKeys c.args.keys) (with_change change) in
-    let both = steps_then (λ _. Updates) (λ _. Custody) a b d c.in_ok-update_key-in-Held.field-0
-    c.write_custody.result c.in_ok-update_key-in-Held.ensures.made c.write_custody.ensures.made in
+    let both = steps_then (λ _. Updates) (λ _. Custody) a b d c.in_ok-set_owner_state_and_dates-in-Held.field-0
+    c.write_custody.result c.in_ok-set_owner_state_and_dates-in-Held.ensures.made c.write_custody.ensures.made in
     wrote (search rules) (search rules) (
     subst (λ (change : Change). StepsBy (λ _. All change) a d c.write_custody.result) (sym arm.is)
     (steps_weaker (λ _. Then Updates Custody) (λ _. All (Held key arm.owner arm.row arm.custody)) a d

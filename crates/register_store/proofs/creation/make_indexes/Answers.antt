@@ -9,7 +9,8 @@ loop-index-init g c = record { same = search rules; so_far = search rules; besid
 pub loop-index-preserved : goal.loop-index-preserved
 loop-index-preserved g c = record {
   same = search rules;
-  so_far = indexes_more c.loop-index.index-index (omega (arith, c.loop-index-test.true)) (state g.S.Store c.args.tx.now.conn.now)
+  so_far = indexes_more c.loop-index.index-index (omega (arith, c.loop-index-test.true))
+      (state g.S.Store c.args.tx.now.conn.now)
       (state g.S.Store c.loop-index.tx.conn.now) (state g.S.Store c.make_index.new.tx.conn.now)
       c.in_ok-make_index.field-0 c.loop-index.invariant.so_far c.in_ok-make_index.ensures.made;
   beside = adds_again (state g.S.Store c.args.tx.now.conn.now) (state g.S.Store c.loop-index.tx.conn.now)

@@ -10,5 +10,5 @@ returns-in-First-clause-reads g c =
     let until = c.args.until in
     let last = c.args.last in
     reads_weaker (HasFirst (is_past until last)) (HasNextDue until last) (seen g.S.Store c.args.connection.now)
-    (seen g.S.Store c.find_first_due.new.connection) c.find_first_due.result
-    (past_next until c.find_first_due.ensures.moment last) c.find_first_due.ensures.reads
+    (seen g.S.Store c.find_next_due_by_search.new.connection) c.find_next_due_by_search.result
+    (past_next until c.find_next_due_by_search.ensures.moment last) c.find_next_due_by_search.ensures.reads

@@ -56,7 +56,8 @@ returns-in-Ok-clause-survives g c =
     let P : Held g.row.S.Denot → Type 0 = λ h. Survives first (state g.S.Store h) (λ _. ⊥) in
     carry P c.connection-1.given.0 last eq
     (survives_then first mid (state g.S.Store last) (λ _. ⊥) (λ _. ⊥) (λ _. ⊥) (λ _ _ none. none) (λ _ _ none. none)
-    (commits_none c.args.sql.now [] first mid c.requires.query c.in-Ok.ensures.survives) c.check_rows_left.ensures.survives)
+    (commits_none c.args.sql.now [] first mid c.requires.query c.in-Ok.ensures.survives)
+    c.check_rows_left.ensures.survives)
 
 pub returns-in-Ok-clause-memory : goal.returns-in-Ok-clause-memory
 returns-in-Ok-clause-memory g c =

@@ -4,8 +4,8 @@ use Rattle.register_files.proofs.register_file.RefusedFromUnopened.from.Goals as
 pub returns : goal.returns
 returns g c = record {
   same = refl;
-  store = c.close_connection.result;
+  store = c.close_connection_into_store.result;
   back = refl;
   closes =
-      c.close_connection.ensures;
+      c.close_connection_into_store.ensures;
 }

@@ -18,7 +18,7 @@ returns-clause-made g c =
     let e = g.T.Inside.sees c.record_request.new.tx in
     let Moves = Makes (AreRightAt work.latest) (with_keys_advanced kept.reply.moment) in
     let Changes = Makes (HasKeys work.keys) (with_change work.change.now) in
-    let Records = Makes (λ _. IsKeptReply kept) (with_recorded kept c.keys_after-keys.result) in
+    let Records = Makes (λ _. IsKeptReply kept) (with_recorded kept c.key_count_after_change-keys.result) in
     let two = steps_then (λ _. Moves) (λ _. Changes) a b d c.in_ok-advance_due.field-0 (Ok c.in_ok-write_change.field-0)
     c.in_ok-advance_due.ensures.made c.in_ok-write_change.ensures.made in
     let all = steps_then (λ _. Then Moves Changes) (λ _. Records) a d e c.in_ok-write_change.field-0
@@ -26,5 +26,5 @@ returns-clause-made g c =
     steps_weaker (λ _. Then (Then Moves Changes) Records)
     (λ _. Makes (CanTake work.keys work.latest kept) (with_request work.keys work.change.now kept)) a e
     c.record_request.result
-    (λ _ old new. makes_request work.keys work.latest c.keys_after-keys.result work.change.now kept
-    c.keys_after-keys.ensures old new) all
+    (λ _ old new. makes_request work.keys work.latest c.key_count_after_change-keys.result work.change.now kept
+    c.key_count_after_change-keys.ensures old new) all

@@ -8,14 +8,18 @@ use Rattle.register_store.proofs.EachChecked.{one_more, one_odd}
 use Rattle.register_store.proofs.custody_check.ApprovalCheckRowCheck.take_row.Goals as goal
 
 pub returns-in_default-clause-refused : goal.returns-in_default-clause-refused
-returns-in_default-clause-refused c result first rows taken = one_odd ShowsName (IsListed first.custodians.items) rows c.args.row.now (λ entry shows is. c.in_default.ensures entry shows)
+returns-in_default-clause-refused c result first rows taken =
+    one_odd ShowsName (IsListed first.custodians.items) rows c.args.row.now
+    (λ entry shows is. c.in_default.ensures entry shows)
 
 pub returns-in_default-index_of_key_number-clause-refused : goal.returns-in_default-index_of_key_number-clause-refused
 returns-in_default-index_of_key_number-clause-refused c result first rows taken =
     let key = c.in-Some.shown.key in
     let none : key ≡ 0 = c.in_default-index_of_key_number.ensures in
     one_odd ShowsName (IsListed first.custodians.items) rows c.args.row.now (λ entry shows.
-    let same = ap (λ (e : KeyName). e.key) (one_name c.args.row.now entry (key_name key c.in-Some.shown.name) shows c.in-Some.ensures) in
+    let same =
+    ap (λ (e : KeyName). e.key)
+    (one_name c.args.row.now entry (key_name key c.in-Some.shown.name) shows c.in-Some.ensures) in
     not_listed first.custodians.items entry (λ within. let low = within.0 in omega (arith, low, same, none)))
 
 pub returns-then-at-len-clause-refused : goal.returns-then-at-len-clause-refused
@@ -24,8 +28,12 @@ returns-then-at-len-clause-refused c result first rows taken =
     let at : key ≡ suc c.in-Some-index_of_key_number.at = c.in-Some-index_of_key_number.ensures in
     let lists = ap length taken.0 in
     one_odd ShowsName (IsListed first.custodians.items) rows c.args.row.now (λ entry shows.
-    let same = ap (λ (e : KeyName). e.key) (one_name c.args.row.now entry (key_name key c.in-Some.shown.name) shows c.in-Some.ensures) in
-    not_listed first.custodians.items entry (λ within. let high = within.1 in let past = c.if-at-len.true in let len = c.len.ensures in omega (arith, high, same, at, past, len, lists)))
+    let same =
+    ap (λ (e : KeyName). e.key)
+    (one_name c.args.row.now entry (key_name key c.in-Some.shown.name) shows c.in-Some.ensures) in
+    not_listed first.custodians.items entry
+    (λ within. let high = within.1 in let past = c.if-at-len.true in let len = c.len.ensures in omega
+    (arith, high, same, at, past, len, lists)))
 
 pub returns-clause-taken : goal.returns-clause-taken
 returns-clause-taken c result first rows taken =
@@ -43,8 +51,12 @@ returns-clause-taken c result first rows taken =
       names = c.index.result.now;
       there = seen;
       among = ap (is_among name) (sym c.deref.ensures.value) ∙ sym told ∙ passed;
-    } in
-    (taken.0, one_more ShowsName (IsListed first.custodians.items) rows c.args.row.now (key_name key name) taken.1 c.in-Some.ensures (subst (λ lists. IsListed lists (key_name key name)) taken.0 listed))
+    } in (
+      taken.0,
+      one_more ShowsName (IsListed first.custodians.items) rows c.args.row.now
+          (key_name key name) taken.1 c.in-Some.ensures
+          (subst (λ lists. IsListed lists (key_name key name)) taken.0 listed),
+    )
 
 pub returns-clause-refused : goal.returns-clause-refused
 returns-clause-refused c result first rows taken =
@@ -59,9 +71,11 @@ returns-clause-refused c result first rows taken =
     one_odd ShowsName (IsListed first.custodians.items) rows c.args.row.now (λ entry shows is.
     let same = one_name c.args.row.now entry (key_name key name) shows c.in-Some.ensures in
     let listed = subst (IsListed first.custodians.items) same is in
-    let there : list_at first.custodians.items key ≡ Some c.index.result.now = ap (λ lists. list_at lists key) (sym taken.0) ∙ seen in
+    let there : list_at first.custodians.items key ≡ Some c.index.result.now =
+    ap (λ lists. list_at lists key) (sym taken.0) ∙ seen in
     let own : listed.names ≡ c.index.result.now = let e = sym listed.there ∙ there in cc in
-    let among : is_among name c.deref.result.now ≡ true = ap (is_among name) (c.deref.ensures.value ∙ ap (λ v. v.items) (sym own)) ∙ listed.among in
+    let among : is_among name c.deref.result.now ≡ true =
+    ap (is_among name) (c.deref.ensures.value ∙ ap (λ v. v.items) (sym own)) ∙ listed.among in
     let off : c.contains.result ≡ false = cc in
     let told : c.contains.result ≡ is_among name c.deref.result.now = c.contains.ensures.value in
     absurd (let e = sym off ∙ told ∙ among in cc))

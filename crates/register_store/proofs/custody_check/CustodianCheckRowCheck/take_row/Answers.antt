@@ -99,8 +99,8 @@ returns-clause-taken c result first rows taken =
       taken.0,
       taken.1,
       custodians_more first.most first.owners.items lists rows c.args.row.now taken.2 (key_name key name)
-          c.in-Some.ensures may room c.in-Some-index_of_key_number.at at c.add_name.new.lists.items
-          c.in_ok-add_name.ensures.counted
-          c.in_ok-add_name.ensures.added
-          c.in_ok-add_name.ensures.others,
+          c.in-Some.ensures may room c.in-Some-index_of_key_number.at at c.add_name_to_list_at.new.lists.items
+          c.in_ok-add_name_to_list_at.ensures.counted
+          c.in_ok-add_name_to_list_at.ensures.added
+          c.in_ok-add_name_to_list_at.ensures.others,
     )

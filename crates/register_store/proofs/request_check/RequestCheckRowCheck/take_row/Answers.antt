@@ -13,8 +13,8 @@ returns-in_default-clause-refused c result first rows taken =
 pub returns-clause-taken : goal.returns-clause-taken
 returns-clause-taken c result first rows taken =
     let k = c.in-Some.kept in
-    let passed : c.is_possible_reply.result ≡ true = cc in
-    let own = c.is_possible_reply.ensures.0 passed in
+    let passed : c.is_reply_of_found_register.result ≡ true = cc in
+    let own = c.is_reply_of_found_register.ensures.0 passed in
     (taken.0, one_more ShowsKept (IsReplyOf (mark_of first.found)) rows c.args.row.now k taken.1 c.in-Some.ensures (subst (λ (f : Found). IsReplyOf (mark_of f) k) taken.0 own))
 
 pub returns-clause-refused : goal.returns-clause-refused
@@ -22,6 +22,6 @@ returns-clause-refused c result first rows taken =
     one_odd ShowsKept (IsReplyOf (mark_of first.found)) rows c.args.row.now (λ k shows is.
     let same = one_kept c.args.row.now k c.in-Some.kept shows c.in-Some.ensures in
     let own = subst (λ (f : Found). IsReplyOf (mark_of f) c.in-Some.kept) (sym taken.0) (subst (IsReplyOf (mark_of first.found)) same is) in
-    let passed = c.is_possible_reply.ensures.1 own in
-    let off : c.is_possible_reply.result ≡ false = cc in
+    let passed = c.is_reply_of_found_register.ensures.1 own in
+    let off : c.is_reply_of_found_register.result ≡ false = cc in
     absurd (cc))

@@ -1,5 +1,0 @@
-use Rattle.std.proofs.Common.{rules}
-use Rattle.http_messages.proofs.asking.ask.Goals as goal
-
-pub returns-clause-read : goal.returns-clause-read
-returns-clause-read g c = search rules

@@ -1,0 +1,22 @@
+use Rattle.std.proofs.Common.{ap, ◌∙◌}
+use Rattle.register_core.specs.Verdict.{refused_dates}
+use Rattle.register_core.proofs.Filling.{is_given, refused_as}
+use Rattle.register_core.proofs.effect.key_dates_after_command.Goals as goal
+
+pub returns-clause-dates : goal.returns-clause-dates
+returns-clause-dates c =
+    let own = is_given c.args.period c.args.key.now c.args.at c.args.command.now
+    c.commanded_dates_or_refusal.ensures c.dates_before.ensures in own.dates _ c.in_ok-commanded_dates_or_refusal.was
+
+pub returns-clause-ok : goal.returns-clause-ok
+returns-clause-ok c there =
+    let own = is_given c.args.period c.args.key.now c.args.at c.args.command.now
+    c.commanded_dates_or_refusal.ensures c.dates_before.ensures in own.refusal there
+    ∙ ap refused_dates c.in_ok-commanded_dates_or_refusal.was
+
+pub returns-in_err-commanded_dates_or_refusal-clause-err : goal.returns-in_err-commanded_dates_or_refusal-clause-err
+returns-in_err-commanded_dates_or_refusal-clause-err c there =
+    let own = is_given c.args.period c.args.key.now c.args.at c.args.command.now
+    c.commanded_dates_or_refusal.ensures c.dates_before.ensures in
+    refused_as _ c.from_residual.result c.from_residual.ensures.1
+    (own.refusal there ∙ ap refused_dates c.in_err-commanded_dates_or_refusal.was)

@@ -1,0 +1,8 @@
+use Rattle.std.proofs.Common.{rules}
+use Rattle.register_core.proofs.kept_reply.KeptReply.fits_its_command.Goals as goal
+
+pub returns-then-self-gt0 : goal.returns-then-self-gt0
+returns-then-self-gt0 c = search rules
+
+pub returns-else-self-gt0 : goal.returns-else-self-gt0
+returns-else-self-gt0 c = search rules

@@ -1,8 +1,0 @@
-use Rattle.std.proofs.Common.{rules}
-use Rattle.register_core.proofs.kept_reply.KeptReply.is_whole.Goals as goal
-
-pub returns-then-self-gt0 : goal.returns-then-self-gt0
-returns-then-self-gt0 c = search rules
-
-pub returns-else-self-gt0 : goal.returns-else-self-gt0
-returns-else-self-gt0 c = search rules
