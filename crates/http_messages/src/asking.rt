@@ -26,7 +26,7 @@ use crate::header_fields::{HeaderFields, Values};
 use crate::route::{Route, RoutePattern, Routes, route_of};
 use httparse::spans::{EMPTY_HEADER_SPAN, HeaderSpan, RequestSpans};
 use matchit::Router;
-use register_core::{Name, RequestNumber, read_decimal};
+use register_core::{Name, RequestNumber, read_request_number};
 use serde_json::{Category, Value};
 use std::alloc::Global;
 use std::io::Read;
@@ -222,14 +222,14 @@ fn capped_content_length_of(text: &[u8]) -> Option<u32>
 }
 
 /// Whose request it is, and its number.
-fn sender_of(fields: &HeaderFields<'_>) -> Option<Sender>
+fn caller_and_number_of(fields: &HeaderFields<'_>) -> Option<Sender>
     ensures found { (lines : Lines) → AreGathered lines fields.now
         → IfSome result (λ sender. IsFrom lines sender.caller sender.number) }
     ensures none { (lines : Lines) → AreGathered lines fields.now → IfNone result
         ((caller : List ℕ) (number : ℕ) → IsFrom lines caller number → ⊥) }
 {
     let caller = Name::new(fields.caller.only_value()?)?;
-    let number = RequestNumber::new(read_decimal(fields.request_number.only_value()?)?)?;
+    let number = read_request_number(fields.request_number.only_value()?)?;
     Some(Sender { caller, number })
 }
 
@@ -253,7 +253,7 @@ fn body_length_and_sender_of(fields: &HeaderFields<'_>) -> Result<Post, Rejectio
     if length > MAX_BODY_LENGTH {
         return Err(Rejection::TooLarge);
     }
-    let Some(sender) = sender_of(fields) else {
+    let Some(sender) = caller_and_number_of(fields) else {
         return Err(Rejection::BadRequest);
     };
     Ok(Post { length, sender })

@@ -4,7 +4,7 @@
 //! ```
 //! let mut routes = Routes::new();
 //! let asking = read_asked(alloc, &mut routes, &mut reader);
-//! let text = outcome_reply_text(alloc, &outcome)?;
+//! let text = answer_reply_text(alloc, &answer)?;
 //! ```
 #![tactic(auto)]
 
@@ -21,5 +21,5 @@ mod route;
 pub use asked::{AskFault, Asked, Rejection, Sent};
 pub use asking::{Asking, MAX_BODY_LENGTH, read_asked};
 pub use head::{MAX_EXCHANGE_READS, MAX_HEAD_LENGTH, MAX_HEADERS};
-pub use reply_text::{key_reply_text, outcome_reply_text, rejection_text, usage_reply_text};
+pub use reply_text::{answer_reply_text, key_reply_text, rejection_text, usage_reply_text};
 pub use route::{Route, Routes};

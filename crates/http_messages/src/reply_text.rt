@@ -2,6 +2,7 @@
 ghost use Rattle.std.specs.Prelude.{◌≡◌, ◌++◌, None, Some, IfOk, string_bytes, codes, length};
 ghost use Rattle.std.specs.Prelude.{false, Ok, Err, OnOk};
 ghost use Rattle.http.specs.StatusCode.{IsStatusCode};
+ghost use Rattle.register_core.specs.Answer.{outcome};
 ghost use Rattle.http_messages.specs.HttpReply.{reply_bytes};
 ghost use Rattle.http_messages.specs.Rejection.{reply_of};
 ghost use Rattle.serde_json.specs.Data.{string, object, member, no_members, put as with_member};
@@ -19,7 +20,7 @@ use http::StatusCode;
 use key_rows::Record;
 use lifecycle_core::{Dates, State, Usage};
 use moment_core::Moment;
-use register_core::{Name, Refusal, Reply};
+use register_core::{Answer, Name, Refusal, Reply};
 use serde_json::{Map, Value, json, put};
 use std::alloc::{AllocError, Global};
 
@@ -119,7 +120,7 @@ fn put_text_member(
 }
 
 /// Puts a date among members, or null where there is none.
-fn put_date_member(
+fn put_seconds_or_null_member(
     members: &mut Map<String, Value>,
     alloc: Global,
     name: &str,
@@ -137,7 +138,7 @@ fn reply_value(alloc: Global, reply: &Reply) -> Result<Value, AllocError>
 {
     let mut members = Map::new(alloc);
     put(&mut members, alloc, "key", Value::from(reply.key))?;
-    put_date_member(&mut members, alloc, "moment", Some(reply.moment))?;
+    put_seconds_or_null_member(&mut members, alloc, "moment", Some(reply.moment))?;
     put(
         &mut members,
         alloc,
@@ -227,18 +228,18 @@ fn date_members(alloc: Global, dates: &Dates) -> Result<Map<String, Value>, Allo
     ensures { IfOk result (λ m. members_view m.entries ≡ date_members dates.now) }
 {
     let mut members = Map::new(alloc);
-    put_date_member(&mut members, alloc, "activation", dates.activation)?;
-    put_date_member(&mut members, alloc, "compromised", dates.compromise)?;
-    put_date_member(&mut members, alloc, "deactivation", dates.deactivation)?;
-    put_date_member(&mut members, alloc, "destroyed", dates.destroy)?;
-    put_date_member(&mut members, alloc, "initial", Some(dates.initial))?;
-    put_date_member(
+    put_seconds_or_null_member(&mut members, alloc, "activation", dates.activation)?;
+    put_seconds_or_null_member(&mut members, alloc, "compromised", dates.compromise)?;
+    put_seconds_or_null_member(&mut members, alloc, "deactivation", dates.deactivation)?;
+    put_seconds_or_null_member(&mut members, alloc, "destroyed", dates.destroy)?;
+    put_seconds_or_null_member(&mut members, alloc, "initial", Some(dates.initial))?;
+    put_seconds_or_null_member(
         &mut members,
         alloc,
         "occurrence",
         dates.compromise_occurrence,
     )?;
-    put_date_member(&mut members, alloc, "protect_stop", dates.protect_stop)?;
+    put_seconds_or_null_member(&mut members, alloc, "protect_stop", dates.protect_stop)?;
     Ok(members)
 }
 
@@ -287,7 +288,7 @@ fn refusal_status(refusal: &Refusal) -> StatusCode
 }
 
 /// The reply to a request that was accepted, now or before.
-fn accepted_text(alloc: Global, reply: &Reply) -> Result<String, AllocError>
+fn accepted_reply_text(alloc: Global, reply: &Reply) -> Result<String, AllocError>
     ensures { IfOk result (λ s. string_bytes s ≡ reply_bytes (outcome_reply (Ok reply.now))) }
 {
     let value = reply_value(alloc, reply)?;
@@ -295,7 +296,7 @@ fn accepted_text(alloc: Global, reply: &Reply) -> Result<String, AllocError>
 }
 
 /// The reply to a request that was refused.
-fn refused_text(alloc: Global, refusal: &Refusal) -> Result<String, AllocError>
+fn refused_reply_text(alloc: Global, refusal: &Refusal) -> Result<String, AllocError>
     ensures { IfOk result (λ s. string_bytes s ≡ reply_bytes (outcome_reply (Err refusal.now))) }
 {
     let value = refusal_value(alloc, refusal)?;
@@ -306,15 +307,13 @@ fn refused_text(alloc: Global, refusal: &Refusal) -> Result<String, AllocError>
 ///
 /// # Errors
 /// Memory gave out.
-pub fn outcome_reply_text(
-    alloc: Global,
-    outcome: &Result<Reply, Refusal>,
-) -> Result<String, AllocError>
-    ensures { IfOk result (λ s. string_bytes s ≡ reply_bytes (outcome_reply outcome.now)) }
+pub fn answer_reply_text(alloc: Global, answer: &Answer) -> Result<String, AllocError>
+    ensures { IfOk result (λ s.
+        string_bytes s ≡ reply_bytes (outcome_reply (outcome answer.now))) }
 {
-    match outcome {
-        Ok(reply) => accepted_text(alloc, reply),
-        Err(refusal) => refused_text(alloc, refusal),
+    match answer {
+        Answer::Accepted(reply) | Answer::Repeated(reply) => accepted_reply_text(alloc, reply),
+        Answer::Refused(refusal) => refused_reply_text(alloc, refusal),
     }
 }
 

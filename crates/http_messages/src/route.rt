@@ -69,7 +69,7 @@ impl Routes {
         Routes { router: None }
     }
 
-    /// The router.
+    /// The router, made where there is none.
     pub(crate) fn router_made_if_missing(
         &mut self,
         alloc: Global,

@@ -31,7 +31,7 @@ use Rattle.register_core.specs.declared.reply.Refusal.TheVariants.{RequestReused
 use Rattle.register_core.specs.Fold.{IsLawful, history}
 use Rattle.register_core.specs.History.{count, dates}
 use Rattle.register_core.specs.KeptReply.{reply, kept_with, kept_of, kept_from, kept, is_under, kept_under}
-use Rattle.register_core.specs.KeptReply.{is_whole_by, IsKeptReply}
+use Rattle.register_core.specs.KeptReply.{fits_by, IsKeptReply}
 use Rattle.register_core.specs.Laws.{IsAccepted, IsKeptIn, sent_under}
 use Rattle.register_requests.specs.Request.{IsRequest, IsKeyNumber, max_key_number, command_text}
 use Rattle.register_requests.specs.Subject.{Subject, Makes, Names, NoKey, subject, named, named_by, key_by, count_by}
@@ -234,7 +234,7 @@ reply_about keys state_of t s = record {
 }
 
 is_whole_about : (keys : ℕ) (state_of : ℕ → State) (t : ℕ) (s : Subject)
-    → ((k : ℕ) → named_by s ≡ Some k → (1 ≤ k) × (k ≤ keys)) → is_whole_by s (reply_about keys state_of t s) ≡ true
+    → ((k : ℕ) → named_by s ≡ Some k → (1 ≤ k) × (k ≤ keys)) → fits_by s (reply_about keys state_of t s) ≡ true
 is_whole_about keys state_of t (Makes r) there = ap (λ (b : Bool). b && true) (lt-ltb 0 (keys + 1) (omega arith))
 is_whole_about keys state_of t (Names k) there =
     ap (λ (b : Bool). b && true) (lt-ltb 0 k (let at = there k refl in omega (arith, at.0)))
@@ -293,7 +293,7 @@ all_kept h lawful = holds_of_each AllKept all_next (λ lawful. tt) h lawful lawf
 
 -- ---- the reply of a decision
 
-without_whole : (keys t : ℕ) (c : Command) → is_whole_by NoKey (reply_to keys t (change_without_key c)) ≡ true
+without_whole : (keys t : ℕ) (c : Command) → fits_by NoKey (reply_to keys t (change_without_key c)) ≡ true
 without_whole keys t (SetPeriod kind period) = refl
 without_whole keys t c = refl
 
@@ -303,7 +303,7 @@ without_key keys t c = refl
 
 whole_decided : (keys t : ℕ) (ps : KeyType → Period) (key : Option Held) (q : Request) (s : Subject)
     → ((k : ℕ) → named_by s ≡ Some k → 1 ≤ k) → (key ≡ None → named_by s ≡ None)
-    → is_whole_by s (reply_to keys t (change_of ps s key q)) ≡ true
+    → fits_by s (reply_to keys t (change_of ps s key q)) ≡ true
 whole_decided keys t ps key q (Makes r) low known = ap (λ (b : Bool). b && true) (lt-ltb 0 (keys + 1) (omega arith))
 whole_decided keys t ps (Some held) q (Names k) low known = ap (λ (b : Bool). b && true) (lt-ltb 0 k (low k refl))
 whole_decided keys t ps None q (Names k) low known = absurd (let none = known refl in cc)

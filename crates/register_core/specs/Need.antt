@@ -9,7 +9,7 @@ use Rattle.register_requests.specs.declared.request.Command.TheVariants.{Registe
 use Rattle.register_core.specs.declared.view.Held.{Held}
 use Rattle.register_core.specs.declared.view.View.{View}
 use Rattle.register_core.specs.History.{latest, count, period}
-use Rattle.register_requests.specs.CommandRule.{looks_at_custody, needs_approvals}
+use Rattle.register_requests.specs.CommandRule.{looks_at_custody, looks_at_need}
 use Rattle.register_requests.specs.Quorum.{min_approvals}
 use Rattle.register_core.specs.Verdict.{named_key}
 
@@ -17,7 +17,7 @@ use Rattle.register_core.specs.Verdict.{named_key}
 -- that
 abbrev pub needed_of : Command → Held → Held
 needed_of c held = record held {
-  need = if needs_approvals c then held.need else min_approvals;
+  need = if looks_at_need c then held.need else min_approvals;
   custodians = if looks_at_custody c then held.custodians else [];
   approvals = if looks_at_custody c then held.approvals else [];
 }

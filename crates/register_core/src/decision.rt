@@ -166,7 +166,7 @@ fn check_owner_is_no_custodian(key: &Option<Held>, command: &Command) -> Result<
 }
 
 /// The caller approves only where no approval of its stands.
-fn check_first_approval(key: &Option<Held>, caller: &Name, command: &Command) -> Result<(), Refusal>
+fn check_not_approved(key: &Option<Held>, caller: &Name, command: &Command) -> Result<(), Refusal>
     ensures { Checks (already_approved key.now caller.now command.now) result }
 {
     match (key, command) {
@@ -217,7 +217,7 @@ fn check_custody(key: &Option<Held>, caller: &Name, command: &Command) -> Result
     check_removed_is_custodian(key, command)?;
     check_room_for_custodian(key, command)?;
     check_owner_is_no_custodian(key, command)?;
-    check_first_approval(key, caller, command)?;
+    check_not_approved(key, caller, command)?;
     check_withdrawn_approval_stands(key, caller, command)?;
     check_approvals_suffice(key, command)
 }
@@ -245,7 +245,7 @@ fn check_key_limit(keys: u32, command: &Command) -> Result<(), Refusal>
     }
 }
 
-/// No refusal of who asks, of which key and when, holds; else the first.
+/// No refusal of the moment, of the key, of who asks or of the key's state holds; else the first.
 fn check_moment_key_giver_state(view: &View, request: &Request) -> Result<(), Refusal>
     ensures { Checks (entry_refusal view.now.latest view.now.key request.now) result }
 {

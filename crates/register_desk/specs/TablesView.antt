@@ -9,7 +9,7 @@ use Rattle.register_requests.specs.declared.request.Command.{Command}
 use Rattle.register_requests.specs.declared.request.Request.{Request}
 use Rattle.register_core.specs.declared.view.Held.{Held}
 use Rattle.register_core.specs.declared.view.View.{View}
-use Rattle.register_requests.specs.CommandRule.{looks_at_custody, needs_approvals}
+use Rattle.register_requests.specs.CommandRule.{looks_at_custody, looks_at_need}
 use Rattle.register_requests.specs.Quorum.{min_approvals}
 use Rattle.register_core.specs.Settings.{need_at, period_at}
 use Rattle.register_core.specs.Need.{needed_period_type}
@@ -24,7 +24,7 @@ need_over t number = unwrap_or (need_at number t.needs) min_approvals
 
 -- the same where a decision on the command looks at it, and else the least
 abbrev pub need_for : Tables → Command → ℕ → ℕ
-need_for t c number = if needs_approvals c then need_over t number else min_approvals
+need_for t c number = if looks_at_need c then need_over t number else min_approvals
 
 -- the key, with nobody in its custody
 abbrev pub held_without_custody : Key → Held
@@ -37,12 +37,20 @@ held_without_custody k = record {
   approvals = [];
 }
 
+-- the key with this number, with nobody in its custody
+abbrev pub key_without_custody : Tables → ℕ → Option Held
+key_without_custody t number = option_map held_without_custody (key_at t.keys number)
+
+-- the key with this number, with its custody, where its destruction needs so many approvals
+abbrev pub key_with_custody : Tables → ℕ → ℕ → Option Held
+key_with_custody t number need = option_map (λ key. (loaded number need t key).0) (key_at t.keys number)
+
 -- the key with this number, with its custody where a decision on the command looks at that
 abbrev pub key_for : Tables → Command → ℕ → Option Held
 key_for t c number =
     if looks_at_custody c
-    then option_map (λ key. (loaded number (need_for t c number) t key).0) (key_at t.keys number)
-    else option_map held_without_custody (key_at t.keys number)
+    then key_with_custody t number (need_for t c number)
+    else key_without_custody t number
 
 -- that of the key which the request names; nothing where its moment is below the latest, which refuses it whatever the
 -- key is

@@ -116,9 +116,9 @@ impl<C: Clock> Write for Timed<'_, C> {
     }
 }
 
-/// Takes off the connection what the client has sent after its request, as far as it is there:
-/// bytes that nobody read would have the system break the connection before the client has its
-/// reply.
+/// Ends the writing, and takes off the connection what the client has sent after its request, as
+/// far as it is there: bytes that nobody read would have the system break the connection before
+/// the client has its reply.
 fn shut_down_and_drain_client(stream: &TcpStream) {
     if stream.shutdown(Shutdown::Write).is_err() || stream.set_nonblocking(true).is_err() {
         return;

@@ -15,11 +15,11 @@ ghost use Rattle.register_http.specs.OneItem.{LeavesOne};
 ghost use Rattle.register_http.specs.SentReply.{Sends, end_reply, reply_text};
 
 use http_messages::{
-    AskFault, Asked, Routes, Sent, key_reply_text, outcome_reply_text, read_asked, rejection_text,
+    AskFault, Asked, Routes, Sent, answer_reply_text, key_reply_text, read_asked, rejection_text,
     usage_reply_text,
 };
 use moment_core::Moment;
-use register_core::{Refusal, Request};
+use register_core::{Answer, Refusal, Request};
 use register_desk::{Desk, End, Finish, MAX_IDLE_TURNS, Outcome, Watched};
 use sqlite::Alter;
 use std::alloc::{AllocError, Global};
@@ -55,7 +55,7 @@ fn text_or_end(text: Result<String, AllocError>) -> Result<String, End>
 fn unknown_key_text(alloc: Global) -> Result<String, AllocError>
     ensures { IfOk result (IsTextOf (outcome_reply (Err UnknownKey))) }
 {
-    outcome_reply_text(alloc, &Err(Refusal::UnknownKey))
+    answer_reply_text(alloc, &Answer::Refused(Refusal::UnknownKey))
 }
 
 /// Shows a key.
@@ -107,7 +107,7 @@ fn reply_text_after_applying<S: Alter>(
 {
     let request = request_at(moment, sent);
     let answer = desk.apply(&request)?;
-    text_or_end(outcome_reply_text(alloc, &answer.outcome()))
+    text_or_end(answer_reply_text(alloc, &answer))
 }
 
 /// Does what is asked at this moment, and gives the text of the reply.

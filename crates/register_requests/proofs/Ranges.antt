@@ -1,4 +1,4 @@
--- A command in its ranges has a text.
+-- What the types leave open of a command in its ranges is in its range.
 use Rattle.std.proofs.Common.{◌≡◌, ◌&&◌, ℕ, Bool, true, false, None, Some, refl, ap, subst, ◌∙◌, arith}
 use Rattle.std.specs.Prelude.{nat_lt}
 use Rattle.std.proofs.lemmas.Bool.{lt-ltb}
@@ -8,8 +8,8 @@ use Rattle.register_requests.specs.declared.command_fields.Fields.{Fields}
 use Rattle.register_requests.specs.declared.command_fields.Fields.TheVariants.{Nothing, TypeAndPeriod}
 use Rattle.register_requests.specs.declared.command_fields.Fields.TheVariants.{Registration, Revocation}
 use Rattle.register_requests.specs.Fields.{fields_of}
-use Rattle.register_requests.specs.Request.{AreFields, IsCommand, IsKeyNumber, is_numbered, has_occurrence_only_with_compromise}
-use Rattle.register_requests.specs.Request.{is_in_range}
+use Rattle.register_requests.specs.Request.{AreFields, IsCommand, IsKeyNumber, is_in_range, is_numbered}
+use Rattle.register_requests.specs.Request.{has_occurrence_only_with_compromise}
 use Rattle.register_requests.specs.Subject.{subject_by, named_by, named}
 
 both : (key : ℕ) (b : Bool) → IsKeyNumber key → b ≡ true → (nat_lt 0 key && b) ≡ true
@@ -20,7 +20,8 @@ of_compromise true x only = refl
 of_compromise false x only = absurd (let e = only refl in cc)
 
 -- The last row has all other fields: each names a key, and has nothing else that its types leave open.
-fields_in_range : (f : Fields) → AreFields f → (is_numbered (named_by (subject_by f)) && has_occurrence_only_with_compromise f) ≡ true
+fields_in_range : (f : Fields) → AreFields f
+    → (is_numbered (named_by (subject_by f)) && has_occurrence_only_with_compromise f) ≡ true
 fields_in_range Nothing is = refl
 fields_in_range (TypeAndPeriod kind period) is = refl
 fields_in_range (Registration kind owner activation protect_stop deactivation purpose) is = refl

@@ -26,7 +26,8 @@ word_shape_and_version kinds.Revoke = record { word = codes "revoke"; shape = Re
 -- its custody, up to its destruction
 word_shape_and_version kinds.Assign = record { word = codes "assign"; shape = KeyAndOwner; since = First }
 word_shape_and_version kinds.AddCustodian = record { word = codes "add-custodian"; shape = KeyAndName; since = First }
-word_shape_and_version kinds.RemoveCustodian = record { word = codes "remove-custodian"; shape = KeyAndName; since = First }
+word_shape_and_version kinds.RemoveCustodian =
+    record { word = codes "remove-custodian"; shape = KeyAndName; since = First }
 word_shape_and_version kinds.Approve = record { word = codes "approve"; shape = Key; since = First }
 word_shape_and_version kinds.Withdraw = record { word = codes "withdraw"; shape = Key; since = First }
 word_shape_and_version kinds.Destroy = record { word = codes "destroy"; shape = Key; since = First }

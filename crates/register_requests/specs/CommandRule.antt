@@ -1,6 +1,6 @@
--- The rule of each command: of which kind it is, who may give it, of a key in which states, and whether a decision on
--- it looks at the key's custodians, or at the approvals of its destruction. All of it is this register's own, within
--- the transitions of the State attribute, KMIP 1.2 section 3.22.
+-- The rule of each command: of which kind it is, who may give it, of a key in which states, and what a decision on it
+-- looks at of that key. All of it is this register's own, within the transitions of the State attribute, KMIP 1.2
+-- section 3.22.
 use Rattle.std.specs.Prelude.{◌==◌, Bool, true, false, List, [], ◌∷◌, if◌then◌else◌}
 use Rattle.std.specs.List.{list_any}
 use Rattle.lifecycle_core.specs.declared.state.State.{State}
@@ -12,6 +12,8 @@ use Rattle.register_requests.specs.declared.command_fields.CommandKind.{CommandK
 use Rattle.register_requests.specs.declared.command_fields.CommandKind.TheVariants as kinds
 use Rattle.register_requests.specs.declared.command_rule.Giver.{Giver}
 use Rattle.register_requests.specs.declared.command_rule.Giver.TheVariants.{Anybody, Owner, Custodian, Office}
+use Rattle.register_requests.specs.declared.command_rule.KeyPart.{KeyPart}
+use Rattle.register_requests.specs.declared.command_rule.KeyPart.TheVariants.{Row, Custody, CustodyAndNeed}
 use Rattle.register_requests.specs.declared.request.Command.{Command}
 use Rattle.register_requests.specs.declared.request.Command.TheVariants.{Register, Activate, SetDates, Revoke, Assign}
 use Rattle.register_requests.specs.declared.request.Command.TheVariants.{AddCustodian, RemoveCustodian, Approve}
@@ -22,7 +24,7 @@ pub record Rule : Type 0 where
   pub kind : CommandKind
   pub giver : Giver
   pub states : List State
-  pub looks_at_custody : Bool
+  pub looks_at : KeyPart
 
 -- any of the six
 abbrev pub any_state : List State
@@ -46,32 +48,32 @@ dated_by_hand = PreActive ∷ Active ∷ []
 
 abbrev pub rule : Command → Rule
 rule (Register kind owner activation protect_stop deactivation purpose) =
-    record { kind = kinds.Register; giver = Anybody; states = any_state; looks_at_custody = false }
-rule (Activate key) = record { kind = kinds.Activate; giver = Owner; states = PreActive ∷ []; looks_at_custody = false }
+    record { kind = kinds.Register; giver = Anybody; states = any_state; looks_at = Row }
+rule (Activate key) = record { kind = kinds.Activate; giver = Owner; states = PreActive ∷ []; looks_at = Row }
 rule (SetDates key activation protect_stop deactivation) =
-    record { kind = kinds.SetDates; giver = Owner; states = dated_by_hand; looks_at_custody = false }
+    record { kind = kinds.SetDates; giver = Owner; states = dated_by_hand; looks_at = Row }
 rule (Revoke key reason occurrence) = record {
   kind = kinds.Revoke;
   giver = if is_compromise reason then Anybody else Owner;
   states = if is_compromise reason then before_compromise else Active ∷ [];
-  looks_at_custody = false;
+  looks_at = Row;
 }
-rule (Assign key owner) = record { kind = kinds.Assign; giver = Owner; states = any_state; looks_at_custody = true }
+rule (Assign key owner) = record { kind = kinds.Assign; giver = Owner; states = any_state; looks_at = Custody }
 rule (AddCustodian key name) =
-    record { kind = kinds.AddCustodian; giver = Owner; states = any_state; looks_at_custody = true }
+    record { kind = kinds.AddCustodian; giver = Owner; states = any_state; looks_at = Custody }
 rule (RemoveCustodian key name) =
-    record { kind = kinds.RemoveCustodian; giver = Owner; states = not_destroyed; looks_at_custody = true }
+    record { kind = kinds.RemoveCustodian; giver = Owner; states = not_destroyed; looks_at = Custody }
 rule (Approve key) =
-    record { kind = kinds.Approve; giver = Custodian; states = before_destruction; looks_at_custody = true }
+    record { kind = kinds.Approve; giver = Custodian; states = before_destruction; looks_at = Custody }
 rule (Withdraw key) =
-    record { kind = kinds.Withdraw; giver = Custodian; states = not_destroyed; looks_at_custody = true }
+    record { kind = kinds.Withdraw; giver = Custodian; states = not_destroyed; looks_at = Custody }
 rule (Destroy key) =
-    record { kind = kinds.Destroy; giver = Owner; states = before_destruction; looks_at_custody = true }
-rule Advance = record { kind = kinds.Advance; giver = Anybody; states = any_state; looks_at_custody = false }
+    record { kind = kinds.Destroy; giver = Owner; states = before_destruction; looks_at = CustodyAndNeed }
+rule Advance = record { kind = kinds.Advance; giver = Anybody; states = any_state; looks_at = Row }
 rule (SetQuorum key need) =
-    record { kind = kinds.SetQuorum; giver = Owner; states = any_state; looks_at_custody = false }
+    record { kind = kinds.SetQuorum; giver = Owner; states = any_state; looks_at = Row }
 rule (SetPeriod kind period) =
-    record { kind = kinds.SetPeriod; giver = Office; states = any_state; looks_at_custody = false }
+    record { kind = kinds.SetPeriod; giver = Office; states = any_state; looks_at = Row }
 
 -- ---- what it says
 
@@ -104,11 +106,22 @@ is_one_of states state = list_any (λ s. state_code s == state_code state) state
 abbrev pub is_for : Command → State → Bool
 is_for c state = is_one_of (rule c).states state
 
--- the command is one that the approvals of custodians are needed for
-abbrev pub needs_approvals : Command → Bool
-needs_approvals (Destroy key) = true
-needs_approvals _ = false
+-- the key's custodians, or the approvals of its destruction, are in this part of it
+abbrev pub has_custody : KeyPart → Bool
+has_custody Row = false
+has_custody Custody = true
+has_custody CustodyAndNeed = true
+
+-- how many approvals the destruction needs is in it
+abbrev pub has_need : KeyPart → Bool
+has_need Row = false
+has_need Custody = false
+has_need CustodyAndNeed = true
 
 -- a decision on the command looks at the key's custodians, or at the approvals of its destruction
 abbrev pub looks_at_custody : Command → Bool
-looks_at_custody c = (rule c).looks_at_custody
+looks_at_custody c = has_custody (rule c).looks_at
+
+-- a decision on the command looks at how many approvals the destruction needs
+abbrev pub looks_at_need : Command → Bool
+looks_at_need c = has_need (rule c).looks_at

@@ -90,7 +90,7 @@ has_occurrence_only_with_compromise (TypeAndPeriod kind period) = true
 has_occurrence_only_with_compromise (Registration kind owner activation protect_stop deactivation purpose) = true
 has_occurrence_only_with_compromise (DateEdits key activation protect_stop deactivation) = true
 
--- the command has a text
+-- what the types leave open of the command is in its range
 abbrev pub is_in_range : Command → Bool
 is_in_range c = is_numbered (named c) && has_occurrence_only_with_compromise (fields_of c)
 

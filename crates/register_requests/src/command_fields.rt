@@ -284,8 +284,8 @@ impl Command {
         self.fields().key()
     }
 
-    /// Whether the command has a text, as that of each line has: a key that it names has a number
-    /// from 1 on, and an occurrence is given only with a reason that is a compromise (this
+    /// Whether the command is in its ranges, as that of each line is: a key that it names has a
+    /// number from 1 on, and an occurrence is given only with a reason that is a compromise (this
     /// register's own). The rest is in its ranges by its types.
     pub fn is_in_range(&self) -> bool
         ensures { result ≡ is_in_range self.now }

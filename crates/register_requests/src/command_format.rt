@@ -10,7 +10,6 @@ ghost use Rattle.register_requests.specs.Request.{fields_text, command_text, dat
 
 use crate::command_fields::{Fields, MAX_WORD_LENGTH};
 use crate::request::{Command, Edit};
-use crate::short_text::ShortText;
 use crate::values::{Name, Purpose, Quorum};
 use arrayvec::ArrayString;
 use itoa::Buffer;
@@ -22,7 +21,7 @@ use period_core::{KeyType, Period};
 pub const MAX_COMMAND_LENGTH: usize = 400;
 
 /// The text of a command.
-pub type CommandText = ShortText<MAX_COMMAND_LENGTH>;
+pub type CommandText = ArrayString<MAX_COMMAND_LENGTH>;
 
 /// Appends the number in decimal.
 pub fn put_number<const N: usize>(line: &mut ArrayString<N>, number: u64)
@@ -207,11 +206,10 @@ fn put_spaced_fields(text: &mut ArrayString<MAX_COMMAND_LENGTH>, fields: &Fields
 
 /// The text of the command.
 pub fn command_text(command: &Command) -> CommandText
-    ensures text { result ≡ command_text command.now }
-    ensures short { length result ≤ MAX_COMMAND_LENGTH }
+    ensures { result.bytes ≡ command_text command.now }
 {
     let mut text = ArrayString::new();
     text.push_str(command.kind().text());
     put_spaced_fields(&mut text, &command.fields());
-    ShortText::new(text)
+    text
 }

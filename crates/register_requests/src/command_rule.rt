@@ -20,6 +20,17 @@ pub enum Giver {
     Office,
 }
 
+/// What a decision on a command looks at of the key that it names. The rest need not be read.
+#[derive(Clone, Copy, Debug, PartialEq, Eq)]
+pub enum KeyPart {
+    /// The key's row alone.
+    Row,
+    /// Its custodians too, or the approvals of its destruction.
+    Custody,
+    /// How many approvals its destruction needs, as well.
+    CustodyAndNeed,
+}
+
 /// What is asked of a command beside its moment, its key and its dates: all of it is this
 /// register's own.
 #[derive(Clone, Copy, Debug)]
@@ -28,8 +39,7 @@ pub struct Rule {
     pub giver: Giver,
     /// Those in which a key may be for it.
     pub states: &'static [State],
-    /// Whether a decision looks at the key's custodians, or at the approvals of its destruction.
-    pub looks_at_custody: bool,
+    pub looks_at: KeyPart,
 }
 
 /// A key in these states is not destroyed.
@@ -59,8 +69,7 @@ static ACTIVE: [State; 1] = [State::Active];
 static DATED_BY_HAND: [State; 2] = [State::PreActive, State::Active];
 
 impl Command {
-    ghost use Rattle.register_requests.specs.CommandRule.{rule, kind_of, looks_at_custody};
-    ghost use Rattle.register_requests.specs.CommandRule.{needs_approvals};
+    ghost use Rattle.register_requests.specs.CommandRule.{rule, kind_of};
 
     /// The command's rule.
     #[rattlefmt::skip]
@@ -68,52 +77,53 @@ impl Command {
         ensures kind { result.kind ≡ (rule self.now).kind }
         ensures giver { result.giver ≡ (rule self.now).giver }
         ensures states { result.states.now ≡ (rule self.now).states }
-        ensures custody { result.looks_at_custody ≡ (rule self.now).looks_at_custody }
+        ensures looks_at { result.looks_at ≡ (rule self.now).looks_at }
     {
         use CommandKind as Kind;
         use Giver::{Anybody, Custodian, Office, Owner};
+        use KeyPart::{Custody, CustodyAndNeed, Row};
         match *self {
             Command::Register { .. } => {
-                Rule { kind: Kind::Register, giver: Anybody, states: &State::ALL, looks_at_custody: false }
+                Rule { kind: Kind::Register, giver: Anybody, states: &State::ALL, looks_at: Row }
             }
             Command::Activate { .. } => {
-                Rule { kind: Kind::Activate, giver: Owner, states: &PRE_ACTIVE, looks_at_custody: false }
+                Rule { kind: Kind::Activate, giver: Owner, states: &PRE_ACTIVE, looks_at: Row }
             }
             Command::SetDates { .. } => {
-                Rule { kind: Kind::SetDates, giver: Owner, states: &DATED_BY_HAND, looks_at_custody: false }
+                Rule { kind: Kind::SetDates, giver: Owner, states: &DATED_BY_HAND, looks_at: Row }
             }
             Command::Revoke { reason, .. } if reason.is_compromise() => {
-                Rule { kind: Kind::Revoke, giver: Anybody, states: &BEFORE_COMPROMISE, looks_at_custody: false }
+                Rule { kind: Kind::Revoke, giver: Anybody, states: &BEFORE_COMPROMISE, looks_at: Row }
             }
             Command::Revoke { .. } => {
-                Rule { kind: Kind::Revoke, giver: Owner, states: &ACTIVE, looks_at_custody: false }
+                Rule { kind: Kind::Revoke, giver: Owner, states: &ACTIVE, looks_at: Row }
             }
             Command::Assign { .. } => {
-                Rule { kind: Kind::Assign, giver: Owner, states: &State::ALL, looks_at_custody: true }
+                Rule { kind: Kind::Assign, giver: Owner, states: &State::ALL, looks_at: Custody }
             }
             Command::AddCustodian { .. } => {
-                Rule { kind: Kind::AddCustodian, giver: Owner, states: &State::ALL, looks_at_custody: true }
+                Rule { kind: Kind::AddCustodian, giver: Owner, states: &State::ALL, looks_at: Custody }
             }
             Command::RemoveCustodian { .. } => {
-                Rule { kind: Kind::RemoveCustodian, giver: Owner, states: &NOT_DESTROYED, looks_at_custody: true }
+                Rule { kind: Kind::RemoveCustodian, giver: Owner, states: &NOT_DESTROYED, looks_at: Custody }
             }
             Command::Approve { .. } => {
-                Rule { kind: Kind::Approve, giver: Custodian, states: &BEFORE_DESTRUCTION, looks_at_custody: true }
+                Rule { kind: Kind::Approve, giver: Custodian, states: &BEFORE_DESTRUCTION, looks_at: Custody }
             }
             Command::Withdraw { .. } => {
-                Rule { kind: Kind::Withdraw, giver: Custodian, states: &NOT_DESTROYED, looks_at_custody: true }
+                Rule { kind: Kind::Withdraw, giver: Custodian, states: &NOT_DESTROYED, looks_at: Custody }
             }
             Command::Destroy { .. } => {
-                Rule { kind: Kind::Destroy, giver: Owner, states: &BEFORE_DESTRUCTION, looks_at_custody: true }
+                Rule { kind: Kind::Destroy, giver: Owner, states: &BEFORE_DESTRUCTION, looks_at: CustodyAndNeed }
             }
             Command::Advance => {
-                Rule { kind: Kind::Advance, giver: Anybody, states: &State::ALL, looks_at_custody: false }
+                Rule { kind: Kind::Advance, giver: Anybody, states: &State::ALL, looks_at: Row }
             }
             Command::SetQuorum { .. } => {
-                Rule { kind: Kind::SetQuorum, giver: Owner, states: &State::ALL, looks_at_custody: false }
+                Rule { kind: Kind::SetQuorum, giver: Owner, states: &State::ALL, looks_at: Row }
             }
             Command::SetPeriod { .. } => {
-                Rule { kind: Kind::SetPeriod, giver: Office, states: &State::ALL, looks_at_custody: false }
+                Rule { kind: Kind::SetPeriod, giver: Office, states: &State::ALL, looks_at: Row }
             }
         }
     }
@@ -123,21 +133,5 @@ impl Command {
         ensures { result ≡ kind_of self.now }
     {
         self.rule().kind
-    }
-
-    /// Whether the command is one that the approvals of custodians are needed for. A decision on
-    /// any other does not look at how many those are.
-    pub fn needs_approvals(&self) -> bool
-        ensures { result ≡ needs_approvals self.now }
-    {
-        matches!(self, Command::Destroy { .. })
-    }
-
-    /// Whether a decision on the command looks at the custodians of its key, or at the approvals of
-    /// its destruction. Where it does not, they need not be read.
-    pub fn looks_at_custody(&self) -> bool
-        ensures { result ≡ looks_at_custody self.now }
-    {
-        self.rule().looks_at_custody
     }
 }

@@ -13,17 +13,15 @@ mod command_rule;
 mod request;
 mod request_line;
 mod request_reading;
-mod short_text;
 mod values;
 mod version;
 
 pub use command_fields::{CommandKind, Fields, MAX_WORD_LENGTH, Shape};
 pub use command_format::{CommandText, MAX_COMMAND_LENGTH, command_text, put_number};
-pub use command_rule::{Giver, OFFICE, Rule};
+pub use command_rule::{Giver, KeyPart, OFFICE, Rule};
 pub use request::{Command, Edit, Request};
 pub use request_line::{MAX_LINE_LENGTH, read_request};
-pub use request_reading::{read_command, read_decimal, read_key_number};
-pub use short_text::ShortText;
+pub use request_reading::{read_command, read_decimal, read_key_number, read_request_number};
 pub use values::{
     MAX_APPROVALS, MAX_NAME_LENGTH, MAX_PURPOSE_LENGTH, MAX_REQUEST_NUMBER, MIN_APPROVALS, Name,
     Purpose, Quorum, RequestNumber,

@@ -195,8 +195,8 @@ fn occurrence_of(reason: Reason, field: &[u8]) -> Option<Option<Moment>>
     }
 }
 
-/// The request's number that the field writes.
-fn request_number_of(field: &[u8]) -> Option<RequestNumber>
+/// The request's number that the field writes in decimal, or `None` where it writes none.
+pub fn read_request_number(field: &[u8]) -> Option<RequestNumber>
     ensures { result ≡ request_number_at field.now }
 {
     RequestNumber::new(read_decimal(field)?)
@@ -207,7 +207,7 @@ pub(crate) fn take_request_number_before_space(rest: &mut &[u8]) -> Option<Reque
     ensures { Gives (λ number. (number, rest.new.now)) result
         (field_as request_number_at rest.old.now) }
 {
-    request_number_of(take_field_before_space(rest)?)
+    read_request_number(take_field_before_space(rest)?)
 }
 
 /// So many approvals, or `None` out of the range.

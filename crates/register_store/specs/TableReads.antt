@@ -188,7 +188,7 @@ pub record HasCellsOf (whose : List ℕ) (which : ℕ) (row : Row) (k : KeptRepl
   pub state : column row 2 ≡ Int (pos (state_cell k.reply.state))
   pub moment : column row 3 ≡ Int (pos k.reply.moment)
 
--- and shows it where it is whole
+-- and shows it where it fits its command
 pub record ShowsRequest (whose : List ℕ) (which : ℕ) (row : Row) (k : KeptReply) : Type 0 where
   pub cells : HasCellsOf whose which row k
   pub whole : fits_its_command k ≡ true

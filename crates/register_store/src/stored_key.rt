@@ -410,9 +410,7 @@ fn sorted_names_in(alloc: Global, rows: &[sqlite::Row]) -> Result<Names, StoreEr
         shown.push(name)?;
     }
     // The search has no ORDER BY: a decision looks at a handful of names.
-    let mut names = Names::from_vec(shown);
-    names.sort();
-    Ok(names)
+    Ok(Names::sorted_from_vec(shown))
 }
 
 /// The names with this role at the key, in order of their bytes. It changes nothing.

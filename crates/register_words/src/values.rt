@@ -4,7 +4,7 @@ ghost use Rattle.register_words.specs.Values.{AreBounds, AreTerms, IsBetween, Is
 ghost use Rattle.register_words.specs.Values.{IsExchanges, IsFirst, IsMoment, IsPort, Reads};
 
 use moment_core::Moment;
-use register_requests::{Name, RequestNumber, read_decimal};
+use register_requests::{Name, RequestNumber, read_decimal, read_request_number};
 
 /// For how many days a report looks ahead at most.
 pub const MAX_DAYS: u64 = 36_500;
@@ -50,7 +50,7 @@ fn read_caller(text: &str) -> Option<Name>
 fn read_first_number(text: &str) -> Option<RequestNumber>
     ensures { Reads IsFirst text.now result }
 {
-    RequestNumber::new(read_decimal(text.as_bytes())?)
+    read_request_number(text.as_bytes())
 }
 
 impl GivenTerms<'_> {

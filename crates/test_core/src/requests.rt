@@ -10,9 +10,9 @@ use lifecycle_core::{Row, State, state_of};
 use moment_core::Moment;
 use period_core::{KeyType, period_of};
 use register_core::{
-    Command, CommandKind, Giver, Held, MIN_APPROVALS, Name, Names, Purpose, Quorum, Refusal, Reply,
-    Request, Version, View, command_text, given_dates, needed_period_type, read_command,
-    read_request, reply_line,
+    Command, CommandKind, Giver, Held, KeyPart, MIN_APPROVALS, Name, Names, Purpose, Quorum,
+    Refusal, Reply, Request, Version, View, command_text, given_dates, needed_period_type,
+    read_command, read_request, reply_line,
 };
 use std::alloc::{AllocError, Global};
 use std::fmt;
@@ -149,25 +149,32 @@ fn lines_of_answers(rt: HostRuntime) {
 }
 
 /// A command: its kind, the word that it begins with, its text; who may give it, in how many states
-/// of its key, and whether a refusal of it looks at custody. A destruction alone needs approvals.
-type CommandRow = (CommandKind, &'static str, &'static str, Giver, usize, bool);
+/// of its key, and what its refusals look at of the key.
+type CommandRow = (
+    CommandKind,
+    &'static str,
+    &'static str,
+    Giver,
+    usize,
+    KeyPart,
+);
 
 #[rattlefmt::skip]
 const COMMANDS: [CommandRow; 14] = [
-    (CommandKind::Register, "register", "register data-encryption bob 0 - - payroll disks", Giver::Anybody, 6, false),
-    (CommandKind::Activate, "activate", "activate 1", Giver::Owner, 1, false),
-    (CommandKind::SetDates, "set", "set 1 = - 3000", Giver::Owner, 2, false),
-    (CommandKind::Revoke, "revoke", "revoke 1 1 -", Giver::Owner, 1, false),
-    (CommandKind::Revoke, "revoke", "revoke 1 2 50", Giver::Anybody, 4, false),
-    (CommandKind::Assign, "assign", "assign 1 eve", Giver::Owner, 6, true),
-    (CommandKind::AddCustodian, "add-custodian", "add-custodian 1 cat", Giver::Owner, 6, true),
-    (CommandKind::RemoveCustodian, "remove-custodian", "remove-custodian 1 cat", Giver::Owner, 4, true),
-    (CommandKind::Approve, "approve", "approve 1", Giver::Custodian, 3, true),
-    (CommandKind::Withdraw, "withdraw", "withdraw 1", Giver::Custodian, 4, true),
-    (CommandKind::Destroy, "destroy", "destroy 1", Giver::Owner, 3, true),
-    (CommandKind::SetQuorum, "set-quorum", "set-quorum 1 3", Giver::Owner, 6, false),
-    (CommandKind::SetPeriod, "set-period", "set-period data-encryption 12 36", Giver::Office, 6, false),
-    (CommandKind::Advance, "advance", "advance", Giver::Anybody, 6, false),
+    (CommandKind::Register, "register", "register data-encryption bob 0 - - payroll disks", Giver::Anybody, 6, KeyPart::Row),
+    (CommandKind::Activate, "activate", "activate 1", Giver::Owner, 1, KeyPart::Row),
+    (CommandKind::SetDates, "set", "set 1 = - 3000", Giver::Owner, 2, KeyPart::Row),
+    (CommandKind::Revoke, "revoke", "revoke 1 1 -", Giver::Owner, 1, KeyPart::Row),
+    (CommandKind::Revoke, "revoke", "revoke 1 2 50", Giver::Anybody, 4, KeyPart::Row),
+    (CommandKind::Assign, "assign", "assign 1 eve", Giver::Owner, 6, KeyPart::Custody),
+    (CommandKind::AddCustodian, "add-custodian", "add-custodian 1 cat", Giver::Owner, 6, KeyPart::Custody),
+    (CommandKind::RemoveCustodian, "remove-custodian", "remove-custodian 1 cat", Giver::Owner, 4, KeyPart::Custody),
+    (CommandKind::Approve, "approve", "approve 1", Giver::Custodian, 3, KeyPart::Custody),
+    (CommandKind::Withdraw, "withdraw", "withdraw 1", Giver::Custodian, 4, KeyPart::Custody),
+    (CommandKind::Destroy, "destroy", "destroy 1", Giver::Owner, 3, KeyPart::CustodyAndNeed),
+    (CommandKind::SetQuorum, "set-quorum", "set-quorum 1 3", Giver::Owner, 6, KeyPart::Row),
+    (CommandKind::SetPeriod, "set-period", "set-period data-encryption 12 36", Giver::Office, 6, KeyPart::Row),
+    (CommandKind::Advance, "advance", "advance", Giver::Anybody, 6, KeyPart::Row),
 ];
 
 /// Whether the word is the kind's, and the kind the word's.
@@ -177,7 +184,7 @@ fn is_word_of(kind: CommandKind, word: &str) -> bool {
 
 /// Whether the row's text is read as a command of its kind, with this text and its rule.
 fn is_command(row: &CommandRow) -> bool {
-    let (kind, _, text, giver, states, looks_at_custody) = *row;
+    let (kind, _, text, giver, states, looks_at) = *row;
     match read_command(text.as_bytes()) {
         Some(command) => {
             let rule = command.rule();
@@ -185,8 +192,7 @@ fn is_command(row: &CommandRow) -> bool {
                 && command_text(&command).as_bytes() == text.as_bytes()
                 && rule.giver == giver
                 && rule.states.len() == states
-                && command.looks_at_custody() == looks_at_custody
-                && command.needs_approvals() == (kind == CommandKind::Destroy)
+                && rule.looks_at == looks_at
         }
         None => false,
     }

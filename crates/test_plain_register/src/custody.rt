@@ -65,9 +65,7 @@ pub(crate) fn custodians(alloc: Global, history: &[Request], key: u32) -> Result
             names.push(name)?;
         }
     }
-    let mut names = Names::from_vec(names);
-    names.sort();
-    Ok(names)
+    Ok(Names::sorted_from_vec(names))
 }
 
 /// Whether the request, after those before it, ends the approval of the key's destruction by this
@@ -139,9 +137,7 @@ pub(crate) fn approvals(alloc: Global, history: &[Request], key: u32) -> Result<
             names.push(name)?;
         }
     }
-    let mut names = Names::from_vec(names);
-    names.sort();
-    Ok(names)
+    Ok(Names::sorted_from_vec(names))
 }
 
 /// What the owner of the key asks for after the command, whatever number of keys was made before

@@ -125,7 +125,7 @@ impl<S: Alter> Desk<S> {
         ensures steps { (h : List Request) → StandsFor S.Store self.old h
             → IsClean S.Store self.new → TakesSteps 49 self.old self.new }
     {
-        let view = self.look_up_view(request)?;
+        let view = self.look_up_needed_view(request)?;
         match decide(&view, request) {
             Err(refusal) => Ok(Answer::Refused(refusal)),
             Ok(accept) => {

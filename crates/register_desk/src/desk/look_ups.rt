@@ -8,7 +8,8 @@ use crate::desk::Desk;
 use crate::end::End;
 use period_core::{KeyType, Period, period_of};
 use register_core::{
-    Command, Held, Key, MIN_APPROVALS, Names, Purpose, Quorum, Request, View, needed_period_type,
+    Command, Held, Key, KeyPart, MIN_APPROVALS, Names, Purpose, Quorum, Request, View,
+    needed_period_type,
 };
 use register_store::{StoreError, find_key_need, find_key_row, find_office_period, load_key};
 use sqlite::Alter;
@@ -27,11 +28,12 @@ impl<S: Alter> Desk<S> {
     ghost use Rattle.register_desk.specs.Register.{Sees};
     ghost use Rattle.register_core.specs.Decision.{IsRightKey};
     ghost use Rattle.register_core.specs.Need.{needed_period_type};
-    ghost use Rattle.register_desk.specs.TablesView.{IsViewOver, key_for, key_needed, need_for};
-    ghost use Rattle.register_desk.specs.TablesView.{need_over, period_over};
+    ghost use Rattle.register_desk.specs.TablesView.{IsViewOver, key_for, key_needed, need_over};
+    ghost use Rattle.register_desk.specs.TablesView.{key_with_custody, key_without_custody};
+    ghost use Rattle.register_desk.specs.TablesView.{period_over};
 
     /// What the decision on the request rests on.
-    pub(super) fn look_up_view(&mut self, request: &Request) -> Result<View, End>
+    pub(super) fn look_up_needed_view(&mut self, request: &Request) -> Result<View, End>
         requires whole { IsWhole self.old }
         requires opened { IsOpen S.Store self.old }
         ensures looks { LooksUp S.Store 40 self.old self.new result }
@@ -113,12 +115,12 @@ impl<S: Alter> Desk<S> {
             return Ok(None);
         };
         let found = self.look_up_key_for_command(&request.command, number)?;
-        self.right_state_or_broken(found)
+        self.key_or_break_on_wrong_state(found)
     }
 
     /// The key that was found, if one was, whose state is to be the one that its dates have at the
     /// latest moment. Another breaks the desk.
-    fn right_state_or_broken(&mut self, found: Option<Held>) -> Result<Option<Held>, End>
+    fn key_or_break_on_wrong_state(&mut self, found: Option<Held>) -> Result<Option<Held>, End>
         requires { IsWhole self.old }
         ensures same { KeepsAll self.old self.new }
         ensures unchanged { IfOk result (λ key. self.new ≡ self.old) }
@@ -135,8 +137,8 @@ impl<S: Alter> Desk<S> {
         }
     }
 
-    /// The key with this number as it stands in the tables, with its custody where a decision on
-    /// the command looks at it.
+    /// The key with this number as it stands in the tables, with the part of it that a decision on
+    /// the command looks at.
     fn look_up_key_for_command(
         &mut self,
         command: &Command,
@@ -150,15 +152,40 @@ impl<S: Alter> Desk<S> {
         ensures found { (t : Tables) → Sees S.Store t self.old → IsClean S.Store self.new
             → IfOk result (λ key. key ≡ key_for t command.now number) }
     {
-        if command.looks_at_custody() {
-            let need = self.look_up_need_for_command(command, number)?;
-            return match self.look_up_whole_key(number, need)? {
-                Some((held, _)) => Ok(Some(held)),
-                None => Ok(None),
-            };
+        match command.rule().looks_at {
+            KeyPart::Row => self.look_up_key_without_custody(number),
+            KeyPart::Custody => self.look_up_key_with_custody(number, MIN_APPROVALS),
+            KeyPart::CustodyAndNeed => {
+                let need = self.look_up_need(number)?;
+                self.look_up_key_with_custody(number, need)
+            }
         }
+    }
+
+    /// The same with nobody in its custody.
+    fn look_up_key_without_custody(&mut self, number: u32) -> Result<Option<Held>, End>
+        requires { IsWhole self.old }
+        ensures looks { LooksUp S.Store 2 self.old self.new result }
+        ensures no_memory { result ≢ Err End.Memory }
+        ensures there { IfOk result (λ key. key ≡ None → IsNoKey self.old.keys number) }
+        ensures found { (t : Tables) → Sees S.Store t self.old → IsClean S.Store self.new
+            → IfOk result (λ key. key ≡ key_without_custody t number) }
+    {
         match self.look_up_key_row(number)? {
             Some(key) => Ok(Some(held_without_custody(self.alloc, key))),
+            None => Ok(None),
+        }
+    }
+
+    /// The same with its custody, where its destruction needs so many approvals.
+    fn look_up_key_with_custody(&mut self, number: u32, need: u8) -> Result<Option<Held>, End>
+        ensures looks { LooksUp S.Store 36 self.old self.new result }
+        ensures there { IfOk result (λ key. key ≡ None → IsNoKey self.old.keys number) }
+        ensures found { (t : Tables) → Sees S.Store t self.old → IsClean S.Store self.new
+            → IfOk result (λ key. key ≡ key_with_custody t number need) }
+    {
+        match self.look_up_whole_key(number, need)? {
+            Some((held, _)) => Ok(Some(held)),
             None => Ok(None),
         }
     }
@@ -173,7 +200,7 @@ impl<S: Alter> Desk<S> {
 
     /// What was found of the key with this number. That of a key that is counted is to be there; its
     /// want breaks the desk.
-    fn counted_row_or_broken<T: Drop>(
+    fn row_or_break_on_missing_key<T: Drop>(
         &mut self,
         number: u32,
         found: Option<T>,
@@ -203,7 +230,7 @@ impl<S: Alter> Desk<S> {
             → IfOk result (HasRow number t) }
     {
         match find_key_row(&mut self.connection, number) {
-            Ok(found) => self.counted_row_or_broken(number, found),
+            Ok(found) => self.row_or_break_on_missing_key(number, found),
             Err(_) => Err(self.break_unless_out_of_memory(StoreError::NoRegister)),
         }
     }
@@ -219,21 +246,6 @@ impl<S: Alter> Desk<S> {
         match find_key_need(&mut self.connection, number) {
             Ok(found) => Ok(need_or_default(found)),
             Err(_) => Err(self.break_unless_out_of_memory(StoreError::NoRegister)),
-        }
-    }
-
-    /// The same where a decision on the command looks at it, and else the least.
-    fn look_up_need_for_command(&mut self, command: &Command, number: u32) -> Result<u8, End>
-        requires opened { IsOpen S.Store self.old }
-        requires whole { IsWhole self.old }
-        ensures looks { LooksUp S.Store 2 self.old self.new result }
-        ensures found { (t : Tables) → Sees S.Store t self.old → IsClean S.Store self.new
-            → IfOk result (λ need. need ≡ need_for t command.now number) }
-    {
-        if command.needs_approvals() {
-            self.look_up_need(number)
-        } else {
-            Ok(MIN_APPROVALS)
         }
     }
 
@@ -253,7 +265,7 @@ impl<S: Alter> Desk<S> {
             return Err(End::Broken);
         }
         match load_key(self.alloc, &mut self.connection, number, need) {
-            Ok(found) => self.counted_row_or_broken(number, found),
+            Ok(found) => self.row_or_break_on_missing_key(number, found),
             Err(error) => Err(self.break_unless_out_of_memory(error)),
         }
     }

@@ -198,15 +198,23 @@ fn outcomes(rt: HostRuntime) -> Result<(), Fail> {
     assert_eq!(rt; Answer::Repeated(reply).outcome(), Ok(reply));
     let refusal = Refusal::UnknownKey;
     assert_eq!(rt; Answer::Refused(refusal).outcome(), Err(refusal));
+    assert_eq!(rt;
+        Answer::Repeated(reply).reply_line().as_str(),
+        "ok 1 Active 100\n"
+    );
+    assert_eq!(rt;
+        Answer::Refused(refusal).reply_line().as_str(),
+        "refused 4 UnknownKey\n"
+    );
     Ok(())
 }
 
 /// Names are in order of their bytes, capitals first.
 #[test]
 fn lists_of_names(rt: HostRuntime) -> Result<(), Fail> {
-    let mut names = names_of(rt.alloc(), &["dan", "cat", "Zed", "ca"])?;
+    let names = names_of(rt.alloc(), &["dan", "cat", "Zed", "ca"])?;
     assert!(rt; are_names(&names, &["dan", "cat", "Zed", "ca"]));
-    names.sort();
+    let names = Names::sorted_from_vec(names.into_vec());
     assert!(rt; are_names(&names, &["Zed", "ca", "cat", "dan"]));
     assert_eq!(rt; names.into_vec().len(), 4);
     Ok(())

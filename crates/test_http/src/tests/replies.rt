@@ -1,12 +1,12 @@
 //! The texts of replies: each status, each refusal, a key and its usage.
 use http_messages::{
-    Rejection, Route, key_reply_text, outcome_reply_text, rejection_text, usage_reply_text,
+    Rejection, Route, answer_reply_text, key_reply_text, rejection_text, usage_reply_text,
 };
 use key_rows::{KeyRow, Record};
 use lifecycle_core::{Dates, Process, Row, State, Usage};
 use moment_core::Moment;
 use period_core::KeyType;
-use register_core::{Name, Names, Purpose, Refusal, Reply};
+use register_core::{Answer, Name, Names, Purpose, Refusal, Reply};
 use std::alloc::{AllocError, Global};
 use std::test::Fail;
 
@@ -47,11 +47,11 @@ const REFUSALS: [(Refusal, &str, &str); 19] = [
 /// Whether this is answered so.
 fn is_answered(
     alloc: Global,
-    outcome: Result<Reply, Refusal>,
+    answer: Answer,
     status: &str,
     body: &str,
 ) -> Result<bool, AllocError> {
-    let text = outcome_reply_text(alloc, &outcome)?;
+    let text = answer_reply_text(alloc, &answer)?;
     Ok(text.as_str() == reply_of(alloc, status, body)?.as_str())
 }
 
@@ -59,7 +59,7 @@ fn is_answered(
 fn refusals_have_their_bodies(rt: HostRuntime) -> Result<(), AllocError> {
     for (refusal, status, body) in &REFUSALS {
         assert!(rt;
-            is_answered(rt.alloc(), Err(*refusal), status, body)?,
+            is_answered(rt.alloc(), Answer::Refused(*refusal), status, body)?,
             "{body}"
         );
     }
@@ -68,7 +68,7 @@ fn refusals_have_their_bodies(rt: HostRuntime) -> Result<(), AllocError> {
 
 /// Whether a refusal that tells a moment is answered by a conflict with this body.
 fn is_refused(alloc: Global, refusal: Refusal, body: &str) -> Result<bool, AllocError> {
-    is_answered(alloc, Err(refusal), CONFLICT, body)
+    is_answered(alloc, Answer::Refused(refusal), CONFLICT, body)
 }
 
 const BEHIND: &str = r#"{"latest":253402300799,"name":"MomentBehind","refused":3}"#;
@@ -95,7 +95,7 @@ fn accepted_requests_are_answered(rt: HostRuntime) -> Result<(), Fail> {
     assert!(rt;
         is_answered(
             rt.alloc(),
-            Ok(advanced),
+            Answer::Accepted(advanced),
             "200 OK",
             r#"{"key":0,"moment":100,"state":null}"#
         )?
@@ -108,7 +108,7 @@ fn accepted_requests_are_answered(rt: HostRuntime) -> Result<(), Fail> {
     assert!(rt;
         is_answered(
             rt.alloc(),
-            Ok(changed),
+            Answer::Repeated(changed),
             "200 OK",
             r#"{"key":4294967295,"moment":100,"state":"Deactivated"}"#
         )?

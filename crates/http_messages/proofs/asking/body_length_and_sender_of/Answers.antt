@@ -55,10 +55,10 @@ returns-then-length-gt-MAX_BODY_LENGTH-clause-err c = λ lines all rest.
     large_body m (rw c.in-None.is at all.transfer_encoding) (c.in-One.text.now, one, is)
     (past m c.in-Some.length cut c.if-length-gt-MAX_BODY_LENGTH.true)
 
-pub returns-in_default-sender_of-clause-err : goal.returns-in_default-sender_of-clause-err
-returns-in_default-sender_of-clause-err c = λ lines all rest.
+pub returns-in_default-caller_and_number_of-clause-err : goal.returns-in_default-caller_and_number_of-clause-err
+returns-in_default-caller_and_number_of-clause-err c = λ lines all rest.
     let (m, is, cut) = c.in-Some.ensures.found in
     let one = rw c.in-One.is at all.content_length in
     no_sender m (rw c.in-None.is at all.transfer_encoding) (c.in-One.text.now, one, is)
     (within m c.in-Some.length cut c.if-length-gt-MAX_BODY_LENGTH.false)
-    (λ caller number p. c.in_default-sender_of.ensures.none lines all caller number p)
+    (λ caller number p. c.in_default-caller_and_number_of.ensures.none lines all caller number p)

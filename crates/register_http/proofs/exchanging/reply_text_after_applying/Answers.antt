@@ -12,18 +12,16 @@ returns g c =
     let request = c.request_at-request.result in
     let is = c.request_at-request.ensures.is in
     let in_range = subst IsRequest (sym is) (c.request_at-request.ensures.in_range c.requires) in
-    acts_text _ c.args.moment _ _ _ c.outcome_reply_text.result c.text_or_end.result
+    acts_text _ c.args.moment _ _ _ c.answer_reply_text.result c.text_or_end.result
     (went_applied _ c.args.moment _ _ _ (λ h. history h (Some request ∷ []))
     (λ h. ap (λ q. history h (Some q ∷ [])) (sym is)) c.in_ok-answer.ensures.clean c.in_ok-answer.ensures.ends
     (λ h stands clean. c.in_ok-answer.ensures.stands h stands in_range clean))
-    (changes_answered _ _ _ c.in_ok-answer.answer c.outcome_reply_text.result c.text_or_end.result
-    c.in_ok-answer.ensures.nothing
-    (outcome_told c.outcome.result _ c.outcome_reply_text.result c.outcome.ensures c.outcome_reply_text.ensures)
-    c.text_or_end.ensures.ok c.text_or_end.ensures.err)
+    (changes_answered _ _ _ c.in_ok-answer.answer c.answer_reply_text.result c.text_or_end.result
+    c.in_ok-answer.ensures.nothing c.answer_reply_text.ensures c.text_or_end.ensures.ok c.text_or_end.ensures.err)
     (λ rejection same. absurd (cc))
-    (λ h stands clean. outcome_told c.outcome.result _ c.outcome_reply_text.result
-    (c.outcome.ensures ∙ ap outcome (c.in_ok-answer.ensures.answer h stands in_range clean ∙ ap (answer h) is))
-    c.outcome_reply_text.ensures)
+    (λ h stands clean. outcome_told (outcome c.in_ok-answer.answer) _ c.answer_reply_text.result
+    (ap outcome (c.in_ok-answer.ensures.answer h stands in_range clean ∙ ap (answer h) is))
+    c.answer_reply_text.ensures)
     c.text_or_end.ensures.ok c.text_or_end.ensures.err
 
 pub returns-in_err-answer : goal.returns-in_err-answer

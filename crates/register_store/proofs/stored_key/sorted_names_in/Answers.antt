@@ -32,4 +32,4 @@ returns-clause-names c =
     let all : map (λ row. column row 0) c.args.rows.now ≡ map Words c.loop-row.shown.items =
     subst (λ rows. map (λ row. column row 0) rows ≡ map Words c.loop-row.shown.items)
     (take_all c.loop-row.row-index c.args.rows.now past) c.loop-row.invariant in
-    sorted_so c.args.rows.now c.loop-row.shown.items c.sort.new.self all (rw c.from_vec-names.ensures at c.sort.ensures)
+    sorted_so c.args.rows.now c.loop-row.shown.items c.sorted_from_vec.result all c.sorted_from_vec.ensures

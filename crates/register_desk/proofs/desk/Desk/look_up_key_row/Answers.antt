@@ -5,5 +5,5 @@ pub returns-in-Ok-clause-looks : goal.returns-in-Ok-clause-looks
 returns-in-Ok-clause-looks g c =
     looks_where g.S.Store _ 2 _ _ _ _ _ _ c.requires c.in-Ok.ensures.reads (λ h stands clean.
     c.find_key_row.ensures.counted)
-    c.counted_row_or_broken.ensures.same c.counted_row_or_broken.ensures.unchanged
-    c.counted_row_or_broken.ensures.broken
+    c.row_or_break_on_missing_key.ensures.same c.row_or_break_on_missing_key.ensures.unchanged
+    c.row_or_break_on_missing_key.ensures.broken

@@ -6,8 +6,8 @@ pub returns-in-Ok-clause-looks : goal.returns-in-Ok-clause-looks
 returns-in-Ok-clause-looks g c =
     looks_where g.S.Store _ 36 _ _ _ _ _ _ c.if-self.false c.in-Ok.ensures.reads (loads_few g.S.Store c.args.number
     c.args.self.now c.load_key.new.connection c.if-self.false c.in-Ok.ensures.reads.clean c.load_key.ensures.counted)
-    c.counted_row_or_broken.ensures.same c.counted_row_or_broken.ensures.unchanged
-    c.counted_row_or_broken.ensures.broken
+    c.row_or_break_on_missing_key.ensures.same c.row_or_break_on_missing_key.ensures.unchanged
+    c.row_or_break_on_missing_key.ensures.broken
 
 pub returns-in-Err-clause-looks : goal.returns-in-Err-clause-looks
 returns-in-Err-clause-looks g c =

@@ -1,5 +1,5 @@
 use Rattle.std.proofs.Common.{rules}
 use Rattle.register_requests.proofs.request.Command.rule.Goals as goal
 
-pub returns-in-Destroy-clause-custody : goal.returns-in-Destroy-clause-custody
-returns-in-Destroy-clause-custody c = search rules
+pub returns-in-Destroy-clause-looks_at : goal.returns-in-Destroy-clause-looks_at
+returns-in-Destroy-clause-looks_at c = search rules

@@ -1,6 +1,6 @@
 use Rattle.std.proofs.Common.{◌∙◌, arith}
 use Rattle.register_requests.proofs.Readers.{request_number_reader, request_number_small, made_of_number, no_number}
-use Rattle.register_requests.proofs.request_reading.request_number_of.Goals as goal
+use Rattle.register_requests.proofs.request_reading.read_request_number.Goals as goal
 
 pub returns-in_err-read_decimal : goal.returns-in_err-read_decimal
 returns-in_err-read_decimal c =

@@ -3,7 +3,7 @@ use Rattle.std.proofs.lemmas.Result.{IfOk-weaker}
 use Rattle.http_messages.specs.AnswerText.{json_reply}
 use Rattle.http_messages.specs.AnswerValue.{refusal_data}
 use Rattle.http_messages.specs.HttpReply.{reply_bytes}
-use Rattle.http_messages.proofs.reply_text.refused_text.Goals as goal
+use Rattle.http_messages.proofs.reply_text.refused_reply_text.Goals as goal
 
 pub returns : goal.returns
 returns c =

@@ -1,13 +1,13 @@
 -- Who sends is told by the one value of either name.
-use Rattle.std.proofs.Common.{◌≡◌, ℕ, ◌<◌, ◌^◌, List, ◌∷◌, [], rules, ap, sym, subst, ◌∙◌, arith}
+use Rattle.std.proofs.Common.{◌≡◌, ℕ, List, ◌∷◌, [], None, Some, rules, ap, sym, subst, ◌∙◌}
 use Rattle.std.specs.Prelude.{decimal}
-use Rattle.std.proofs.lemmas.Fmt.{decimal_injective}
 use Rattle.register_requests.specs.Name.{IsName}
-use Rattle.register_requests.specs.Number.{IsNumber}
+use Rattle.register_requests.specs.RequestLine.{request_number_at}
+use Rattle.register_requests.proofs.Readers.{request_number_reader}
 use Rattle.http_messages.specs.Asked.{IsFrom}
 use Rattle.http_messages.specs.HeaderFields.{Lines}
 use Rattle.http_messages.proofs.InOrder.{if_none}
-use Rattle.http_messages.proofs.asking.sender_of.Goals as goal
+use Rattle.http_messages.proofs.asking.caller_and_number_of.Goals as goal
 
 one_is : (a b : List ℕ) (vs : List (List ℕ)) → vs ≡ a ∷ [] → vs ≡ b ∷ [] → a ≡ b
 one_is a b vs e f = cc
@@ -29,27 +29,19 @@ pub returns-in_err-only_value-2-clause-none : goal.returns-in_err-only_value-2-c
 returns-in_err-only_value-2-clause-none c = λ lines all. if_none _ (AreOfNobody lines)
     (λ caller n p. c.in_err-only_value-2.ensures.none _ all.request_number (decimal n) p.number_is)
 
-pub returns-in_err-read_decimal-clause-none : goal.returns-in_err-read_decimal-clause-none
-returns-in_err-read_decimal-clause-none c = λ lines all. if_none _ (AreOfNobody lines) (λ caller n p.
-    let fits : n < 2 ^ 64 = omega (arith, p.in_range.1) in
-    let field = one_is _ (decimal n) _ (c.in_ok-only_value-2.ensures.found _ all.request_number) p.number_is in
-    c.in_err-read_decimal.ensures.none n fits field)
-
 pub returns-in_err-number-clause-none : goal.returns-in_err-number-clause-none
 returns-in_err-number-clause-none c = λ lines all. if_none _ (AreOfNobody lines) (λ caller n p.
-    let read = c.in_ok-read_decimal.field-0 in
-    let small : read < 2 ^ 64 = omega arith in
-    let fits : n < 2 ^ 64 = omega (arith, p.in_range.1) in
     let field = one_is _ (decimal n) _ (c.in_ok-only_value-2.ensures.found _ all.request_number) p.number_is in
-    let same : read ≡ n =
-    decimal_injective read n small fits (sym c.in_ok-read_decimal.ensures.found ∙ field) in
-    absurd (cc (c.in_err-number.ensures.in_range.1 (subst IsNumber (sym same) p.in_range))))
+    let read : None ≡ Some n =
+    c.in_err-number.ensures ∙ ap request_number_at field ∙ request_number_reader.again n p.in_range in
+    absurd cc)
 
 pub returns-clause-found : goal.returns-clause-found
-returns-clause-found c = λ lines all. record {
-  caller_is = c.in_ok-only_value.ensures.found _ all.caller ∙ ap (λ v. v ∷ []) (sym c.in_ok-caller.ensures.value);
-  name = search rules;
-  number_is = c.in_ok-only_value-2.ensures.found _ all.request_number
-      ∙ ap (λ v. v ∷ []) (c.in_ok-read_decimal.ensures.found ∙ ap decimal (sym c.in_ok-number.ensures.value));
-  in_range = search rules;
-}
+returns-clause-found c = λ lines all.
+    let taken = request_number_reader.takes _ _ (sym c.in_ok-number.ensures) in
+    record {
+      caller_is = c.in_ok-only_value.ensures.found _ all.caller ∙ ap (λ v. v ∷ []) (sym c.in_ok-caller.ensures.value);
+      name = search rules;
+      number_is = c.in_ok-only_value-2.ensures.found _ all.request_number ∙ ap (λ v. v ∷ []) taken.1;
+      in_range = taken.0;
+    }
