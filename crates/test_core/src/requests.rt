@@ -161,7 +161,8 @@ type CommandRow = (
 
 #[rattlefmt::skip]
 const COMMANDS: [CommandRow; 14] = [
-    (CommandKind::Register, "register", "register data-encryption bob 0 - - payroll disks", Giver::Anybody, 6, KeyPart::Row),
+    (CommandKind::Register, "register", "register data-encryption bob 0 - - payroll disks", Giver::Anybody, 6,
+        KeyPart::Row),
     (CommandKind::Activate, "activate", "activate 1", Giver::Owner, 1, KeyPart::Row),
     (CommandKind::SetDates, "set", "set 1 = - 3000", Giver::Owner, 2, KeyPart::Row),
     (CommandKind::Revoke, "revoke", "revoke 1 1 -", Giver::Owner, 1, KeyPart::Row),
