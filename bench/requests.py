@@ -1,6 +1,6 @@
 #!/usr/bin/env python3
-"""What a request costs in microseconds, over a file and in memory, beside the same statements given to the kit's
-`sqlite` alone, and to Python's `sqlite3` with the same rules.
+"""What a request costs in microseconds over a file, beside the same statements given to the kit's `sqlite` alone, and to
+Python's `sqlite3` with the same rules; and what runs cost over no file, beside the same over a file in memory.
 
     bench/requests.py [--over file|memory] [--requests N] [--rounds N] [--instructions] [KEYS..]
 
@@ -30,8 +30,12 @@ SQLite once (synchronous = FULL).
 No start, opening or making of a register is in a figure: one run serves a kind after the other, and for each the clock
 of its processor time (user and system) and the time of day are read twice, where the first requests of the kind are
 answered and where the counted ones after them are. The difference is divided by how many these are; the least of the
-rounds is told. In memory the register is made by requests first. Each reply of `keyreg` and of *python* is compared
-with what is expected, and after a run over a file the rows that the three programs left.
+rounds is told. Each reply of `keyreg` and of *python* is compared with what is expected, and after a run the rows that
+the three programs left.
+
+With --over memory KEYS are registrations, whose dates come out of their order: the program serves them in one run over no
+file, and in one over a new file in /dev/shm. The processor time of the whole run is told, the least of the rounds, and
+the most resident memory. Each reply is compared here too.
 
 With --instructions valgrind's callgrind (Debian's package valgrind) counts what each program executes in place of time,
 in thousands: no other load changes that, but it leaves out what the system does for a program, its reads, writes and
@@ -56,7 +60,7 @@ from typing import NamedTuple
 
 HERE = os.path.dirname(os.path.abspath(__file__))
 sys.path.insert(0, os.path.join(HERE, "..", "checks"))
-from measuring import built, clock_of, table  # noqa: E402
+from measuring import built, clock_of, measured as run_whole, table  # noqa: E402
 from registers import INDEXES, PROGRAM, STATES, TABLES, UNSET, VERSION, all_rows, columns_of, expect, show  # noqa: E402
 
 # The columns of keys past its number, and those that an accepted request may change, with their parameters.
@@ -258,8 +262,6 @@ class Register:
             "cache_size = 2000", "foreign_keys = ON",
         ):
             self.run(f"PRAGMA {pragma}").fetchall()
-        if place == ":memory:":
-            self.connection.executescript(EMPTY)
         self.latest, self.keys = self.run("SELECT latest, key_count FROM meta").fetchone()
 
     def answer(self, line):
@@ -369,16 +371,12 @@ def filled(originator, recipient, activation, protect_stop, deactivation):
 
 
 def serve_lines(place):
-    """Answers the lines that it reads, each before the next, over the file or `:memory:`."""
+    """Answers the lines that it reads, each before the next, over the file."""
     register, write = Register(place), sys.stdout.buffer
     for line in sys.stdin.buffer:
         write.write(register.answer(line.decode().rstrip("\n")).encode() + b"\n")
         write.flush()
     register.connection.close()
-
-
-# The statements that make an empty register.
-EMPTY = TABLES + INDEXES + f"INSERT INTO meta VALUES (1, {VERSION}, 0, 0);"
 
 
 # ---- the statements in the kit
@@ -651,10 +649,6 @@ fn serve<S: Alter>(
     let is_later = span.is_rising;
     let moment = if is_later { i64::from(span.base) + number } else { i64::from(span.base) };
     match kind {
-        "prepare" => {
-            let activation = activation_at(place, span.prepared)?;
-            register(alloc, connection, number, activation, moment, is_later)
-        }
         "repeat" => repeat(connection, i64::from(scattered(place, span.prepared)?) + 1),
         "register" => {
             let key = i64::from(span.prepared) + number;
@@ -711,28 +705,17 @@ fn serve_lines<S: Alter>(rt: &HostRuntime, connection: &mut Connection<S>) -> Op
     Some(())
 }
 
-fn serve_in_memory(rt: &HostRuntime, tables: &str) -> Option<()> {
-    let mut connection = Connection::open_in_memory(rt.alloc()).ok()?;
-    connection.execute_batch(tables).ok()?;
-    serve_lines(rt, &mut connection)
-}
-
 fn serve_in_file(rt: &HostRuntime, file: &str) -> Option<()> {
     let mut connection = Connection::open_from(rt, file, false, Wary).ok()?;
     serve_lines(rt, &mut connection)?;
     connection.close().ok()
 }
 
-/// The words are a file, or `:memory:` and the statements that make an empty register.
+/// The word is a file.
 fn act(rt: &HostRuntime) -> Option<()> {
     let mut words = env::args(rt).ok()?;
     words.next()?;
-    let place = words.next()?;
-    if place.as_str() == ":memory:" {
-        serve_in_memory(rt, words.next()?.as_str())
-    } else {
-        serve_in_file(rt, place.as_str())
-    }
+    serve_in_file(rt, words.next()?.as_str())
 }
 
 fn main(rt: HostRuntime) -> ExitCode {
@@ -830,11 +813,11 @@ def told(span):
 
 
 def words_of(name, place):
-    """The words that start a program over a file, or in memory."""
+    """The words that start a program over a file."""
     if name == "keyreg":
-        return [PROGRAM] if place == ":memory:" else [PROGRAM, "run", "--file", place]
+        return [PROGRAM, "run", "--file", place]
     if name == "bare":
-        return [built("bare_requests", BARE_SOURCE), place, EMPTY]
+        return [built("bare_requests", BARE_SOURCE), place]
     return [sys.executable, os.path.abspath(__file__), "--serve", place]
 
 
@@ -851,8 +834,6 @@ def serve_by(name, run, span):
 def measured(runs, name, place, keys, count):
     """What is measured of a request of each kind."""
     run = runs(words_of(name, place))
-    if place == ":memory:":
-        serve_by(name, run, Span("prepare", False, START, keys, keys, 0, keys))
     figures = []
     for first, counted in spans(keys, count):
         serve_by(name, run, first)
@@ -882,32 +863,72 @@ def over_files(runs, keys, count, rounds):
     return figures
 
 
-def in_memory(runs, keys, count, rounds):
-    figures = {name: [] for name in PROGRAMS}
-    for _ in range(rounds):
-        for name in PROGRAMS:
-            figures[name].append(measured(runs, name, ":memory:", keys, count))
-    return figures
-
-
-PLACES = {"file": over_files, "memory": in_memory}
-
-
-def figures_of(runs, places, sizes, count, rounds):
-    """What names each place, size and kind of request, with the least figures of the three programs there."""
-    for place in places:
-        for keys in sizes:
-            figures = PLACES[place](runs, keys, count, rounds)
-            for at, (_, span) in enumerate(spans(keys, count)):
-                kind = NAMES.get(span.kind, span.kind)
-                kind += "" if span.kind == "repeat" else ", rising" if span.is_rising else ", level"
-                names = (place, f"{keys}", kind, f"{span.end - span.first}")
-                rounds_of = ([found[at] for found in figures[name]] for name in PROGRAMS)
-                yield names, [[min(values) for values in zip(*found)] for found in rounds_of]
+def compared(figures, keys, count):
+    """What names each kind of request over so many keys, with the least figures of the three programs there."""
+    for at, (_, span) in enumerate(spans(keys, count)):
+        kind = NAMES.get(span.kind, span.kind)
+        kind += "" if span.kind == "repeat" else ", rising" if span.is_rising else ", level"
+        rounds_of = ([found[at] for found in figures[name]] for name in PROGRAMS)
+        yield (f"{keys}", kind, f"{span.end - span.first}"), [[min(values) for values in zip(*found)] for found in rounds_of]
 
 
 def columns(names, runs):
     return [f"{name}: {measure}" for name in names for measure in runs.MEASURES]
+
+
+def tell_files(runs, sizes, count, rounds):
+    """The tables of requests over files."""
+    built("bare_requests", BARE_SOURCE)
+    print(f"SQLite {sqlite3.sqlite_version} in Python. {runs.UNIT} a request; the least of {rounds}.\n")
+    found = []
+
+    def lines():
+        for keys in sizes:
+            for names, figures in compared(over_files(runs, keys, count, rounds), keys, count):
+                found.append((names, figures))
+                yield [*names, *(f"{x:.1f}" for figure in figures for x in figure)]
+
+    table(("keys", "request", "counted", *columns(PROGRAMS, runs)), lines())
+    print()
+    ratios = ([*names[:2], *(f"{mine / its:.2f}" for other in others for mine, its in zip(ours, other))]
+              for names, (ours, *others) in found)
+    table(("keys", "request", *columns([f"keyreg / {name}" for name in PROGRAMS[1:]], runs)), ratios)
+
+
+# ---- runs over no file
+
+
+def whole_runs(count, rounds):
+    """What a run of so many registrations uses over no file, and over a file in memory: for each the least processor
+    seconds and the most memory of the rounds."""
+    kept = requests(Span("prepare", False, START, count, count, 0, count))
+    with tempfile.TemporaryDirectory(dir="/dev/shm") as folder:
+        given, written, file = (os.path.join(folder, name) for name in ("given", "written", "office.keyreg"))
+        with open(given, "w", encoding="utf-8") as lines:
+            lines.writelines(f"{it.moment} {it.caller} {it.number} {it.command}\n" for it in kept)
+        wanted = "".join(f"ok {it.key} {STATES[it.state]} {it.moment}\n" for it in kept).encode()
+        found = {"memory": [], "file": []}
+        for _ in range(rounds):
+            for over, words in (("memory", []), ("file", ["run", "--file", file])):
+                if over == "file":
+                    for old in glob.glob(f"{file}*"):
+                        os.remove(old)
+                    subprocess.run([PROGRAM, "init", "--file", file], check=True)
+                found[over].append(run_whole([PROGRAM, *words], given, written))
+                with open(written, "rb") as replies:
+                    expect(replies.read() == wanted, f"{count} registrations over {over}: other replies")
+    return [(min(used.processor for used in runs), max(used.memory for used in runs)) for runs in found.values()]
+
+
+def tell_memory(sizes, rounds):
+    """The table of whole runs."""
+    def lines():
+        for count in sizes:
+            (mine, memory), (its, other) = whole_runs(count, rounds)
+            yield [f"{count}", f"{mine:.1f}", f"{memory:.0f}", f"{its:.1f}", f"{other:.0f}", f"{mine / its:.2f}"]
+
+    table(("registrations", "no file: processor s", "memory, MB", "a file in /dev/shm: processor s", "memory, MB", "to it"),
+          lines())
 
 
 def main():
@@ -916,7 +937,7 @@ def main():
     words.add_argument("--requests", type=int, default=1000, metavar="N",
                        help="so many assignments and advances with no key due, ten times as many repeats, as many registrations but no "
                        "more than a fourth of the keys, and a fourth as many advances with one")
-    words.add_argument("--over", choices=PLACES, help="both where neither is named")
+    words.add_argument("--over", choices=("file", "memory"), help="both where neither is named")
     words.add_argument("--rounds", type=int, default=3, metavar="N")
     words.add_argument("--instructions", action="store_true", help="count instructions in place of time")
     words.add_argument("--serve", help=argparse.SUPPRESS)
@@ -924,26 +945,14 @@ def main():
     if asked.serve:
         serve_lines(asked.serve)
         return
-    sizes = asked.keys or [1_000, 10_000, 100_000]
-    expect(asked.requests >= 4, "too few requests")
-    fit = all(keys >= 200 and keys % STEP and (keys - 1) % STEP and (keys - keys // 2) % STEP for keys in sizes)
-    expect(fit, f"sizes {sizes}")
-    runs = CountedRun if asked.instructions else Run
-    built("bare_requests", BARE_SOURCE)
-    print(f"SQLite {sqlite3.sqlite_version} in Python. {runs.UNIT} a request; the least of {asked.rounds}.\n")
-    found = []
-
-    def lines():
-        places = [asked.over] if asked.over else PLACES
-        for names, figures in figures_of(runs, places, sizes, asked.requests, asked.rounds):
-            found.append((names, figures))
-            yield [*names, *(f"{x:.1f}" for figure in figures for x in figure)]
-
-    table(("over", "keys", "request", "counted", *columns(PROGRAMS, runs)), lines())
-    print()
-    ratios = ([*names[:3], *(f"{mine / its:.2f}" for other in others for mine, its in zip(ours, other))]
-              for names, (ours, *others) in found)
-    table(("over", "keys", "request", *columns([f"keyreg / {name}" for name in PROGRAMS[1:]], runs)), ratios)
+    if asked.over != "memory":
+        sizes = asked.keys or [1_000, 10_000, 100_000]
+        expect(asked.requests >= 4, "too few requests")
+        fit = all(keys >= 200 and keys % STEP and (keys - 1) % STEP and (keys - keys // 2) % STEP for keys in sizes)
+        expect(fit, f"sizes {sizes}")
+        tell_files(CountedRun if asked.instructions else Run, sizes, asked.requests, asked.rounds)
+    if asked.over != "file":
+        tell_memory(asked.keys or [20_000, 100_000, 1_000_000], asked.rounds)
 
 
 main()

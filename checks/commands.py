@@ -20,10 +20,12 @@ from registers import PROGRAM
 from sources import TOP, read
 
 CLOCK, PORT, SECONDS = "1795541234", "8420", 120
+# A first look may take so long.
+LOOK_SECONDS = 180
 
 
-def blocks(text):
-    """The commands and the outputs of a document, each with the number of its first line."""
+def fences_of(text):
+    """The fenced blocks of a document: the number of the first line, the language and the lines."""
     fences, begun = [], None
     for number, line in enumerate(text.split("\n"), 1):
         if begun is None and line.startswith("```"):
@@ -33,6 +35,12 @@ def blocks(text):
             begun = None
         elif begun is not None:
             begun[2].append(line)
+    return fences
+
+
+def blocks(text):
+    """The commands and the outputs of a document, each with the number of its first line."""
+    fences = fences_of(text)
     pairs = zip(fences, [*fences[1:], (0, "none", [])])
     return [(number, "\n".join(lines), "" if output[1] else "\n".join(output[2]))
             for (number, language, lines), output in pairs if language == "sh"]
@@ -71,6 +79,25 @@ def printed(commands, folder):
 
 def plain(text):
     return [line.rstrip() for line in text.rstrip("\n").split("\n")]
+
+
+def first_look():
+    """What is wrong with README's first commands, which alone are `bash`: in a copy of the sources, where nothing was
+    proved, they print the first output that stands there, within so many seconds."""
+    fences = fences_of(read("README.md"))
+    number, _, lines = next(fence for fence in fences if fence[1] == "bash")
+    wanted = next(fence[2] for fence in fences if not fence[1])
+    with tempfile.TemporaryDirectory() as folder:
+        copy = os.path.join(folder, "copy")
+        shutil.copytree(TOP, copy, ignore=shutil.ignore_patterns("out", ".git", "__pycache__"))
+        begun = time.monotonic()
+        run = subprocess.run(["bash", "-c", "\n".join(lines)], cwd=copy, stdout=subprocess.PIPE, stderr=subprocess.PIPE,
+                             stdin=subprocess.DEVNULL, text=True, check=False)
+        seconds = round(time.monotonic() - begun)
+    is_right = run.returncode == 0 and run.stdout.split("\n")[:len(wanted)] == wanted
+    if is_right and seconds <= LOOK_SECONDS:
+        return [], seconds
+    return [f"README.md:{number}: after {seconds} seconds status {run.returncode}: {run.stdout[-300:]}"], seconds
 
 
 def wrong_outputs(documents):

@@ -4,7 +4,7 @@
     checks/documents.py [PART..]
 
 A line for each fault, and a last line that counts them; the status is 1 where there is one. The
-parts, all where none is named:
+parts, all but the last where none is named:
 
     words      each definition of a crate's specs/ that a clause of a public function cites stands
                in docs/MODEL.md, in a row that names its file
@@ -22,6 +22,8 @@ parts, all where none is named:
     pictures   README's picture of the states has the transitions of docs/SPECIFICATION.md,
                docs/costs.svg the figures of docs/COSTS.md, and the graph of docs/ARCHITECTURE.md
                the arrows of crates.txt; what its pictures name is a function or a crate
+    look       README's first look, which `rt try` answers without a proof, in a copy of the sources; it takes
+               minutes
 
 The program is the one that ./keyreg builds, or that KEYREG names. Of the crates' specs those count
 that the program stands on.
@@ -41,7 +43,8 @@ QUOTED = re.compile(r"`([^`\n]+)`")
 WORDS = """no one two three four five six seven eight nine ten eleven twelve thirteen fourteen
     fifteen sixteen""".split()
 NUMBERS = {word: number for number, word in enumerate(WORDS)}
-STD_CALLS = {"write_all", "as_bytes", "map", "assert_eq"}
+# Calls in examples that are none of ours: of std, and of the kit.
+OTHER_CALLS = {"write_all", "as_bytes", "map", "assert_eq", "open_files"}
 FILE = re.compile(r"[\w.<>/-]*\w\.(?:rt|antt|py|md|sql|sh|csv|txt|yaml|edit|svg|service|timer|cron|conf)\b")
 FOLDER = re.compile(r"(crates|checks|bench|docs|examples|\.ci)/")
 # The most words in a cell of PROMISES.
@@ -291,11 +294,14 @@ def example_of(path):
 
 def call_faults():
     faults, count = [], 0
+    owners = {function.owner for functions in by_name().values() for function in functions}
     for path in listed("crates/*/src/lib.rt"):
         text = example_of(path)
         for match in re.finditer(r"(?:(\w+)::|(\.))?\b([a-z_]\w*)(!?)\(", text):
             owner, dot, name, is_macro = match.groups()
-            if name in STD_CALLS or is_macro:
+            # A type whose functions are none of ours is the kit's.
+            is_other = name in OTHER_CALLS or owner and owner[0].isupper() and owner not in owners
+            if is_other or is_macro:
                 continue
             count += 1
             given = len(sources.parts(sources.between_brackets(text, match.end() - 1)))
@@ -439,13 +445,20 @@ def picture_faults():
     return faults, f"{transitions} transitions, {arrows} arrows between crates, a picture of costs"
 
 
+def look_faults():
+    faults, seconds = commands.first_look()
+    return faults, f"answered in {seconds} seconds"
+
+
 PARTS = {"words": missing_words, "promises": promise_faults, "paths": path_faults,
          "calls": call_faults, "commands": output_faults, "stale": stale_faults,
-         "pictures": picture_faults}
+         "pictures": picture_faults, "look": look_faults}
+# Those that are run where none is named: the others take minutes.
+SHORT = [part for part in PARTS if part != "look"]
 
 
 def main():
-    chosen = sys.argv[1:] or list(PARTS)
+    chosen = sys.argv[1:] or SHORT
     if not set(chosen) <= set(PARTS):
         sys.exit(f"the parts are {', '.join(PARTS)}")
     total = 0

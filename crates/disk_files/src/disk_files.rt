@@ -14,14 +14,15 @@ use std::fs;
 /// The register's files as the kit opens them. `S` says what they hold at first, and what a torn
 /// write may leave.
 #[derive(Drop)]
-pub struct DiskFiles<S: Start> {
+pub struct DiskFiles<'a, S: Start> {
+    rt: &'a HostRuntime,
     start: S,
 }
 
-impl<S: Start> DiskFiles<S> {
+impl<'a, S: Start> DiskFiles<'a, S> {
     /// The files that begin so.
-    pub fn new(start: S) -> Self {
-        DiskFiles { start }
+    pub fn new(rt: &'a HostRuntime, start: S) -> Self {
+        DiskFiles { rt, start }
     }
 }
 
@@ -54,7 +55,7 @@ fn checkpoint_store<D: Disk + Drop>(mut store: FileStore<D>) -> Closed<FileStore
     }
 }
 
-impl<S: Start> Files for DiskFiles<S> {
+impl<'a, S: Start> Files for DiskFiles<'a, S> {
     ghost use Rattle.sqlite.proofs.Theorems.{opens_again};
 
     type Opened = FileStore<FileFrom<S>>;
@@ -65,23 +66,21 @@ impl<S: Start> Files for DiskFiles<S> {
 
     ghost opens_again = { λ it. opens_again it };
 
-    fn may_be_there(&self, rt: &HostRuntime, file: &str) -> bool {
-        fs::exists(rt, file).unwrap_or(true)
+    fn may_be_there(&self, file: &str) -> bool {
+        fs::exists(self.rt, file).unwrap_or(true)
     }
 
-    fn connect(
-        self,
-        rt: &HostRuntime,
-        file: &str,
-    ) -> Result<Connection<FileStore<FileFrom<S>>>, OpenRefusal> {
-        match Connection::open_from(rt, file, false, self.start) {
+    fn connect(self, file: &str) -> Result<Connection<FileStore<FileFrom<S>>>, OpenRefusal> {
+        match Connection::open_from(self.rt, file, false, self.start) {
             Ok(connection) => Ok(connection),
             Err((Error::SqliteFailure(ErrorCode::OutOfMemory), _)) => Err(OpenRefusal::Memory),
             Err(_) => Err(OpenRefusal::Store),
         }
     }
 
-    fn close(store: FileStore<FileFrom<S>>) -> Closed<FileStore<FileFrom<S>>> {
+    fn close(store: FileStore<FileFrom<S>>) -> Closed<FileStore<FileFrom<S>>>
+        ensures { ClosesFiles over_files (λ left. (files.state left).may_leave) store result }
+    {
         checkpoint_store(store)
     }
 }

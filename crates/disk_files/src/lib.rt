@@ -1,6 +1,8 @@
-//! The register's files on the machine's disk.
+//! What the register is given of the machine: files on its disk, and its network.
 #![tactic(auto)]
 
 mod disk_files;
+mod network;
 
 pub use disk_files::DiskFiles;
+pub use network::{MachineClient, MachineListener, MachineNetwork};

@@ -43,14 +43,14 @@ pub trait Files {
     ghost may_leave: { Self.Opened → Image → Type 0 };
 
     /// Whether there is a file of this name, or the system does not tell.
-    fn may_be_there(&self, rt: &HostRuntime, file: &str) -> bool;
+    fn may_be_there(&self, file: &str) -> bool;
 
     /// A connection to the file, which is made where there is none.
     ///
     /// # Errors
     /// [`OpenRefusal::Store`] where the file cannot be opened, or is no database;
     /// [`OpenRefusal::Memory`] where memory gave out.
-    fn connect(self, rt: &HostRuntime, file: &str) -> Result<Connection<Self::Opened>, OpenRefusal>
+    fn connect(self, file: &str) -> Result<Connection<Self::Opened>, OpenRefusal>
         // The connection shows what the files hold.
         ensures shows { IfOk result (λ connection. HasCleanDisk (state Self.Opened.Store connection)
             → ShowsFiles start (state Self.Opened.Store connection)) }

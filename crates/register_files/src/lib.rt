@@ -3,12 +3,14 @@
 
 mod files;
 pub mod laws;
+mod network;
 mod register_file;
 mod serving;
 
 pub use files::{Closed, Files, LogCopy};
+pub use network::{Client, Listener, Network};
 pub use register_file::{
     Life, Refused, export_file, import_file, init_file, open_file, report_file, run_file,
     serve_file,
 };
-pub use serving::{Clocks, MachineClock, Now, listen_at_localhost, serve_at, serve_on};
+pub use serving::{Clocks, MachineClock, Now, serve_at, serve_on};

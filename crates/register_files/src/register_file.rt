@@ -12,12 +12,15 @@ ghost use Rattle.register_files.specs.FileCalls.{RunsLines, ServesExchanges};
 ghost use Rattle.register_files.specs.Life.{ClosesAs, Refuses};
 
 use crate::files::{Closed, Files};
+use crate::network::Network;
 use crate::serving::serve_at;
 use register_desk::{Desk, OpenRefusal, Outcome, Unopened, Watched, run};
 use register_report::{export, import, rotation};
 use register_words::{Bounds, Terms};
 use sqlite::{Alter, Connection};
+use std::alloc::Global;
 use std::io::{Read, Write};
+use std::time::Clock;
 
 /// What one life of a register in a file came to.
 #[derive(Drop)]
@@ -93,14 +96,14 @@ fn close_desk<F: Files>(desk: Desk<F::Opened>) -> Closed<F::Opened>
 /// where the file cannot be opened, or the database refused; [`OpenRefusal::Memory`] where memory
 /// gave out.
 pub fn init_file<F: Files>(
-    rt: &HostRuntime,
+    alloc: Global,
     file: &str,
     files: F,
 ) -> Result<Closed<F::Opened>, Refused<F::Opened>>
     ensures { MakesRegister F.Opened.Store F.may_leave F.start result }
 {
-    let connection = files.connect(rt, file)?;
-    let desk = Desk::create(rt.alloc(), connection)?;
+    let connection = files.connect(file)?;
+    let desk = Desk::create(alloc, connection)?;
     Ok(close_desk::<F>(desk))
 }
 
@@ -110,7 +113,7 @@ pub fn init_file<F: Files>(
 /// As [`Desk::open`]; [`OpenRefusal::Store`] also where there is no file, or it cannot be opened,
 /// or is no database.
 pub fn open_file<F: Files + Drop>(
-    rt: &HostRuntime,
+    alloc: Global,
     file: &str,
     files: F,
 ) -> Result<Desk<F::Opened>, Refused<F::Opened>>
@@ -121,11 +124,11 @@ pub fn open_file<F: Files + Drop>(
     // A refusal has its cause in what the files hold, and a stop leaves what they held.
     ensures refuses { IfErr result (Refuses F.Opened.Store F.may_leave F.start) }
 {
-    if !files.may_be_there(rt, file) {
+    if !files.may_be_there(file) {
         return Err(Refused::from(OpenRefusal::Store));
     }
-    let connection = files.connect(rt, file)?;
-    let desk = Desk::open(rt.alloc(), connection)?;
+    let connection = files.connect(file)?;
+    let desk = Desk::open(alloc, connection)?;
     Ok(desk)
 }
 
@@ -134,7 +137,7 @@ pub fn open_file<F: Files + Drop>(
 /// # Errors
 /// As [`open_file`]; nothing was read or written then.
 pub fn run_file<F: Files + Drop, R: Read, W: Write>(
-    rt: &HostRuntime,
+    alloc: Global,
     file: &str,
     files: F,
     reader: &mut Watched<R>,
@@ -146,7 +149,7 @@ pub fn run_file<F: Files + Drop, R: Read, W: Write>(
         (W.contents writer.old.inner) (W.contents writer.new.inner) result }
     ensures untouched { IfErr result (λ _. writer.new ≡ writer.old) }
 {
-    let mut desk = open_file(rt, file, files)?;
+    let mut desk = open_file(alloc, file, files)?;
     let outcome = run(reader, writer, &mut desk);
     Ok(Life {
         outcome,
@@ -160,7 +163,7 @@ pub fn run_file<F: Files + Drop, R: Read, W: Write>(
 /// # Errors
 /// As [`open_file`]; nothing was read or written then.
 pub fn import_file<F: Files + Drop, R: Read + Drop, W: Write>(
-    rt: &HostRuntime,
+    alloc: Global,
     file: &str,
     files: F,
     terms: &Terms,
@@ -172,9 +175,9 @@ pub fn import_file<F: Files + Drop, R: Read + Drop, W: Write>(
         (W.contents writer.old.inner) (W.contents writer.new.inner) result }
     ensures untouched { IfErr result (λ _. writer.new ≡ writer.old) }
 {
-    let mut desk = open_file(rt, file, files)?;
+    let mut desk = open_file(alloc, file, files)?;
     let outcome = import(
-        rt.alloc(),
+        alloc,
         &mut desk,
         terms.moment,
         &terms.caller,
@@ -193,7 +196,7 @@ pub fn import_file<F: Files + Drop, R: Read + Drop, W: Write>(
 /// # Errors
 /// As [`open_file`]; nothing was written then.
 pub fn export_file<F: Files + Drop, W: Write>(
-    rt: &HostRuntime,
+    alloc: Global,
     file: &str,
     files: F,
     writer: &mut Watched<W>,
@@ -203,8 +206,8 @@ pub fn export_file<F: Files + Drop, W: Write>(
         (W.contents writer.old.inner) (W.contents writer.new.inner) result }
     ensures untouched { IfErr result (λ _. writer.new ≡ writer.old) }
 {
-    let mut desk = open_file(rt, file, files)?;
-    let outcome = export(rt.alloc(), &mut desk, writer);
+    let mut desk = open_file(alloc, file, files)?;
+    let outcome = export(alloc, &mut desk, writer);
     Ok(Life {
         outcome,
         files: close_desk::<F>(desk),
@@ -217,7 +220,7 @@ pub fn export_file<F: Files + Drop, W: Write>(
 /// # Errors
 /// As [`open_file`]; nothing was written then.
 pub fn report_file<F: Files + Drop, W: Write>(
-    rt: &HostRuntime,
+    alloc: Global,
     file: &str,
     files: F,
     days: u32,
@@ -228,8 +231,8 @@ pub fn report_file<F: Files + Drop, W: Write>(
         (W.contents writer.old.inner) (W.contents writer.new.inner) result }
     ensures untouched { IfErr result (λ _. writer.new ≡ writer.old) }
 {
-    let mut desk = open_file(rt, file, files)?;
-    let outcome = rotation(rt.alloc(), &mut desk, days, writer);
+    let mut desk = open_file(alloc, file, files)?;
+    let outcome = rotation(alloc, &mut desk, days, writer);
     Ok(Life {
         outcome,
         files: close_desk::<F>(desk),
@@ -240,16 +243,17 @@ pub fn report_file<F: Files + Drop, W: Write>(
 ///
 /// # Errors
 /// As [`open_file`]; no connection was accepted then.
-pub fn serve_file<F: Files + Drop>(
-    rt: &HostRuntime,
+pub fn serve_file<F: Files + Drop, N: Network + Clock>(
+    alloc: Global,
     file: &str,
     files: F,
+    network: &N,
     bounds: &Bounds,
 ) -> Result<Life<F::Opened>, Refused<F::Opened>>
     ensures { ServesExchanges F.Opened.Store F.may_leave F.start bounds.now.exchanges result }
 {
-    let mut desk = open_file(rt, file, files)?;
-    let end = serve_at(rt, &mut desk, bounds.port, bounds.exchanges);
+    let mut desk = open_file(alloc, file, files)?;
+    let end = serve_at(alloc, &mut desk, network, bounds.port, bounds.exchanges);
     Ok(Life {
         outcome: Outcome::ended_without_bytes(end),
         files: close_desk::<F>(desk),

@@ -6,21 +6,17 @@ ghost use Rattle.register_desk.specs.Register.{StandsFor};
 ghost use Rattle.register_http.specs.OneItem.{LeavesOne};
 ghost use Rattle.register_files.specs.ServedExchanges.{EndsServing, LeavesSome, may_serve_on};
 
+use crate::network::{Client, Listener, Network};
 use moment_core::Moment;
 use register_desk::{Desk, End, Finish, Watched};
 use register_http::{Routes, exchange};
 use sqlite::Alter;
 use std::alloc::Global;
 use std::io::{self, ErrorKind, Read, Write};
-use std::net::{Ipv4Addr, Shutdown, TcpListener, TcpStream};
 use std::time::{Clock, Duration, Instant, SystemTime, UNIX_EPOCH};
 
 /// How many seconds the client of one exchange may keep it waiting in all.
 const MAX_CLIENT_SECONDS: u64 = 10;
-
-/// How many pieces of what a client has sent after its request are taken off its connection
-/// before it is closed.
-const MAX_READS_BEHIND: usize = 256;
 
 /// Tells the moment of an exchange.
 pub trait Now {
@@ -60,16 +56,16 @@ pub struct Clocks<'a, C: Clock, N: Now> {
 
 /// A client's connection, and what measures its time.
 #[derive(Drop)]
-struct Client<'a, C: Clock> {
-    stream: &'a TcpStream,
+struct Connection<'a, L: Client, C: Clock> {
+    client: &'a L,
     timer: &'a C,
 }
 
-impl<'a, C: Clock> Client<'a, C> {
+impl<'a, L: Client, C: Clock> Connection<'a, L, C> {
     /// The connection, for as long as an exchange that began then may take.
-    fn timed_from(&self, start: Instant) -> Timed<'a, C> {
+    fn timed_from(&self, start: Instant) -> Timed<'a, L, C> {
         Timed {
-            stream: self.stream,
+            client: self.client,
             timer: self.timer,
             start,
         }
@@ -78,13 +74,13 @@ impl<'a, C: Clock> Client<'a, C> {
 
 /// A client's connection, for as long as its exchange may take.
 #[derive(Drop)]
-struct Timed<'a, C: Clock> {
-    stream: &'a TcpStream,
+struct Timed<'a, L: Client, C: Clock> {
+    client: &'a L,
     timer: &'a C,
     start: Instant,
 }
 
-impl<C: Clock> Timed<'_, C> {
+impl<L: Client, C: Clock> Timed<'_, L, C> {
     /// How long the client may still keep the exchange waiting.
     fn time_left(&self) -> io::Result<Duration> {
         let elapsed = self.start.elapsed(self.timer)?;
@@ -95,19 +91,15 @@ impl<C: Clock> Timed<'_, C> {
     }
 }
 
-impl<C: Clock> Read for Timed<'_, C> {
+impl<L: Client, C: Clock> Read for Timed<'_, L, C> {
     fn read(&mut self, buf: &mut [u8]) -> io::Result<usize> {
-        self.stream.set_read_timeout(Some(self.time_left()?))?;
-        let mut stream = self.stream;
-        stream.read(buf)
+        self.client.read_within(self.time_left()?, buf)
     }
 }
 
-impl<C: Clock> Write for Timed<'_, C> {
+impl<L: Client, C: Clock> Write for Timed<'_, L, C> {
     fn write(&mut self, buf: &[u8]) -> io::Result<usize> {
-        self.stream.set_write_timeout(Some(self.time_left()?))?;
-        let mut stream = self.stream;
-        stream.write(buf)
+        self.client.write_within(self.time_left()?, buf)
     }
 
     fn flush(&mut self) -> io::Result<()> {
@@ -116,42 +108,25 @@ impl<C: Clock> Write for Timed<'_, C> {
     }
 }
 
-/// Ends the writing, and takes off the connection what the client has sent after its request, as
-/// far as it is there: bytes that nobody read would have the system break the connection before
-/// the client has its reply.
-fn shut_down_and_drain_client(stream: &TcpStream) {
-    if stream.shutdown(Shutdown::Write).is_err() || stream.set_nonblocking(true).is_err() {
-        return;
-    }
-    let mut stream = stream;
-    let mut piece = [0; 4096];
-    for _ in 0..MAX_READS_BEHIND {
-        match stream.read(&mut piece) {
-            Ok(count) if count > 0 => {}
-            _ => return,
-        }
-    }
-}
-
 /// Serves one connection: one exchange at this moment.
-fn serve_connection<S: Alter, C: Clock>(
+fn serve_connection<S: Alter, L: Client, C: Clock>(
     alloc: Global,
     routes: &mut Routes,
     desk: &mut Desk<S>,
-    client: &Client<'_, C>,
+    connection: &Connection<'_, L, C>,
     moment: Moment,
 ) -> Finish
     ensures leaves { (h : List Request) → StandsFor S.Store desk.old h → IsWhole desk.old
         → IsClean S.Store desk.new → LeavesOne S.Store h desk.new result }
     ensures clean { IsClean S.Store desk.new → IsClean S.Store desk.old }
 {
-    let Ok(start) = Instant::now(client.timer) else {
+    let Ok(start) = Instant::now(connection.timer) else {
         return Finish::Ended(End::ReadFault);
     };
-    let mut reader = Watched::new(client.timed_from(start));
-    let mut writer = Watched::new(client.timed_from(start));
+    let mut reader = Watched::new(connection.timed_from(start));
+    let mut writer = Watched::new(connection.timed_from(start));
     let outcome = exchange(alloc, routes, desk, moment, &mut reader, &mut writer);
-    shut_down_and_drain_client(client.stream);
+    connection.client.end_writing_and_drain();
     outcome.end
 }
 
@@ -173,10 +148,10 @@ fn may_serve_on(finish: Finish) -> bool
 /// Gives the end of what there is to do after that many, or [`End::Store`] or [`End::Broken`] of
 /// an exchange, or [`End::ReadFault`] where a connection could not be accepted or no moment was
 /// told.
-pub fn serve_on<S: Alter, C: Clock, N: Now>(
+pub fn serve_on<S: Alter, L: Listener, C: Clock, N: Now>(
     alloc: Global,
     desk: &mut Desk<S>,
-    listener: &TcpListener,
+    listener: &L,
     clocks: &Clocks<'_, C, N>,
     exchanges: u32,
 ) -> Finish
@@ -188,17 +163,17 @@ pub fn serve_on<S: Alter, C: Clock, N: Now>(
     let mut routes = Routes::new();
     let mut served = 0;
     'exchanges: while served < exchanges {
-        let Ok((stream, _)) = listener.accept() else {
+        let Ok(client) = listener.accept_client() else {
             return Finish::Ended(End::ReadFault);
         };
         let Some(moment) = clocks.moments.now() else {
             return Finish::Ended(End::ReadFault);
         };
-        let client = Client {
-            stream: &stream,
+        let connection = Connection {
+            client: &client,
             timer: clocks.timer,
         };
-        let finish = serve_connection(alloc, &mut routes, desk, &client, moment);
+        let finish = serve_connection(alloc, &mut routes, desk, &connection, moment);
         if !may_serve_on(finish) {
             return finish;
         }
@@ -207,29 +182,27 @@ pub fn serve_on<S: Alter, C: Clock, N: Now>(
     Finish::AtEnd { rest: 0 }
 }
 
-/// A listener at this port of 127.0.0.1, which no other machine reaches.
-///
-/// # Errors
-/// As the system refused it.
-pub fn listen_at_localhost(rt: &HostRuntime, port: u16) -> io::Result<TcpListener> {
-    TcpListener::bind(rt, (Ipv4Addr::LOCALHOST, port))
-}
-
-/// Serves so many connections that come to [`listen_at_localhost`], as [`serve_on`], by the
-/// machine's clock. It ends by [`End::ReadFault`], too, where the port cannot be listened at.
-pub fn serve_at<S: Alter>(rt: &HostRuntime, desk: &mut Desk<S>, port: u16, exchanges: u32) -> Finish
+/// Serves so many connections that come to this port of the machine itself, as [`serve_on`], by its
+/// clock. It ends by [`End::ReadFault`], too, where the port cannot be listened at.
+pub fn serve_at<S: Alter, N: Network + Clock>(
+    alloc: Global,
+    desk: &mut Desk<S>,
+    network: &N,
+    port: u16,
+    exchanges: u32,
+) -> Finish
     ensures leaves { (h : List Request) → StandsFor S.Store desk.old h → IsWhole desk.old
         → IsClean S.Store desk.new → LeavesSome S.Store h exchanges desk.new }
     ensures clean { IsClean S.Store desk.new → IsClean S.Store desk.old }
     ensures ends { EndsServing result }
 {
-    let Ok(listener) = listen_at_localhost(rt, port) else {
+    let Ok(listener) = network.listen_at_localhost(port) else {
         return Finish::Ended(End::ReadFault);
     };
-    let moments = MachineClock::new(rt);
+    let moments = MachineClock::new(network);
     let clocks = Clocks {
-        timer: rt,
+        timer: network,
         moments: &moments,
     };
-    serve_on(rt.alloc(), desk, &listener, &clocks, exchanges)
+    serve_on(alloc, desk, &listener, &clocks, exchanges)
 }

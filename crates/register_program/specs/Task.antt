@@ -1,13 +1,12 @@
 -- What comes of what the words ask for.
-use Rattle.std.specs.Prelude.{◌≡◌, ◌⊎◌, ℕ, List, Option, Some, Result, Ok, Err, OnErr}
+use Rattle.std.specs.Prelude.{◌≡◌, ◌⊎◌, ℕ, List, Option, Result, Ok, Err, OnErr}
 use Rattle.sqlite_trees.specs.declared.store.Store.{Ghosts}
 use Rattle.sqlite.specs.Recovery.{Image}
-use Rattle.register_requests.specs.declared.request.Request.{Request}
 use Rattle.register_desk.specs.declared.end.End.TheVariants.{Memory}
 use Rattle.register_desk.specs.declared.opening.OpenRefusal.{OpenRefusal}
-use Rattle.register_desk.specs.declared.runs.Finish.{Finish}
+use Rattle.register_desk.specs.declared.runs.Outcome.{Outcome}
 use Rattle.register_desk.specs.End.{exit_status}
-use Rattle.register_desk.specs.Input.{HasItems}
+use Rattle.register_desk.specs.InMemory.{RunsInMemory}
 use Rattle.register_files.specs.declared.register_file.Life.{Life}
 use Rattle.register_files.specs.declared.register_file.Refused.{Refused}
 use Rattle.register_files.specs.FileCalls.{Exports, ImportsRows, MakesRegister, Reports, RunsLines, ServesExchanges}
@@ -17,18 +16,16 @@ use Rattle.register_program.specs.declared.acting.Done.TheVariants.{RanInMemory,
 use Rattle.register_words.specs.declared.words.Task.{Task}
 use Rattle.register_words.specs.declared.words.Task.TheVariants.{RunInMemory, Init, Run, Import, Export, Report}
 use Rattle.register_words.specs.declared.words.Task.TheVariants.{Serve}
-use Rattle.register_program.specs.Act.{EndsBy, unopened_status, usage_status, status_of}
+use Rattle.register_program.specs.Act.{unopened_status, usage_status, status_of}
 
--- request lines over a register in memory, whose bytes the reader tells
-abbrev pub RunsInMemory : Option (List ℕ) → Option (List ℕ) → Option (List ℕ) → Result Finish OpenRefusal → Type 0
-RunsInMemory input old new (Ok finish) =
-    (bytes : List ℕ) (items : List (Option Request)) (rest : List ℕ)
-    → input ≡ Some bytes → HasItems bytes items rest → EndsBy items rest finish old new
-RunsInMemory input old new (Err refusal) = new ≡ old
+-- request lines over a register in memory, or none was made and nothing was written
+abbrev pub RunsWithoutFile : Option (List ℕ) → Option (List ℕ) → Option (List ℕ) → Result Outcome OpenRefusal → Type 0
+RunsWithoutFile input old new (Ok outcome) = RunsInMemory input old new outcome
+RunsWithoutFile input old new (Err refusal) = new ≡ old
 
 -- the exit status after it
 abbrev pub status_after : {L : Type 0} → Done L → ℕ
-status_after (RanInMemory (Ok finish)) = status_of finish
+status_after (RanInMemory (Ok outcome)) = status_of outcome.end
 status_after (RanInMemory (Err refusal)) = unopened_status
 status_after (Made (Ok left)) = 0
 status_after (Made (Err refused)) = unopened_status
@@ -51,7 +48,7 @@ module _ {S : Type 0} (g : Ghosts S) (may_leave : S → Image → Type 0) (found
   -- A task comes to what the call that it names comes to. Nothing is written where the register is not opened, nor by a
   -- task that serves connections.
   abbrev pub Performs : Task → Option (List ℕ) → Option (List ℕ) → Option (List ℕ) → Done S → Type 0
-  Performs RunInMemory input old new done = (came : _) × (done ≡ RanInMemory came) × RunsInMemory input old new came
+  Performs RunInMemory input old new done = (came : _) × (done ≡ RanInMemory came) × RunsWithoutFile input old new came
   Performs (Init file) input old new done =
       (came : _) × (done ≡ Made came) × MakesRegister g may_leave found came × (new ≡ old)
   Performs (Run file) input old new done =

@@ -4,17 +4,17 @@ ghost use Rattle.register_desk.specs.End.{exit_status};
 ghost use Rattle.register_program.specs.Act.{unopened_status, usage_status, status_of};
 ghost use Rattle.register_program.specs.Act.{ActsWithoutWords};
 ghost use Rattle.register_program.specs.Task.{status_after, ActsBy, IsWordsStatus, Performs};
-ghost use Rattle.register_program.specs.Task.{RunsInMemory};
 
 use clap::error::ErrorKind;
-use register_desk::{End, Finish, OpenRefusal, Watched, create_in_memory, run};
+use register_desk::{End, Finish, OpenRefusal, Outcome, Watched, run_in_memory};
 use register_files::{
-    Closed, Files, Life, Refused, export_file, import_file, init_file, report_file, run_file,
-    serve_file,
+    Closed, Files, Life, Network, Refused, export_file, import_file, init_file, report_file,
+    run_file, serve_file,
 };
 use register_words::{Task, read_days, read_words};
 use std::alloc::Global;
 use std::io::{Read, Write};
+use std::time::Clock;
 
 /// The exit status where the words are no command, ask for help, or have a bad value.
 const USAGE: u8 = 1;
@@ -78,8 +78,8 @@ pub struct Outputs<W, E> {
 
 /// What a task came to.
 pub enum Done<S> {
-    /// Request lines over a register in memory, which ended so, or which could not be made.
-    RanInMemory(Result<Finish, OpenRefusal>),
+    /// Request lines over a register in memory, or it could not be made.
+    RanInMemory(Result<Outcome, OpenRefusal>),
     /// A register was to be made in a file.
     Made(Result<Closed<S>, Refused<S>>),
     /// The register in a file was to be opened for what was done.
@@ -88,25 +88,19 @@ pub enum Done<S> {
     BadValue,
 }
 
-/// Runs over the request lines of `reader`, over a new register in memory.
-fn run_in_memory<R: Read + Drop, W: Write>(
-    alloc: Global,
-    reader: R,
-    writer: &mut Watched<W>,
-) -> Result<Finish, OpenRefusal>
-    requires { writer.old.failed ≡ false }
-    ensures { RunsInMemory (R.remaining reader)
-        (W.contents writer.old.inner) (W.contents writer.new.inner) result }
-{
-    let mut desk = create_in_memory(alloc)?;
-    let mut reader = Watched::new(reader);
-    Ok(run(&mut reader, writer, &mut desk).end)
+/// What the program is given of the machine, and all that it can reach of it.
+#[derive(Drop)]
+pub struct Machine<F, N> {
+    pub alloc: Global,
+    /// How files are opened and closed.
+    pub files: F,
+    /// What listens at ports, and tells the time.
+    pub network: N,
 }
 
-/// Does the task, over these files where it names one.
-pub fn perform_task<F: Files + Drop, R: Read + Drop, W: Write>(
-    rt: &HostRuntime,
-    files: F,
+/// Does the task, over the machine's files where it names one.
+pub fn perform_task<F: Files + Drop, N: Network + Clock + Drop, R: Read + Drop, W: Write>(
+    machine: Machine<F, N>,
     task: &Task<'_>,
     reader: R,
     writer: &mut Watched<W>,
@@ -115,24 +109,32 @@ pub fn perform_task<F: Files + Drop, R: Read + Drop, W: Write>(
     ensures { Performs F.Opened.Store F.may_leave F.start task.now (R.remaining reader)
         (W.contents writer.old.inner) (W.contents writer.new.inner) result }
 {
+    let Machine {
+        alloc,
+        files,
+        network,
+    } = machine;
     match *task {
-        Task::RunInMemory => Done::RanInMemory(run_in_memory(rt.alloc(), reader, writer)),
-        Task::Init { file } => Done::Made(init_file(rt, file, files)),
+        Task::RunInMemory => {
+            let mut reader = Watched::new(reader);
+            Done::RanInMemory(run_in_memory(alloc, &mut reader, writer))
+        }
+        Task::Init { file } => Done::Made(init_file(alloc, file, files)),
         Task::Run { file } => {
             let mut reader = Watched::new(reader);
-            Done::Lived(run_file(rt, file, files, &mut reader, writer))
+            Done::Lived(run_file(alloc, file, files, &mut reader, writer))
         }
         Task::Import { file, terms } => match terms.read() {
-            Some(terms) => Done::Lived(import_file(rt, file, files, &terms, reader, writer)),
+            Some(terms) => Done::Lived(import_file(alloc, file, files, &terms, reader, writer)),
             None => Done::BadValue,
         },
-        Task::Export { file } => Done::Lived(export_file(rt, file, files, writer)),
+        Task::Export { file } => Done::Lived(export_file(alloc, file, files, writer)),
         Task::Report { file, days } => match read_days(days) {
-            Some(days) => Done::Lived(report_file(rt, file, files, days, writer)),
+            Some(days) => Done::Lived(report_file(alloc, file, files, days, writer)),
             None => Done::BadValue,
         },
         Task::Serve { file, bounds } => match bounds.read() {
-            Some(bounds) => Done::Lived(serve_file(rt, file, files, &bounds)),
+            Some(bounds) => Done::Lived(serve_file(alloc, file, files, &network, &bounds)),
             None => Done::BadValue,
         },
     }
@@ -143,7 +145,7 @@ fn report_done<S: Drop>(done: Done<S>, faults: &mut impl Write) -> u8
     ensures { result ≡ status_after done }
 {
     match done {
-        Done::RanInMemory(Ok(finish)) => report_finish(finish, faults),
+        Done::RanInMemory(Ok(outcome)) => report_finish(outcome.end, faults),
         Done::RanInMemory(Err(refusal)) => report_refusal(refusal, faults),
         Done::Made(Ok(_)) => 0,
         Done::Made(Err(refused)) => report_refusal(refused.refusal, faults),
@@ -153,7 +155,7 @@ fn report_done<S: Drop>(done: Done<S>, faults: &mut impl Write) -> u8
     }
 }
 
-/// Does what the words ask for, over these files where they name one. The first word is the
+/// Does what the words ask for, over the machine's files where they name one. The first word is the
 /// program's own name; with no more words it is a run over the request lines of `reader`, over a
 /// new register in memory.
 ///
@@ -161,9 +163,8 @@ fn report_done<S: Drop>(done: Done<S>, faults: &mut impl Write) -> u8
 /// have a bad value, 2 where the register could not be made or opened, 3 after an end of the
 /// register or want of memory for the words, and 4 after a fault of a stream or an import without
 /// its header row.
-pub fn act<F: Files + Drop, R: Read + Drop, W: Write, E: Write>(
-    rt: &HostRuntime,
-    files: F,
+pub fn act<F: Files + Drop, N: Network + Clock + Drop, R: Read + Drop, W: Write, E: Write>(
+    machine: Machine<F, N>,
     words: &[String],
     reader: R,
     outputs: &mut Outputs<W, E>,
@@ -178,8 +179,8 @@ pub fn act<F: Files + Drop, R: Read + Drop, W: Write, E: Write>(
         (W.contents outputs.old.writer.inner) (W.contents outputs.new.writer.inner) }
 {
     let Outputs { writer, faults } = outputs;
-    match read_words(rt.alloc(), words) {
-        Ok(task) => report_done(perform_task(rt, files, &task, reader, writer), faults),
+    match read_words(machine.alloc, words) {
+        Ok(task) => report_done(perform_task(machine, &task, reader, writer), faults),
         Err(error) => report_words_error(&error, faults),
     }
 }

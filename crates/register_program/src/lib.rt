@@ -4,4 +4,6 @@
 
 mod acting;
 
-pub use acting::{Done, Outputs, act, perform_task, report_bad_value, report_end, report_refusal};
+pub use acting::{
+    Done, Machine, Outputs, act, perform_task, report_bad_value, report_end, report_refusal,
+};

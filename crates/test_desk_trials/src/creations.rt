@@ -1,13 +1,14 @@
 //! The making of a register where something is.
 use crate::cases::first_wrong;
-use register_desk::{Desk, OpenRefusal, create_in_memory};
+use crate::fresh_run::make_desk;
+use register_desk::{Desk, OpenRefusal};
 use sqlite::{Connection, MemStore};
 use std::alloc::Global;
 use std::test::Fail;
 
 /// Whether a register is made once in a database, and refused then.
 pub fn is_made_once(alloc: Global) -> Result<bool, Fail> {
-    let connection = create_in_memory(alloc)?.into_connection();
+    let connection = make_desk(alloc)?.into_connection();
     match Desk::create(alloc, connection) {
         Ok(_) => Ok(false),
         Err(unopened) => Ok(unopened.refusal == OpenRefusal::NotARegister),

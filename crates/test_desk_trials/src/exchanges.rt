@@ -1,7 +1,7 @@
 //! HTTP exchanges over a register in memory: the worked ones, in any pieces, and streams that fail.
-use crate::fresh_run::desk_of;
+use crate::fresh_run::{desk_of, make_desk};
 use moment_core::Moment;
-use register_desk::{Desk, End, Finish, MAX_IDLE_TURNS, Outcome, Watched, create_in_memory};
+use register_desk::{Desk, End, Finish, MAX_IDLE_TURNS, Outcome, Watched};
 use register_http::{Routes, exchange};
 use sqlite::MemStore;
 use std::alloc::Global;
@@ -140,7 +140,7 @@ fn is_broken_off(alloc: Global, desk: &mut Desk<MemStore>, taken: usize) -> bool
 
 /// How long a prefix of *advanced* is that is not refused, or changes something, if there is one.
 pub fn prefix_that_acts(alloc: Global) -> Result<Option<usize>, Fail> {
-    let mut desk = create_in_memory(alloc)?;
+    let mut desk = make_desk(alloc)?;
     for taken in 0..ADVANCE.len() {
         let is_refused = is_cut_off(alloc, &mut desk, taken)
             && is_broken_off(alloc, &mut desk, taken);
@@ -156,7 +156,7 @@ pub fn prefix_that_acts(alloc: Global) -> Result<Option<usize>, Fail> {
 /// a write, so many of them, and then has its trouble; and whether its reply then comes when it is
 /// sent again.
 fn is_troubled(alloc: Global, trouble: Trouble, taken: usize) -> Result<bool, Fail> {
-    let mut desk = create_in_memory(alloc)?;
+    let mut desk = make_desk(alloc)?;
     let mut reader = Watched::new(ADVANCE.as_bytes());
     let mut writer = Watched::new(Short {
         inner: Troubled {

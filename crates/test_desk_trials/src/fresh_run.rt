@@ -1,6 +1,6 @@
 //! Runs over a register that was just made.
-use register_desk::{Desk, OpenRefusal, Outcome, Watched, create_in_memory, run};
-use sqlite::MemStore;
+use register_desk::{Desk, OpenRefusal, Outcome, Watched, run};
+use sqlite::{Connection, MemStore};
 use std::alloc::Global;
 use std::io::{Read, Write};
 use std::test::Fail;
@@ -19,13 +19,25 @@ pub struct FreshRun<W> {
     pub writer: W,
 }
 
+/// Makes an empty register in the kit's store in memory. A function that names this store is proved
+/// in seconds; one that names files, in memory too, in most of a minute.
+pub fn make_desk(alloc: Global) -> Result<Desk<MemStore>, OpenRefusal> {
+    let Ok(connection) = Connection::open_in_memory(alloc) else {
+        return Err(OpenRefusal::Memory);
+    };
+    match Desk::create(alloc, connection) {
+        Ok(desk) => Ok(desk),
+        Err(unopened) => Err(unopened.refusal),
+    }
+}
+
 /// Runs over an empty register.
 pub fn fresh_run<R: Read + Drop, W: Write + Drop>(
     alloc: Global,
     input: R,
     output: W,
 ) -> Result<FreshRun<W>, OpenRefusal> {
-    let mut desk = create_in_memory(alloc)?;
+    let mut desk = make_desk(alloc)?;
     let mut reader = Watched::new(input);
     let mut writer = Watched::new(output);
     let outcome = run(&mut reader, &mut writer, &mut desk);
@@ -48,7 +60,7 @@ pub fn run_over(desk: &mut Desk<MemStore>, lines: &[u8], output: &mut Vec<u8>) -
 
 /// The desk after a run over these lines.
 pub fn desk_of(alloc: Global, lines: &[u8]) -> Result<Desk<MemStore>, Fail> {
-    let mut desk = create_in_memory(alloc)?;
+    let mut desk = make_desk(alloc)?;
     let mut output = Vec::new(alloc);
     let _ = run_over(&mut desk, lines, &mut output);
     Ok(desk)

@@ -1,8 +1,9 @@
 //! Imports of tables, over a register in memory.
 use crate::cases::first_wrong;
+use crate::fresh_run::make_desk;
 use moment_core::Moment;
 use register_core::Name;
-use register_desk::{Desk, End, Finish, Outcome, Watched, create_in_memory};
+use register_desk::{Desk, End, Finish, Outcome, Watched};
 use register_report::{MAX_ROWS, import};
 use sqlite::MemStore;
 use std::alloc::Global;
@@ -77,7 +78,7 @@ fn is_answered(
     end: Finish,
     keys: u32,
 ) -> Result<bool, Fail> {
-    let mut desk = create_in_memory(alloc)?;
+    let mut desk = make_desk(alloc)?;
     Ok(replies_to(alloc, &mut desk, (100, 1), table, replies, end) && desk.count() == keys)
 }
 
@@ -92,7 +93,7 @@ fn is_imported(alloc: Global, desk: &mut Desk<MemStore>, moment: u64) -> bool {
 
 /// Whether a table that is sent twice is imported once.
 pub fn is_table_imported_once(alloc: Global) -> Result<bool, Fail> {
-    let mut desk = create_in_memory(alloc)?;
+    let mut desk = make_desk(alloc)?;
     if !is_imported(alloc, &mut desk, 100) || !is_imported(alloc, &mut desk, 200) {
         return Ok(false);
     }
@@ -104,7 +105,7 @@ pub fn is_table_imported_once(alloc: Global) -> Result<bool, Fail> {
 
 /// Whether no row is registered under a number past the last one.
 pub fn is_last_number_the_last(alloc: Global) -> Result<bool, Fail> {
-    let mut desk = create_in_memory(alloc)?;
+    let mut desk = make_desk(alloc)?;
     let (table, replies) = (
         TWO_ROWS.as_bytes(),
         "ok 1 Pre-Active 100\nrefused 1 BadLine\n",
@@ -182,7 +183,7 @@ pub fn is_import_ended_by_no_text(alloc: Global) -> Result<bool, Fail> {
 /// Whether a reader that fails ends the import, and the same table is taken up again later.
 pub fn is_import_ended_by_reader(alloc: Global) -> Result<bool, Fail> {
     let table = TWO_ROWS.as_bytes();
-    let mut desk = create_in_memory(alloc)?;
+    let mut desk = make_desk(alloc)?;
     let interrupted = Interrupted::new(OneByte(table));
     let broken = BrokenAfter(&table[..table.len() - 1]);
     let (one, both) = (
@@ -221,7 +222,7 @@ fn is_cut_by_writer(alloc: Global, desk: &mut Desk<MemStore>, table: &[u8]) -> b
 /// table sent again.
 pub fn is_import_ended_by_writer(alloc: Global) -> Result<bool, Fail> {
     let table = TWO_ROWS.as_bytes();
-    let mut desk = create_in_memory(alloc)?;
+    let mut desk = make_desk(alloc)?;
     let both = "ok 1 Pre-Active 100\nok 2 Pre-Active 100\n";
     Ok(
         is_cut_by_writer(alloc, &mut desk, table)

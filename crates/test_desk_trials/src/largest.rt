@@ -1,9 +1,9 @@
 //! A key at the largest sizes: names of 64 bytes, a purpose of 200, and sixteen custodians who all
 //! approve of its destruction.
 use crate::exchanges::run_exchange;
-use crate::fresh_run::run_over;
+use crate::fresh_run::{make_desk, run_over};
 use crate::imports::{AT_END, replies_to};
-use register_desk::{Desk, Watched, create_in_memory};
+use register_desk::{Desk, Watched};
 use register_report::{export, rotation};
 use sqlite::MemStore;
 use std::alloc::{AllocError, Global};
@@ -92,7 +92,7 @@ fn is_imported(alloc: Global, desk: &mut Desk<MemStore>) -> Result<bool, Fail> {
 
 /// Whether the largest key is made, shown, written out and imported.
 pub fn is_largest_key_held(alloc: Global) -> Result<bool, Fail> {
-    let mut desk = create_in_memory(alloc)?;
+    let mut desk = make_desk(alloc)?;
     Ok(
         is_made(alloc, &mut desk)?
             && is_shown(&mut desk)?

@@ -30,6 +30,7 @@ pub use exchanges::{
 };
 pub use exports::{are_registers_written_out, is_export_ended_by_writer};
 pub use faults::{failed_read_passed_over, failed_write_passed_over, writer_trouble_passed_over};
+pub use fresh_run::make_desk;
 pub use imports::{
     headless_table_imported, is_import_ended_by_no_text, is_import_ended_by_reader,
     is_import_ended_by_writer, is_last_number_the_last, is_table_imported_once, most_rows,

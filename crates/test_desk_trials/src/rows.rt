@@ -4,7 +4,7 @@ use crate::cases::first_wrong;
 use crate::fresh_run::{desk_after, fresh_run};
 use lifecycle_core::Dates;
 use register_core::{Name, Refusal, Reply, Request, read_request, reply_line};
-use register_desk::{Finish, Outcome};
+use register_desk::{Finish, Outcome, Watched, run_in_memory};
 use std::alloc::{AllocError, Global};
 use std::test::Fail;
 use test_faulty_devices::{Interrupted, OneByte, Short};
@@ -132,11 +132,21 @@ fn is_shown(alloc: Global, row: &WorkedRow, shown: &Shown) -> Result<bool, Fail>
     )
 }
 
-/// Whether a run over the row goes as it should, and key 1 is shown as it should be after it.
+/// Whether the program's run over no file does and writes what it should.
+fn is_run_in_memory(alloc: Global, row: &WorkedRow) -> Result<bool, Fail> {
+    let input = input_of(alloc, row)?;
+    let mut reader = Watched::new(input.as_slice());
+    let mut writer = Watched::new(Vec::new(alloc));
+    let outcome = run_in_memory(alloc, &mut reader, &mut writer)?;
+    is_served_whole(alloc, row, &outcome, &writer.into_inner())
+}
+
+/// Whether runs over the row go as they should, and key 1 is shown as it should be after one.
 fn is_good(alloc: Global, row: &WorkedRow) -> Result<bool, Fail> {
+    let is_served = is_run(alloc, row)? && is_run_in_memory(alloc, row)?;
     match &row.shown {
-        Some(shown) => Ok(is_run(alloc, row)? && is_shown(alloc, row, shown)?),
-        None => is_run(alloc, row),
+        Some(shown) => Ok(is_served && is_shown(alloc, row, shown)?),
+        None => Ok(is_served),
     }
 }
 

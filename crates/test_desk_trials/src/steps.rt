@@ -1,8 +1,8 @@
 //! How many steps of the database each command takes: its calls, and the rows that they hand out.
 use crate::cases::first_wrong;
-use crate::fresh_run::{desk_after, desk_of, run_over};
+use crate::fresh_run::{desk_after, desk_of, make_desk, run_over};
 use crate::repeats::DAY;
-use register_desk::{Desk, Watched, create_in_memory};
+use register_desk::{Desk, Watched};
 use register_report::{export, rotation};
 use sqlite::MemStore;
 use std::alloc::Global;
@@ -31,7 +31,7 @@ fn steps_of(alloc: Global, desk: &mut Desk<MemStore>, line: &str) -> Result<u64,
 
 /// A command of the day that takes other steps, if there is one, or where a new desk has taken any.
 pub fn command_of_other_steps(alloc: Global) -> Result<Option<&'static str>, Fail> {
-    let mut desk = create_in_memory(alloc)?;
+    let mut desk = make_desk(alloc)?;
     if desk.steps() != 0 {
         return Ok(Some(""));
     }

@@ -3,6 +3,7 @@
 mod acting;
 mod acts;
 mod files;
+mod network;
 mod serve_words;
 mod served;
 mod tables_in_files;

@@ -1,10 +1,10 @@
 //! What the program does, and what is done to a register's file beside it. Nothing else here names
 //! files of the machine.
 
-use disk_files::DiskFiles;
+use disk_files::{DiskFiles, MachineNetwork};
 use register_desk::Watched;
 use register_files::Files;
-use register_program::{Outputs, act};
+use register_program::{Machine, Outputs, act};
 use sqlite::{Start, Wary};
 use std::alloc::Global;
 use std::io::{Read, Write};
@@ -34,13 +34,12 @@ pub fn act_on<S: Start, R: Read + Drop, W: Write + Drop, E: Write + Drop>(
         writer: Watched::new(output),
         faults,
     };
-    Ok(act(
-        rt,
-        DiskFiles::new(start),
-        words.as_slice(),
-        input,
-        &mut outputs,
-    ))
+    let machine = Machine {
+        alloc: rt.alloc(),
+        files: DiskFiles::new(rt, start),
+        network: MachineNetwork::new(rt),
+    };
+    Ok(act(machine, words.as_slice(), input, &mut outputs))
 }
 
 /// What the program did.
@@ -81,8 +80,8 @@ pub fn does(
 }
 
 /// Runs the statement on the register in the file, whoever opens it.
-fn edit_by<F: Files>(rt: &HostRuntime, files: F, file: &str, statement: &str) -> Result<(), Fail> {
-    let Ok(mut connection) = files.connect(rt, file) else {
+fn edit_by<F: Files>(files: F, file: &str, statement: &str) -> Result<(), Fail> {
+    let Ok(mut connection) = files.connect(file) else {
         return Err(Fail::from("no connection"));
     };
     connection.execute(statement, &[])?;
@@ -96,7 +95,7 @@ fn edit_from<S: Start>(
     file: &str,
     statement: &str,
 ) -> Result<(), Fail> {
-    edit_by(rt, DiskFiles::new(start), file, statement)
+    edit_by(DiskFiles::new(rt, start), file, statement)
 }
 
 /// Runs the statement on the register in the file.

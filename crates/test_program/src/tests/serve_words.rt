@@ -1,7 +1,8 @@
 //! The words of `serve`, and what becomes of it before it serves.
 use super::acting::does;
 use super::files::{is_made, remove};
-use register_files::listen_at_localhost;
+use disk_files::MachineNetwork;
+use register_files::Network;
 use std::test::Fail;
 use test_desk_trials::first_wrong;
 
@@ -49,7 +50,7 @@ fn nothing_is_served_without_a_file(rt: HostRuntime) -> Result<(), Fail> {
 fn a_port_that_is_taken_is_told(rt: HostRuntime) -> Result<(), Fail> {
     let file = "taken_port.keyreg";
     assert!(rt; is_made(&rt, file)?);
-    let listener = listen_at_localhost(&rt, 0)?;
+    let listener = MachineNetwork::new(&rt).listen_at_localhost(0)?;
     let number = listener.local_addr()?.port();
     let port = format!(in rt.alloc(); "{number}")?;
     let words = serve(file, port.as_str(), "1");

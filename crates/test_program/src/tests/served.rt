@@ -1,13 +1,15 @@
 //! Connections that are served, at a port that the system chooses.
+use disk_files::{MachineListener, MachineNetwork};
 use moment_core::Moment;
-use register_desk::{Desk, End, Finish, create_in_memory};
-use register_files::{Clocks, MachineClock, Now, listen_at_localhost, serve_on};
+use register_desk::{Desk, End, Finish};
+use register_files::{Clocks, MachineClock, Network, Now, serve_on};
 use sqlite::MemStore;
 use std::cell::Cell;
 use std::io::{self, ErrorKind, Write};
-use std::net::{IpAddr, Ipv4Addr, TcpListener, TcpStream};
+use std::net::{IpAddr, Ipv4Addr, TcpStream};
 use std::test::Fail;
 use std::time::{Clock, Duration, Instant};
+use test_desk_trials::make_desk;
 use test_worked_rows::{ADVANCE, ADVANCED};
 
 /// A clock that stands still, or tells no moment.
@@ -33,7 +35,7 @@ impl Now for Rising {
 }
 
 /// A client's connection to the listener, with these bytes on it. It waits there to be accepted.
-fn send(rt: &HostRuntime, listener: &TcpListener, bytes: &[u8]) -> io::Result<TcpStream> {
+fn send(rt: &HostRuntime, listener: &MachineListener, bytes: &[u8]) -> io::Result<TcpStream> {
     let mut stream = TcpStream::connect(rt, listener.local_addr()?)?;
     stream.write_all(bytes)?;
     Ok(stream)
@@ -44,7 +46,7 @@ fn send(rt: &HostRuntime, listener: &TcpListener, bytes: &[u8]) -> io::Result<Tc
 fn serve_one(
     rt: &HostRuntime,
     desk: &mut Desk<MemStore>,
-    listener: &TcpListener,
+    listener: &MachineListener,
     seconds: Option<u64>,
     exchanges: u32,
 ) -> Finish {
@@ -61,8 +63,8 @@ const AT_END: Finish = Finish::AtEnd { rest: 0 };
 /// What comes of one client that sends *advanced*: the end, its connection, and the register's
 /// latest moment.
 fn advance(rt: &HostRuntime, seconds: Option<u64>) -> Result<(Finish, TcpStream, u64), Fail> {
-    let mut desk = create_in_memory(rt.alloc())?;
-    let listener = listen_at_localhost(rt, 0)?;
+    let mut desk = make_desk(rt.alloc())?;
+    let listener = MachineNetwork::new(rt).listen_at_localhost(0)?;
     let stream = send(rt, &listener, ADVANCE.as_bytes())?;
     let finish = serve_one(rt, &mut desk, &listener, seconds, 1);
     Ok((finish, stream, desk.latest().seconds()))
@@ -85,8 +87,8 @@ enum Silent {
 
 /// How many seconds a silent client and the one after it take, of which the second is served.
 fn seconds_after(rt: &HostRuntime, silent: Silent) -> Result<Option<u64>, Fail> {
-    let mut desk = create_in_memory(rt.alloc())?;
-    let listener = listen_at_localhost(rt, 0)?;
+    let mut desk = make_desk(rt.alloc())?;
+    let listener = MachineNetwork::new(rt).listen_at_localhost(0)?;
     let first = send(rt, &listener, b"")?;
     let held = match silent {
         Silent::Leaves => {
@@ -134,8 +136,8 @@ const ADVANCE_AGAIN: &str =
 /// The register's latest moment after two connections, each served at the moment that is told once
 /// it is accepted.
 fn latest_after_two(rt: &HostRuntime) -> Result<u64, Fail> {
-    let mut desk = create_in_memory(rt.alloc())?;
-    let listener = listen_at_localhost(rt, 0)?;
+    let mut desk = make_desk(rt.alloc())?;
+    let listener = MachineNetwork::new(rt).listen_at_localhost(0)?;
     let first = send(rt, &listener, ADVANCE.as_bytes())?;
     let second = send(rt, &listener, ADVANCE_AGAIN.as_bytes())?;
     let moments = Rising(Cell::new(100));
@@ -157,7 +159,9 @@ fn each_connection_has_its_own_moment(rt: HostRuntime) -> Result<(), Fail> {
 
 #[test]
 fn no_other_machine_is_served(rt: HostRuntime) -> Result<(), Fail> {
-    let address = listen_at_localhost(&rt, 0)?.local_addr()?;
+    let address = MachineNetwork::new(&rt)
+        .listen_at_localhost(0)?
+        .local_addr()?;
     assert!(rt; address.ip() == IpAddr::V4(Ipv4Addr::LOCALHOST));
     Ok(())
 }

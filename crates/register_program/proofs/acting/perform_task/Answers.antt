@@ -1,14 +1,18 @@
 use Rattle.std.proofs.Common.{refl, inl, inr}
 use Rattle.register_words.specs.declared.words.Task.TheVariants.{RunInMemory, Init, Run, Import, Export, Report}
 use Rattle.register_words.specs.declared.words.Task.TheVariants.{Serve}
-use Rattle.register_program.proofs.Acted.{performs_as, untouched}
+use Rattle.register_program.proofs.Acted.{performs_as, ran_without_file, untouched}
 use Rattle.register_program.proofs.acting.perform_task.Goals as goal
 
 pub returns-in-RunInMemory : goal.returns-in-RunInMemory
 returns-in-RunInMemory g c =
     performs_as g.F.Opened.Store g.F.Files.may_leave g.F.Files.start _ _ _ _ c.args.task.now RunInMemory
-    c.in-RunInMemory.is
-    (c.run_in_memory.result, refl, c.run_in_memory.ensures)
+    c.in-RunInMemory.is (
+      c.run_in_memory.result,
+      refl,
+      ran_without_file _ _ _ c.run_in_memory.result (rw (c.new-reader.ensures) at c.run_in_memory.ensures.runs)
+          (untouched (λ w. g.W.Write.contents w.inner) _ _ _ c.run_in_memory.ensures.untouched),
+    )
 
 pub returns-in-Init : goal.returns-in-Init
 returns-in-Init g c =

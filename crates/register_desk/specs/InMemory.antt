@@ -1,0 +1,34 @@
+-- A run over a register in memory.
+use Rattle.std.specs.Prelude.{◌≡◌, ◌≢◌, ℕ, List, [], Option, Some}
+use Rattle.sqlite_trees.specs.declared.store.Store.{Ghosts}
+use Rattle.sqlite_store.specs.declared.store.FileStore.{FileStore}
+use Rattle.sqlite.specs.Files.{over_files}
+use Rattle.memory_disk.specs.declared.MemoryDisk.{MemoryDisk}
+use Rattle.memory_disk.specs.contracts.MemoryDiskDisk.TheImpl as disk
+use Rattle.register_requests.specs.declared.request.Request.{Request}
+use Rattle.register_desk.specs.declared.desk.Desk.{Desk}
+use Rattle.register_desk.specs.declared.end.End.TheVariants.{Broken}
+use Rattle.register_desk.specs.declared.runs.Finish.TheVariants.{Ended}
+use Rattle.register_desk.specs.declared.runs.Outcome.{Outcome}
+use Rattle.register_desk.specs.Input.{HasItems}
+use Rattle.register_desk.specs.Run.{RunsOver}
+
+-- where it lies: a file in memory, and its log
+abbrev pub MemoryStore : Type 0
+MemoryStore = FileStore MemoryDisk disk.ghosts
+
+abbrev pub over_memory : Ghosts MemoryStore
+over_memory = over_files
+
+-- From the empty history it was a run over these items; a new register is never a broken one.
+pub record RunsFromNone (items : List (Option Request)) (rest : List ℕ) (old new : Option (List ℕ))
+    (outcome : Outcome) : Type 0 where
+  pub desk : Desk MemoryStore over_memory
+  pub over : RunsOver over_memory [] items rest outcome.end outcome.replies old new desk
+  pub sound : outcome.end ≢ Ended Broken
+
+-- over an input whose bytes are known it is a run over the items of these
+abbrev pub RunsInMemory : Option (List ℕ) → Option (List ℕ) → Option (List ℕ) → Outcome → Type 0
+RunsInMemory input old new outcome =
+    (bytes : List ℕ) (items : List (Option Request)) (rest : List ℕ)
+    → input ≡ Some bytes → HasItems bytes items rest → RunsFromNone items rest old new outcome
