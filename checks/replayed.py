@@ -21,30 +21,14 @@ import sys
 import tempfile
 import time
 
-from registers import APPROVED_ANEW, UNSET, expect, keyreg
+from drawn_registers import DAY, FULL, KINDS, at_one_moment, changed, drawn, made
+from registers import UNSET, expect, keyreg
 
 TOP = pathlib.Path(__file__).resolve().parent.parent
 REPLAY = TOP / "examples" / "replay.py"
 # So long, in seconds, a hundred thousand requests may take.
 MOST_SECONDS = 20
-DAY = 86400
 
-# Rows in each table, a moment apart: periods, needs, custodians and approvals that stand.
-FULL = [line for line, _ in APPROVED_ANEW] + [
-    "200 office 1 set-period master 6 0",
-    "210 office 2 set-period data-encryption 12 24",
-    "220 ann 2 register data-encryption bob 220 - - payroll disks",
-    "230 ann 3 register master eve - - - root",
-    "240 eve 1 set-quorum 3 3",
-    "250 bob 6 set-quorum 2 2",
-    "260 eve 2 add-custodian 3 cat",
-    "270 eve 3 add-custodian 3 dan",
-    "280 cat 2 approve 3",
-    "285 ann 4 register data-encryption bob 285 - - disks of site B",
-    "286 ann 5 register data-encryption bob 286 288 - disks of site C",
-    "290 zed 2 revoke 2 3 150",
-    "300 zed 3 advance",
-]
 # One change of each column, with what tells the row, by what no request gives. A request is what is replayed: of its own
 # columns these are changes that the others belie.
 CHANGES = {
@@ -105,24 +89,6 @@ def as_given(file, told=""):
     expect(told in "\n".join(lines), f"{file}: not told: {told}; {lines}")
 
 
-def changed(file, *statements):
-    """A copy of the file in which another program made these changes."""
-    other = f"{file}.changed"
-    for end in ("", "-wal"):
-        if os.path.exists(other + end):
-            os.remove(other + end)
-    source, target = sqlite3.connect(file), sqlite3.connect(other)
-    source.backup(target)
-    source.close()
-    target.execute("PRAGMA foreign_keys = OFF")
-    for statement in statements:
-        rows = target.execute(*statement).rowcount
-        expect(rows != 0, f"{statement} changed nothing")
-    target.commit()
-    target.close()
-    return other
-
-
 def found(file, told, *statements):
     """The change is found, and a line begins with the one text and has the other."""
     status, lines = replay(changed(file, *statements))
@@ -177,50 +143,6 @@ def shuffled(file, chance):
     chance.shuffle(rows)
     puts = [("INSERT INTO request VALUES (?, ?, ?, ?, ?, ?)", row) for row in rows]
     return changed(file, ("DELETE FROM request",), *puts)
-
-
-# ---- drawn requests
-
-KINDS = ("data-encryption", "private-signature", "master")
-PEOPLE = ("ann", "bob", "cat", "dan", "eve", "office")
-
-
-def drawn(chance, count, steps):
-    """Lines of all commands; many are refused. The moments go on by one of the steps."""
-    moment, date = 1_700_000_000, lambda: chance.choice(["-", "-", moment + chance.randrange(-9, 900) * DAY])
-    for number in range(1, count + 1):
-        moment += chance.choice(steps)
-        key, name, who = chance.randint(1, 2 + number // 8), chance.choice(PEOPLE[:5]), chance.choice(PEOPLE)
-        edits = " ".join(str(chance.choice(["=", "=", date()])) for _ in range(3))
-        reason = chance.randint(1, 7)
-        texts = [
-            f"register {chance.choice(KINDS)} {name} {date()} {date()} {date()} key {number}", f"activate {key}", f"set {key} {edits}",
-            f"revoke {key} {reason} {chance.choice(['-', moment - DAY]) if reason in (2, 3) else '-'}",
-            f"assign {key} {name}", f"add-custodian {key} {name}", f"remove-custodian {key} {name}", f"approve {key}", f"approve {key}",
-            f"withdraw {key}", f"destroy {key}", f"set-quorum {key} {chance.randint(2, 3)}",
-            f"set-period {chance.choice(KINDS)} {chance.randint(1, 40)} {chance.randint(0, 40)}", "advance"]
-        weights = [3, 2, 3, 1, 1, 4, 1, 4, 4, 1, 4, 1, 1, 1]
-        text = chance.choices(texts, weights)[0]
-        yield f"{moment} {'office' if text.startswith('set-period') else who} {number} {text}"
-
-
-def at_one_moment(keys, people=("cat", "dan", "eve")):
-    """Lines of one moment alone: keys that are made, get custodians and approvals, and are destroyed."""
-    lines = []
-    for key in range(1, keys + 1):
-        lines.append(f"ann {key} register master bob - - - key {key}")
-        lines += [f"bob {key * 10 + place} add-custodian {key} {name}" for place, name in enumerate(people)]
-        lines += [f"{name} {key} approve {key}" for name in people[:2]]
-        lines.append(f"bob {key * 10 + 9} destroy {key}")
-    return [f"1700000000 {line}" for line in lines]
-
-
-def made(folder, name, lines):
-    """The file of a register that keyreg made, which accepted something of each."""
-    file = os.path.join(folder, f"{name}.keyreg")
-    keyreg(["init", "--file", file])
-    replies = keyreg(["run", "--file", file], lines)
-    return file, sum(reply.startswith("ok ") for reply in replies)
 
 
 # ---- the parts

@@ -34,6 +34,7 @@ import bisect
 import calendar
 import collections
 import contextlib
+import filecmp
 import graphlib
 import itertools
 import os
@@ -51,6 +52,7 @@ from typing import NamedTuple, Optional
 LAST = 253402300799
 UNSET = LAST + 1
 EPOCH = datetime(1970, 1, 1, tzinfo=timezone.utc)
+MOMENT_TEXT = re.compile(r"[0-9]{4}-[0-9]{2}-[0-9]{2}T[0-9]{2}:[0-9]{2}:[0-9]{2}Z")
 # Key types in the order of their codes, from 1, with their months where the office has set none.
 PERIODS = {
     "data-encryption": (24, 36), "authentication": (24, 36), "key-wrapping": (24, 36), "private-signature": (36, 0),
@@ -68,6 +70,15 @@ class Refused(Exception):
 def refuse(holds, name):
     if holds:
         raise Refused(name)
+
+
+def text_of(moment):
+    return (EPOCH + timedelta(seconds=moment)).strftime("%Y-%m-%dT%H:%M:%SZ")
+
+
+def moment_of(text):
+    """The moment of such a text; ValueError where it has no such day or second."""
+    return (datetime.strptime(text, "%Y-%m-%dT%H:%M:%SZ").replace(tzinfo=timezone.utc) - EPOCH) // timedelta(seconds=1)
 
 
 def plus_months(moment, months):
@@ -292,27 +303,44 @@ class Unreadable(Exception):
     """The file is no register of a version that is known here."""
 
 
+@contextlib.contextmanager
+def opened(path, tries=1):
+    """A connection to a copy of the file and its log, so that SQLite makes no file beside them. Where the database was written
+    to while its log was copied, the copy is begun anew, so often at most. Texts are read whatever their bytes are."""
+    with tempfile.TemporaryDirectory() as folder:
+        other = pathlib.Path(folder, "copy")
+        try:
+            while not is_copied(path, str(other)):
+                tries -= 1
+                if tries < 1:
+                    raise Unreadable("it is being written to: take a copy")
+            with contextlib.closing(sqlite3.connect(other.as_uri() + "?mode=ro", uri=True)) as connection:
+                connection.text_factory = lambda raw: raw.decode(errors="surrogateescape")
+                yield connection
+        except (OSError, sqlite3.Error) as fault:
+            raise Unreadable(fault) from None
+
+
+def is_copied(path, other):
+    """Copies the database and then its log, and tells whether the database is still what was copied."""
+    for end in ("", "-wal"):
+        if os.path.exists(other + end):
+            os.remove(other + end)
+        if not end or os.path.exists(path + end):
+            shutil.copyfile(path + end, other + end)
+    filecmp.clear_cache()
+    return filecmp.cmp(path, other, shallow=False)
+
+
 class File:
     """The rows of a file's tables, in their order, and what is wrong with the file itself."""
 
     def __init__(self, path):
         self.has_log, self.faults = os.path.exists(path + "-wal"), []
-        # A copy of the copy is read, so that SQLite makes no file beside it.
-        with tempfile.TemporaryDirectory() as folder:
-            other = pathlib.Path(folder, "copy")
-            try:
-                before = os.stat(path)
-                for end in ("", "-wal")[:1 + self.has_log]:
-                    shutil.copyfile(path + end, f"{other}{end}")
-                if (before.st_mtime_ns, before.st_size) != (os.stat(path).st_mtime_ns, os.stat(path).st_size):
-                    raise Unreadable("it is being written to: take a copy")
-                with contextlib.closing(sqlite3.connect(other.as_uri() + "?mode=ro", uri=True)) as connection:
-                    self.read(connection)
-            except (OSError, sqlite3.Error) as fault:
-                raise Unreadable(fault) from None
+        with opened(path) as connection:
+            self.read(connection)
 
     def read(self, connection):
-        connection.text_factory = lambda raw: raw.decode(errors="surrogateescape")
         made = dict(connection.execute("SELECT name, sql FROM sqlite_schema WHERE type = 'table'"))
         versions = connection.execute("SELECT version FROM meta LIMIT 2").fetchall() if "meta" in made else "no table meta"
         if versions not in ([(1,)], [(2,)]):
@@ -379,11 +407,11 @@ class Register:
             named, kind = self.newest + 1, request.values[0]
             # A key is kept under its reply's number, which is the next one, lest one fault make many.
             self.newest = request.key_no if request.key_no not in self.keys else named
-            refuse(len(self.keys) >= MOST_KEYS, "Full")
         else:
             refuse(key is None, "UnknownKey")
             kind = key.kind
         key = after(key, request, self.set_periods.get(kind, PERIODS[kind]), self.version)
+        refuse(request.word == "register" and len(self.keys) >= MOST_KEYS, "Full")
         self.keys[named if request.named else self.newest] = key
         return named, key.state(request.moment)
 
@@ -564,10 +592,6 @@ class Search:
 
 
 # ---- the verdict
-
-def text_of(moment):
-    return (EPOCH + timedelta(seconds=moment)).strftime("%Y-%m-%dT%H:%M:%SZ")
-
 
 def order_told(file, requests, ordered, met_bound):
     """Lines that say where the file tells no order, and which one was taken."""
