@@ -9,6 +9,7 @@ has the rows of the register in each table, and the same export. What is no stan
 Build the program first: ./keyreg </dev/null
 """
 import argparse
+import contextlib
 import os
 import pathlib
 import random
@@ -74,7 +75,8 @@ def killed(register, standby, seconds, chance):
     if chance.random() < 0.5:
         call.kill()
     else:
-        os.killpg(call.pid, signal.SIGKILL)
+        with contextlib.suppress(ProcessLookupError):
+            os.killpg(call.pid, signal.SIGKILL)
     call.wait()
     call.stdout.close(), call.stderr.close()
     late = time.monotonic() + PATIENCE

@@ -1,9 +1,11 @@
 #!/usr/bin/env python3
 """Puts registers to examples/replay.py. Those that keyreg wrote are what their requests give: a file of version 1, the same
-taken on to version 2, a register with rows in each table, drawn requests, many of one moment, those with the rows of
-`request` in another order. Then one change is planted in each column of each table, a row too many and one too few in each,
-in a register of each version: each is found, by its table and column. So is a request that the rules refuse, by its refusal.
-Last a register of many requests, for its time.
+taken on to version 2, a register with rows in each table, drawn requests, many of one moment. With the rows of `request` in
+another order that is told by a status of its own. Then one change is planted in each column of each table, a row too many and
+one too few in each, in a register of each version: each is found, by its table and column. So is a request that the rules
+refuse, by its refusal; so are rows that stand in another order than in an earlier copy, and not those that were rebuilt as they
+stood. What keyreg reads is read, under names in any case and order. Of a log the frames that count are those that SQLite counts.
+Last a register of many requests, for its time and memory.
 
     checks/replayed.py [--requests N] [--seed N]
 
@@ -22,12 +24,12 @@ import tempfile
 import time
 
 from drawn_registers import DAY, FULL, KINDS, at_one_moment, changed, drawn, made
-from registers import UNSET, expect, keyreg
+from registers import PROGRAM, UNSET, expect, keyreg
 
 TOP = pathlib.Path(__file__).resolve().parent.parent
 REPLAY = TOP / "examples" / "replay.py"
-# So long, in seconds, a hundred thousand requests may take.
-MOST_SECONDS = 20
+# So long, in seconds, a hundred thousand requests may take; and so many bytes any may, and each of them.
+MOST_SECONDS, LEAST_BYTES, BYTES_OF_ONE = 20, 60 << 20, 350
 
 # One change of each column, with what tells the row, by what no request gives. A request is what is replayed: of its own
 # columns these are changes that the others belie.
@@ -82,10 +84,10 @@ def replay(*words):
     return told.returncode, told.stdout.splitlines()
 
 
-def as_given(file, told=""):
+def as_given(file, told="", wanted=0):
     """The register is what its requests give, and the lines have this text."""
     status, lines = replay(file)
-    expect(status == 0, f"{file}: status {status}, {lines[:5]}")
+    expect(status == wanted, f"{file}: status {status}, {lines[:5]}")
     expect(told in "\n".join(lines), f"{file}: not told: {told}; {lines}")
 
 
@@ -172,10 +174,10 @@ def untouched(folder, seed):
     file, accepted = made(folder, "level", at_one_moment(400))
     expect(accepted == 400 * 7, f"{accepted} accepted")
     as_given(file, "2800 requests share their moment")
-    as_given(shuffled(file, chance), "another one than the rows'")
+    as_given(shuffled(file, chance), "another one than the rows'", 3)
     for steps in ((0, 0, DAY), (0, 0, 0, 0, 0, DAY)):
         file, _ = made(folder, f"shuffled_{len(steps)}", list(drawn(chance, 1500, steps)))
-        as_given(shuffled(file, chance))
+        as_given(shuffled(file, chance), "in another order than that of their rows", 3)
         asked += 1
     return first, full, sixteen, asked + 2
 
@@ -193,9 +195,133 @@ def no_order(file, folder):
     for statement in ("UPDATE request SET number = 77 WHERE command = 'advance' AND moment = 300",
                       "INSERT INTO request VALUES ('zed', 77, 'advance', 0, 0, 250)"):
         other = changed(later, (statement,))
-        expect(replay(other)[0] == 0, f"{statement}: it is another history")
+        expect(replay(other)[0] in (0, 3), f"{statement}: it is another history")
         status, lines = replay(other, "--since", file)
         expect(status == 1 and "earlier copy" in lines[0], f"{statement}: {lines}")
+
+
+def swapped(file, one, other):
+    """A copy in which these two rows of `request` stand in each other's places."""
+    return [("UPDATE request SET rowid = -1 WHERE rowid = ?", (one,)), ("UPDATE request SET rowid = ? WHERE rowid = ?", (one, other)),
+            ("UPDATE request SET rowid = ? WHERE rowid = -1", (other,))]
+
+
+def rebuilt(file, way):
+    """A copy that SQLite made anew, as a whole or from a dump: its rows stand as they stood."""
+    other = f"{file}.{way}"
+    source = sqlite3.connect(file)
+    if way == "vacuum":
+        source.execute("VACUUM INTO ?", (other,))
+    else:
+        target = sqlite3.connect(other)
+        target.executescript("\n".join(source.iterdump()))
+        target.close()
+    source.close()
+    return other
+
+
+def earlier_order(folder, chance):
+    """Under --since rows that stand in another order than they stood are found, and nothing is told of those that were rebuilt.
+    Gives how many were found."""
+    lines = ["100 ann 1 register master bob - - - x", "200 office 1 set-period master 6 0", "200 office 2 set-period master 7 0",
+             "200 bob 1 set-quorum 1 3", "200 bob 2 set-quorum 1 4"]
+    file, _ = made(folder, "periods", lines)
+    earlier = shutil.copy(changed(file, ("UPDATE meta SET latest = 200",)), os.path.join(folder, "earlier.keyreg"))
+    # The tables agree with the other order, so that the copy alone tells nothing.
+    agrees = changed(file, *swapped(file, 2, 3), ("UPDATE period SET originator = 6",))
+    expect(replay(agrees)[0] == 0, "two periods of one second the other way round are another history")
+    status, lines = replay(agrees, "--since", earlier)
+    expect(status == 1 and any("stand in another order" in line for line in lines), f"periods: {status}, {lines}")
+    need = changed(file, ("UPDATE quorum SET need = 3",))
+    status, lines = replay(need, "--since", earlier)
+    expect(status == 3 and any("another one than the rows'" in line for line in lines), f"a need: {status}, {lines}")
+    among = changed(file, ("UPDATE request SET rowid = rowid + 10 WHERE rowid > 3",),
+                    ("INSERT INTO request (rowid, caller, number, command, key_no, state, moment) VALUES (4, 'zed', 1, 'advance', 0, 0, 200)",))
+    expect(replay(among)[0] == 0, "an advance among others is another history")
+    status, lines = replay(among, "--since", earlier)
+    expect(status == 1 and any("stands among those of it" in line for line in lines), f"among: {status}, {lines}")
+    file, accepted = made(folder, "later", list(drawn(chance, 300, (0, 0, DAY))))
+    before, tried = os.path.join(folder, "before.keyreg"), 40
+    shutil.copy(changed(file, ("DELETE FROM request WHERE rowid > ?", (accepted // 2,))), before)
+    for way in ("vacuum", "dump"):
+        expect(replay(rebuilt(file, way), "--since", before)[0] == 0, f"--since of a copy that was rebuilt by {way}")
+    expect(replay(file, "--since", before)[0] == 0, "--since of a copy that has more")
+    for _ in range(tried):
+        one, other = chance.sample(range(1, accepted // 2 + 1), 2)
+        status, lines = replay(changed(file, *swapped(file, one, other)), "--since", before)
+        expect(status == 1 and any("stand in another order" in line for line in lines), f"rows {one} and {other}: {status}, {lines}")
+    return tried + 3
+
+
+def anew(table, columns, more=""):
+    """Statements that make a table of the register anew: with these columns, and of no types."""
+    return [(f"CREATE TABLE other AS SELECT {columns} FROM {table}",), (f"DROP TABLE {table}",),
+            (f"ALTER TABLE other RENAME TO {table}{more}",)]
+
+
+def read_as_keyreg(folder, full):
+    """What the program opens is read: names in any case, columns in any order and more of them, keys or none."""
+    changes = {
+        "tables in capitals": [("ALTER TABLE keys RENAME TO more",), ("ALTER TABLE more RENAME TO KEYS",)],
+        "columns in another order": anew("request", "moment, state, key_no, command, number, caller"),
+        "columns in capitals": [("ALTER TABLE request RENAME COLUMN moment TO MOMENT",), ("ALTER TABLE keys RENAME COLUMN owner TO Owner",)],
+        "a column more": [("ALTER TABLE keys ADD COLUMN more INTEGER",)],
+        "a column rowid": anew("request", "*, 100 - rowid AS rowid"),
+    }
+    for name, statements in changes.items():
+        file = shutil.copy(changed(full, *statements), os.path.join(folder, "as_keyreg.keyreg"))
+        as_given(file)
+        found(file, ("keys 1: owner is 'eve'", "'bob'"), ("UPDATE keys SET owner = 'eve' WHERE number = 1",))
+        replies = keyreg(["run", "--file", file], ["400 zed 9 advance"])
+        expect(replies == ["ok 0 - 400"], f"{name}: the program does not take it, {replies}")
+    twice = anew("request", "*")
+    for row in ("SELECT * FROM request WHERE rowid = 1", "SELECT caller, number, 'advance', 0, 0, moment FROM request WHERE rowid = 1"):
+        found(full, ("request ('ann', 1): its row is there 2 times", ""), *twice, (f"INSERT INTO request {row}",))
+    return len(changes)
+
+
+def counted_by_sqlite(file):
+    """How many frames of a log count, by SQLite, which copies them into a copy of the file."""
+    for end in ("", "-wal"):
+        shutil.copy(file + end, f"{file}.counted{end}")
+    connection = sqlite3.connect(f"{file}.counted")
+    count = connection.execute("PRAGMA wal_checkpoint").fetchone()[1]
+    connection.close()
+    return count
+
+
+def logs(folder):
+    """Of logs that a killed program left, whole and damaged, the frames that count are those that SQLite counts."""
+    file = os.path.join(folder, "killed.keyreg")
+    keyreg(["init", "--file", file])
+    with subprocess.Popen([PROGRAM, "run", "--file", file], stdin=subprocess.PIPE, stdout=subprocess.PIPE) as run:
+        run.stdin.write("".join(line + "\n" for line in FULL).encode())
+        run.stdin.flush()
+        for _ in FULL:
+            run.stdout.readline()
+        run.kill()
+    log = pathlib.Path(file + "-wal")
+    whole = log.read_bytes()
+    size = 24 + int.from_bytes(whole[8:12], "big")
+    heads = [whole[at:at + 24] for at in range(32, len(whole) - size + 1, size)]
+    frames = sum(any(head) for head in heads)
+    half, middle = 32 + size * (frames // 2), 32 + size * (frames // 3) + 700
+    older = b"".join(whole[at:at + 8] + b"12345678" + whole[at + 16:at + size] for at in range(half, len(whole) - size + 1, size))
+    ways = {"whole": whole, "cut off": whole[:half], "no header": bytes(1) + whole[1:], "over an earlier log": whole[:half] + older,
+            "a byte in the middle": whole[:middle] + bytes([whole[middle] ^ 1]) + whole[middle + 1:],
+            "a frame of another": whole[:half + 8] + b"12345678" + whole[half + 16:]}
+    loses = ("a byte in the middle", "a frame of another")
+    for name, raw in ways.items():
+        log.write_bytes(raw)
+        count = counted_by_sqlite(file) if name != "no header" else 0
+        there = sum(any(raw[at:at + 24]) for at in range(32, len(raw) - size + 1, size))
+        _, lines = replay(file)
+        told = [line for line in lines if line.startswith("log: ")]
+        wanted = f"log: {count} of its frames count, and {there - count} that follow do not"
+        expect(told and (told[0].startswith(wanted) or name == "no header" and told[0].startswith("log: 0 of")), f"{name}: {told}, not {wanted}")
+        expect((name in loses) == any("what stood behind it is lost" in line for line in told), f"{name}: {told}")
+        expect(name != "whole" or count == frames, f"{count} of {frames} frames count")
+    return len(ways)
 
 
 def unreadable(folder, file):
@@ -206,13 +332,15 @@ def unreadable(folder, file):
     for path in (text, none, os.path.join(folder, "empty"), folder):
         status, lines = replay(path)
         expect(status == 2 and "cannot be read" in lines[-1], f"{path}: {status}, {lines}")
-    for statement in ("UPDATE meta SET version = 3", "DROP TABLE approval", "ALTER TABLE keys ADD COLUMN more INTEGER",
-                      "ALTER TABLE meta RENAME TO other"):
+    for statement in ("UPDATE meta SET version = 3", "DROP TABLE approval", "ALTER TABLE meta RENAME TO other",
+                      "ALTER TABLE keys ADD COLUMN more INTEGER AS (number * 2)", "ALTER TABLE keys RENAME COLUMN owner TO holder"):
         expect(replay(changed(file, (statement,)))[0] == 2, statement)
+    view = changed(file, ("ALTER TABLE period RENAME TO other",), ("CREATE VIEW period AS SELECT * FROM other",))
+    expect(replay(view)[0] == 2, "a view")
 
 
 def measured(folder, count, seed):
-    """The seconds that a register of so many requests takes, with some of each kind."""
+    """The seconds and the megabytes that a register of so many requests takes, with some of each kind."""
     chance = random.Random(seed)
     lines = [f"{1_700_000_000 + number} ann {number} register {chance.choice(KINDS)} bob {1_700_000_000 + number} - - "
              f"disks of rack {number}" for number in range(1, count // 2 + 1)]
@@ -220,11 +348,15 @@ def measured(folder, count, seed):
     file, accepted = made(folder, "many", lines)
     expect(accepted == len(lines), f"{accepted} of {len(lines)} accepted")
     begun = time.monotonic()
-    as_given(file)
-    taken = time.monotonic() - begun
+    with subprocess.Popen([sys.executable, REPLAY, file], stdout=subprocess.DEVNULL) as process:
+        _, status, used = os.wait4(process.pid, 0)
+        process.returncode = status
+    taken, most = time.monotonic() - begun, LEAST_BYTES + BYTES_OF_ONE * count
+    expect(status == 0, f"many requests: {status}")
     expect(count > 100_000 or taken <= MOST_SECONDS, f"{count} requests took {taken:.1f} seconds")
+    expect(used.ru_maxrss * 1024 <= most, f"{count} requests took {used.ru_maxrss >> 10} MB, and not {most >> 20}")
     found(file, ("keys 7: owner is 'eve'", "'bob'"), ("UPDATE keys SET owner = 'eve' WHERE number = 7",))
-    return taken
+    return taken, used.ru_maxrss >> 10
 
 
 def main():
@@ -237,10 +369,13 @@ def main():
         first, full, sixteen, asked = untouched(folder, words.seed)
         count = planted(first, 1) + planted(full, 2) + refused(first, full, sixteen)
         no_order(full, folder)
+        count += earlier_order(folder, random.Random(words.seed))
+        asked += read_as_keyreg(folder, full)
         unreadable(folder, full)
-        taken = measured(folder, words.requests, words.seed)
-    print(f"{asked} registers are what their requests give; {count} of {count} planted changes were found; "
-          f"{words.requests} requests took {taken:.1f} seconds")
+        kinds = logs(folder)
+        taken, megabytes = measured(folder, words.requests, words.seed)
+    print(f"{asked} registers are what their requests give; {count} of {count} planted changes were found; {kinds} logs were counted as "
+          f"SQLite does; {words.requests} requests took {taken:.1f} seconds and {megabytes} MB")
 
 
 main()

@@ -23,7 +23,9 @@ import collections
 import contextlib
 import csv
 import decimal
+import functools
 import io
+import itertools
 import os
 import pathlib
 import re
@@ -46,6 +48,10 @@ FORMULA = "taken for a formula, and this is its result"
 FORMS = ["%Y-%m-%d", "%Y/%m/%d", "%d.%m.%Y", "%d.%m.%y", "%m/%d/%Y", "%m/%d/%y", "%d/%m/%Y", "%d/%m/%y", "%d-%m-%Y", "%d-%b",
          "%b-%d", "%d-%b-%y", "%d-%b-%Y", "%d %b %Y", "%m-%d", "%d-%m"]
 CLOCKS = ["", " %H:%M:%S", " %H:%M", " %I:%M:%S %p", " %I:%M %p"]
+# The forms that a text can have, by what is left of it where numbers and words are alike.
+SHAPED = collections.defaultdict(list)
+for form, clock in itertools.product(FORMS, CLOCKS):
+    SHAPED[re.sub("%[bp]", "a", re.sub("%[YymdHIMS]", "0", form + clock))].append(form + clock)
 MARKS = str.maketrans({"“": '"', "”": '"', "„": '"', "‘": "'", "’": "'", "–": "-", "—": "-", "…": "..."})
 
 
@@ -55,6 +61,7 @@ class Unreadable(Exception):
 
 # ---- what a spreadsheet may have made of a text
 
+@functools.lru_cache(maxsize=None)
 def number_of(text):
     """The number that a spreadsheet takes the text for, with the 15 digits that it keeps, or None."""
     if not re.fullmatch(r"[+-]?(\d+\.?\d*|\.\d+)([eE][+-]?\d{1,3})?", text):
@@ -69,15 +76,15 @@ def is_close(one, other):
     return context.plus(one).normalize() == context.plus(other).normalize()
 
 
+@functools.lru_cache(maxsize=None)
 def days_of(text):
     """Each day that the text may stand for, as month and day, in one form or another; the year may be gone."""
-    plain, found = re.sub(r"[TZ]", " ", text).strip(), set()
-    for form in FORMS:
-        for clock in CLOCKS:
-            with contextlib.suppress(ValueError):
-                day = datetime.strptime(f"2000 {plain}", f"%Y {form}{clock}") if "%y" not in form.lower() else (
-                    datetime.strptime(plain, form + clock))
-                found.add((day.month, day.day))
+    plain, found = " ".join(re.sub(r"[TZ]", " ", text).split()), set()
+    for form in SHAPED.get(re.sub(r"[^\W\d_]+", "a", re.sub(r"\d+", "0", plain)), ()):
+        with contextlib.suppress(ValueError):
+            # A day without a year is one of a leap year.
+            day = datetime.strptime(plain, form) if "%y" in form.lower() else datetime.strptime(f"2000 {plain}", f"%Y {form}")
+            found.add((day.month, day.day))
     return found
 
 
@@ -171,22 +178,38 @@ class Keys:
         self.taken.add(place)
         return self.keys[place]
 
-    def changed(self, row, place):
-        """The key that the row came from, with what became of its fields; the key at the row's own place is asked first."""
-        likely = collections.Counter({place: 1} if place < len(self.keys) else {})
+    def likely(self, row, place):
+        """The keys that the row may have come from: that at its own place, and those that share fields with it, most first."""
+        if place < len(self.keys):
+            yield place
+        shared = collections.Counter()
         for column in COLUMNS[1:]:
             for form in self.forms(row[column]):
                 places = self.by_field[column, form] if row[column] else []
-                likely.update(places if len(places) <= MOST_LIKE else [])
+                shared.update(places if len(places) <= MOST_LIKE else [])
+        yield from (other for other, _ in shared.most_common(MOST_LIKE) if other != place)
+
+    def changed(self, row, place):
+        """The key that the row came from, with what became of its fields; the key at the row's own place is asked first."""
         best = None
-        for other, _ in likely.most_common(MOST_LIKE):
+        for other in self.likely(row, place):
             key = self.keys[other]
             differs = [column for column in COLUMNS if row[column] != key[column]]
-            told = {column: became(key[column], row[column]) for column in differs}
-            if all(told.values()) and len(told) < len(COLUMNS) - 1:
-                # A formula may have become anything.
-                rank = (list(told.values()).count(FORMULA), other in self.taken, len(told), other != place)
+            # A formula may have become anything, and a key that was found for another row is a worse one.
+            least = (0, other in self.taken, len(differs), other != place)
+            if len(differs) >= len(COLUMNS) - 1 or best and least >= best[0]:
+                continue
+            told = {}
+            for column in differs:
+                told[column] = became(key[column], row[column])
+                if not told[column]:
+                    break
+            else:
+                rank = (list(told.values()).count(FORMULA), *least[1:])
                 best = min(best, (rank, other, told), key=lambda one: one[0]) if best else (rank, other, told)
+                # Of no key less differs: one that has all fields was looked for before.
+                if rank <= (0, False, 1, False):
+                    break
         if best is None:
             return None, {}
         self.taken.add(best[1])
@@ -243,8 +266,10 @@ def main():
     try:
         keys = Keys([key for key in rows_of(words.export, ["number", *COLUMNS]) if key])
         rows = rows_of(words.table, COLUMNS)
-        *lines, (is_new, counts) = looked_at(rows, keys)
-        print(*lines, sep="\n", end="\n" if lines else "")
+        for line in looked_at(rows, keys):
+            if isinstance(line, str):
+                print(line, flush=True)
+        is_new, counts = line
         if words.copy:
             last = next_first(words.copy, words.caller)
             told = f"--first {last + 1}" if last + len(rows) <= GREATEST_NUMBER else "none above: take one that is free"
