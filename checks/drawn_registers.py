@@ -1,5 +1,5 @@
-"""Registers for the checks of what is read out of copies: drawn requests, files of both versions of them, changes that another
-program makes, and purposes that trip up whoever reads or writes them."""
+"""Registers for the checks of what is read out of copies: drawn requests, files of both versions of them, changes that
+another program makes, and purposes that trip up whoever reads or writes them."""
 import contextlib
 import os
 import pathlib
@@ -25,18 +25,20 @@ FULL = [line for line, _ in APPROVED_ANEW] + [
     "290 zed 2 revoke 2 3 150",
     "300 zed 3 advance",
 ]
-# Purposes that a register takes, each of which something takes for something else: a terminal, a shell, a spreadsheet, SQL, a
-# line's end that is none, a request line, the longest there are.
+# Purposes that a register takes, each of which something takes for something else: a terminal, a shell, a spreadsheet,
+# SQL, a line's end that is none, a request line, the longest there are.
 HOSTILE = [
-    "a  b   c", "=1+1", "-1", "@sum", "+", "'; DROP TABLE request; --", "\"quoted\", \"again\"", "back\\slash\\n", "%s %d {0}", "$(reboot)`id`",
-    "a\u0085b", "a\u2028b\u2029c", "\u202eesrever", "\u0080\u009b31mred", "\ufeffmark", "\u00a0spaces\u3000", "e\u0301", "\U0010ffff\uffff",
-    "\U0001f511 key", "ü" * 100, "x" * 200, "1700000000 ann 1 advance", "-", "- - - root", "NULL", "key|0|1", "a,b;c\u0300", "\u200b",
+    "a  b   c", "=1+1", "-1", "@sum", "+", "'; DROP TABLE request; --", "\"quoted\", \"again\"", "back\\slash\\n",
+    "%s %d {0}", "$(reboot)`id`", "a\u0085b", "a\u2028b\u2029c", "\u202eesrever", "\u0080\u009b31mred", "\ufeffmark",
+    "\u00a0spaces\u3000", "e\u0301", "\U0010ffff\uffff", "\U0001f511 key", "ü" * 100, "x" * 200,
+    "1700000000 ann 1 advance", "-", "- - - root", "NULL", "key|0|1", "a,b;c\u0300", "\u200b",
 ]
 
 
 def rows_of(file):
     """The rows of each table of a file, by the tables' names, in the order in which they were put there."""
-    with contextlib.closing(sqlite3.connect(pathlib.Path(file).absolute().as_uri() + "?mode=ro", uri=True)) as connection:
+    place = pathlib.Path(file).absolute().as_uri()
+    with contextlib.closing(sqlite3.connect(f"{place}?mode=ro", uri=True)) as connection:
         names = [name for name, in connection.execute("SELECT name FROM sqlite_schema WHERE type = 'table'")]
         return {name: connection.execute(f"SELECT * FROM {name} ORDER BY rowid").fetchall() for name in names}
 
@@ -86,9 +88,11 @@ def drawn(chance, count, steps, purposes=()):
         edits = " ".join(str(chance.choice(["=", "=", date()])) for _ in range(3))
         reason, purpose = chance.randint(1, 7), chance.choice(purposes or [f"key {number}"])
         texts = [
-            f"register {chance.choice(KINDS)} {name} {date()} {date()} {date()} {purpose}", f"activate {key}", f"set {key} {edits}",
+            f"register {chance.choice(KINDS)} {name} {date()} {date()} {date()} {purpose}",
+            f"activate {key}", f"set {key} {edits}",
             f"revoke {key} {reason} {chance.choice(['-', moment - DAY]) if reason in (2, 3) else '-'}",
-            f"assign {key} {name}", f"add-custodian {key} {name}", f"remove-custodian {key} {name}", f"approve {key}", f"approve {key}",
+            f"assign {key} {name}", f"add-custodian {key} {name}", f"remove-custodian {key} {name}",
+            f"approve {key}", f"approve {key}",
             f"withdraw {key}", f"destroy {key}", f"set-quorum {key} {chance.randint(2, 3)}",
             f"set-period {chance.choice(KINDS)} {chance.randint(1, 40)} {chance.randint(0, 40)}", "advance"]
         weights = [3, 2, 3, 1, 1, 4, 1, 4, 4, 1, 4, 1, 1, 1]

@@ -1,8 +1,9 @@
 #!/usr/bin/env python3
-"""A standby follows a register by examples/follow.py. While the register takes one request after the other, calls are begun and
-killed at random, some with the program that they called and some without it. After each kill the standby is a register of the
-first requests: its rows are those that checks/rules.py gives for so many. After a last call, which is let go on to its end, it
-has the rows of the register in each table, and the same export. What is no standby of the register is told, and left as it is.
+"""A standby follows a register by examples/follow.py. While the register takes one request after the other, calls are
+begun and killed at random, some with the program that they called and some without it. After each kill the standby is
+a register of the first requests: its rows are those that checks/rules.py gives for so many. After a last call, which
+is let go on to its end, it has the rows of the register in each table, and the same export. What is no standby of the
+register is told, and left as it is.
 
     checks/followed.py [--lines N] [--kills N] [--longest SECONDS] [--seed N]
 
@@ -51,7 +52,8 @@ class Writer(threading.Thread):
     def __init__(self, file, lines):
         super().__init__(daemon=True)
         self.lines, self.is_well = lines, False
-        self.run_of_program = subprocess.Popen([PROGRAM, "run", "--file", file], stdin=subprocess.PIPE, stdout=subprocess.PIPE)
+        self.run_of_program = subprocess.Popen([PROGRAM, "run", "--file", file], stdin=subprocess.PIPE,
+                                               stdout=subprocess.PIPE)
 
     def run(self):
         program = self.run_of_program
@@ -144,18 +146,21 @@ def killed_at_random(folder, lines, kills, longest, chance):
     expect(writer.is_well, "the register ended before all was given")
     holds_prefix(looks, lines)
     counts = [len(rows.get("request", ())) for rows in looks]
-    expect(counts == sorted(counts) and len(set(counts)) > 2, f"the standby had {counts} requests: too few looks to tell")
+    expect(counts == sorted(counts), f"the standby lost requests: {counts}")
+    expect(len(set(counts)) > 2, f"the standby had {counts} requests: too few looks to tell")
     status, told = followed(register, standby)
     count = is_same(register, standby)
     expect(status == 0 and f", {count} in all" in told, f"the last call: {status}, {told}")
     status, told = followed(register, standby)
-    expect(status == 0 and f": 0 requests given, {count} in all" in told, f"a call with nothing to give: {status}, {told}")
+    has_all = f": 0 requests given, {count} in all" in told
+    expect(status == 0 and has_all, f"a call with nothing to give: {status}, {told}")
     return going, count
 
 
 def of_both_versions(folder, chance):
     """A standby of a file of version 1 has its requests, in a file of version 2."""
-    lines = [line for line in drawn(chance, 60, (0, DAY), HOSTILE) if line.split(" ")[3] not in ("set-period", "set-quorum")]
+    later = ("set-period", "set-quorum")
+    lines = [line for line in drawn(chance, 60, (0, DAY), HOSTILE) if line.split(" ")[3] not in later]
     first, standby = first_version(made(folder, "first", lines)[0]), os.path.join(folder, "of_first.keyreg")
     status, told = followed(first, standby)
     expect(status == 0 and rows_of(standby)["request"] == rows_of(first)["request"], f"of version 1: {status}, {told}")
@@ -173,16 +178,19 @@ def told_apart(folder):
         expect(found == status and how in told, f"{words}: status {found}, {told}")
         expect(not status or not before or kept(words[1], folder) == before, f"{words}: the standby was changed")
 
-    ahead = changed(full, ("INSERT INTO request VALUES ('zed', 9, 'advance', 0, 0, 400)",), ("UPDATE meta SET latest = 400",))
+    ahead = changed(full, ("INSERT INTO request VALUES ('zed', 9, 'advance', 0, 0, 400)",),
+                    ("UPDATE meta SET latest = 400",))
     expect_end(1, "in the standby alone", full, ahead)
     expect_end(1, "request 3 is", changed(full, ("UPDATE request SET number = 77777 WHERE moment = 102",)), full)
     expect_end(1, "the reply to", changed(full, ("UPDATE request SET state = 2 WHERE rowid = 1",)), fresh)
     os.remove(fresh), os.remove(fresh + "-wal")
-    expect_end(1, "is no request", changed(full, ("UPDATE request SET command = 'advance' || char(10) || '1 x 1 advance' WHERE rowid = 1",)), fresh)
+    two_lines = ("UPDATE request SET command = 'advance' || char(10) || '1 x 1 advance' WHERE rowid = 1",)
+    expect_end(1, "is no request", changed(full, two_lines), fresh)
     expect_end(2, "cannot be read", str(text), fresh)
     expect_end(2, "cannot be read", os.path.join(folder, "none"), fresh)
     expect_end(2, "cannot be read", full, str(text))
-    expect_end(3, "No such file", full, os.path.join(folder, "other.keyreg"), program=os.path.join(folder, "no_program"))
+    no_program = os.path.join(folder, "no_program")
+    expect_end(3, "No such file", full, os.path.join(folder, "other.keyreg"), program=no_program)
     expect_end(3, "could not be made", full, os.path.join(folder, "no_folder", "other.keyreg"))
     keyreg(["run", "--file", fresh])
     with subprocess.Popen([PROGRAM, "run", "--file", fresh], stdin=subprocess.PIPE, stdout=subprocess.PIPE) as other:
@@ -209,7 +217,8 @@ def main():
         lines = list(drawn(chance, words.lines, (0, 0, 1, DAY), HOSTILE))
         going, count = killed_at_random(folder, lines, words.kills, words.longest, chance)
         show()
-    print(f"{going} calls were killed, and each left the register of the first requests; at last the standby had all {count}")
+    print(f"{going} calls were killed, and each left the register of the first requests; at last the standby had all "
+          f"{count}")
 
 
 main()

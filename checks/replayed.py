@@ -1,11 +1,11 @@
 #!/usr/bin/env python3
-"""Puts registers to examples/replay.py. Those that keyreg wrote are what their requests give: a file of version 1, the same
-taken on to version 2, a register with rows in each table, drawn requests, many of one moment. With the rows of `request` in
-another order that is told by a status of its own. Then one change is planted in each column of each table, a row too many and
-one too few in each, in a register of each version: each is found, by its table and column. So is a request that the rules
-refuse, by its refusal; so are rows that stand in another order than in an earlier copy, and not those that were rebuilt as they
-stood. What keyreg reads is read, under names in any case and order. Of a log the frames that count are those that SQLite counts.
-Last a register of many requests, for its time and memory.
+"""Puts registers to examples/replay.py. Those that keyreg wrote are what their requests give: a file of version 1, the
+same taken on to version 2, a register with rows in each table, drawn requests, many of one moment. With the rows of
+`request` in another order that is told by a status of its own. Then one change is planted in each column of each
+table, a row too many and one too few in each, in a register of each version: each is found, by its table and column.
+So is a request that the rules refuse, by its refusal; so are rows that stand in another order than in an earlier copy,
+and not those that were rebuilt as they stood. What keyreg reads is read, under names in any case and order. Of a log
+the frames that count are those that SQLite counts. Last a register of many requests, for its time and memory.
 
     checks/replayed.py [--requests N] [--seed N]
 
@@ -31,8 +31,8 @@ REPLAY = TOP / "examples" / "replay.py"
 # So long, in seconds, a hundred thousand requests may take; and so many bytes any may, and each of them.
 MOST_SECONDS, LEAST_BYTES, BYTES_OF_ONE = 20, 60 << 20, 350
 
-# One change of each column, with what tells the row, by what no request gives. A request is what is replayed: of its own
-# columns these are changes that the others belie.
+# One change of each column, with what tells the row, by what no request gives. A request is what is replayed: of its
+# own columns these are changes that the others belie.
 CHANGES = {
     "meta": ("id = 1", {"id": 2, "version": None, "latest": 5000, "key_count": 77}),
     "keys": ("number = 1", {
@@ -60,17 +60,19 @@ MORE = {
 REFUSED = [
     ("UnknownKey", "bob", "activate 99"), ("NotOwner", "ann", "assign 3 bob"), ("NotCustodian", "ann", "approve 3"),
     ("WrongState", "eve", "revoke 3 5 -"), ("DateFrozen", "bob", "set 4 5 = ="), ("DateFrozen", "bob", "set 5 = 400 ="),
-    ("DateOrder", "ann", "register master bob 500 400 - x"), ("PeriodTooLong", "ann", "register master bob 0 15638401 - x"),
+    ("DateOrder", "ann", "register master bob 500 400 - x"),
+    ("PeriodTooLong", "ann", "register master bob 0 15638401 - x"),
     ("PeriodTooLong", "ann", "register data-encryption bob 0 0 63072001 x"),
     ("DateRange", "ann", "register master bob 253402300799 - - x"), ("AlreadyCustodian", "eve", "add-custodian 3 cat"),
     ("NoSuchCustodian", "eve", "remove-custodian 3 zed"), ("OwnerCustodian", "eve", "add-custodian 3 eve"),
-    ("OwnerCustodian", "eve", "assign 3 cat"), ("AlreadyApproved", "cat", "approve 3"), ("NoApproval", "dan", "withdraw 3"),
+    ("OwnerCustodian", "eve", "assign 3 cat"), ("AlreadyApproved", "cat", "approve 3"),
+    ("NoApproval", "dan", "withdraw 3"),
     ("ApprovalsMissing", "eve", "destroy 3"), ("OccurrenceLater", "ann", "revoke 4 2 9999"),
     ("NotOffice", "ann", "set-period master 5 5"),
 ]
-NO_COMMANDS = ["Advance", "advance ", "activate 01", "activate 0", "approve  3", "revoke 4 5 7", "revoke 4 8 -", "destroy 3 3",
-               "set 4 = = +5", "set-quorum 3 6", "set-period master 0 0", "assign 3 b\u00f6b", "register master bob - - - x ",
-               "register master bob - - - a\tb", "register masters bob - - - x", ""]
+NO_COMMANDS = ["Advance", "advance ", "activate 01", "activate 0", "approve  3", "revoke 4 5 7", "revoke 4 8 -",
+               "destroy 3 3", "set 4 = = +5", "set-quorum 3 6", "set-period master 0 0", "assign 3 b\u00f6b",
+               "register master bob - - - x ", "register master bob - - - a\tb", "register masters bob - - - x", ""]
 
 
 def replay(*words):
@@ -131,8 +133,10 @@ def refused(first, full, sixteen):
         found(full, ("request", f"{command!r}, 4, 2, 300): it is none by the rules"), (put, ("bob", command)))
     found(sixteen, ("request", "the rules refuse it, TooManyCustodians"), (put, ("bob", "add-custodian 1 onemore")))
     for command in ("set-quorum 9 3", "set-period master 6 0"):
-        found(first, ("request", f"{command!r}, 4, 2, 300): it is none by the rules of version 1"), (put, ("office", command)))
-    ninth = [(f"INSERT INTO request VALUES ('fay', {900 + n}, 'add-custodian 9 name{n}', 9, 6, {3001 + n})",) for n in range(7)]
+        found(first, ("request", f"{command!r}, 4, 2, 300): it is none by the rules of version 1"),
+              (put, ("office", command)))
+    ninth = [(f"INSERT INTO request VALUES ('fay', {900 + n}, 'add-custodian 9 name{n}', 9, 6, {3001 + n})",)
+             for n in range(7)]
     found(first, ("request ('fay', 906)", "the rules refuse it, TooManyCustodians"), *ninth)
     return len(REFUSED) + len(NO_COMMANDS) + 4
 
@@ -202,7 +206,8 @@ def no_order(file, folder):
 
 def swapped(file, one, other):
     """A copy in which these two rows of `request` stand in each other's places."""
-    return [("UPDATE request SET rowid = -1 WHERE rowid = ?", (one,)), ("UPDATE request SET rowid = ? WHERE rowid = ?", (one, other)),
+    return [("UPDATE request SET rowid = -1 WHERE rowid = ?", (one,)),
+            ("UPDATE request SET rowid = ? WHERE rowid = ?", (one, other)),
             ("UPDATE request SET rowid = ? WHERE rowid = -1", (other,))]
 
 
@@ -221,10 +226,10 @@ def rebuilt(file, way):
 
 
 def earlier_order(folder, chance):
-    """Under --since rows that stand in another order than they stood are found, and nothing is told of those that were rebuilt.
-    Gives how many were found."""
-    lines = ["100 ann 1 register master bob - - - x", "200 office 1 set-period master 6 0", "200 office 2 set-period master 7 0",
-             "200 bob 1 set-quorum 1 3", "200 bob 2 set-quorum 1 4"]
+    """Under --since rows that stand in another order than they stood are found, and nothing is told of those that were
+    rebuilt. Gives how many were found."""
+    lines = ["100 ann 1 register master bob - - - x", "200 office 1 set-period master 6 0",
+             "200 office 2 set-period master 7 0", "200 bob 1 set-quorum 1 3", "200 bob 2 set-quorum 1 4"]
     file, _ = made(folder, "periods", lines)
     earlier = shutil.copy(changed(file, ("UPDATE meta SET latest = 200",)), os.path.join(folder, "earlier.keyreg"))
     # The tables agree with the other order, so that the copy alone tells nothing.
@@ -236,7 +241,8 @@ def earlier_order(folder, chance):
     status, lines = replay(need, "--since", earlier)
     expect(status == 3 and any("another one than the rows'" in line for line in lines), f"a need: {status}, {lines}")
     among = changed(file, ("UPDATE request SET rowid = rowid + 10 WHERE rowid > 3",),
-                    ("INSERT INTO request (rowid, caller, number, command, key_no, state, moment) VALUES (4, 'zed', 1, 'advance', 0, 0, 200)",))
+                    ("INSERT INTO request (rowid, caller, number, command, key_no, state, moment) "
+                     "VALUES (4, 'zed', 1, 'advance', 0, 0, 200)",))
     expect(replay(among)[0] == 0, "an advance among others is another history")
     status, lines = replay(among, "--since", earlier)
     expect(status == 1 and any("stands among those of it" in line for line in lines), f"among: {status}, {lines}")
@@ -249,7 +255,8 @@ def earlier_order(folder, chance):
     for _ in range(tried):
         one, other = chance.sample(range(1, accepted // 2 + 1), 2)
         status, lines = replay(changed(file, *swapped(file, one, other)), "--since", before)
-        expect(status == 1 and any("stand in another order" in line for line in lines), f"rows {one} and {other}: {status}, {lines}")
+        is_found = status == 1 and any("stand in another order" in line for line in lines)
+        expect(is_found, f"rows {one} and {other}: {status}, {lines}")
     return tried + 3
 
 
@@ -264,7 +271,8 @@ def read_as_keyreg(folder, full):
     changes = {
         "tables in capitals": [("ALTER TABLE keys RENAME TO more",), ("ALTER TABLE more RENAME TO KEYS",)],
         "columns in another order": anew("request", "moment, state, key_no, command, number, caller"),
-        "columns in capitals": [("ALTER TABLE request RENAME COLUMN moment TO MOMENT",), ("ALTER TABLE keys RENAME COLUMN owner TO Owner",)],
+        "columns in capitals": [("ALTER TABLE request RENAME COLUMN moment TO MOMENT",),
+                                ("ALTER TABLE keys RENAME COLUMN owner TO Owner",)],
         "a column more": [("ALTER TABLE keys ADD COLUMN more INTEGER",)],
         "a column rowid": anew("request", "*, 100 - rowid AS rowid"),
     }
@@ -275,7 +283,8 @@ def read_as_keyreg(folder, full):
         replies = keyreg(["run", "--file", file], ["400 zed 9 advance"])
         expect(replies == ["ok 0 - 400"], f"{name}: the program does not take it, {replies}")
     twice = anew("request", "*")
-    for row in ("SELECT * FROM request WHERE rowid = 1", "SELECT caller, number, 'advance', 0, 0, moment FROM request WHERE rowid = 1"):
+    for row in ("SELECT * FROM request WHERE rowid = 1",
+                "SELECT caller, number, 'advance', 0, 0, moment FROM request WHERE rowid = 1"):
         found(full, ("request ('ann', 1): its row is there 2 times", ""), *twice, (f"INSERT INTO request {row}",))
     return len(changes)
 
@@ -306,8 +315,10 @@ def logs(folder):
     heads = [whole[at:at + 24] for at in range(32, len(whole) - size + 1, size)]
     frames = sum(any(head) for head in heads)
     half, middle = 32 + size * (frames // 2), 32 + size * (frames // 3) + 700
-    older = b"".join(whole[at:at + 8] + b"12345678" + whole[at + 16:at + size] for at in range(half, len(whole) - size + 1, size))
-    ways = {"whole": whole, "cut off": whole[:half], "no header": bytes(1) + whole[1:], "over an earlier log": whole[:half] + older,
+    older = b"".join(whole[at:at + 8] + b"12345678" + whole[at + 16:at + size]
+                     for at in range(half, len(whole) - size + 1, size))
+    ways = {"whole": whole, "cut off": whole[:half], "no header": bytes(1) + whole[1:],
+            "over an earlier log": whole[:half] + older,
             "a byte in the middle": whole[:middle] + bytes([whole[middle] ^ 1]) + whole[middle + 1:],
             "a frame of another": whole[:half + 8] + b"12345678" + whole[half + 16:]}
     loses = ("a byte in the middle", "a frame of another")
@@ -318,7 +329,8 @@ def logs(folder):
         _, lines = replay(file)
         told = [line for line in lines if line.startswith("log: ")]
         wanted = f"log: {count} of its frames count, and {there - count} that follow do not"
-        expect(told and (told[0].startswith(wanted) or name == "no header" and told[0].startswith("log: 0 of")), f"{name}: {told}, not {wanted}")
+        is_told = told and (told[0].startswith(wanted) or name == "no header" and told[0].startswith("log: 0 of"))
+        expect(is_told, f"{name}: {told}, not {wanted}")
         expect((name in loses) == any("what stood behind it is lost" in line for line in told), f"{name}: {told}")
         expect(name != "whole" or count == frames, f"{count} of {frames} frames count")
     return len(ways)
@@ -333,7 +345,8 @@ def unreadable(folder, file):
         status, lines = replay(path)
         expect(status == 2 and "cannot be read" in lines[-1], f"{path}: {status}, {lines}")
     for statement in ("UPDATE meta SET version = 3", "DROP TABLE approval", "ALTER TABLE meta RENAME TO other",
-                      "ALTER TABLE keys ADD COLUMN more INTEGER AS (number * 2)", "ALTER TABLE keys RENAME COLUMN owner TO holder"):
+                      "ALTER TABLE keys ADD COLUMN more INTEGER AS (number * 2)",
+                      "ALTER TABLE keys RENAME COLUMN owner TO holder"):
         expect(replay(changed(file, (statement,)))[0] == 2, statement)
     view = changed(file, ("ALTER TABLE period RENAME TO other",), ("CREATE VIEW period AS SELECT * FROM other",))
     expect(replay(view)[0] == 2, "a view")
@@ -344,7 +357,8 @@ def measured(folder, count, seed):
     chance = random.Random(seed)
     lines = [f"{1_700_000_000 + number} ann {number} register {chance.choice(KINDS)} bob {1_700_000_000 + number} - - "
              f"disks of rack {number}" for number in range(1, count // 2 + 1)]
-    lines += [f"{1_700_000_000 + count + number} bob {number} add-custodian {number} cat" for number in range(1, count // 2 + 1)]
+    lines += [f"{1_700_000_000 + count + number} bob {number} add-custodian {number} cat"
+              for number in range(1, count // 2 + 1)]
     file, accepted = made(folder, "many", lines)
     expect(accepted == len(lines), f"{accepted} of {len(lines)} accepted")
     begun = time.monotonic()
@@ -374,8 +388,9 @@ def main():
         unreadable(folder, full)
         kinds = logs(folder)
         taken, megabytes = measured(folder, words.requests, words.seed)
-    print(f"{asked} registers are what their requests give; {count} of {count} planted changes were found; {kinds} logs were counted as "
-          f"SQLite does; {words.requests} requests took {taken:.1f} seconds and {megabytes} MB")
+    print(f"{asked} registers are what their requests give; {count} of {count} planted changes were found; "
+          f"{kinds} logs were counted as SQLite does; {words.requests} requests took {taken:.1f} seconds and "
+          f"{megabytes} MB")
 
 
 main()

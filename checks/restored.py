@@ -3,16 +3,19 @@
 
     checks/restored.py [--step N]
 
-A register is backed up as one file. It goes on, and at each of 40 lengths, ten of the first requests and thirty that are N apart,
-its two files are taken as a killed service leaves them; the last life is killed indeed, and has left just these bytes. Then
+A register is backed up as one file. It goes on, and at each of 40 lengths, ten of the first requests and thirty that
+are N apart, its two files are taken as a killed service leaves them; the last life is killed indeed, and has left just
+these bytes. Then
 
-    the trap     the backup is copied over the database, beside the log that is there. What `keyreg run` says of it is told, and
-                 where it takes it, which requests are there: those of the backup, those that were restored away, or others
-    the way      both files are moved aside, and the backup is copied to where no log is: it is the register of the backup
+    the trap     the backup is copied over the database, beside the log that is there. What `keyreg run` says of it is
+                 told, and where it takes it, which requests are there: those of the backup, those that were restored
+                 away, or others
+    the way      both files are moved aside, and the backup is copied to where no log is: it is the register of the
+    backup
 
-What a trap comes to is told, and not held to anything but this: where the program says nothing, the rows of all tables are those
-that checks/rules.py gives for the requests that are there, or examples/replay.py finds it. The right way has to lead to the
-backup's rows at each length. Build the program first: ./keyreg </dev/null
+What a trap comes to is told, and not held to anything but this: where the program says nothing, the rows of all tables
+are those that checks/rules.py gives for the requests that are there, or examples/replay.py finds it. The right way has
+to lead to the backup's rows at each length. Build the program first: ./keyreg </dev/null
 """
 import argparse
 import collections
@@ -75,7 +78,8 @@ class Killed:
         self.program.kill()
         self.program.wait()
         for end in ("", "-wal"):
-            expect(filecmp.cmp(self.file + end, other + end, shallow=False), "a kill leaves other files than were taken")
+            is_same = filecmp.cmp(self.file + end, other + end, shallow=False)
+            expect(is_same, "a kill leaves other files than were taken")
 
 
 def as_taken(file):
@@ -103,8 +107,9 @@ def trapped(backup, killed, length):
     if rows == rows_after(count):
         return {BEFORE: "the backup", BEFORE + length: "without a word, what was restored away"}.get(
             count, "without a word, a part of what was restored away")
-    replay = subprocess.run([sys.executable, os.path.join(TOP, "examples", "replay.py"), file], capture_output=True, check=False)
-    expect(replay.returncode == 1, f"length {length}: taken, no register of the rules, and replay.py ends with {replay.returncode}")
+    words = [sys.executable, os.path.join(TOP, "examples", "replay.py"), file]
+    status = subprocess.run(words, capture_output=True, check=False).returncode
+    expect(status == 1, f"length {length}: taken, no register of the rules, and replay.py ends with {status}")
     return "without a word, a mixture, which replay.py finds"
 
 
@@ -144,7 +149,8 @@ def main():
             restored(backup, killed, wanted)
         show()
     for end, there in sorted(ends.items()):
-        print(f"{len(there)} of {len(lengths)} lengths: {end}: after", ", ".join(str(length) for length, _ in there), "requests")
+        told = ", ".join(str(length) for length, _ in there)
+        print(f"{len(there)} of {len(lengths)} lengths: {end}: after {told} requests")
     silent = sum(len(there) for end, there in ends.items() if end.startswith("without a word"))
     refused = sum(len(there) for end, there in ends.items() if end.startswith("refused"))
     expect(silent and refused, "all lengths came to one end: too few to tell")

@@ -3,8 +3,9 @@
 
     examples/check_table.py TABLE --export EXPORT [--copy COPY --caller NAME]
 
-TABLE is the CSV that is about to be imported, EXPORT what `keyreg export` wrote of the keys that it came from. A row of TABLE
-is found again among the keys where each of its fields is the key's, or is what a spreadsheet may have made of it:
+TABLE is the CSV that is about to be imported, EXPORT what `keyreg export` wrote of the keys that it came from. A row
+of TABLE is found again among the keys where each of its fields is the key's, or is what a spreadsheet may have made of
+it:
 
     a number     0042 becomes 42, 1e5 100000, 3.10 3.1, .5 0.5, and 20 digits become 15
     a date       2026-02-01T00:00:00Z becomes 2026-02-01 00:00:00 or 02/01/26, and 3-4 the fourth of March
@@ -13,10 +14,11 @@ is found again among the keys where each of its fields is the key's, or is what 
     other bytes  Schlüssel becomes SchlÃ¼ssel or Schl?ssel
     other marks  quotes, dashes and dots that were typed become typographic ones, and spaces at the ends go
 
-Each such field is printed, with its row (the first after the header row is 1) and its key; so are rows that are keys already
-as they stand, whose import makes a second key, and rows that the register would refuse for their form. With a copy of the
-register (docs/AUDIT.md takes one) it prints the first number that the caller's next import may take. The last line is the
-verdict. The status is 0 where every row is new and would be a request, 1 where not, 2 where a file cannot be read.
+Each such field is printed, with its row (the first after the header row is 1) and its key; so are rows that are keys
+already as they stand, whose import makes a second key, and rows that the register would refuse for their form. With a
+copy of the register (docs/AUDIT.md takes one) it prints the first number that the caller's next import may take. The
+last line is the verdict. The status is 0 where every row is new and would be a request, 1 where not, 2 where a file
+cannot be read.
 """
 import argparse
 import collections
@@ -45,8 +47,8 @@ CONTROL = re.compile("[\0-\x1f\x7f]")
 GREATEST_NUMBER = 9007199254740991
 FORMULA = "taken for a formula, and this is its result"
 # How spreadsheets write dates, the least ambiguous first.
-FORMS = ["%Y-%m-%d", "%Y/%m/%d", "%d.%m.%Y", "%d.%m.%y", "%m/%d/%Y", "%m/%d/%y", "%d/%m/%Y", "%d/%m/%y", "%d-%m-%Y", "%d-%b",
-         "%b-%d", "%d-%b-%y", "%d-%b-%Y", "%d %b %Y", "%m-%d", "%d-%m"]
+FORMS = ["%Y-%m-%d", "%Y/%m/%d", "%d.%m.%Y", "%d.%m.%y", "%m/%d/%Y", "%m/%d/%y", "%d/%m/%Y", "%d/%m/%y", "%d-%m-%Y",
+         "%d-%b", "%b-%d", "%d-%b-%y", "%d-%b-%Y", "%d %b %Y", "%m-%d", "%d-%m"]
 CLOCKS = ["", " %H:%M:%S", " %H:%M", " %I:%M:%S %p", " %I:%M %p"]
 # The forms that a text can have, by what is left of it where numbers and words are alike.
 SHAPED = collections.defaultdict(list)
@@ -83,7 +85,10 @@ def days_of(text):
     for form in SHAPED.get(re.sub(r"[^\W\d_]+", "a", re.sub(r"\d+", "0", plain)), ()):
         with contextlib.suppress(ValueError):
             # A day without a year is one of a leap year.
-            day = datetime.strptime(plain, form) if "%y" in form.lower() else datetime.strptime(f"2000 {plain}", f"%Y {form}")
+            if "%y" not in form.lower():
+                day = datetime.strptime(f"2000 {plain}", f"%Y {form}")
+            else:
+                day = datetime.strptime(plain, form)
             found.add((day.month, day.day))
     return found
 
@@ -179,7 +184,7 @@ class Keys:
         return self.keys[place]
 
     def likely(self, row, place):
-        """The keys that the row may have come from: that at its own place, and those that share fields with it, most first."""
+        """The keys that the row may have come from: that at its own place, and those that share most fields with it."""
         if place < len(self.keys):
             yield place
         shared = collections.Counter()
@@ -190,7 +195,7 @@ class Keys:
         yield from (other for other, _ in shared.most_common(MOST_LIKE) if other != place)
 
     def changed(self, row, place):
-        """The key that the row came from, with what became of its fields; the key at the row's own place is asked first."""
+        """The key that the row came from, with what became of its fields; that at its own place is asked first."""
         best = None
         for other in self.likely(row, place):
             key = self.keys[other]
@@ -249,7 +254,8 @@ def next_first(path, caller):
                 if not end or os.path.exists(path + end):
                     shutil.copyfile(path + end, f"{other}{end}")
             with contextlib.closing(sqlite3.connect(other.as_uri() + "?mode=ro", uri=True)) as connection:
-                return connection.execute("SELECT max(number) FROM request WHERE caller = ?", [caller]).fetchone()[0] or 0
+                asked = "SELECT max(number) FROM request WHERE caller = ?"
+                return connection.execute(asked, [caller]).fetchone()[0] or 0
         except (OSError, sqlite3.Error) as fault:
             raise Unreadable(f"{path}: {fault}") from None
 

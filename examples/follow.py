@@ -3,19 +3,19 @@
 
     examples/follow.py REGISTER STANDBY [--keyreg PROGRAM]
 
-REGISTER is a register's file, with its log REGISTER-wal beside it, or a copy of both. It may be one that is served: a copy is
-taken here, again where the log went into the database meanwhile, and neither file is written to. STANDBY is made where it is
-not there. Its requests have to be the first ones of REGISTER, row by row. The others go to `keyreg run --file STANDBY`, one after
-the other: the next is given when the reply came, and the reply was the one that REGISTER keeps.
+REGISTER is a register's file, with its log REGISTER-wal beside it, or a copy of both. It may be one that is served: a
+copy is taken here, again where the log went into the database meanwhile, and neither file is written to. STANDBY is
+made where it is not there. Its requests have to be the first ones of REGISTER, row by row. The others go to `keyreg
+run --file STANDBY`, one after the other: the next is given when the reply came, and the reply was the one that
+REGISTER keeps.
 
-It may be called as often as wanted, and be ended at any time: what STANDBY has then is the requests up to some moment, and the
-next call goes on from there, since a request acts once. Nobody else may write to STANDBY: what it accepts besides, the
-register does not have. The last line is the verdict. The status is
+It may be called as often as wanted, and be ended at any time: what STANDBY has then is the requests up to some moment,
+and the next call goes on from there, since a request acts once. Nobody else may write to STANDBY: what it accepts
+besides, the register does not have. The last line is the verdict. The status is
 
-    0  STANDBY has each request that REGISTER had when the copy was taken
-    1  STANDBY has another request than REGISTER, or one more, or a reply was another one: nothing more is given to it
-    2  REGISTER or STANDBY cannot be read
-    3  the program ended otherwise, as its line on standard error says, or is not there. Where STANDBY is in use by another
+    0  STANDBY has each request that REGISTER had when the copy was taken 1  STANDBY has another request than REGISTER,
+    or one more, or a reply was another one: nothing more is given to it 2  REGISTER or STANDBY cannot be read 3  the
+    program ended otherwise, as its line on standard error says, or is not there. Where STANDBY is in use by another
        call, call again
 """
 import argparse
@@ -73,8 +73,8 @@ def further(rows, standby):
         for place, held in enumerate(rows_of(connection), 1):
             row = next(rows, None)
             if row is None:
-                raise Differs(f"request {place} is in the standby alone, {shown(held)}: the register is an older one than it was, "
-                              "or the standby was written to")
+                raise Differs(f"request {place} is in the standby alone, {shown(held)}: the register is an older one "
+                              "than it was, or the standby was written to")
             if row != held:
                 raise Differs(f"request {place} is {shown(row)} in the register, and {shown(held)} in the standby")
     return place
@@ -96,7 +96,7 @@ def run(words, **how):
 
 
 def give(rows, standby, program):
-    """Gives the rows to the standby, each when the one before it is answered; how many there were, and the last one's moment."""
+    """Gives the rows to the standby, each when the one before it is answered; their count, and the last moment."""
     count, moment = 0, None
     with run([program, "run", "--file", standby], stdin=subprocess.PIPE, stdout=subprocess.PIPE) as register:
         with contextlib.suppress(BrokenPipeError):
@@ -109,8 +109,9 @@ def give(rows, standby, program):
                 reply = register.stdout.readline().decode().rstrip("\n")
                 if not reply:
                     break
-                if reply != f"ok {key} {STATES[state]} {moment}":
-                    raise Differs(f"the reply to {line.rstrip()!r} is {reply!r}, and was 'ok {key} {STATES[state]} {moment}'")
+                first = f"ok {key} {STATES[state]} {moment}"
+                if reply != first:
+                    raise Differs(f"the reply to {line.rstrip()!r} is {reply!r}, and was {first!r}")
                 count += 1
         with contextlib.suppress(BrokenPipeError):
             register.stdin.close()
@@ -147,7 +148,8 @@ def main():
         status, told = 2, fault
     except Ended as fault:
         status, told = 3, fault
-    print(f"{words.standby}: {told}".encode(errors="backslashreplace").decode(), file=sys.stderr if status else sys.stdout)
+    line = f"{words.standby}: {told}".encode(errors="backslashreplace").decode()
+    print(line, file=sys.stderr if status else sys.stdout)
     return status
 
 

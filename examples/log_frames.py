@@ -1,10 +1,11 @@
 """Tells how much of a register's log counts, for replay.py, which stands beside this file.
 
-The log is a write-ahead log of SQLite's: a header, and frames of a page each. A frame has the salts of the header, and a sum over
-all before it. Those count that are whole, up to the last that ends a transaction; what follows does not, for SQLite, keyreg and
-replay.py alike. That may be well: a log that began anew is written over an older one, and a stop cuts off what was not answered.
-But of one damaged byte in the middle all that stood behind it is lost too, and nothing else tells it. A frame behind a damaged
-one is known by its own sum, which goes on from the one that its neighbour bears. Room that was never written is no frame.
+The log is a write-ahead log of SQLite's: a header, and frames of a page each. A frame has the salts of the header, and
+a sum over all before it. Those count that are whole, up to the last that ends a transaction; what follows does not,
+for SQLite, keyreg and replay.py alike. That may be well: a log that began anew is written over an older one, and a
+stop cuts off what was not answered. But of one damaged byte in the middle all that stood behind it is lost too, and
+nothing else tells it. A frame behind a damaged one is known by its own sum, which goes on from the one that its
+neighbour bears. Room that was never written is no frame.
 """
 import os
 import struct
@@ -24,8 +25,8 @@ def summed(sums, data, order):
 
 
 def frames_of(file, order, size, salts, sums):
-    """Of each frame, which has a page of so many bytes: whether it is of this log, whether its sum goes on from the one before it,
-    and whether it ends a transaction. Room between frames was written once, and is of this log."""
+    """Of each frame, which has a page of so many bytes: whether it is of this log, whether its sum goes on from the
+    one before it, and whether it ends a transaction. Room between frames was written once, and is of this log."""
     room = 0
     while len(head := file.read(FRAME.size)) == FRAME.size and len(page := file.read(size)) == size:
         _, ends, *its_salts, one, other = FRAME.unpack(head)
@@ -40,8 +41,8 @@ def frames_of(file, order, size, salts, sums):
 
 
 def counted(path):
-    """How many frames count; of those that follow, how many are of an earlier log, of no transaction that was ended, damaged,
-    and whole behind a damaged one."""
+    """How many frames count; of those that follow, how many are of an earlier log, of no transaction that was ended,
+    damaged, and whole behind a damaged one."""
     with open(path, "rb") as file:
         head = file.read(HEADER.size)
         if len(head) < HEADER.size:
@@ -72,9 +73,11 @@ def told(path):
         return []
     earlier, waiting, damaged, behind = others
     parts = [f"{count} {what}" for count, what in (
-        (earlier, "of an earlier log"), (waiting, "of a transaction that was not ended"), (damaged, "damaged or cut off"),
-        (behind, "whole ones behind those")) if count]
-    lines = [f"log: {counts} of its frames count, and {sum(others)} that follow do not" + f": {', '.join(parts)}" * bool(parts)]
+        (earlier, "of an earlier log"), (waiting, "of a transaction that was not ended"),
+        (damaged, "damaged or cut off"), (behind, "whole ones behind those")) if count]
+    lines = [f"log: {counts} of its frames count, and {sum(others)} that follow do not"
+             + f": {', '.join(parts)}" * bool(parts)]
     if behind:
-        lines.append(f"log: frame {counts + waiting + 1} is damaged in the middle of the log, and what stood behind it is lost")
+        lines.append(f"log: frame {counts + waiting + 1} is damaged in the middle of the log, and what stood behind it "
+                     "is lost")
     return lines

@@ -1,10 +1,11 @@
 """Looks for another order of a register's requests at one moment, for replay.py, which stands beside this file.
 
-It only proposes: replay.py takes the order that comes of it one request after the other, and gives its verdict of that. Of each
-key the orders of its requests at one moment are tried, the rows' order first, for one in which each is accepted with the state
-that is kept and which ends in the key's rows. New keys go by their numbers. At most 20000 steps are tried for a key and 2000000
-for all, and 24 orders of the periods of a type. Of a key with more than 64 requests at one moment, and of a type with more than
-four periods at one, the rows' order alone is. Where the bound was met, which is told, no order that is found says little.
+It only proposes: replay.py takes the order that comes of it one request after the other, and gives its verdict of
+that. Of each key the orders of its requests at one moment are tried, the rows' order first, for one in which each is
+accepted with the state that is kept and which ends in the key's rows. New keys go by their numbers. At most 20000
+steps are tried for a key and 2000000 for all, and 24 orders of the periods of a type. Of a key with more than 64
+requests at one moment, and of a type with more than four periods at one, the rows' order alone is. Where the bound was
+met, which is told, no order that is found says little.
 """
 import bisect
 import collections
@@ -91,7 +92,8 @@ class Search:
         """A path for each key of a type, by the first order of its periods in which each has one, or most have."""
         best, kept = (-1, [], {}), self.kept_periods.get(kind)
         groups = by_moment(self.periods[kind])
-        orders = itertools.product(*([group] if len(group) > MOST_PERIODS else itertools.permutations(group) for group in groups))
+        orders = itertools.product(*([group] if len(group) > MOST_PERIODS else itertools.permutations(group)
+                                     for group in groups))
         for order in itertools.islice(orders, MOST_ORDERS):
             self.periods[kind] = given = list(itertools.chain(*order))
             slot, paths = 0, {}

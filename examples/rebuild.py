@@ -4,28 +4,30 @@
     examples/rebuild.py COPY [--until MOMENT] [--without CALLER NUMBER].. > requests.txt
     keyreg init --file new.keyreg && keyreg run --file new.keyreg < requests.txt
 
-A register is what its accepted requests make of an empty one. COPY is a copy of a register's file, of version 1 or 2, with its
-log COPY-wal beside it (docs/AUDIT.md takes one). Neither is written to, and of its tables `request` alone is read: the others
-may be damaged. The lines come by their moments, and then as their rows stand, which is the order in which they were accepted.
+A register is what its accepted requests make of an empty one. COPY is a copy of a register's file, of version 1 or 2,
+with its log COPY-wal beside it (docs/AUDIT.md takes one). Neither is written to, and of its tables `request` alone is
+read: the others may be damaged. The lines come by their moments, and then as their rows stand, which is the order in
+which they were accepted.
 
     --until MOMENT            leaves out each request with a later moment: seconds since 1970, or YYYY-MM-DDTHH:MM:SSZ
     --without CALLER NUMBER   leaves out this request; may be given again
 
 The requests that are left out, and what that does to the others, are told on standard error before anything is written:
 
-    left out:   a request that was asked to be left out, or a row that is no request, or comes a second time
-    refused:    a request that is written and that keyreg will refuse, with the refusal's name and what is lacking for it
-    otherwise:  one that will be accepted with another reply than it had: another state, or another key. Keys have their numbers
-                by the order of their registrations, so where one of these is left out, the keys after it have other numbers,
-                and a request that names one reaches another key than it meant
+    left out:   a request that was asked to be left out, or a row that is no request, or comes a second time refused:
+    a request that is written and that keyreg will refuse, with the refusal's name and what is lacking for it
+    otherwise:  one that will be accepted with another reply than it had: another state, or another key. Keys have
+    their numbers
+                by the order of their registrations, so where one of these is left out, the keys after it have other
+                numbers, and a request that names one reaches another key than it meant
 
-The rules are those of replay.py, which stands beside this file, in version 2, since that is what keyreg makes. The last line
-counts. The status is
+The rules are those of replay.py, which stands beside this file, in version 2, since that is what keyreg makes. The
+last line counts. The status is
 
-    0  all is written that was not asked to be left out, and each request will be accepted with the reply that is kept of it
-    1  all that can be is written; what standard error tells is refused, answered otherwise, or no request
-    2  nothing is written: COPY cannot be read, or has no such request to leave out
-    3  standard output failed: what was written is a prefix of the lines
+    0  all is written that was not asked to be left out, and each request will be accepted with the reply that is kept
+    of it 1  all that can be is written; what standard error tells is refused, answered otherwise, or no request 2
+    nothing is written: COPY cannot be read, or has no such request to leave out 3  standard output failed: what was
+    written is a prefix of the lines
 """
 import argparse
 import os
@@ -46,7 +48,7 @@ class Choice:
         self.twice, self.goes_by_moments = set(connection.execute(twice)), True
 
     def rows(self):
-        """Each row, by its moment and its place in the table, with its request, if it is one, and why it is left out."""
+        """Each row, by its moment and then its place, with its request, if it is one, and why it is left out."""
         columns = "rowid, caller, number, command, key_no, state, moment"
         last, came = None, set()
         for place, *row in self.connection.execute(f"SELECT {columns} FROM request NOT INDEXED ORDER BY moment, rowid"):
@@ -219,8 +221,9 @@ def main():
                 return 2
             for line in lines:
                 say(line)
-            say(f"{words.copy}: {counts['written']} requests up to {text_of(latest)} are written, {counts['left out']} left out; "
-                f"{counts['refused']} of those written will be refused, {counts['otherwise']} answered otherwise")
+            say(f"{words.copy}: {counts['written']} requests up to {text_of(latest)} are written, "
+                f"{counts['left out']} left out; {counts['refused']} of those written will be refused, "
+                f"{counts['otherwise']} answered otherwise")
             sys.stderr.flush()
             return write(choice.lines()) or int(not is_well)
     except Unreadable as fault:

@@ -3,32 +3,35 @@
 
     examples/replay.py COPY [--since EARLIER]
 
-COPY is a copy of a register's file, of version 1 or 2, with its log COPY-wal beside it (docs/AUDIT.md takes one). Neither
-is written to. The requests of its table `request` are taken one after the other by the rules of docs/SPECIFICATION.md,
-which stand here anew. Each has to be accepted, with the reply that is kept of it, and each row of each table has to be what
-they give. What differs is printed by table, row and column. The last line is the verdict. The status is
+COPY is a copy of a register's file, of version 1 or 2, with its log COPY-wal beside it (docs/AUDIT.md takes one).
+Neither is written to. The requests of its table `request` are taken one after the other by the rules of
+docs/SPECIFICATION.md, which stand here anew. Each has to be accepted, with the reply that is kept of it, and each row
+of each table has to be what they give. What differs is printed by table, row and column. The last line is the verdict.
+The status is
 
     0  all is as the requests give, in the order of their rows
     1  something differs
     2  COPY, or EARLIER, cannot be read as a register
     3  all is as the requests give, but in another order than that of their rows: keyreg writes no such file
 
-The order. Requests are taken by their moments, and those of one moment as their rows stand, which keyreg writes as it accepts,
-and which VACUUM and a dump keep. Where something differs in that order, another one is looked for, by other_order.py, which
-stands beside this file. It only proposes: the verdict is always that of one plain replay, in the order that is named. So a 3 says
-that there is an order that gives the tables, not that it is the only one or the true one.
+The order. Requests are taken by their moments, and those of one moment as their rows stand, which keyreg writes as it
+accepts, and which VACUUM and a dump keep. Where something differs in that order, another one is looked for, by
+other_order.py, which stands beside this file. It only proposes: the verdict is always that of one plain replay, in the
+order that is named. So a 3 says that there is an order that gives the tables, not that it is the only one or the true
+one.
 
-What it cannot know: whether the requests are those that were made. Who may write to the file may write another history, with
-rows that agree with it. --since shows that each request of an earlier copy stands in COPY as it stood and in the order in which
-it stood, before all that came since, and that nothing came since with a moment below the earlier copy's latest.
+What it cannot know: whether the requests are those that were made. Who may write to the file may write another
+history, with rows that agree with it. --since shows that each request of an earlier copy stands in COPY as it stood
+and in the order in which it stood, before all that came since, and that nothing came since with a moment below the
+earlier copy's latest.
 
-A file that was taken from version 1 to version 2 does not tell when. All its requests are put to the rules of version 2: what
-version 1 accepted they accept, with the same reply. So a ninth custodian, whom version 1 refused, may be there from any
-moment on. A file of version 1 is put to its own rules.
+A file that was taken from version 1 to version 2 does not tell when. All its requests are put to the rules of version
+2: what version 1 accepted they accept, with the same reply. So a ninth custodian, whom version 1 refused, may be there
+from any moment on. A file of version 1 is put to its own rules.
 
-What keyreg reads is read: tables and columns by their names, in any case and order, and no column more is looked at. Of the log it
-is told which part of it counts (log_frames.py). No more than one row of a request, and each key in few bytes, are held: a million
-requests take some 300 MB, but more where another order is looked for.
+What keyreg reads is read: tables and columns by their names, in any case and order, and no column more is looked at.
+Of the log it is told which part of it counts (log_frames.py). No more than one row of a request, and each key in few
+bytes, are held: a million registrations took 240 MB, and it takes more where another order is looked for.
 """
 import argparse
 import calendar
@@ -229,7 +232,8 @@ FORMS = {
     "register": ("type", "name", "date", "date", "date", "purpose"), "activate": ("key",),
     "set": ("key", "edit", "edit", "edit"), "revoke": ("key", "reason", "date"), "assign": ("key", "name"),
     "add-custodian": ("key", "name"), "remove-custodian": ("key", "name"), "approve": ("key",), "withdraw": ("key",),
-    "destroy": ("key",), "set-quorum": ("key", "need"), "set-period": ("type", "originator", "recipient"), "advance": (),
+    "destroy": ("key",), "set-quorum": ("key", "need"), "set-period": ("type", "originator", "recipient"),
+    "advance": (),
 }
 RANGES = {"key": (1, 4294967295), "date": (0, LAST), "edit": (0, LAST), "need": (2, 5), "reason": (1, 7),
           "originator": (1, 1200), "recipient": (0, 1200)}
@@ -306,8 +310,9 @@ class Unreadable(Exception):
 
 @contextlib.contextmanager
 def opened(path, tries=1):
-    """A connection to a copy of the file and its log, so that SQLite makes no file beside them. Where the database was written
-    to while its log was copied, the copy is begun anew, so often at most. Texts are read whatever their bytes are."""
+    """A connection to a copy of the file and its log, so that SQLite makes no file beside them. Where the database was
+    written to while its log was copied, the copy is begun anew, so often at most. Texts are read whatever their bytes
+    are."""
     with tempfile.TemporaryDirectory() as folder:
         other = pathlib.Path(folder, "copy")
         try:
@@ -340,7 +345,8 @@ class File:
         self.connection, self.faults = connection, []
         made = {name.lower(): (name, sql) for name, sql in
                 connection.execute("SELECT name, sql FROM sqlite_schema WHERE type = 'table'")}
-        versions = connection.execute("SELECT version FROM meta LIMIT 2").fetchall() if "meta" in made else "no table meta"
+        has_meta, asked = "meta" in made, "SELECT version FROM meta LIMIT 2"
+        versions = connection.execute(asked).fetchall() if has_meta else "no table meta"
         if versions not in ([(1,)], [(2,)]):
             raise Unreadable(f"of versions 1 and 2 it has {versions}")
         self.version = versions[0][0]
@@ -351,11 +357,12 @@ class File:
                         if name in made and name not in self.kept]
         self.places = {name: self.place_of(*made.get(name, (name, ""))) for name in self.kept}
         for name in self.kept:
-            self.faults += [f"{name} {row}: a cell of another type" for row in self.rows(name, where=self.is_mistyped(name))]
+            mistyped = self.rows(name, where=self.is_mistyped(name))
+            self.faults += [f"{name} {row}: a cell of another type" for row in mistyped]
         self.look_at_requests()
 
     def place_of(self, name, sql):
-        """The name under which a row's place in the table is read. The table has the columns, and none is made of others."""
+        """The name under which a row's place is read. The table has the columns, and none is made of others."""
         found = [(row[1].lower(), row[-1]) for row in self.connection.execute(f'PRAGMA table_xinfo("{name}")')]
         names = [column for column, _ in found]
         if not set(TABLES[name.lower()][0]) <= set(names) or any(hidden for _, hidden in found) or (
@@ -365,7 +372,8 @@ class File:
 
     @staticmethod
     def is_mistyped(name):
-        return " OR ".join(f"typeof({column}) <> '{'text' if column in OF_TEXT else 'integer'}'" for column in TABLES[name][0])
+        return " OR ".join(f"typeof({column}) <> '{'text' if column in OF_TEXT else 'integer'}'"
+                           for column in TABLES[name][0])
 
     def rows(self, name, order="", where="1"):
         """The rows of a table as they stand, or first by a column. No index of it is asked."""
@@ -377,7 +385,7 @@ class File:
         return self.connection.execute(f"SELECT count(*) FROM {name} NOT INDEXED").fetchone()[0]
 
     def look_at_requests(self):
-        """Whether their rows go by their moments, which are there twice, and at which moments there is more than one."""
+        """Whether their rows go by their moments, which are there twice, and how many share their moment."""
         moments = self.connection.execute(f"SELECT moment FROM request NOT INDEXED ORDER BY {self.places['request']}")
         self.goes_by_moments, last = True, -1
         for moment, in moments:
@@ -385,15 +393,16 @@ class File:
                 self.goes_by_moments &= last <= moment
                 last = moment
         self.twice = {(caller, number): count for caller, number, count in self.connection.execute(
-            "SELECT caller, number, count(*) FROM request NOT INDEXED GROUP BY caller COLLATE BINARY, number HAVING count(*) > 1")}
+            "SELECT caller, number, count(*) FROM request NOT INDEXED "
+            "GROUP BY caller COLLATE BINARY, number HAVING count(*) > 1")}
         self.faults += [f"request {place}: its row is there {count} times" for place, count in self.twice.items()]
         self.shared = self.connection.execute(
             "SELECT count(*), sum(many), min(moment) FROM (SELECT moment, count(*) AS many FROM request NOT INDEXED "
             "WHERE typeof(moment) = 'integer' GROUP BY moment HAVING many > 1)").fetchone()
 
     def requests(self, faults=None):
-        """The requests by their moments, and then as their rows stand. A row that is none is a fault. Of the rows of one
-        caller and number the first is taken."""
+        """The requests by their moments, and then as their rows stand. A row that is none is a fault. Of the rows of
+        one caller and number the first is taken."""
         came = set()
         for row in self.rows("request", "" if self.goes_by_moments else "moment"):
             place = row[:2]
@@ -518,7 +527,7 @@ END = float("inf")
 
 
 def key_differences(file, register):
-    """A line for each difference in the tables that are about keys, key by key, so that the rows of one alone are held."""
+    """A line for each difference in the tables that are about keys, by key, so that the rows of one alone are held."""
     groups = {name: Groups(file, name) for name in ("keys", "custodian", "approval", "quorum") if name in file.kept}
     numbers = iter(register.keys.numbers())
     wanted = next(numbers, END)
@@ -597,12 +606,13 @@ def since_in_detail(earlier, file):
     stood, stands = [place for place in then if place in now], [place for place in now if place in then]
     moved = [(one, other) for one, other in zip(stood, stands) if one != other]
     if moved:
-        yield (f"request {moved[0][1]}: its row stands where that of {moved[0][0]} stood in the earlier copy; so {len(moved)} rows "
-               "stand in another order")
+        yield (f"request {moved[0][1]}: its row stands where that of {moved[0][0]} stood in the earlier copy; so "
+               f"{len(moved)} rows stand in another order")
     last = max((at for at, place in enumerate(now) if place in then), default=-1)
     among = [place for at, place in enumerate(now) if at < last and place not in then]
     if among:
-        yield f"request {among[0]}: its row came in since the earlier copy, and stands among those of it; so {len(among)} rows do"
+        yield (f"request {among[0]}: its row came in since the earlier copy, and stands among those of it; so "
+               f"{len(among)} rows do")
 
 
 def judged(file):
@@ -613,7 +623,8 @@ def judged(file):
             # It stands beside this file. Where it does not, no other order is looked for.
             from other_order import Search
         except ImportError:
-            return file.faults + found, ["order: no other was looked for: other_order.py is not beside this file"], False
+            told = "order: no other was looked for: other_order.py is not beside this file"
+            return file.faults + found, [told], False
         search = Search(file, list(file.requests()))
         other = search.order()
         again = replayed(file, other)
@@ -658,7 +669,8 @@ def main():
     told += before
     for line in told + order:
         print(line.encode(errors="backslashreplace").decode())
-    verdict = "each row of each table is as the requests give" + ", in another order than that of their rows" * is_another_order
+    verdict = "each row of each table is as the requests give"
+    verdict += ", in another order than that of their rows" * is_another_order
     print(f"{words.copy}: {counts}: {f'{len(told)} differences' if told else verdict}")
     return 1 if told else 3 if is_another_order else 0
 
