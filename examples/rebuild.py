@@ -221,9 +221,8 @@ def main():
                 return 2
             for line in lines:
                 say(line)
-            say(f"{words.copy}: {counts['written']} requests up to {text_of(latest)} are written, "
-                f"{counts['left out']} left out; {counts['refused']} of those written will be refused, "
-                f"{counts['otherwise']} answered otherwise")
+            say(f"{words.copy}: {counts['written']} requests up to {text_of(latest)}, {counts['left out']} left out; "
+                f"{counts['refused']} will be refused, {counts['otherwise']} answered otherwise")
             sys.stderr.flush()
             return write(choice.lines()) or int(not is_well)
     except Unreadable as fault:
