@@ -33,7 +33,7 @@ TOP = pathlib.Path(__file__).resolve().parent.parent
 REBUILD = TOP / "examples" / "rebuild.py"
 # By how much the moments of a register go on: not at all, so that the rows' order is all that tells it, or now and then.
 STEPS = [(0, 0, 0, DAY), (0,), (0, DAY, 30 * DAY), (1, DAY)]
-TOLD = re.compile(r"(refused|otherwise): (\d+) (\S+) (\d+) ['\"].*['\"]: (\w+)")
+TOLD = re.compile(r"(refused|otherwise): \d+ (\S+) (\d+) ['\"].*['\"]: (\w+)")
 
 
 def rebuilt(*words):
@@ -109,7 +109,7 @@ def without(folder, copy, chance):
     _, replies = remade(folder, given)
     said = {"refused": {}, "otherwise": {}}
     for found in filter(None, map(TOLD.match, told)):
-        said[found[1]][found[3], int(found[4])] = found[5]
+        said[found[1]][found[2], int(found[3])] = found[4]
     refused, otherwise = {}, set()
     for line, reply in zip(given.decode().split("\n"), replies):
         place = (line.split(" ")[1], int(line.split(" ")[2]))

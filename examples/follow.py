@@ -25,12 +25,14 @@ import os
 import subprocess
 import sys
 
-from replay import Unreadable, opened, text_of
+# What is read from beside this file leaves none there.
+sys.dont_write_bytecode = True
+from replay import Unreadable, columns_of, opened, row_place, text_of
 
 STATES = ("-", "Pre-Active", "Active", "Deactivated", "Compromised", "Destroyed", "Destroyed-Compromised")
 # How often a copy is begun anew of a register that is written to meanwhile.
 TRIES = 50
-ROWS = "SELECT caller, number, command, key_no, state, moment FROM request NOT INDEXED ORDER BY rowid"
+ROWS = "SELECT caller, number, command, key_no, state, moment FROM request NOT INDEXED ORDER BY "
 
 
 class Differs(Exception):
@@ -57,7 +59,7 @@ def reading(path):
 def rows_of(connection):
     """The rows of `request`; none where there is no such table yet."""
     if connection.execute("SELECT count(*) FROM sqlite_schema WHERE lower(name) = 'request'").fetchone()[0]:
-        for row in connection.execute(ROWS):
+        for row in connection.execute(ROWS + row_place(columns_of(connection, "request"))):
             yield row
 
 

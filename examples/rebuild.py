@@ -33,7 +33,10 @@ import argparse
 import os
 import sys
 
-from replay import (LAST, MOMENT_TEXT, Refused, Register, Unreadable, moment_of, opened, request_of, text_of)
+# What is read from beside this file leaves none there.
+sys.dont_write_bytecode = True
+from replay import (LAST, MOMENT_TEXT, Refused, Register, Unreadable, columns_of, moment_of, opened, request_of,
+                    row_place, text_of)
 
 STATES = ("-", "Pre-Active", "Active", "Deactivated", "Compromised", "Destroyed", "Destroyed-Compromised")
 ROW = (str, int, str, int, int, int)
@@ -46,12 +49,13 @@ class Choice:
         self.connection, self.until, self.without, self.named = connection, until, without, set()
         twice = "SELECT caller, number FROM request NOT INDEXED GROUP BY caller, number HAVING count(*) > 1"
         self.twice, self.goes_by_moments = set(connection.execute(twice)), True
+        self.place = row_place(columns_of(connection, "request"))
 
     def rows(self):
         """Each row, by its moment and then its place, with its request, if it is one, and why it is left out."""
-        columns = "rowid, caller, number, command, key_no, state, moment"
-        last, came = None, set()
-        for place, *row in self.connection.execute(f"SELECT {columns} FROM request NOT INDEXED ORDER BY moment, rowid"):
+        columns = f"{self.place}, caller, number, command, key_no, state, moment"
+        asked, last, came = f"SELECT {columns} FROM request NOT INDEXED ORDER BY moment, {self.place}", None, set()
+        for place, *row in self.connection.execute(asked):
             self.goes_by_moments &= last is None or last < place
             request, last, name = read_request(row), place, tuple(row[:2])
             if request is None:

@@ -50,6 +50,9 @@ import tempfile
 from datetime import datetime, timedelta, timezone
 from typing import NamedTuple, Optional
 
+# What is read from beside this file leaves none there.
+sys.dont_write_bytecode = True
+
 # ---- the rules: moments and usage periods
 
 LAST = 253402300799
@@ -338,6 +341,16 @@ def is_copied(path, other):
     return filecmp.cmp(path, other, shallow=False)
 
 
+def row_place(columns):
+    """The name under which SQLite gives a row's place in its table, where the table has these columns."""
+    return next(place for place in ("rowid", "_rowid_", "oid") if place not in columns)
+
+
+def columns_of(connection, name):
+    """The names of a table's columns, in small letters, each with whether it is hidden or made of others."""
+    return {row[1].lower(): row[-1] for row in connection.execute(f'PRAGMA table_xinfo("{name}")')}
+
+
 class File:
     """The rows of a file's tables, in their order, and what is wrong with the file itself."""
 
@@ -363,12 +376,10 @@ class File:
 
     def place_of(self, name, sql):
         """The name under which a row's place is read. The table has the columns, and none is made of others."""
-        found = [(row[1].lower(), row[-1]) for row in self.connection.execute(f'PRAGMA table_xinfo("{name}")')]
-        names = [column for column, _ in found]
-        if not set(TABLES[name.lower()][0]) <= set(names) or any(hidden for _, hidden in found) or (
-                not sql.upper().startswith("CREATE TABLE")):
-            raise Unreadable(f"it has no table {name} with the columns {TABLES[name.lower()][0]}")
-        return next(place for place in ("rowid", "_rowid_", "oid") if place not in names)
+        found, wanted = columns_of(self.connection, name), TABLES[name.lower()][0]
+        if not found.keys() >= set(wanted) or any(found.values()) or not sql.upper().startswith("CREATE TABLE"):
+            raise Unreadable(f"it has no table {name} with the columns {wanted}")
+        return row_place(found)
 
     @staticmethod
     def is_mistyped(name):
