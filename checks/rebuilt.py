@@ -31,7 +31,7 @@ from rules_shown import tables
 
 TOP = pathlib.Path(__file__).resolve().parent.parent
 REBUILD = TOP / "examples" / "rebuild.py"
-# By how much the moments of a register go on: not at all, so that the rows' order is all that tells it, or now and then.
+# By how much the moments of a register go on: where not at all, the rows' order alone tells that of the requests.
 STEPS = [(0, 0, 0, DAY), (0,), (0, DAY, 30 * DAY), (1, DAY)]
 TOLD = re.compile(r"(refused|otherwise): \d+ (\S+) (\d+) ['\"].*['\"]: (\w+)")
 
@@ -82,7 +82,8 @@ def whole(folder, copy):
 
 def prefixes(folder, copy, lines, chance):
     """Of a prefix come the tables that the rules give for the lines of that prefix."""
-    moments = sorted({int(line.split(" ")[0]) for line in lines})
+    # Of accepted requests, so that a moment too few or too many is seen.
+    moments = [row[-1] for row in rows_of(copy)["request"]]
     for until in {0, moments[0], chance.choice(moments), chance.choice(moments) - 1, moments[-1]}:
         register = Register()
         for line in lines:
