@@ -212,10 +212,10 @@ def all_changed(folder):
         put(table, rows[::way])
         begun, words = time.monotonic(), [sys.executable, CHECK, table, "--export", export]
         with subprocess.Popen(words, stdout=subprocess.PIPE, text=True) as process:
-            first, was_going = process.stdout.readline(), process.poll() is None
+            first, came = process.stdout.readline(), time.monotonic() - begun
             lines = [first, *process.stdout]
         taken.append(time.monotonic() - begun)
-        expect(was_going, f"{form}: nothing was told before the end")
+        expect(came < taken[-1] / 2, f"{form}: the first line came after {came:.1f} of {taken[-1]:.1f} seconds")
         told = dict(re.findall(r"row (\d+) \(key (\d+)\): deactivation was .*: taken for a date", "".join(lines)))
         wanted = {str(row): str(row if way == 1 else count + 1 - row) for row in range(1, count + 1)}
         has_all = told == wanted and f"{count} changed by a spreadsheet" in lines[-1]
