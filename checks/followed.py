@@ -204,7 +204,7 @@ def told_apart(folder):
 
 def main():
     words = argparse.ArgumentParser()
-    words.add_argument("--lines", type=int, default=20_000)
+    words.add_argument("--lines", type=int, default=40_000)
     words.add_argument("--kills", type=int, default=40)
     words.add_argument("--longest", type=float, default=0.6)
     words.add_argument("--seed", type=int, default=random.randrange(1_000_000))
