@@ -6,19 +6,21 @@ the same export.
 
 With --until the tables are those that checks/rules.py gives for the lines of that prefix. With --without each request
 that is said to be refused is refused by that name, each that is said to be answered otherwise is, and no other one.
-Rows that are no requests, one of which would be two lines, come through to no line. What cannot be read or written
-ends with its own status.
+Rows that are no requests, one of which would be two lines, come through to no line. Of a damaged file what is whole
+comes. What cannot be read or written ends with its own status.
 
     checks/rebuilt.py [--requests N] [--registers N] [--lines N] [--seed N]
 
-Build the program first: ./keyreg </dev/null
+It needs SQLite's shell. Build the program first: ./keyreg </dev/null
 """
 import argparse
+import contextlib
 import os
 import pathlib
 import random
 import re
 import shutil
+import sqlite3
 import subprocess
 import sys
 import tempfile
@@ -162,6 +164,34 @@ def no_requests(folder, copy):
     expect(any(line.startswith("order: ") for line in told), "rows that do not go by their moments are not told")
 
 
+def damaged(folder):
+    """Of a file with a page of noise all requests come, where it is none of theirs. Where it is one of theirs, none is
+    written; of what SQLite's shell finds in the other pages each comes, in its order."""
+    lines = [f"{100 + place} ann {place} register master bob - - - disks {place} {'x' * 150}" for place in range(1, 121)]
+    whole_file, _ = made(folder, "whole", lines)
+    copy = changed(whole_file, ("UPDATE meta SET latest = latest",))
+    for table, wanted in (("keys", 0), ("request", 2)):
+        with contextlib.closing(sqlite3.connect(copy)) as connection:
+            root, size = connection.execute("SELECT rootpage FROM sqlite_schema WHERE name = ?", [table]).fetchone()[0], 4096
+        raw = bytearray(pathlib.Path(copy).read_bytes())
+        # The first page below the root of the table.
+        child = int.from_bytes(raw[(root - 1) * size + 12:][:2], "big") + (root - 1) * size
+        leaf = int.from_bytes(raw[child:child + 4], "big")
+        raw[(leaf - 1) * size:leaf * size] = b"\xff" * size
+        bad, found = f"{copy}.{table}", f"{copy}.found"
+        pathlib.Path(bad).write_bytes(raw)
+        done = subprocess.run([PROGRAM, "report", "--file", bad, "--days", "0"], capture_output=True, check=False)
+        status, given, told = rebuilt(bad)
+        expect(done.returncode and status == wanted, f"{table}: {done}, {status}, {told}")
+        expect(given == rebuilt(copy)[1] if wanted == 0 else not given, f"{table}: {given[:200]}")
+    dump = f"sqlite3 {bad} '.dump --preserve-rowids request' | sed 's/^ROLLBACK.*/COMMIT;/' | sqlite3 {found}"
+    subprocess.run(["sh", "-c", dump], stderr=subprocess.DEVNULL, check=True)
+    _, given, told = rebuilt(found)
+    there = set(given.decode().splitlines())
+    expect(given.decode().splitlines() == [line for line in lines if line in there], "what was found comes in another order")
+    expect(60 < len(there) < len(lines) and "answered otherwise" in told[-1], f"{len(there)} of {len(lines)} were found")
+
+
 def statuses(folder, copy):
     """What cannot be read, left out or written ends with its own status, and nothing is written that should not be."""
     text = pathlib.Path(folder, "text")
@@ -218,6 +248,7 @@ def main():
         another_key(folder)
         no_requests(folder, full)
         statuses(folder, full)
+        damaged(folder)
         expect(min(foretold) > 0, f"{foretold} refused and answered otherwise: too few to tell")
         taken = many(folder, words.requests)
         show()
