@@ -167,12 +167,14 @@ def no_requests(folder, copy):
 def damaged(folder):
     """Of a file with a page of noise all requests come, where it is none of theirs. Where it is one of theirs, none is
     written; of what SQLite's shell finds in the other pages each comes, in its order."""
-    lines = [f"{100 + place} ann {place} register master bob - - - disks {place} {'x' * 150}" for place in range(1, 121)]
+    lines = [f"{100 + place} ann {place} register master bob - - - disks {place} {'x' * 150}"
+             for place in range(1, 121)]
     whole_file, _ = made(folder, "whole", lines)
     copy = changed(whole_file, ("UPDATE meta SET latest = latest",))
     for table, wanted in (("keys", 0), ("request", 2)):
         with contextlib.closing(sqlite3.connect(copy)) as connection:
-            root, size = connection.execute("SELECT rootpage FROM sqlite_schema WHERE name = ?", [table]).fetchone()[0], 4096
+            asked, size = "SELECT rootpage FROM sqlite_schema WHERE name = ?", 4096
+            root = connection.execute(asked, [table]).fetchone()[0]
         raw = bytearray(pathlib.Path(copy).read_bytes())
         # The first page below the root of the table.
         child = int.from_bytes(raw[(root - 1) * size + 12:][:2], "big") + (root - 1) * size
@@ -187,9 +189,10 @@ def damaged(folder):
     dump = f"sqlite3 {bad} '.dump --preserve-rowids request' | sed 's/^ROLLBACK.*/COMMIT;/' | sqlite3 {found}"
     subprocess.run(["sh", "-c", dump], stderr=subprocess.DEVNULL, check=True)
     _, given, told = rebuilt(found)
-    there = set(given.decode().splitlines())
-    expect(given.decode().splitlines() == [line for line in lines if line in there], "what was found comes in another order")
-    expect(60 < len(there) < len(lines) and "answered otherwise" in told[-1], f"{len(there)} of {len(lines)} were found")
+    there = given.decode().splitlines()
+    expect(there == [line for line in lines if line in set(there)], "what was found comes in another order")
+    expect(60 < len(there) < len(lines), f"{len(there)} of {len(lines)} requests were found")
+    expect(", 0 answered otherwise" not in told[-1], f"what comes of the lost ones is not told: {told[-1]}")
 
 
 def statuses(folder, copy):
