@@ -190,7 +190,8 @@ def damaged(folder):
     subprocess.run(["sh", "-c", dump], stderr=subprocess.DEVNULL, check=True)
     _, given, told = rebuilt(found)
     there = given.decode().splitlines()
-    expect(there == [line for line in lines if line in set(there)], "what was found comes in another order")
+    places = [int(line.split(" ")[2]) for line in there]
+    expect(there == [lines[place - 1] for place in places] and places == sorted(places), "what was found comes otherwise")
     expect(60 < len(there) < len(lines), f"{len(there)} of {len(lines)} requests were found")
     expect(", 0 answered otherwise" not in told[-1], f"what comes of the lost ones is not told: {told[-1]}")
 
