@@ -191,7 +191,8 @@ def damaged(folder):
     _, given, told = rebuilt(found)
     there = given.decode().splitlines()
     places = [int(line.split(" ")[2]) for line in there]
-    expect(there == [lines[place - 1] for place in places] and places == sorted(places), "what was found comes otherwise")
+    is_in_order = there == [lines[place - 1] for place in places] and places == sorted(places)
+    expect(is_in_order, "what was found comes otherwise")
     expect(60 < len(there) < len(lines), f"{len(there)} of {len(lines)} requests were found")
     expect(", 0 answered otherwise" not in told[-1], f"what comes of the lost ones is not told: {told[-1]}")
 
