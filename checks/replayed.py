@@ -250,7 +250,7 @@ def earlier_order(folder, chance):
     expect(replay(among)[0] == 0, "an advance among others is another history")
     status, lines = replay(among, "--since", earlier)
     expect(status == 1 and any("stands among those of it" in line for line in lines), f"among: {status}, {lines}")
-    file, accepted = made(folder, "later", list(drawn(chance, 300, (0, 0, DAY))))
+    file, accepted = made(folder, "goes_on", list(drawn(chance, 300, (0, 0, DAY))))
     before, tried = os.path.join(folder, "before.keyreg"), 40
     shutil.copy(changed(file, ("DELETE FROM request WHERE rowid > ?", (accepted // 2,))), before)
     for way in ("vacuum", "dump"):
