@@ -21,7 +21,7 @@ import sys
 import tempfile
 
 from registers import PROGRAM, expect, keyreg
-from rules import Register, reply_line
+from rules import Register, command_of, reply_line
 
 TOP = pathlib.Path(__file__).resolve().parent.parent
 PAGE = TOP / "docs" / "AUDIT.md"
@@ -45,22 +45,6 @@ def asked(file, question):
     words = ["sqlite3", "-readonly", "-list", file, f".read {VIEWS}", question]
     done = subprocess.run(words, capture_output=True, text=True, check=True)
     return [row.split("|") for row in done.stdout.splitlines()]
-
-
-def date_of(text):
-    return int(text) if text.isdigit() else text if text == "=" else None
-
-
-def command_of(text):
-    """The command of a line's text, as the rules have it."""
-    word, *fields = text.split(" ")
-    if word == "register":
-        kind, owner, *dates = fields[:5]
-        return (word, kind, owner, *map(date_of, dates), " ".join(fields[5:]))
-    dated = {"set": 1, "revoke": 2}.get(word)
-    if dated:
-        return (word, *map(int, fields[:dated]), *map(date_of, fields[dated:]))
-    return (word, *(int(field) if field.isdigit() else field for field in fields))
 
 
 def look_at_views(folder):

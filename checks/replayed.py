@@ -1,9 +1,11 @@
 #!/usr/bin/env python3
-"""Puts registers to examples/replay.py. Those that keyreg wrote are what their requests give: a file of version 1, the same
-taken on to version 2, a register with rows in each table, drawn requests, many of one moment, those with the rows of
-`request` in another order. Then one change is planted in each column of each table, a row too many and one too few in each,
-in a register of each version: each is found, by its table and column. So is a request that the rules refuse, by its refusal.
-Last a register of many requests, for its time.
+"""Puts registers to examples/replay.py. Those that keyreg wrote are what their requests give: a file of version 1, the
+same taken on to version 2, a register with rows in each table, drawn requests, many of one moment. With the rows of
+`request` in another order that is told by a status of its own. Then one change is planted in each column of each
+table, a row too many and one too few in each, in a register of each version: each is found, by its table and column.
+So is a request that the rules refuse, by its refusal; so are rows that stand in another order than in an earlier copy,
+and not those that were rebuilt as they stood. What keyreg reads is read, under names in any case and order. Of a log
+the frames that count are those that SQLite counts. Last a register of many requests, for its time and memory.
 
     checks/replayed.py [--requests N] [--seed N]
 
@@ -21,32 +23,20 @@ import sys
 import tempfile
 import time
 
-from registers import APPROVED_ANEW, UNSET, expect, keyreg
+from drawn_registers import DAY, FULL, KINDS, at_one_moment, changed, drawn, made
+from registers import PROGRAM, UNSET, expect, keyreg
 
 TOP = pathlib.Path(__file__).resolve().parent.parent
 REPLAY = TOP / "examples" / "replay.py"
-# So long, in seconds, a hundred thousand requests may take.
-MOST_SECONDS = 20
-DAY = 86400
+# So long, in seconds, a hundred thousand requests may take; and so many bytes any may, and each of them.
+MOST_SECONDS, LEAST_BYTES, BYTES_OF_ONE = 20, 40 << 20, 350
+# A small program that runs another and tells its memory. To what this script begins its own memory would count.
+MEASURED = """import resource, subprocess, sys
+status = subprocess.call(sys.argv[1:], stdout=subprocess.DEVNULL)
+print(status, resource.getrusage(resource.RUSAGE_CHILDREN).ru_maxrss)"""
 
-# Rows in each table, a moment apart: periods, needs, custodians and approvals that stand.
-FULL = [line for line, _ in APPROVED_ANEW] + [
-    "200 office 1 set-period master 6 0",
-    "210 office 2 set-period data-encryption 12 24",
-    "220 ann 2 register data-encryption bob 220 - - payroll disks",
-    "230 ann 3 register master eve - - - root",
-    "240 eve 1 set-quorum 3 3",
-    "250 bob 6 set-quorum 2 2",
-    "260 eve 2 add-custodian 3 cat",
-    "270 eve 3 add-custodian 3 dan",
-    "280 cat 2 approve 3",
-    "285 ann 4 register data-encryption bob 285 - - disks of site B",
-    "286 ann 5 register data-encryption bob 286 288 - disks of site C",
-    "290 zed 2 revoke 2 3 150",
-    "300 zed 3 advance",
-]
-# One change of each column, with what tells the row, by what no request gives. A request is what is replayed: of its own
-# columns these are changes that the others belie.
+# One change of each column, with what tells the row, by what no request gives. A request is what is replayed: of its
+# own columns these are changes that the others belie.
 CHANGES = {
     "meta": ("id = 1", {"id": 2, "version": None, "latest": 5000, "key_count": 77}),
     "keys": ("number = 1", {
@@ -74,17 +64,19 @@ MORE = {
 REFUSED = [
     ("UnknownKey", "bob", "activate 99"), ("NotOwner", "ann", "assign 3 bob"), ("NotCustodian", "ann", "approve 3"),
     ("WrongState", "eve", "revoke 3 5 -"), ("DateFrozen", "bob", "set 4 5 = ="), ("DateFrozen", "bob", "set 5 = 400 ="),
-    ("DateOrder", "ann", "register master bob 500 400 - x"), ("PeriodTooLong", "ann", "register master bob 0 15638401 - x"),
+    ("DateOrder", "ann", "register master bob 500 400 - x"),
+    ("PeriodTooLong", "ann", "register master bob 0 15638401 - x"),
     ("PeriodTooLong", "ann", "register data-encryption bob 0 0 63072001 x"),
     ("DateRange", "ann", "register master bob 253402300799 - - x"), ("AlreadyCustodian", "eve", "add-custodian 3 cat"),
     ("NoSuchCustodian", "eve", "remove-custodian 3 zed"), ("OwnerCustodian", "eve", "add-custodian 3 eve"),
-    ("OwnerCustodian", "eve", "assign 3 cat"), ("AlreadyApproved", "cat", "approve 3"), ("NoApproval", "dan", "withdraw 3"),
+    ("OwnerCustodian", "eve", "assign 3 cat"), ("AlreadyApproved", "cat", "approve 3"),
+    ("NoApproval", "dan", "withdraw 3"),
     ("ApprovalsMissing", "eve", "destroy 3"), ("OccurrenceLater", "ann", "revoke 4 2 9999"),
     ("NotOffice", "ann", "set-period master 5 5"),
 ]
-NO_COMMANDS = ["Advance", "advance ", "activate 01", "activate 0", "approve  3", "revoke 4 5 7", "revoke 4 8 -", "destroy 3 3",
-               "set 4 = = +5", "set-quorum 3 6", "set-period master 0 0", "assign 3 b\u00f6b", "register master bob - - - x ",
-               "register master bob - - - a\tb", "register masters bob - - - x", ""]
+NO_COMMANDS = ["Advance", "advance ", "activate 01", "activate 0", "approve  3", "revoke 4 5 7", "revoke 4 8 -",
+               "destroy 3 3", "set 4 = = +5", "set-quorum 3 6", "set-period master 0 0", "assign 3 b\u00f6b",
+               "register master bob - - - x ", "register master bob - - - a\tb", "register masters bob - - - x", ""]
 
 
 def replay(*words):
@@ -98,29 +90,11 @@ def replay(*words):
     return told.returncode, told.stdout.splitlines()
 
 
-def as_given(file, told=""):
+def as_given(file, told="", wanted=0):
     """The register is what its requests give, and the lines have this text."""
     status, lines = replay(file)
-    expect(status == 0, f"{file}: status {status}, {lines[:5]}")
+    expect(status == wanted, f"{file}: status {status}, {lines[:5]}")
     expect(told in "\n".join(lines), f"{file}: not told: {told}; {lines}")
-
-
-def changed(file, *statements):
-    """A copy of the file in which another program made these changes."""
-    other = f"{file}.changed"
-    for end in ("", "-wal"):
-        if os.path.exists(other + end):
-            os.remove(other + end)
-    source, target = sqlite3.connect(file), sqlite3.connect(other)
-    source.backup(target)
-    source.close()
-    target.execute("PRAGMA foreign_keys = OFF")
-    for statement in statements:
-        rows = target.execute(*statement).rowcount
-        expect(rows != 0, f"{statement} changed nothing")
-    target.commit()
-    target.close()
-    return other
 
 
 def found(file, told, *statements):
@@ -163,8 +137,10 @@ def refused(first, full, sixteen):
         found(full, ("request", f"{command!r}, 4, 2, 300): it is none by the rules"), (put, ("bob", command)))
     found(sixteen, ("request", "the rules refuse it, TooManyCustodians"), (put, ("bob", "add-custodian 1 onemore")))
     for command in ("set-quorum 9 3", "set-period master 6 0"):
-        found(first, ("request", f"{command!r}, 4, 2, 300): it is none by the rules of version 1"), (put, ("office", command)))
-    ninth = [(f"INSERT INTO request VALUES ('fay', {900 + n}, 'add-custodian 9 name{n}', 9, 6, {3001 + n})",) for n in range(7)]
+        found(first, ("request", f"{command!r}, 4, 2, 300): it is none by the rules of version 1"),
+              (put, ("office", command)))
+    ninth = [(f"INSERT INTO request VALUES ('fay', {900 + n}, 'add-custodian 9 name{n}', 9, 6, {3001 + n})",)
+             for n in range(7)]
     found(first, ("request ('fay', 906)", "the rules refuse it, TooManyCustodians"), *ninth)
     return len(REFUSED) + len(NO_COMMANDS) + 4
 
@@ -177,50 +153,6 @@ def shuffled(file, chance):
     chance.shuffle(rows)
     puts = [("INSERT INTO request VALUES (?, ?, ?, ?, ?, ?)", row) for row in rows]
     return changed(file, ("DELETE FROM request",), *puts)
-
-
-# ---- drawn requests
-
-KINDS = ("data-encryption", "private-signature", "master")
-PEOPLE = ("ann", "bob", "cat", "dan", "eve", "office")
-
-
-def drawn(chance, count, steps):
-    """Lines of all commands; many are refused. The moments go on by one of the steps."""
-    moment, date = 1_700_000_000, lambda: chance.choice(["-", "-", moment + chance.randrange(-9, 900) * DAY])
-    for number in range(1, count + 1):
-        moment += chance.choice(steps)
-        key, name, who = chance.randint(1, 2 + number // 8), chance.choice(PEOPLE[:5]), chance.choice(PEOPLE)
-        edits = " ".join(str(chance.choice(["=", "=", date()])) for _ in range(3))
-        reason = chance.randint(1, 7)
-        texts = [
-            f"register {chance.choice(KINDS)} {name} {date()} {date()} {date()} key {number}", f"activate {key}", f"set {key} {edits}",
-            f"revoke {key} {reason} {chance.choice(['-', moment - DAY]) if reason in (2, 3) else '-'}",
-            f"assign {key} {name}", f"add-custodian {key} {name}", f"remove-custodian {key} {name}", f"approve {key}", f"approve {key}",
-            f"withdraw {key}", f"destroy {key}", f"set-quorum {key} {chance.randint(2, 3)}",
-            f"set-period {chance.choice(KINDS)} {chance.randint(1, 40)} {chance.randint(0, 40)}", "advance"]
-        weights = [3, 2, 3, 1, 1, 4, 1, 4, 4, 1, 4, 1, 1, 1]
-        text = chance.choices(texts, weights)[0]
-        yield f"{moment} {'office' if text.startswith('set-period') else who} {number} {text}"
-
-
-def at_one_moment(keys, people=("cat", "dan", "eve")):
-    """Lines of one moment alone: keys that are made, get custodians and approvals, and are destroyed."""
-    lines = []
-    for key in range(1, keys + 1):
-        lines.append(f"ann {key} register master bob - - - key {key}")
-        lines += [f"bob {key * 10 + place} add-custodian {key} {name}" for place, name in enumerate(people)]
-        lines += [f"{name} {key} approve {key}" for name in people[:2]]
-        lines.append(f"bob {key * 10 + 9} destroy {key}")
-    return [f"1700000000 {line}" for line in lines]
-
-
-def made(folder, name, lines):
-    """The file of a register that keyreg made, which accepted something of each."""
-    file = os.path.join(folder, f"{name}.keyreg")
-    keyreg(["init", "--file", file])
-    replies = keyreg(["run", "--file", file], lines)
-    return file, sum(reply.startswith("ok ") for reply in replies)
 
 
 # ---- the parts
@@ -250,10 +182,10 @@ def untouched(folder, seed):
     file, accepted = made(folder, "level", at_one_moment(400))
     expect(accepted == 400 * 7, f"{accepted} accepted")
     as_given(file, "2800 requests share their moment")
-    as_given(shuffled(file, chance), "another one than the rows'")
+    as_given(shuffled(file, chance), "another one than the rows'", 3)
     for steps in ((0, 0, DAY), (0, 0, 0, 0, 0, DAY)):
         file, _ = made(folder, f"shuffled_{len(steps)}", list(drawn(chance, 1500, steps)))
-        as_given(shuffled(file, chance))
+        as_given(shuffled(file, chance), "in another order than that of their rows", 3)
         asked += 1
     return first, full, sixteen, asked + 2
 
@@ -271,9 +203,141 @@ def no_order(file, folder):
     for statement in ("UPDATE request SET number = 77 WHERE command = 'advance' AND moment = 300",
                       "INSERT INTO request VALUES ('zed', 77, 'advance', 0, 0, 250)"):
         other = changed(later, (statement,))
-        expect(replay(other)[0] == 0, f"{statement}: it is another history")
+        expect(replay(other)[0] in (0, 3), f"{statement}: it is another history")
         status, lines = replay(other, "--since", file)
         expect(status == 1 and "earlier copy" in lines[0], f"{statement}: {lines}")
+
+
+def swapped(file, one, other):
+    """A copy in which these two rows of `request` stand in each other's places."""
+    return [("UPDATE request SET rowid = -1 WHERE rowid = ?", (one,)),
+            ("UPDATE request SET rowid = ? WHERE rowid = ?", (one, other)),
+            ("UPDATE request SET rowid = ? WHERE rowid = -1", (other,))]
+
+
+def rebuilt(file, way):
+    """A copy that SQLite made anew, as a whole or from a dump: its rows stand as they stood."""
+    other = f"{file}.{way}"
+    source = sqlite3.connect(file)
+    if way == "vacuum":
+        source.execute("VACUUM INTO ?", (other,))
+    else:
+        target = sqlite3.connect(other)
+        target.executescript("\n".join(source.iterdump()))
+        target.close()
+    source.close()
+    return other
+
+
+def earlier_order(folder, chance):
+    """Under --since rows that stand in another order than they stood are found, and nothing is told of those that were
+    rebuilt. Gives how many were found."""
+    lines = ["100 ann 1 register master bob - - - x", "200 office 1 set-period master 6 0",
+             "200 office 2 set-period master 7 0", "200 bob 1 set-quorum 1 3", "200 bob 2 set-quorum 1 4"]
+    file, _ = made(folder, "periods", lines)
+    earlier = shutil.copy(changed(file, ("UPDATE meta SET latest = 200",)), os.path.join(folder, "earlier.keyreg"))
+    # The tables agree with the other order, so that the copy alone tells nothing.
+    agrees = changed(file, *swapped(file, 2, 3), ("UPDATE period SET originator = 6",))
+    expect(replay(agrees)[0] == 0, "two periods of one second the other way round are another history")
+    status, lines = replay(agrees, "--since", earlier)
+    expect(status == 1 and any("stand in another order" in line for line in lines), f"periods: {status}, {lines}")
+    need = changed(file, ("UPDATE quorum SET need = 3",))
+    status, lines = replay(need, "--since", earlier)
+    expect(status == 3 and any("another one than the rows'" in line for line in lines), f"a need: {status}, {lines}")
+    among = changed(file, ("UPDATE request SET rowid = rowid + 10 WHERE rowid > 3",),
+                    ("INSERT INTO request (rowid, caller, number, command, key_no, state, moment) "
+                     "VALUES (4, 'zed', 1, 'advance', 0, 0, 200)",))
+    expect(replay(among)[0] == 0, "an advance among others is another history")
+    status, lines = replay(among, "--since", earlier)
+    expect(status == 1 and any("stands among those of it" in line for line in lines), f"among: {status}, {lines}")
+    file, accepted = made(folder, "goes_on", list(drawn(chance, 300, (0, 0, DAY))))
+    before, tried = os.path.join(folder, "before.keyreg"), 40
+    shutil.copy(changed(file, ("DELETE FROM request WHERE rowid > ?", (accepted // 2,))), before)
+    for way in ("vacuum", "dump"):
+        expect(replay(rebuilt(file, way), "--since", before)[0] == 0, f"--since of a copy that was rebuilt by {way}")
+    expect(replay(file, "--since", before)[0] == 0, "--since of a copy that has more")
+    for _ in range(tried):
+        one, other = chance.sample(range(1, accepted // 2 + 1), 2)
+        status, lines = replay(changed(file, *swapped(file, one, other)), "--since", before)
+        is_found = status == 1 and any("stand in another order" in line for line in lines)
+        expect(is_found, f"rows {one} and {other}: {status}, {lines}")
+    return tried + 3
+
+
+def anew(table, columns, more=""):
+    """Statements that make a table of the register anew: with these columns, and of no types."""
+    return [(f"CREATE TABLE other AS SELECT {columns} FROM {table}",), (f"DROP TABLE {table}",),
+            (f"ALTER TABLE other RENAME TO {table}{more}",)]
+
+
+def read_as_keyreg(folder, full):
+    """What the program opens is read: names in any case, columns in any order and more of them, keys or none."""
+    changes = {
+        "tables in capitals": [("ALTER TABLE keys RENAME TO more",), ("ALTER TABLE more RENAME TO KEYS",)],
+        "columns in another order": anew("request", "moment, state, key_no, command, number, caller"),
+        "columns in capitals": [("ALTER TABLE request RENAME COLUMN moment TO MOMENT",),
+                                ("ALTER TABLE keys RENAME COLUMN owner TO Owner",)],
+        "a column more": [("ALTER TABLE keys ADD COLUMN more INTEGER",)],
+        "a column rowid": anew("request", "*, 100 - rowid AS rowid"),
+    }
+    for name, statements in changes.items():
+        file = shutil.copy(changed(full, *statements), os.path.join(folder, "as_keyreg.keyreg"))
+        as_given(file)
+        found(file, ("keys 1: owner is 'eve'", "'bob'"), ("UPDATE keys SET owner = 'eve' WHERE number = 1",))
+        replies = keyreg(["run", "--file", file], ["400 zed 9 advance"])
+        expect(replies == ["ok 0 - 400"], f"{name}: the program does not take it, {replies}")
+    twice = anew("request", "*")
+    for row in ("SELECT * FROM request WHERE rowid = 1",
+                "SELECT caller, number, 'advance', 0, 0, moment FROM request WHERE rowid = 1"):
+        found(full, ("request ('ann', 1): its row is there 2 times", ""), *twice, (f"INSERT INTO request {row}",))
+    return len(changes)
+
+
+def counted_by_sqlite(file):
+    """How many frames of a log count, by SQLite, which copies them into a copy of the file."""
+    for end in ("", "-wal"):
+        shutil.copy(file + end, f"{file}.counted{end}")
+    connection = sqlite3.connect(f"{file}.counted")
+    count = connection.execute("PRAGMA wal_checkpoint").fetchone()[1]
+    connection.close()
+    return count
+
+
+def logs(folder):
+    """Of logs that a killed program left, whole and damaged, the frames that count are those that SQLite counts."""
+    file = os.path.join(folder, "killed.keyreg")
+    keyreg(["init", "--file", file])
+    with subprocess.Popen([PROGRAM, "run", "--file", file], stdin=subprocess.PIPE, stdout=subprocess.PIPE) as run:
+        run.stdin.write("".join(line + "\n" for line in FULL).encode())
+        run.stdin.flush()
+        for _ in FULL:
+            run.stdout.readline()
+        run.kill()
+    log = pathlib.Path(file + "-wal")
+    whole = log.read_bytes()
+    size = 24 + int.from_bytes(whole[8:12], "big")
+    heads = [whole[at:at + 24] for at in range(32, len(whole) - size + 1, size)]
+    frames = sum(any(head) for head in heads)
+    half, middle = 32 + size * (frames // 2), 32 + size * (frames // 3) + 700
+    older = b"".join(whole[at:at + 8] + b"12345678" + whole[at + 16:at + size]
+                     for at in range(half, len(whole) - size + 1, size))
+    ways = {"whole": whole, "cut off": whole[:half], "no header": bytes(1) + whole[1:],
+            "over an earlier log": whole[:half] + older,
+            "a byte in the middle": whole[:middle] + bytes([whole[middle] ^ 1]) + whole[middle + 1:],
+            "a frame of another": whole[:half + 8] + b"12345678" + whole[half + 16:]}
+    loses = ("a byte in the middle", "a frame of another")
+    for name, raw in ways.items():
+        log.write_bytes(raw)
+        count = counted_by_sqlite(file) if name != "no header" else 0
+        there = sum(any(raw[at:at + 24]) for at in range(32, len(raw) - size + 1, size))
+        _, lines = replay(file)
+        told = [line for line in lines if line.startswith("log: ")]
+        wanted = f"log: {count} of its frames count, and {there - count} that follow do not"
+        is_told = told and (told[0].startswith(wanted) or name == "no header" and told[0].startswith("log: 0 of"))
+        expect(is_told, f"{name}: {told}, not {wanted}")
+        expect((name in loses) == any("what stood behind it is lost" in line for line in told), f"{name}: {told}")
+        expect(name != "whole" or count == frames, f"{count} of {frames} frames count")
+    return len(ways)
 
 
 def unreadable(folder, file):
@@ -284,25 +348,33 @@ def unreadable(folder, file):
     for path in (text, none, os.path.join(folder, "empty"), folder):
         status, lines = replay(path)
         expect(status == 2 and "cannot be read" in lines[-1], f"{path}: {status}, {lines}")
-    for statement in ("UPDATE meta SET version = 3", "DROP TABLE approval", "ALTER TABLE keys ADD COLUMN more INTEGER",
-                      "ALTER TABLE meta RENAME TO other"):
+    for statement in ("UPDATE meta SET version = 3", "DROP TABLE approval", "ALTER TABLE meta RENAME TO other",
+                      "ALTER TABLE keys ADD COLUMN more INTEGER AS (number * 2)",
+                      "ALTER TABLE keys RENAME COLUMN owner TO holder"):
         expect(replay(changed(file, (statement,)))[0] == 2, statement)
+    view = changed(file, ("ALTER TABLE period RENAME TO other",), ("CREATE VIEW period AS SELECT * FROM other",))
+    expect(replay(view)[0] == 2, "a view")
 
 
 def measured(folder, count, seed):
-    """The seconds that a register of so many requests takes, with some of each kind."""
+    """The seconds and the megabytes that a register of so many requests takes, with some of each kind."""
     chance = random.Random(seed)
     lines = [f"{1_700_000_000 + number} ann {number} register {chance.choice(KINDS)} bob {1_700_000_000 + number} - - "
              f"disks of rack {number}" for number in range(1, count // 2 + 1)]
-    lines += [f"{1_700_000_000 + count + number} bob {number} add-custodian {number} cat" for number in range(1, count // 2 + 1)]
+    lines += [f"{1_700_000_000 + count + number} bob {number} add-custodian {number} cat"
+              for number in range(1, count // 2 + 1)]
     file, accepted = made(folder, "many", lines)
     expect(accepted == len(lines), f"{accepted} of {len(lines)} accepted")
     begun = time.monotonic()
-    as_given(file)
-    taken = time.monotonic() - begun
+    words = [sys.executable, "-c", MEASURED, sys.executable, REPLAY, file]
+    told = subprocess.run(words, capture_output=True, check=True)
+    status, kilobytes = map(int, told.stdout.split())
+    taken, most = time.monotonic() - begun, LEAST_BYTES + BYTES_OF_ONE * count
+    expect(status == 0, f"many requests: {status}")
     expect(count > 100_000 or taken <= MOST_SECONDS, f"{count} requests took {taken:.1f} seconds")
+    expect(kilobytes << 10 <= most, f"{count} requests took {kilobytes >> 10} MB, and not {most >> 20}")
     found(file, ("keys 7: owner is 'eve'", "'bob'"), ("UPDATE keys SET owner = 'eve' WHERE number = 7",))
-    return taken
+    return taken, kilobytes >> 10
 
 
 def main():
@@ -315,10 +387,14 @@ def main():
         first, full, sixteen, asked = untouched(folder, words.seed)
         count = planted(first, 1) + planted(full, 2) + refused(first, full, sixteen)
         no_order(full, folder)
+        count += earlier_order(folder, random.Random(words.seed))
+        asked += read_as_keyreg(folder, full)
         unreadable(folder, full)
-        taken = measured(folder, words.requests, words.seed)
+        kinds = logs(folder)
+        taken, megabytes = measured(folder, words.requests, words.seed)
     print(f"{asked} registers are what their requests give; {count} of {count} planted changes were found; "
-          f"{words.requests} requests took {taken:.1f} seconds")
+          f"{kinds} logs were counted as SQLite does; {words.requests} requests took {taken:.1f} seconds and "
+          f"{megabytes} MB")
 
 
 main()

@@ -241,6 +241,28 @@ def line(moment, caller, number, command):
     return " ".join(["-" if value is None else str(value) for value in (moment, caller, number, *command)])
 
 
+def date_of(text):
+    return int(text) if text.isdigit() else text if text == "=" else None
+
+
+def command_of(text):
+    """The command of its text."""
+    word, *fields = text.split(" ")
+    if word == "register":
+        kind, owner, *dates = fields[:5]
+        return (word, kind, owner, *map(date_of, dates), " ".join(fields[5:]))
+    dated = {"set": 1, "revoke": 2}.get(word)
+    if dated:
+        return (word, *map(int, fields[:dated]), *map(date_of, fields[dated:]))
+    return (word, *(int(field) if field.isdigit() else field for field in fields))
+
+
+def request_of(text):
+    """The request of a line."""
+    moment, caller, number, command = text.split(" ", 3)
+    return int(moment), caller, int(number), command_of(command)
+
+
 def reply_line(register, moment, caller, number, command):
     try:
         key, state, told = register.apply(moment, caller, number, command)

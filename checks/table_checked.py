@@ -1,9 +1,10 @@
 #!/usr/bin/env python3
-"""Puts tables to examples/check_table.py that went out by `keyreg export` and came back. What a spreadsheet made of a field is
-told, with its row and its key: of conversions that were recorded, and of what LibreOffice writes where it is installed. A table
-whose columns it read as text comes back byte for byte. A row that is a key already is told, one that `keyreg import` refuses
-for its form is, and of a table that is none what is wrong with it. The next first number that is told is one by which an
-import is accepted.
+"""Puts tables to examples/check_table.py that went out by `keyreg export` and came back. What a spreadsheet made of a
+field is told, with its row and its key: of conversions that were recorded, and of what LibreOffice writes where it is
+installed. A table whose columns it read as text comes back byte for byte. A row that is a key already is told, one
+that `keyreg import` refuses for its form is, and of a table that is none what is wrong with it. The next first number
+that is told is one by which an import is accepted. Of ten thousand rows that were all changed each is told as it is
+found, within ten seconds.
 
     checks/table_checked.py
 
@@ -13,11 +14,13 @@ import csv
 import io
 import os
 import pathlib
+import re
 import shutil
 import subprocess
 import sys
 import tempfile
 import time
+from datetime import datetime, timedelta
 
 from registers import PROGRAM, expect, keyreg
 
@@ -47,10 +50,13 @@ REFUSED = [
     ({"purpose": "a\tb"}, "control"), ({"purpose": "ü" * 101}, "too long"),
 ]
 KEY = {"type": "master", "owner": "ann", "activation": "", "protect_stop": "", "deactivation": "", "purpose": "root"}
-# How LibreOffice reads a table: as it proposes, as Windows-1252, and as UTF-8 with each column as text. It writes UTF-8.
+# How LibreOffice reads a table: as it proposes, as Windows-1252, and as UTF-8 with each column as text. It writes
+# UTF-8.
 TEXT_COLUMNS = "1/2/2/2/3/2/4/2/5/2/6/2"
 READINGS = {"as it proposes": None, "as Windows-1252": "44,34,1", "as text": f"44,34,76,1,{TEXT_COLUMNS}"}
 FILTER = "Text - txt - csv (StarCalc)"
+# So long, in seconds, ten thousand changed rows may take.
+MOST_SECONDS = 10
 
 
 def put(path, rows, columns=COLUMNS):
@@ -185,15 +191,49 @@ def many(folder):
     return time.monotonic() - begun
 
 
+def saved_as(form, dates):
+    """The dates as a spreadsheet writes them."""
+    return [datetime.strptime(date, "%Y-%m-%dT%H:%M:%SZ").strftime(form) for date in dates]
+
+
+def all_changed(folder):
+    """Ten thousand rows of which each was changed, in all dates, in place and the other way round: each is told with
+    its key and within a time, and the first before the others were looked at."""
+    count, day = 10_000, datetime(2026, 1, 1)
+    export, table = os.path.join(folder, "export.csv"), os.path.join(folder, "table.csv")
+    columns, taken = ("activation", "protect_stop", "deactivation"), []
+    keys = [{**KEY, "type": "data-encryption", "number": place, "owner": f"team{place % 40}",
+             "purpose": f"disks {place}",
+             **{column: (day + timedelta(hours=7 * place, days=300 * later)).strftime("%Y-%m-%dT%H:%M:%SZ")
+                for later, column in enumerate(columns)}} for place in range(1, count + 1)]
+    put(export, keys, ["number", *COLUMNS])
+    for form, way in (("%m/%d/%y %I:%M:%S %p", 1), ("%Y-%m-%d %H:%M:%S", 1), ("%d.%m.%Y %H:%M", -1)):
+        rows = [{**key, **dict(zip(columns, saved_as(form, (key[column] for column in columns))))} for key in keys]
+        put(table, rows[::way])
+        begun, words = time.monotonic(), [sys.executable, CHECK, table, "--export", export]
+        with subprocess.Popen(words, stdout=subprocess.PIPE, text=True) as process:
+            first, came = process.stdout.readline(), time.monotonic() - begun
+            lines = [first, *process.stdout]
+        taken.append(time.monotonic() - begun)
+        expect(came < taken[-1] / 2, f"{form}: the first line came after {came:.1f} of {taken[-1]:.1f} seconds")
+        told = dict(re.findall(r"row (\d+) \(key (\d+)\): deactivation was .*: taken for a date", "".join(lines)))
+        wanted = {str(row): str(row if way == 1 else count + 1 - row) for row in range(1, count + 1)}
+        has_all = told == wanted and f"{count} changed by a spreadsheet" in lines[-1]
+        expect(has_all, f"{form}: {len(told)} rows with their keys, {lines[-1]}")
+        expect(taken[-1] <= MOST_SECONDS, f"{form}: {count} changed rows took {taken[-1]:.1f} seconds")
+    return max(taken)
+
+
 def main():
     with tempfile.TemporaryDirectory() as folder:
         recorded(folder)
         office = by_libreoffice(folder)
         rows_told(folder)
         no_tables(folder)
-        taken = many(folder)
+        taken, most = many(folder), all_changed(folder)
     print(office)
-    print(f"{len(RECORDED)} recorded conversions and {len(REFUSED)} refused rows were told; 10000 rows took {taken:.1f} seconds")
+    print(f"{len(RECORDED)} recorded conversions and {len(REFUSED)} refused rows were told; "
+          f"10000 rows took {taken:.1f} seconds, and 10000 changed ones {most:.1f} at most")
 
 
 main()

@@ -3,8 +3,9 @@
 
     examples/check_table.py TABLE --export EXPORT [--copy COPY --caller NAME]
 
-TABLE is the CSV that is about to be imported, EXPORT what `keyreg export` wrote of the keys that it came from. A row of TABLE
-is found again among the keys where each of its fields is the key's, or is what a spreadsheet may have made of it:
+TABLE is the CSV that is about to be imported, EXPORT what `keyreg export` wrote of the keys that it came from. A row
+of TABLE is found again among the keys where each of its fields is the key's, or is what a spreadsheet may have made of
+it:
 
     a number     0042 becomes 42, 1e5 100000, 3.10 3.1, .5 0.5, and 20 digits become 15
     a date       2026-02-01T00:00:00Z becomes 2026-02-01 00:00:00 or 02/01/26, and 3-4 the fourth of March
@@ -13,17 +14,20 @@ is found again among the keys where each of its fields is the key's, or is what 
     other bytes  Schlüssel becomes SchlÃ¼ssel or Schl?ssel
     other marks  quotes, dashes and dots that were typed become typographic ones, and spaces at the ends go
 
-Each such field is printed, with its row (the first after the header row is 1) and its key; so are rows that are keys already
-as they stand, whose import makes a second key, and rows that the register would refuse for their form. With a copy of the
-register (docs/AUDIT.md takes one) it prints the first number that the caller's next import may take. The last line is the
-verdict. The status is 0 where every row is new and would be a request, 1 where not, 2 where a file cannot be read.
+Each such field is printed, with its row (the first after the header row is 1) and its key; so are rows that are keys
+already as they stand, whose import makes a second key, and rows that the register would refuse for their form. With a
+copy of the register (docs/AUDIT.md takes one) it prints the first number that the caller's next import may take. The
+last line is the verdict. The status is 0 where every row is new and would be a request, 1 where not, 2 where a file
+cannot be read.
 """
 import argparse
 import collections
 import contextlib
 import csv
 import decimal
+import functools
 import io
+import itertools
 import os
 import pathlib
 import re
@@ -43,9 +47,13 @@ CONTROL = re.compile("[\0-\x1f\x7f]")
 GREATEST_NUMBER = 9007199254740991
 FORMULA = "taken for a formula, and this is its result"
 # How spreadsheets write dates, the least ambiguous first.
-FORMS = ["%Y-%m-%d", "%Y/%m/%d", "%d.%m.%Y", "%d.%m.%y", "%m/%d/%Y", "%m/%d/%y", "%d/%m/%Y", "%d/%m/%y", "%d-%m-%Y", "%d-%b",
-         "%b-%d", "%d-%b-%y", "%d-%b-%Y", "%d %b %Y", "%m-%d", "%d-%m"]
+FORMS = ["%Y-%m-%d", "%Y/%m/%d", "%d.%m.%Y", "%d.%m.%y", "%m/%d/%Y", "%m/%d/%y", "%d/%m/%Y", "%d/%m/%y", "%d-%m-%Y",
+         "%d-%b", "%b-%d", "%d-%b-%y", "%d-%b-%Y", "%d %b %Y", "%m-%d", "%d-%m"]
 CLOCKS = ["", " %H:%M:%S", " %H:%M", " %I:%M:%S %p", " %I:%M %p"]
+# The forms that a text can have, by what is left of it where numbers and words are alike.
+SHAPED = collections.defaultdict(list)
+for form, clock in itertools.product(FORMS, CLOCKS):
+    SHAPED[re.sub("%[bp]", "a", re.sub("%[YymdHIMS]", "0", form + clock))].append(form + clock)
 MARKS = str.maketrans({"“": '"', "”": '"', "„": '"', "‘": "'", "’": "'", "–": "-", "—": "-", "…": "..."})
 
 
@@ -55,6 +63,7 @@ class Unreadable(Exception):
 
 # ---- what a spreadsheet may have made of a text
 
+@functools.lru_cache(maxsize=None)
 def number_of(text):
     """The number that a spreadsheet takes the text for, with the 15 digits that it keeps, or None."""
     if not re.fullmatch(r"[+-]?(\d+\.?\d*|\.\d+)([eE][+-]?\d{1,3})?", text):
@@ -69,15 +78,18 @@ def is_close(one, other):
     return context.plus(one).normalize() == context.plus(other).normalize()
 
 
+@functools.lru_cache(maxsize=None)
 def days_of(text):
     """Each day that the text may stand for, as month and day, in one form or another; the year may be gone."""
-    plain, found = re.sub(r"[TZ]", " ", text).strip(), set()
-    for form in FORMS:
-        for clock in CLOCKS:
-            with contextlib.suppress(ValueError):
-                day = datetime.strptime(f"2000 {plain}", f"%Y {form}{clock}") if "%y" not in form.lower() else (
-                    datetime.strptime(plain, form + clock))
-                found.add((day.month, day.day))
+    plain, found = " ".join(re.sub(r"[TZ]", " ", text).split()), set()
+    for form in SHAPED.get(re.sub(r"[^\W\d_]+", "a", re.sub(r"\d+", "0", plain)), ()):
+        with contextlib.suppress(ValueError):
+            # A day without a year is one of a leap year.
+            if "%y" not in form.lower():
+                day = datetime.strptime(f"2000 {plain}", f"%Y {form}")
+            else:
+                day = datetime.strptime(plain, form)
+            found.add((day.month, day.day))
     return found
 
 
@@ -171,22 +183,38 @@ class Keys:
         self.taken.add(place)
         return self.keys[place]
 
-    def changed(self, row, place):
-        """The key that the row came from, with what became of its fields; the key at the row's own place is asked first."""
-        likely = collections.Counter({place: 1} if place < len(self.keys) else {})
+    def likely(self, row, place):
+        """The keys that the row may have come from: that at its own place, and those that share most fields with it."""
+        if place < len(self.keys):
+            yield place
+        shared = collections.Counter()
         for column in COLUMNS[1:]:
             for form in self.forms(row[column]):
                 places = self.by_field[column, form] if row[column] else []
-                likely.update(places if len(places) <= MOST_LIKE else [])
+                shared.update(places if len(places) <= MOST_LIKE else [])
+        yield from (other for other, _ in shared.most_common(MOST_LIKE) if other != place)
+
+    def changed(self, row, place):
+        """The key that the row came from, with what became of its fields; that at its own place is asked first."""
         best = None
-        for other, _ in likely.most_common(MOST_LIKE):
+        for other in self.likely(row, place):
             key = self.keys[other]
             differs = [column for column in COLUMNS if row[column] != key[column]]
-            told = {column: became(key[column], row[column]) for column in differs}
-            if all(told.values()) and len(told) < len(COLUMNS) - 1:
-                # A formula may have become anything.
-                rank = (list(told.values()).count(FORMULA), other in self.taken, len(told), other != place)
+            # A formula may have become anything, and a key that was found for another row is a worse one.
+            least = (0, other in self.taken, len(differs), other != place)
+            if len(differs) >= len(COLUMNS) - 1 or best and least >= best[0]:
+                continue
+            told = {}
+            for column in differs:
+                told[column] = became(key[column], row[column])
+                if not told[column]:
+                    break
+            else:
+                rank = (list(told.values()).count(FORMULA), *least[1:])
                 best = min(best, (rank, other, told), key=lambda one: one[0]) if best else (rank, other, told)
+                # Of no key less differs: one that has all fields was looked for before.
+                if rank <= (0, False, 1, False):
+                    break
         if best is None:
             return None, {}
         self.taken.add(best[1])
@@ -226,7 +254,8 @@ def next_first(path, caller):
                 if not end or os.path.exists(path + end):
                     shutil.copyfile(path + end, f"{other}{end}")
             with contextlib.closing(sqlite3.connect(other.as_uri() + "?mode=ro", uri=True)) as connection:
-                return connection.execute("SELECT max(number) FROM request WHERE caller = ?", [caller]).fetchone()[0] or 0
+                asked = "SELECT max(number) FROM request WHERE caller = ?"
+                return connection.execute(asked, [caller]).fetchone()[0] or 0
         except (OSError, sqlite3.Error) as fault:
             raise Unreadable(f"{path}: {fault}") from None
 
@@ -243,8 +272,10 @@ def main():
     try:
         keys = Keys([key for key in rows_of(words.export, ["number", *COLUMNS]) if key])
         rows = rows_of(words.table, COLUMNS)
-        *lines, (is_new, counts) = looked_at(rows, keys)
-        print(*lines, sep="\n", end="\n" if lines else "")
+        for line in looked_at(rows, keys):
+            if isinstance(line, str):
+                print(line, flush=True)
+        is_new, counts = line
         if words.copy:
             last = next_first(words.copy, words.caller)
             told = f"--first {last + 1}" if last + len(rows) <= GREATEST_NUMBER else "none above: take one that is free"

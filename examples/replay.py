@@ -3,39 +3,43 @@
 
     examples/replay.py COPY [--since EARLIER]
 
-COPY is a copy of a register's file, of version 1 or 2, with its log COPY-wal beside it (docs/AUDIT.md takes one). Neither
-is written to. The requests of its table `request` are taken one after the other by the rules of docs/SPECIFICATION.md,
-which stand here anew. Each has to be accepted, with the reply that is kept of it, and each row of each table has to be what
-they give. What differs is printed by table, row and column. The last line is the verdict. The status is
+COPY is a copy of a register's file, of version 1 or 2, with its log COPY-wal beside it (docs/AUDIT.md takes one).
+Neither is written to. The requests of its table `request` are taken one after the other by the rules of
+docs/SPECIFICATION.md, which stand here anew. Each has to be accepted, with the reply that is kept of it, and each row
+of each table has to be what they give. What differs is printed by table, row and column. The last line is the verdict.
+The status is
 
-    0  all is as the requests give
+    0  all is as the requests give, in the order of their rows
     1  something differs
     2  COPY, or EARLIER, cannot be read as a register
+    3  all is as the requests give, but in another order than that of their rows: keyreg writes no such file
 
-The order. Requests are taken by their moments. Of those with one moment the file tells no order but that of its rows, which
-keyreg writes as it accepts, and which VACUUM and a dump keep. That order is taken first. Where something differs in it,
-another one is looked for: of each key the orders of its requests at one moment are tried, the rows' order first, for one in
-which each is accepted with the state that is kept and which ends in the key's rows. New keys go by their numbers. At most
-20000 steps are tried for a key and 2000000 for all, and 24 orders of the periods of a type. Of a key with more than 64
-requests at one moment, and of a type with more than four periods at one, the rows' order alone is. The verdict is always that
-of one plain replay, in the order that was found. So a 0 says that there is such an order, not that it is the only one; and
-where the bound was met, which is told, a 1 says that none was found.
+The order. Requests are taken by their moments, and those of one moment as their rows stand, which keyreg writes as it
+accepts, and which VACUUM and a dump keep. Where something differs in that order, another one is looked for, by
+other_order.py, which stands beside this file. It only proposes: the verdict is always that of one plain replay, in the
+order that is named. So a 3 says that there is an order that gives the tables, not that it is the only one or the true
+one.
 
-What it cannot know: whether the requests are those that were made. Who may write to the file may write another history, with
-rows that agree with it. --since shows that each request of an earlier copy stands in COPY as it stood, and that none came in
-before the earlier copy's latest moment.
+What it cannot know: whether the requests are those that were made. Who may write to the file may write another
+history, with rows that agree with it. --since shows that each request of an earlier copy stands in COPY as it stood
+and in the order in which it stood, before all that came since, and that nothing came since with a moment below the
+earlier copy's latest.
 
-A file that was taken from version 1 to version 2 does not tell when. All its requests are put to the rules of version 2: what
-version 1 accepted they accept, with the same reply. So a ninth custodian, whom version 1 refused, may be there from any
-moment on. A file of version 1 is put to its own rules.
+A file that was taken from version 1 to version 2 does not tell when. All its requests are put to the rules of version
+2: what version 1 accepted they accept, with the same reply. So a ninth custodian, whom version 1 refused, may be there
+from any moment on. A file of version 1 is put to its own rules.
+
+What keyreg reads is read: tables and columns by their names, in any case and order, and no column more is looked at.
+Of the log it is told which part of it counts (log_frames.py). No more than one row of a request, and each key in few
+bytes, are held: a million registrations took 240 MB, and it takes more where another order is looked for.
 """
 import argparse
-import bisect
 import calendar
-import collections
 import contextlib
-import graphlib
+import filecmp
 import itertools
+import marshal
+import operator
 import os
 import pathlib
 import re
@@ -46,11 +50,15 @@ import tempfile
 from datetime import datetime, timedelta, timezone
 from typing import NamedTuple, Optional
 
+# What is read from beside this file leaves none there.
+sys.dont_write_bytecode = True
+
 # ---- the rules: moments and usage periods
 
 LAST = 253402300799
 UNSET = LAST + 1
 EPOCH = datetime(1970, 1, 1, tzinfo=timezone.utc)
+MOMENT_TEXT = re.compile(r"[0-9]{4}-[0-9]{2}-[0-9]{2}T[0-9]{2}:[0-9]{2}:[0-9]{2}Z")
 # Key types in the order of their codes, from 1, with their months where the office has set none.
 PERIODS = {
     "data-encryption": (24, 36), "authentication": (24, 36), "key-wrapping": (24, 36), "private-signature": (36, 0),
@@ -68,6 +76,15 @@ class Refused(Exception):
 def refuse(holds, name):
     if holds:
         raise Refused(name)
+
+
+def text_of(moment):
+    return (EPOCH + timedelta(seconds=moment)).strftime("%Y-%m-%dT%H:%M:%SZ")
+
+
+def moment_of(text):
+    """The moment of such a text; ValueError where it has no such day or second."""
+    return (datetime.strptime(text, "%Y-%m-%dT%H:%M:%SZ").replace(tzinfo=timezone.utc) - EPOCH) // timedelta(seconds=1)
 
 
 def plus_months(moment, months):
@@ -134,6 +151,7 @@ class Key(NamedTuple):
     custodians: frozenset = frozenset()
     approvals: frozenset = frozenset()
     need: int = 2
+    has_set_need: bool = False
 
     def state(self, moment):
         if self.destroyed is not None:
@@ -196,7 +214,7 @@ def after(key, request, period, version):
         return key._replace(approvals=key.approvals - {caller})
     value = request.values[0]
     if word == "set-quorum":
-        return key._replace(need=value)
+        return key._replace(need=value, has_set_need=True)
     if word == "assign":
         refuse(value in key.custodians, "OwnerCustodian")
         return key._replace(owner=value)
@@ -217,7 +235,8 @@ FORMS = {
     "register": ("type", "name", "date", "date", "date", "purpose"), "activate": ("key",),
     "set": ("key", "edit", "edit", "edit"), "revoke": ("key", "reason", "date"), "assign": ("key", "name"),
     "add-custodian": ("key", "name"), "remove-custodian": ("key", "name"), "approve": ("key",), "withdraw": ("key",),
-    "destroy": ("key",), "set-quorum": ("key", "need"), "set-period": ("type", "originator", "recipient"), "advance": (),
+    "destroy": ("key",), "set-quorum": ("key", "need"), "set-period": ("type", "originator", "recipient"),
+    "advance": (),
 }
 RANGES = {"key": (1, 4294967295), "date": (0, LAST), "edit": (0, LAST), "need": (2, 5), "reason": (1, 7),
           "originator": (1, 1200), "recipient": (0, 1200)}
@@ -292,67 +311,153 @@ class Unreadable(Exception):
     """The file is no register of a version that is known here."""
 
 
+@contextlib.contextmanager
+def opened(path, tries=1):
+    """A connection to a copy of the file and its log, so that SQLite makes no file beside them. Where the database was
+    written to while its log was copied, the copy is begun anew, so often at most. Texts are read whatever their bytes
+    are."""
+    with tempfile.TemporaryDirectory() as folder:
+        other = pathlib.Path(folder, "copy")
+        try:
+            while not is_copied(path, str(other)):
+                tries -= 1
+                if tries < 1:
+                    raise Unreadable("it is being written to: take a copy")
+            with contextlib.closing(sqlite3.connect(other.as_uri() + "?mode=ro", uri=True)) as connection:
+                connection.text_factory = lambda raw: raw.decode(errors="surrogateescape")
+                yield connection
+        except (OSError, sqlite3.Error) as fault:
+            raise Unreadable(fault) from None
+
+
+def is_copied(path, other):
+    """Copies the database and then its log, and tells whether the database is still what was copied."""
+    for end in ("", "-wal"):
+        if os.path.exists(other + end):
+            os.remove(other + end)
+        if not end or os.path.exists(path + end):
+            shutil.copyfile(path + end, other + end)
+    filecmp.clear_cache()
+    return filecmp.cmp(path, other, shallow=False)
+
+
+def row_place(columns):
+    """The name under which SQLite gives a row's place in its table, where the table has these columns."""
+    return next(place for place in ("rowid", "_rowid_", "oid") if place not in columns)
+
+
+def columns_of(connection, name):
+    """The names of a table's columns, in small letters, each with whether it is hidden or made of others."""
+    return {row[1].lower(): row[-1] for row in connection.execute(f'PRAGMA table_xinfo("{name}")')}
+
+
 class File:
     """The rows of a file's tables, in their order, and what is wrong with the file itself."""
 
-    def __init__(self, path):
-        self.has_log, self.faults = os.path.exists(path + "-wal"), []
-        # A copy of the copy is read, so that SQLite makes no file beside it.
-        with tempfile.TemporaryDirectory() as folder:
-            other = pathlib.Path(folder, "copy")
-            try:
-                before = os.stat(path)
-                for end in ("", "-wal")[:1 + self.has_log]:
-                    shutil.copyfile(path + end, f"{other}{end}")
-                if (before.st_mtime_ns, before.st_size) != (os.stat(path).st_mtime_ns, os.stat(path).st_size):
-                    raise Unreadable("it is being written to: take a copy")
-                with contextlib.closing(sqlite3.connect(other.as_uri() + "?mode=ro", uri=True)) as connection:
-                    self.read(connection)
-            except (OSError, sqlite3.Error) as fault:
-                raise Unreadable(fault) from None
-
-    def read(self, connection):
-        connection.text_factory = lambda raw: raw.decode(errors="surrogateescape")
-        made = dict(connection.execute("SELECT name, sql FROM sqlite_schema WHERE type = 'table'"))
-        versions = connection.execute("SELECT version FROM meta LIMIT 2").fetchall() if "meta" in made else "no table meta"
+    def __init__(self, connection):
+        self.connection, self.faults = connection, []
+        made = {name.lower(): (name, sql) for name, sql in
+                connection.execute("SELECT name, sql FROM sqlite_schema WHERE type = 'table'")}
+        has_meta, asked = "meta" in made, "SELECT version FROM meta LIMIT 2"
+        versions = connection.execute(asked).fetchall() if has_meta else "no table meta"
         if versions not in ([(1,)], [(2,)]):
             raise Unreadable(f"of versions 1 and 2 it has {versions}")
         self.version = versions[0][0]
         told = [told for told, in connection.execute("PRAGMA integrity_check")]
         self.faults += [f"file: {line}" for line in told if line != "ok"]
-        kept = list(TABLES)[:5 if self.version == 1 else 7]
-        self.faults += [f"{name}: a table of version 2 in a file of version 1" for name in TABLES if name in made and name not in kept]
-        self.rows = {name: self.rows_of(connection, name, made.get(name, "")) for name in kept}
+        self.kept = list(TABLES)[:5 if self.version == 1 else 7]
+        self.faults += [f"{name}: a table of version 2 in a file of version 1" for name in TABLES
+                        if name in made and name not in self.kept]
+        self.places = {name: self.place_of(*made.get(name, (name, ""))) for name in self.kept}
+        for name in self.kept:
+            mistyped = self.rows(name, where=self.is_mistyped(name))
+            self.faults += [f"{name} {row}: a cell of another type" for row in mistyped]
+        self.look_at_requests()
 
-    def rows_of(self, connection, name, made):
-        """The rows of a table as they stand, each cell of its column's type. No index of it is asked."""
-        columns = TABLES[name][0]
-        found = tuple(row[1] for row in connection.execute(f"PRAGMA table_xinfo({name})"))
-        if found != columns or not made.upper().startswith("CREATE TABLE"):
-            raise Unreadable(f"it has no table {name} with the columns {columns}")
-        rows = connection.execute(f"SELECT * FROM {name} NOT INDEXED ORDER BY rowid").fetchall()
-        types = tuple(str if column in OF_TEXT else int for column in columns)
-        self.faults += [f"{name} {row}: a cell of another type" for row in rows if tuple(map(type, row)) != types]
-        return rows
+    def place_of(self, name, sql):
+        """The name under which a row's place is read. The table has the columns, and none is made of others."""
+        found, wanted = columns_of(self.connection, name), TABLES[name.lower()][0]
+        if not found.keys() >= set(wanted) or any(found.values()) or not sql.upper().startswith("CREATE TABLE"):
+            raise Unreadable(f"it has no table {name} with the columns {wanted}")
+        return row_place(found)
 
-    def requests(self):
-        """The requests by their moments, and then as their rows stand. A row that is none is a fault."""
-        found = []
-        for row in self.rows["request"]:
+    @staticmethod
+    def is_mistyped(name):
+        return " OR ".join(f"typeof({column}) <> '{'text' if column in OF_TEXT else 'integer'}'"
+                           for column in TABLES[name][0])
+
+    def rows(self, name, order="", where="1"):
+        """The rows of a table as they stand, or first by a column. No index of it is asked."""
+        columns, by = ", ".join(TABLES[name][0]), f"{order}, " if order else ""
+        return self.connection.execute(
+            f"SELECT {columns} FROM {name} NOT INDEXED WHERE {where} ORDER BY {by}{self.places[name]}")
+
+    def count(self, name):
+        return self.connection.execute(f"SELECT count(*) FROM {name} NOT INDEXED").fetchone()[0]
+
+    def look_at_requests(self):
+        """Whether their rows go by their moments, which are there twice, and how many share their moment."""
+        moments = self.connection.execute(f"SELECT moment FROM request NOT INDEXED ORDER BY {self.places['request']}")
+        self.goes_by_moments, last = True, -1
+        for moment, in moments:
+            if type(moment) is int:
+                self.goes_by_moments &= last <= moment
+                last = moment
+        self.twice = {(caller, number): count for caller, number, count in self.connection.execute(
+            "SELECT caller, number, count(*) FROM request NOT INDEXED "
+            "GROUP BY caller COLLATE BINARY, number HAVING count(*) > 1")}
+        self.faults += [f"request {place}: its row is there {count} times" for place, count in self.twice.items()]
+        self.shared = self.connection.execute(
+            "SELECT count(*), sum(many), min(moment) FROM (SELECT moment, count(*) AS many FROM request NOT INDEXED "
+            "WHERE typeof(moment) = 'integer' GROUP BY moment HAVING many > 1)").fetchone()
+
+    def requests(self, faults=None):
+        """The requests by their moments, and then as their rows stand. A row that is none is a fault. Of the rows of
+        one caller and number the first is taken."""
+        came = set()
+        for row in self.rows("request", "" if self.goes_by_moments else "moment"):
+            place = row[:2]
+            if place in came:
+                continue
+            if place in self.twice:
+                came.add(place)
             try:
-                found.append(request_of(row, self.version))
+                yield request_of(row, self.version)
             except (ValueError, TypeError, AttributeError):
-                self.faults.append(f"request {row}: it is none by the rules of version {self.version}")
-        return sorted(found, key=lambda request: request.moment)
+                if faults is not None:
+                    faults.append(f"request {row}: it is none by the rules of version {self.version}")
 
 
 # ---- the replay
+
+class Keys:
+    """Keys by their numbers, each in few bytes."""
+
+    def __init__(self):
+        self.packed = {}
+
+    def get(self, number):
+        packed = self.packed.get(number)
+        return None if packed is None else Key(*marshal.loads(packed))
+
+    def put(self, number, key):
+        self.packed[number] = marshal.dumps(tuple(key), 2)
+
+    def __contains__(self, number):
+        return number in self.packed
+
+    def __len__(self):
+        return len(self.packed)
+
+    def numbers(self):
+        return sorted(self.packed)
+
 
 class Register:
     """What requests give that are applied one after the other. What the rules do not give is a fault."""
 
     def __init__(self, version):
-        self.version, self.keys, self.latest, self.newest, self.faults = version, {}, 0, 0, []
+        self.version, self.keys, self.latest, self.newest, self.faults = version, Keys(), 0, 0, []
         self.set_periods = {}
 
     def apply(self, request):
@@ -379,12 +484,12 @@ class Register:
             named, kind = self.newest + 1, request.values[0]
             # A key is kept under its reply's number, which is the next one, lest one fault make many.
             self.newest = request.key_no if request.key_no not in self.keys else named
-            refuse(len(self.keys) >= MOST_KEYS, "Full")
         else:
             refuse(key is None, "UnknownKey")
             kind = key.kind
         key = after(key, request, self.set_periods.get(kind, PERIODS[kind]), self.version)
-        self.keys[named if request.named else self.newest] = key
+        refuse(request.word == "register" and len(self.keys) >= MOST_KEYS, "Full")
+        self.keys.put(named if request.named else self.newest, key)
         return named, key.state(request.moment)
 
 
@@ -394,26 +499,59 @@ def key_rows(number, key, latest):
     row = (number, TYPES.index(key.kind) + 1, key.owner, key.purpose, key.state(latest), key.initial,
            *(UNSET if date is None else date for date in dates))
     return {"keys": [row], "custodian": [(number, name) for name in key.custodians],
-            "approval": [(number, name) for name in key.approvals]}
+            "approval": [(number, name) for name in key.approvals], "quorum": [(number, key.need)] * key.has_set_need}
 
 
 def replayed(file, requests):
     """What differs in the file from what the requests give."""
-    register, is_watched = Register(file.version), sys.stderr.isatty()
+    register, count = Register(file.version), file.count("request") if sys.stderr.isatty() else 0
     for place, request in enumerate(requests):
-        if is_watched and place % 5000 == 0:
-            print(f"{place} of {len(requests)} requests", end="\r", file=sys.stderr, flush=True)
+        if count and place % 5000 == 0:
+            print(f"{place} of {count} requests", end="\r", file=sys.stderr, flush=True)
         register.apply(request)
-    wanted = {name: [] for name in TABLES}
-    wanted["meta"] = [(1, file.version, register.latest, len(register.keys))]
-    for number, key in register.keys.items():
-        for name, rows in key_rows(number, key, register.latest).items():
-            wanted[name] += rows
-    wanted["period"] = [(TYPES.index(kind) + 1, *months) for kind, months in register.set_periods.items()]
-    needs = {request.named for request in requests if request.word == "set-quorum"} & register.keys.keys()
-    wanted["quorum"] = [(number, register.keys[number].need) for number in needs]
-    wanted["request"] = file.rows["request"]
-    return register.faults + [line for name in file.rows for line in differences(name, file.rows[name], wanted[name])]
+    wanted = {"meta": [(1, file.version, register.latest, len(register.keys))],
+              "period": [(TYPES.index(kind) + 1, *months) for kind, months in register.set_periods.items()]}
+    told = [line for name in wanted if name in file.kept for line in differences(name, file.rows(name), wanted[name])]
+    return register.faults + told + list(key_differences(file, register))
+
+
+class Groups:
+    """The rows of a table, in groups by the key that they are about, in the order of these."""
+
+    def __init__(self, file, name):
+        column = TABLES[name][0][0]
+        rows = file.rows(name, column, f"typeof({column}) = 'integer'")
+        self.groups = itertools.groupby(rows, operator.itemgetter(0))
+        self.ahead = next(self.groups, (END, ()))
+
+    def take(self, number):
+        """The rows about this key, none of which is about one before it."""
+        if self.ahead[0] != number:
+            return []
+        rows = list(self.ahead[1])
+        self.ahead = next(self.groups, (END, ()))
+        return rows
+
+
+# After every number.
+END = float("inf")
+
+
+def key_differences(file, register):
+    """A line for each difference in the tables that are about keys, by key, so that the rows of one alone are held."""
+    groups = {name: Groups(file, name) for name in ("keys", "custodian", "approval", "quorum") if name in file.kept}
+    numbers = iter(register.keys.numbers())
+    wanted = next(numbers, END)
+    while (number := min(wanted, *(group.ahead[0] for group in groups.values()))) != END:
+        rows = {}
+        if number == wanted:
+            rows, wanted = key_rows(number, register.keys.get(number), register.latest), next(numbers, END)
+        for name, group in groups.items():
+            found, given = group.take(number), rows.get(name, ())
+            if found != given:
+                yield from differences(name, found, given)
+    for name in groups:
+        yield from differences(name, file.rows(name, where=f"typeof({TABLES[name][0][0]}) <> 'integer'"), ())
 
 
 def differences(name, found, wanted):
@@ -434,160 +572,41 @@ def differences(name, found, wanted):
         yield f"{name} {place if width > 1 else place[0]}: no row is there, and the requests give one"
 
 
-# ---- another order of requests at one moment
-
-KEY_STEPS, ALL_STEPS, MOST_AT_ONCE, MOST_PERIODS, MOST_ORDERS = 20_000, 2_000_000, 64, 4, 24
-OF_DATES = ("register", "set", "activate")
-
+# ---- the verdict
 
 def by_moment(requests):
     return [list(group) for _, group in itertools.groupby(requests, lambda request: request.moment)]
 
 
-class Search:
-    """Looks for an order in which each key ends in its rows. It only proposes: the replay decides."""
-
-    def __init__(self, file, requests):
-        self.version, self.all, self.latest = file.version, requests, requests[-1].moment
-        self.steps, self.met_bound = 0, False
-        self.of_key, self.periods = collections.defaultdict(list), collections.defaultdict(list)
-        for request in requests:
-            if request.word == "set-period":
-                self.periods[request.values[0]].append(request)
-            elif request.word != "advance":
-                self.of_key[request.named or request.key_no].append(request)
-        self.found = {name: collections.defaultdict(set) for name in ("keys", "custodian", "approval")}
-        for name, rows in self.found.items():
-            for row in file.rows[name]:
-                rows[row[0]].add(row)
-        self.needs = dict(file.rows.get("quorum", ()))
-        self.kept_periods = {TYPES[row[0] - 1]: row[1:] for row in file.rows.get("period", ()) if row[0] in range(1, 8)}
-
-    def is_end(self, number, key):
-        rows = key_rows(number, key, self.latest)
-        return (self.needs.get(number, 2) == key.need
-                and all(self.found[name][number] == set(rows[name]) for name in rows))
-
-    def path_of(self, number, lowest):
-        """The key's requests in an order, each with how many periods of its type were set before it; or none."""
-        groups, seen, found = by_moment(self.of_key[number]), set(), []
-        limit = min(self.steps + KEY_STEPS + len(self.of_key[number]), ALL_STEPS)
-        stack = [(0, 0, None, lowest, None)]
-        while stack and self.steps <= limit:
-            *step, path = place, done, key, slot, _ = stack.pop()
-            if place == len(groups) and self.is_end(number, key):
-                while path:
-                    request, slot, path = path
-                    found.insert(0, (request, slot))
-                return found
-            if place == len(groups) or tuple(step) in seen:
-                continue
-            seen.add(tuple(step))
-            more = list(self.following(groups[place], done, key, slot))
-            self.steps += 1 + len(more)
-            for request, now_done, other, at in reversed(more):
-                is_whole = now_done == (1 << len(groups[place])) - 1
-                there = (place + 1, 0) if is_whole else (place, now_done)
-                stack.append((*there, other, at, (request, at, path)))
-        self.met_bound |= bool(stack)
-        return found
-
-    def following(self, group, done, key, slot):
-        """What may come next of a group: each request that is accepted with the state that is kept."""
-        waiting = [place for place in range(len(group)) if not done >> place & 1]
-        if len(group) > MOST_AT_ONCE:
-            self.met_bound, waiting = True, waiting[:1]
-        for place in waiting:
-            request = group[place]
-            if (key is None) != (request.word == "register"):
-                continue
-            kind = key.kind if key else request.values[0]
-            given, slots = self.periods[kind], [slot]
-            if request.word in OF_DATES and given:
-                moments = [period.moment for period in given]
-                first = max(slot, bisect.bisect_left(moments, request.moment))
-                slots = range(first, bisect.bisect_right(moments, request.moment) + 1)
-            for at in slots:
-                try:
-                    other = after(key, request, given[at - 1].values[1:] if at else PERIODS[kind], self.version)
-                except Refused:
-                    continue
-                if other.state(request.moment) == request.state:
-                    yield request, done | 1 << place, other, at
-
-    def paths_of(self, kind, numbers):
-        """A path for each key of a type, by the first order of its periods in which each has one, or most have."""
-        best, kept = (-1, [], {}), self.kept_periods.get(kind)
-        groups = by_moment(self.periods[kind])
-        orders = itertools.product(*([group] if len(group) > MOST_PERIODS else itertools.permutations(group) for group in groups))
-        for order in itertools.islice(orders, MOST_ORDERS):
-            self.periods[kind] = given = list(itertools.chain(*order))
-            slot, paths = 0, {}
-            for number in numbers:
-                paths[number] = path = self.path_of(number, slot)
-                # The next key of the type is made later.
-                slot = next((at for request, at in path if request.word == "register"), slot)
-            is_last = kept == (given[-1].values[1:] if given else None)
-            best = max(best, (sum(map(bool, paths.values())) + is_last, given, paths), key=lambda one: one[0])
-            if best[0] > len(numbers):
-                break
-        else:
-            self.met_bound |= any(len(group) > 1 for group in groups)
-        self.periods[kind] = best[1]
-        return best[2]
-
-    def order(self):
-        """All requests in an order that has those of the keys, or the rows' where these have none."""
-        before = collections.defaultdict(set)
-        made = sorted((request for request in self.all if request.word == "register"), key=lambda made: made.key_no)
-        all_paths, chains = {}, [made]
-        for kind in PERIODS:
-            paths = self.paths_of(kind, [request.key_no for request in made if request.values[0] == kind])
-            given = self.periods[kind]
-            all_paths.update(paths)
-            chains.append(given)
-            for request, at in itertools.chain(*paths.values()):
-                if request.word in OF_DATES:
-                    before[request].update(given[max(at - 1, 0):at])
-                    for later in given[at:at + 1]:
-                        before[later].add(request)
-        for number, requests in self.of_key.items():
-            chains.append([request for request, _ in all_paths.get(number, ())] or requests)
-        for chain in chains:
-            for one, other in zip(chain, chain[1:]):
-                before[other].add(one)
-        ordered = []
-        for group in by_moment(self.all):
-            within = set(group)
-            ordered += graphlib.TopologicalSorter({one: before[one] & within for one in group}).static_order()
-        return ordered
-
-
-# ---- the verdict
-
-def text_of(moment):
-    return (EPOCH + timedelta(seconds=moment)).strftime("%Y-%m-%dT%H:%M:%SZ")
-
-
-def order_told(file, requests, ordered, met_bound):
+def order_told(file, ordered, met_bound):
     """Lines that say where the file tells no order, and which one was taken."""
-    groups = [group for group in by_moment(requests) if len(group) > 1]
-    moments = [row[5] for row in file.rows["request"]]
-    if moments != sorted(moments):
+    moments, requests, first = file.shared
+    if not file.goes_by_moments:
         yield "order: the rows of request do not go by their moments: another program than keyreg put them so"
-    if groups:
-        yield (f"order: {sum(map(len, groups))} requests share their moment with another (moments: {len(groups)}, the "
-               f"first {text_of(groups[0][0].moment)}): of these the file tells no order but that of its rows")
-    moved = [one[0].moment for one, other in zip(by_moment(requests), by_moment(ordered)) if one != other]
-    if moved:
+    if moments:
+        yield (f"order: {requests} requests share their moment with another (moments: {moments}, the "
+               f"first {text_of(first)}): of these the file tells no order but that of its rows")
+    if ordered:
+        groups = zip(by_moment(file.requests()), by_moment(ordered))
+        moved = [one[0].moment for one, other in groups if one != other]
         yield f"order: another one than the rows' is taken (moments: {len(moved)}, the first {text_of(moved[0])})"
     if met_bound:
         yield "order: the bound was met: not all orders of requests at one moment were tried"
 
 
 def since(earlier, file):
-    """What of an earlier copy's requests is not here as it was, and what came in before its latest moment."""
-    now, then = ({row[:2]: row for row in one.rows["request"]} for one in (file, earlier))
+    """What of an earlier copy's requests is not here as it was and in its order, and what came in among them."""
+    now = file.rows("request")
+    if all(next(now, None) == row for row in earlier.rows("request")):
+        latest = earlier.connection.execute("SELECT max(moment) FROM request").fetchone()[0] or 0
+        return [f"request {row[:2]}: it came in since the earlier copy, at {row[5]}, below its latest moment {latest}"
+                for row in now if row[5] < latest]
+    return list(since_in_detail(earlier, file))
+
+
+def since_in_detail(earlier, file):
+    """The same of copies that are known to differ, whose rows are all held."""
+    now, then = ({row[:2]: row for row in one.rows("request")} for one in (file, earlier))
     latest = max((row[5] for row in then.values()), default=0)
     for place, row in then.items():
         if now.get(place) != row:
@@ -595,20 +614,47 @@ def since(earlier, file):
     for place, row in now.items():
         if place not in then and row[5] < latest:
             yield f"request {place}: it came in since the earlier copy, at {row[5]}, below its latest moment {latest}"
+    stood, stands = [place for place in then if place in now], [place for place in now if place in then]
+    moved = [(one, other) for one, other in zip(stood, stands) if one != other]
+    if moved:
+        yield (f"request {moved[0][1]}: its row stands where that of {moved[0][0]} stood in the earlier copy; so "
+               f"{len(moved)} rows stand in another order")
+    last = max((at for at, place in enumerate(now) if place in then), default=-1)
+    among = [place for at, place in enumerate(now) if at < last and place not in then]
+    if among:
+        yield (f"request {among[0]}: its row came in since the earlier copy, and stands among those of it; so "
+               f"{len(among)} rows do")
 
 
 def judged(file):
-    """What differs, and what is to be said of the order."""
-    requests = file.requests()
-    found, ordered, met_bound = replayed(file, requests), requests, False
-    if found and len({request.moment for request in requests}) < len(requests):
-        search = Search(file, requests)
+    """What differs, and what is to be said of the order; whether it is another one than the rows'."""
+    found, ordered, met_bound = replayed(file, file.requests(file.faults)), None, False
+    if found and file.shared[0]:
+        try:
+            # It stands beside this file. Where it does not, no other order is looked for.
+            from other_order import Search
+        except ImportError:
+            told = "order: no other was looked for: other_order.py is not beside this file"
+            return file.faults + found, [told], False
+        search = Search(file, list(file.requests()))
         other = search.order()
         again = replayed(file, other)
         met_bound = search.met_bound and bool(again)
         if len(again) < len(found):
             found, ordered = again, other
-    return file.faults + found, list(order_told(file, requests, ordered, met_bound))
+    order = list(order_told(file, ordered, met_bound))
+    return file.faults + found, order, bool(ordered) or not file.goes_by_moments
+
+
+def log_told(path):
+    """What is to be said of the log: how much of it counts."""
+    if not os.path.exists(path + "-wal"):
+        return ["log: none is beside it. If it had one, requests may be missing that stood there alone"]
+    try:
+        from log_frames import told
+    except ImportError:
+        return []
+    return told(path + "-wal")
 
 
 def main():
@@ -616,24 +662,28 @@ def main():
     words.add_argument("copy")
     words.add_argument("--since", metavar="EARLIER", help="an earlier copy of the same register")
     words = words.parse_args()
-    path = words.copy
+    path, before = words.copy, []
     try:
-        file = File(path)
-        path = words.since
-        earlier = File(path) if path else None
+        with opened(path) as connection:
+            file = File(connection)
+            if words.since:
+                path = words.since
+                with opened(path) as other:
+                    before = since(File(other), file)
+                path = words.copy
+            told, order, is_another_order = judged(file)
+            counts = f"{file.count('request')} requests, {file.count('keys')} keys, version {file.version}"
+            order += log_told(path)
     except Unreadable as fault:
         print(f"{path}: it cannot be read as a register: {fault}")
         return 2
-    told, order = judged(file)
-    told += since(earlier, file) if earlier else []
-    if not file.has_log:
-        order.append("log: none is beside it. If it had one, requests may be missing that stood there alone")
+    told += before
     for line in told + order:
         print(line.encode(errors="backslashreplace").decode())
-    counts = f"{len(file.rows['request'])} requests, {len(file.rows['keys'])} keys, version {file.version}"
-    verdict = f"{len(told)} differences" if told else "each row of each table is as the requests give"
-    print(f"{words.copy}: {counts}: {verdict}")
-    return 1 if told else 0
+    verdict = "each row of each table is as the requests give"
+    verdict += ", in another order than that of their rows" * is_another_order
+    print(f"{words.copy}: {counts}: {f'{len(told)} differences' if told else verdict}")
+    return 1 if told else 3 if is_another_order else 0
 
 
 if __name__ == "__main__":
