@@ -57,6 +57,8 @@ PARTS = (
     Part("killed_migrations.py 16", 90),
     Part("killed_runs.py 20", 90),
     Part("documents.py", 90),
+    Part("read_export.py", 30),
+    Part("given.py", 30),
     Part("manual.py", 30),
     Part("unseen.py", 30),
     Part("recipes.py", 30),

@@ -4,10 +4,10 @@
     checks/unseen.py
 
 - What a read, a write or a flush answered: the marks that a stream failed or has something
-  unflushed are set by the turns of crates/streams, each a function of a few lines, and begin in
-  `Watched::new`.
-- Whether memory gave out: the end 30 is told in the places of TOLD, behind a call that asks for
-  memory, or where a count of bytes would pass 2^64.
+  unflushed are named in the lines of MARKED alone, in a pattern or as a field, and so are the calls
+  that set one. These are the turns of crates/streams, each a function of a few lines.
+- Whether memory gave out: the end 30, and the error that becomes it, is told in the places of TOLD,
+  behind a call that asks for memory, or where a count of bytes would pass 2^64.
 - How often a connection was called: each function of `Counted` makes the calls of CALLS, once.
 """
 import collections
@@ -17,9 +17,20 @@ import sys
 
 CRATES = pathlib.Path(__file__).resolve().parent.parent / "crates"
 STREAMS = CRATES / "streams" / "src"
-TURNS = STREAMS / "watched" / "turns.rt"
+TURNS, WATCHED = STREAMS / "watched" / "turns.rt", STREAMS / "watched.rt"
 COUNTED = CRATES / "register_store" / "src" / "counted.rt"
-MARKS = ("failed", "unflushed")
+MARKS = re.compile(r"\b(?:failed|unflushed|count_failed|count_error)\b")
+# The lines of bodies that name a mark or a call that sets one, by function.
+MARKED = {
+    "count_error": ["self.count_failed();"],
+    "count_failed": ["self.failed = true;"],
+    "flush_turn": ["self.unflushed = false;", "Err(error) => self.count_error(&error),"],
+    "has_failed": ["self.failed"],
+    "into_inner": ["failed: _,", "unflushed: _,"],
+    "new": ["failed: false,", "unflushed: false,"],
+    "read_turn": ["Err(error) => self.count_error(&error),"],
+    "write_turn": ["self.count_failed();", "self.unflushed = true;", "Err(error) => self.count_error(&error),"],
+}
 # The most lines of the body of a turn, and of what it calls.
 MOST_LINES = 14
 
@@ -29,7 +40,9 @@ TOLD = {
     "disk_files/src/disk_files.rt": 1,
     "http_messages/src/asking.rt": 3,
     "http_messages/src/route.rt": 2,
+    "key_rows/src/export.rt": 3,
     "keyreg/src/main.rt": 1,
+    "memory_disk/src/lib.rt": 1,
     "register_desk/src/desk.rt": 1,
     "register_desk/src/end.rt": 1,
     "register_desk/src/memory.rt": 1,
@@ -41,9 +54,9 @@ TOLD = {
     "register_store/src/error.rt": 3,
     "row_checks/src/reading.rt": 1,
 }
-# A value, and no pattern of a match, nor of an `if let`.
+# A value, and no pattern of a match, nor of an `if let`, nor a type.
 MEMORY = re.compile(r"\b(?:End|OpenRefusal|AskFault|StoreError|CheckError|RowsError)::Memory\b"
-                    r"(?!\)*\s*(?:=>|=[^=]|\|)|\.fmt)")
+                    r"(?!\)*\s*(?:=>|=[^=]|\|)|\.fmt)|(?<![<,:] )(?<!<)\bAllocError\b(?!>)")
 
 # What each function of counted.rt that calls a connection, or one of these, calls.
 CALLS = {
@@ -82,15 +95,18 @@ def bodies(path: pathlib.Path) -> dict[str, list[str]]:
 
 
 def mark_faults() -> list[str]:
-    """Where a mark of a stream is set that should not be."""
-    mark = re.compile(rf"\.({'|'.join(MARKS)})\s*(=(?!=)|\|=|&=)|&mut [\w.]*\.({'|'.join(MARKS)})\b")
-    lines = [(path, line.strip()) for path in sorted(STREAMS.rglob("*.rt")) for line in code(path)]
-    places = [(path, line) for path, line in lines if mark.search(line)]
-    faults = [f"{path.name} sets a mark: {line}" for path, line in places if path != TURNS]
-    here = len(places) - len(faults)
-    faults += [] if here == 3 else [f"turns.rt sets a mark in {here} places, and not in three"]
-    lengths = {name: len(body) for name, body in bodies(TURNS).items()}
-    return faults + [f"turns.rt: {name} has {lines} lines" for name, lines in lengths.items() if lines > MOST_LINES]
+    """Where a mark of a stream is named that should not be."""
+    faults = []
+    for path in sorted(STREAMS.rglob("*.rt")):
+        found = bodies(path)
+        for name, body in found.items():
+            named = [line.strip() for line in body if MARKS.search(line)]
+            if named != (MARKED.get(name, []) if path in (TURNS, WATCHED) else []):
+                faults.append(f"{path.name}: {name} names marks in {named}")
+        if path == TURNS:
+            faults += [f"turns.rt: {name} has {len(body)} lines" for name, body in found.items() if len(body) > MOST_LINES]
+    have = bodies(TURNS).keys() | bodies(WATCHED).keys()
+    return faults + [f"no function {name} of a stream" for name in MARKED if name not in have]
 
 
 def told_faults() -> list[str]:

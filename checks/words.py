@@ -261,6 +261,26 @@ def look_at_no_files(folder: str) -> None:
     Differences.tell(os.listdir(folder) == [], f"paths of no file made {os.listdir(folder)}")
 
 
+# Names that a path of another kind ends early, or reads otherwise: a query, a fragment, an escape, a space at the end,
+# and the end of a log's name.
+ODD_NAMES = ("a?b", "a#b", "a%41", "a ", "a-wal")
+
+
+def look_at_odd_names(folder: str) -> None:
+    """Files of odd names: each is the one that was named, and no other is made but its log."""
+    for name in ODD_NAMES:
+        look(f"init {name!r}", ["init", "--file", name], WELL, cwd=folder)
+        look(f"run {name!r}", ["run", "--file", name], WELL, REPLIES, LINES, cwd=folder)
+        look(f"export {name!r}", ["export", "--file", name], WELL, EXPORTED, cwd=folder)
+    there, logs = set(os.listdir(folder)), {f"{name}-wal" for name in ODD_NAMES}
+    Differences.tell(set(ODD_NAMES) <= there <= logs.union(ODD_NAMES), f"files of odd names made {sorted(there)}")
+    for name in ODD_NAMES:
+        held = os.path.join(folder, "held")
+        shutil.copy(os.path.join(folder, name), held)
+        Differences.tell(all(rows_of(held)[table] == rows for table, rows in APPROVED_ANEW_ROWS.items()),
+                         f"{name!r} does not hold the register")
+
+
 STRANGERS = {
     "an empty file": (lambda file: open(file, "wb").close(), STRANGER, WELL),
     "a text": (lambda file: write(file, b"hello, this is a text and no database\n" * 200), STORE, STORE),
@@ -408,8 +428,8 @@ def look_at_log(folder: str) -> None:
 
 def main() -> None:
     begun = time.monotonic()
-    for part in (look_at_wrong_words, look_at_values, look_at_terms, look_at_commands, look_at_no_files, look_at_strangers,
-                 look_at_lock, look_at_streams, look_at_full_disk, look_at_log):
+    for part in (look_at_wrong_words, look_at_values, look_at_terms, look_at_commands, look_at_no_files, look_at_odd_names,
+                 look_at_strangers, look_at_lock, look_at_streams, look_at_full_disk, look_at_log):
         with tempfile.TemporaryDirectory() as folder:
             part(folder)
     with tempfile.TemporaryDirectory() as folder:

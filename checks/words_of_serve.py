@@ -1,5 +1,6 @@
 """What checks/words.py asks of `keyreg serve`: that it serves exactly so many connections on exactly that port and then ends, what it
-does where the port is taken, and that a client has its reply that sends more than its request."""
+does where the port is taken, that a client has its reply that sends more than its request, and that one that sends
+slowly has its ten seconds and no more."""
 import os
 import shutil
 import socket
@@ -149,9 +150,43 @@ def behind(folder: str) -> Iterator[Case]:
         yield "the end after bytes behind requests", None if found == (0, b"", b"") else found
 
 
+# A byte each so many seconds, and the seconds in which an exchange is over, with some for a busy machine.
+SLOWNESS, LEAST, MOST = 4, 9, 14
+
+
+def seconds_of_slow_client(served: Served) -> Any:
+    """After how many seconds a client is left that sends a byte now and then, or what it was sent."""
+    with served.connected(2 * MOST) as connection:
+        begun = time.monotonic()
+        connection.settimeout(SLOWNESS)
+        for byte in KEYS:
+            try:
+                connection.sendall(bytes([byte]))
+                found = connection.recv(65536)
+                return found or time.monotonic() - begun
+            except TimeoutError:
+                if time.monotonic() - begun > 2 * MOST:
+                    break
+            except OSError:
+                return time.monotonic() - begun
+    return "it is not left"
+
+
+def slow(folder: str) -> Iterator[Case]:
+    """A client that sends a byte every four seconds has ten in all, and the next one is served."""
+    file, key = made(os.path.join(folder, "slow")), get_reply(register(), 1, False)
+    with Served(exchanges=2, file=file) as served:
+        found = seconds_of_slow_client(served)
+        yield "a byte every four seconds", None if isinstance(found, float) and LEAST <= found <= MOST else found
+        found = served.raw(KEYS)
+        yield "the client after it", None if found == key else found
+        found = end_of(served)
+        yield "the end after a slow client", None if found == (0, b"", b"") else found
+
+
 def look_at_serve(folder: str) -> Iterator[Case]:
     """Each case with what is wrong in it, or None."""
-    for part in (counted, where, paths, behind):
+    for part in (counted, where, paths, behind, slow):
         inner = os.path.join(folder, part.__name__)
         os.mkdir(inner)
         yield from part(inner)

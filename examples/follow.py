@@ -13,10 +13,11 @@ It may be called as often as wanted, and be ended at any time: what STANDBY has 
 and the next call goes on from there, since a request acts once. Nobody else may write to STANDBY: what it accepts
 besides, the register does not have. The last line is the verdict. The status is
 
-    0  STANDBY has each request that REGISTER had when the copy was taken 1  STANDBY has another request than REGISTER,
-    or one more, or a reply was another one: nothing more is given to it 2  REGISTER or STANDBY cannot be read 3  the
-    program ended otherwise, as its line on standard error says, or is not there. Where STANDBY is in use by another
-       call, call again
+    0  STANDBY has each request that REGISTER had when the copy was taken
+    1  STANDBY has another request than REGISTER, or one more, or a reply was another one: nothing more is given to it
+    2  REGISTER or STANDBY cannot be read
+    3  the program ended otherwise, as its line on standard error says, or is not there; where STANDBY is in use by
+       another call, call again
 """
 import argparse
 import contextlib

@@ -14,20 +14,20 @@ which they were accepted.
 
 The requests that are left out, and what that does to the others, are told on standard error before anything is written:
 
-    left out:   a request that was asked to be left out, or a row that is no request, or comes a second time refused:
-    a request that is written and that keyreg will refuse, with the refusal's name and what is lacking for it
-    otherwise:  one that will be accepted with another reply than it had: another state, or another key. Keys have
-    their numbers
-                by the order of their registrations, so where one of these is left out, the keys after it have other
-                numbers, and a request that names one reaches another key than it meant
+    left out:   a request that was asked to be left out, or a row that is no request, or comes a second time
+    refused:    a request that is written and that keyreg will refuse, with the refusal's name and what is lacking
+    otherwise:  one that will be accepted with another reply than it had: another state, or another key
+
+Keys have their numbers by the order of their registrations. Where one of these is left out, the keys after it have other
+numbers, and a request that names one reaches another key than it meant.
 
 The rules are those of replay.py, which stands beside this file, in version 2, since that is what keyreg makes. The
 last line counts. The status is
 
     0  all is written that was not asked to be left out, and each request will be accepted with the reply that is kept
-    of it 1  all that can be is written; what standard error tells is refused, answered otherwise, or no request 2
-    nothing is written: COPY cannot be read, or has no such request to leave out 3  standard output failed: what was
-    written is a prefix of the lines
+    1  all that can be is written; what standard error tells is refused, answered otherwise, or no request
+    2  nothing is written: COPY cannot be read, or has no such request to leave out
+    3  standard output failed: what was written is a prefix of the lines
 """
 import argparse
 import os
