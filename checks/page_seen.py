@@ -1,4 +1,4 @@
-"""What a browser makes of a page: chromium runs it, measures it at a width, and prints it. checks/timeline_drawn.py uses it."""
+"""What a browser makes of a page: chromium runs it, measures it at a width, and prints it."""
 import base64
 import hashlib
 import html
@@ -17,8 +17,9 @@ const box = element => element.getBoundingClientRect();
 const rows = [...document.querySelectorAll('tr.key')];
 const told = {script: performance.now(), width: innerWidth, wider: document.documentElement.scrollWidth - innerWidth};
 told.laid = performance.now();
-told.heads = [...document.querySelectorAll('th')].filter(seen).map(head => head.getAttribute('aria-label') || head.textContent);
-told.above = [...document.querySelectorAll('th')].filter(seen).map(head => Math.round(box(head).left));
+const heads = [...document.querySelectorAll('th')].filter(seen);
+told.heads = heads.map(head => head.getAttribute('aria-label') || head.textContent);
+told.above = heads.map(head => Math.round(box(head).left));
 told.below = rows.length ? [...rows[0].cells].filter(seen).map(cell => Math.round(box(cell).left)) : [];
 told.over = rows.filter(row => [...row.cells].filter(seen).some((cell, place, cells) => {
   const next = cells[place + 1], hides = getComputedStyle(cell).overflowX === 'hidden';
@@ -37,8 +38,10 @@ for (const row of MOST ? rows.slice(0, MOST) : rows) {
   const is_reached = document.activeElement === button && button.tabIndex === 0;
   button.click();
   const more = row.nextElementSibling;
-  const is_open = more !== null && more.className === 'more' && seen(more) && button.getAttribute('aria-expanded') === 'true';
-  told.reached.push([is_reached && is_open, is_open ? [...more.querySelectorAll('dd')].map(one => one.textContent) : []]);
+  const is_open = more !== null && more.className === 'more' && seen(more)
+    && button.getAttribute('aria-expanded') === 'true';
+  const texts = is_open ? [...more.querySelectorAll('dd')].map(one => one.textContent) : [];
+  told.reached.push([is_reached && is_open, texts]);
   button.click();
 }
 const text = document.createElement('pre');
@@ -86,7 +89,8 @@ def probed(text, most):
 
 
 # A window has at least 500 pixels, so the page is in a frame of the width that is wanted.
-FRAME = """<!DOCTYPE html><meta name="color-scheme" content="light dark"><style>body{{margin:0}}iframe{{border:0}}</style>
+FRAME = """<!DOCTYPE html><meta name="color-scheme" content="light dark">
+<style>body{{margin:0}}iframe{{border:0}}</style>
 <iframe width="{width}" height="900" srcdoc="{text}"></iframe><script>
 onload = () => document.body.append(document.querySelector('iframe').contentDocument.getElementById('told'));
 </script>"""
@@ -104,8 +108,8 @@ class Browser:
         return path
 
     def run(self, page, *more, fragment=""):
-        words = ["chromium", "--headless=new", "--no-sandbox", "--disable-gpu", "--hide-scrollbars", "--enable-logging=stderr",
-                 f"--user-data-dir={self.folder}/profile", *more, f"file://{page}{fragment}"]
+        words = ["chromium", "--headless=new", "--no-sandbox", "--disable-gpu", "--hide-scrollbars",
+                 "--enable-logging=stderr", f"--user-data-dir={self.folder}/profile", *more, f"file://{page}{fragment}"]
         done = subprocess.run(words, capture_output=True, text=True, check=False, timeout=180)
         told = [line for line in done.stderr.splitlines() if "CONSOLE" in line]
         expect(not told, f"chromium: {told[:3]}")

@@ -1,13 +1,13 @@
 #!/usr/bin/env python3
-"""Looks at what examples/timeline.py draws of an export, in chromium. Each key is drawn once; at moments drawn at random its
-line is high, low, waiting or not there as the states and the usage of checks/rules.py say, a destroyed key's ends where it was
-destroyed, and its marks and what is due are there. Every text of a key stays a text, and nothing is loaded: the page has one
-style, one script and its data, all of this file, and its policy allows no other.
+"""Looks at what examples/timeline.py draws of an export, in chromium. Each key is drawn once; at moments drawn at
+random its line is high, low, waiting or not there as the states and the usage of checks/rules.py say, a destroyed key's
+ends where it was destroyed, and its marks and what is due are there. Every text of a key stays a text, and nothing is
+loaded: the page has one style, one script and its data, all of this file, and its policy allows no other.
 
-At 380, 800 and 1600 wide, light and dark, nothing runs over its neighbour or past the edge, the columns have their headings,
-the page links stand on one line, the count is a live region, and each row's button gives all texts and dates of its key.
-Colours stand out from the paper as WCAG asks. Printed, each sheet has the axis, and each row stands whole on one sheet. Ten
-thousand keys are shown within two seconds, sorted, filtered, and turned over by pages.
+At 380, 800 and 1600 wide, light and dark, nothing runs over its neighbour or past the edge, the columns have their
+headings, the page links stand on one line, the count is a live region, and each row's button gives all texts and dates
+of its key. Colours stand out from the paper as WCAG asks. Printed, each sheet has the axis, and each row stands whole
+on one sheet. Ten thousand keys are shown within two seconds, sorted, filtered, and turned over by pages.
 
     checks/timeline_drawn.py [--screenshots FOLDER]
 
@@ -33,10 +33,10 @@ from rules import ACTIVE, COMPROMISED, PRE_ACTIVE, Key
 
 TIMELINE = pathlib.Path(__file__).resolve().parent.parent / "examples" / "timeline.py"
 NOW, DAY, DAYS = 1_800_000_000, 86400, 60
-TEXTS = ["<script>alert(1)</script>", '"><img src=x onerror=alert(1)>', "</title></svg><b>bold", "&amp; &lt;", "'; //", "a\u202eb",
-         "</script><script src=http://evil.example/x>", "url(http://evil.example)"]
+TEXTS = ["<script>alert(1)</script>", '"><img src=x onerror=alert(1)>', "</title></svg><b>bold", "&amp; &lt;",
+         "'; //", "a\u202eb", "</script><script src=http://evil.example/x>", "url(http://evil.example)"]
 LINES = [
-    f"{NOW - 900 * DAY} ann 1 register data-encryption bob {NOW - 900 * DAY} {NOW - 500 * DAY} {NOW - 300 * DAY} old disks",
+    f"{NOW - 900 * DAY} ann 1 register data-encryption bob {NOW - 900 * DAY} {NOW - 500 * DAY} {NOW - 300 * DAY} old",
     f"{NOW - 900 * DAY} ann 2 register master eve {NOW - 340 * DAY} {NOW + 20 * DAY} {NOW + 20 * DAY} due soon",
     f"{NOW - 900 * DAY} ann 3 register data-encryption bob {NOW - 700 * DAY} {NOW - 10 * DAY} - overdue",
     f"{NOW - 900 * DAY} ann 4 register data-encryption bob {NOW - 10 * DAY} - - far from due",
@@ -55,7 +55,7 @@ LINES = [
     f"{NOW - 100 * DAY} zed 3 revoke 11 2 -", *(f"{NOW - 95 * DAY} {name} 11 approve 11" for name in ("cat", "dan")),
     f"{NOW - 92 * DAY} bob 11 destroy 11",
     *(f"{NOW - 90 * DAY} ann {20 + place} register master eve - - - {text}" for place, text in enumerate(TEXTS)),
-    f"{NOW - 80 * DAY} ann 30 register data-encryption {'W' * 17} {NOW - 70 * DAY} - - {', '.join(['a purpose of many words'] * 7)}",
+    f"{NOW - 80 * DAY} ann 30 register data-encryption {'W' * 17} {NOW - 70 * DAY} - - {'many words, ' * 14}last",
     f"{NOW - 80 * DAY} ann 31 register private-authentication {'w' * 64} {NOW + 90 * DAY} - - {'x' * 120}",
 ]
 WIDTHS, SECONDS = (380, 800, 1600), 2
@@ -72,7 +72,9 @@ def drawn(export):
 
 
 def seconds(text):
-    return round(datetime.strptime(text, "%Y-%m-%dT%H:%M:%SZ").replace(tzinfo=timezone.utc).timestamp()) if text else None
+    if not text:
+        return None
+    return round(datetime.strptime(text, "%Y-%m-%dT%H:%M:%SZ").replace(tzinfo=timezone.utc).timestamp())
 
 
 def keys_of(export):
@@ -160,23 +162,25 @@ def looked_at(page, export, first_key=0):
         counts[key["state"]] += 1
     expect(all(len(both) == 1 for both in fills.values()), f"a state has several colours: {fills}")
     pairs = [next(iter(both)) for both in fills.values()]
-    expect(len({fill for fill, _ in pairs}) == len({line for _, line in pairs}) == len(fills), f"states look alike: {fills}")
+    for part in zip(*pairs):
+        expect(len(set(part)) == len(fills), f"states look alike: {fills}")
     return counts
 
 
 def loads_nothing(page, text):
     """Nothing of the page leads elsewhere, and no text of a key became an element."""
     tags = {element["tag"] for element in page.elements}
-    expect(tags <= set("html head meta title style body h1 p div span svg rect path line text defs pattern circle form label "
-                       "select option input button script noscript table colgroup col thead tbody tr th td".split()),
-           f"the page has {tags}")
+    known = ("html head meta title style body h1 p div span svg rect path line text defs pattern circle form label "
+             "select option input button script noscript table colgroup col thead tbody tr th td")
+    expect(tags <= set(known.split()), f"the page has {tags - set(known.split())}")
     for tag, wanted in (("script", 2), ("style", 1), ("form", 1)):
         count = sum(element["tag"] == tag for element in page.elements)
         expect(count == wanted, f"the page has {count} of {tag}")
     for element in page.elements:
         expect(not set(element) & LOADING, f"{element} loads something")
         expect(not any(name.startswith("on") for name in element), f"{element} runs something")
-        expect(all(value.startswith("#") for value in re.findall(r"url\(([^)]*)", str(element.get("fill")))), f"{element}")
+        leads = re.findall(r"url\(([^)]*)", str(element.get("fill")))
+        expect(all(value.startswith("#") for value in leads), f"{element}")
     policy = next(element["content"] for element in page.elements if element.get("http-equiv"))
     expect(policy.startswith("default-src 'none';") and "unsafe" not in policy, f"the policy is {policy}")
     expect("@import" not in text, "the style loads something")
@@ -215,7 +219,8 @@ def layout_faults(told, keys, width):
             "lines of the page links": (told["lines"], 1), "the count": (told["live"], "status"),
             "page links": ([told["pages"][0], told["pages"][2]], ["previous", "next"]),
             "columns below their heads": (told["below"], told["above"]), "width": (told["width"], width)}
-    faults = [f"{width} wide: {name}: {found}, not {wanted}" for name, (found, wanted) in rows.items() if found != wanted]
+    faults = [f"{width} wide: {name}: {found}, not {wanted}" for name, (found, wanted) in rows.items()
+              if found != wanted]
     for key, (is_reached, texts) in zip(keys, told["reached"]):
         state = next((text for text in texts if text.split(",")[0] in STATES), "")
         if not is_reached or sorted(texts) != as_told(key, state) or state.split(",")[0] != key["state"]:
@@ -260,14 +265,16 @@ def print_faults(browser, page, count):
 def turned_over(browser, pages, small):
     """The page filters, sorts and turns over."""
     for name, fragment, wanted, first in (
-            ("thousand", "", "1 to 1000 of 1000 keys", [1, 2]), ("ten", "#page=10", "9001 to 10000 of 10000 keys", [9001]),
+            ("thousand", "", "1 to 1000 of 1000 keys", [1, 2]),
+            ("ten", "#page=10", "9001 to 10000 of 10000 keys", [9001]),
             ("ten", "#owner=team-3", "1 to 1000 of 1429 keys", [3, 10]),
             ("ten", "#owner=team-3&sort=owner&page=2", "1001 to 1429 of 1429 keys", [7003])):
         told, numbers = shown_in(browser.elements(pages[name], fragment))
         expect(told == wanted and numbers[:len(first)] == first, f"{name}{fragment}: {told}, {numbers[:3]}")
     for state in STATES:
         _, numbers = shown_in(browser.elements(pages["small"], f"#state={state}"))
-        expect(numbers == [int(key["number"]) for key in keys_of(small) if key["state"] == state], f"{state}: {numbers}")
+        wanted = [int(key["number"]) for key in keys_of(small) if key["state"] == state]
+        expect(numbers == wanted, f"{state}: {numbers}, not {wanted}")
     _, numbers = shown_in(browser.elements(pages["small"], "#due=1&sort=stop"))
     expect(numbers == [3, 2], f"due, by Protect Stop: {numbers}")
 

@@ -5,7 +5,7 @@
 
 The page stands alone: it loads nothing, and its own script draws the rows, sorts and filters them by owner, type and
 state, and turns the pages of 1000 keys. A key's bar is high from its Activation to its Protect Stop Date, where it may
-protect data, and low from there to its Deactivation Date. A compromise ends the high part, and a destruction the line. A
+protect data, and low from there to its Deactivation Date. A compromise ends the high part, a destruction the line. A
 state has a colour and a pattern, so that it is told in grey too. Marked are the moments of a compromise and a
 destruction, and what is due within so many days. A row that is clicked, touched, or opened by its button from the
 keyboard, has all texts and dates of its key. Printed, the axis stands on each sheet, and no row is cut.
@@ -66,7 +66,7 @@ text-decoration:underline dotted}
 button:focus-visible{outline:2px solid var(--s1)}
 .time{padding:0}.grid{stroke:var(--faint);vector-effect:non-scaling-stroke}
 .time>svg{display:block;width:100%;height:20px;overflow:hidden}
-th.time>svg{height:24px}
+th.time,th.time>svg{overflow:visible}th.time>svg{height:24px}
 tr.more td{white-space:normal;overflow-wrap:anywhere;border-bottom:1px solid var(--edge);padding:.2rem .4rem .5rem 5rem}
 dl{display:grid;grid-template-columns:max-content 1fr;gap:0 1rem;margin:0}dt{color:var(--ink);opacity:.75}dd{margin:0}
 text{font:12px system-ui,sans-serif;fill:var(--ink)}
@@ -76,7 +76,7 @@ text{font:12px system-ui,sans-serif;fill:var(--ink)}
 @media screen and (max-width:820px){col.owner{width:8rem}col.type{width:9rem}.year.odd,.year.half{display:none}}
 @media screen and (max-width:640px){
 body{margin:.5rem}table,tbody,thead{display:block}thead{position:sticky;top:0;z-index:1;background:var(--paper)}
-colgroup{display:none}tr{display:grid;grid-template-columns:3.2rem 1fr 10.5rem}th{position:static}
+colgroup{display:none}tr{display:grid;grid-template-columns:3.2rem 1fr 11rem}th{position:static}
 .type{display:none}.time{grid-column:1/-1}tr.more td{grid-column:1/-1;padding-left:.4rem}
 tr.key{border-bottom:1px solid var(--faint)}td.number button{padding:.1rem .3rem}
 }
@@ -270,8 +270,8 @@ class Scale:
         """The axis: of narrow pages each second or fourth year alone."""
         for place, (year, x) in enumerate(self.places()):
             fewer = " odd" if place % 2 else " half" if place % 4 else ""
-            side = 'dx="-3" text-anchor="end"' if x > 88 else 'dx="3"'
-            yield f'<text class="year{fewer}" x="{x}%" {side} y="16">{year}</text>'
+            # At the edge there is no room for one.
+            yield f'<text class="year{fewer}" x="{x}%" dx="3" y="16">{year}</text>' if x < 94 else ""
 
 
 def lines_of(key, scale):
@@ -369,8 +369,8 @@ def page_of(keys, moment, days):
  content="default-src 'none'; style-src 'sha256-{hashes[0]}'; script-src 'sha256-{hashes[1]}'">
 <meta name="viewport" content="width=device-width"><style>{style}</style></head><body>
 <h1>Keys at {text_of(moment)}</h1>
-<p>{len(keys)} keys. States are those of this moment by the dates of the export. Due: Active, and its Protect Stop Date is
-within {days} days. A bar is high while the key may protect data, and low while it may only process what is protected. A
+<p>{len(keys)} keys. States are those of this moment by the dates of the export. Due: Active, and its Protect Stop Date
+is within {days} days. A bar is high while the key may protect data, and low while it may only process what is protected. A
 key's number opens all of its texts and dates.</p>
 <noscript><p>The rows are drawn by this page's own script, which this browser does not run.</p></noscript>
 <div class="legend">{"".join(legend())}</div>
