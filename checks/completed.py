@@ -1,10 +1,10 @@
 #!/usr/bin/env python3
-"""A person who types `keyreg`, some letters and Tab gets the rest: in bash, zsh and fish, each in a terminal of its own, which
-shows the line, the choices and nothing else.
+"""A person who types `keyreg`, some letters and Tab gets the rest: in bash, zsh and fish, each in a terminal of its
+own, which shows the line, the choices and nothing else.
 
     checks/completed.py [SHELL..]
 
-It needs Debian's tmux and the shells (`apt-get install tmux zsh fish bash-completion`), and reads the files under packaging/.
+It needs Debian's tmux and the shells (`apt-get install tmux zsh fish`), and reads the files under packaging/.
 checks/packaged.py asks the same of the files that a package put in a root, by the shells of that root.
 """
 import pathlib
@@ -44,7 +44,7 @@ BEGUN = {
              "PS1='{prompt}'; bind 'set page-completions off'; source {bash}; clear"),
     "zsh": (["zsh", "-f", "-i"],
             "PS1='{prompt}'; fpath=({zsh} $fpath); autoload -Uz compinit; compinit -u -D; clear"),
-    "fish": (["fish", "--no-config", "--private", "-i"],
+    "fish": (["fish", "--private", "-i"],
              "function fish_prompt; echo -n '{prompt}'; end; function fish_right_prompt; end; source {fish}; clear"),
 }
 
@@ -105,7 +105,6 @@ def offered(terminal, typed, wanted):
 
 
 def cleared(terminal):
-    terminal.keys("C-c")
     terminal.keys("C-u")
     terminal.keys("C-l")
     terminal.until(lambda lines: lines == [PROMPT.rstrip()])

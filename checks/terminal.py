@@ -17,7 +17,8 @@ class Terminal:
         self.socket = str(pathlib.Path(self.held.name) / "tmux")
         told = {name: value for name, value in os.environ.items() if name not in ("TMUX", "TMUX_PANE")}
         self.environment = {**told, "LC_ALL": "C.UTF-8", "TERM": "screen"}
-        self.tmux("-f", "/dev/null", "new-session", "-d", "-x", WIDTH, "-y", HEIGHT, "-c", folder, shlex.join(map(str, words)))
+        begun = shlex.join(map(str, words))
+        self.tmux("-f", "/dev/null", "new-session", "-d", "-x", WIDTH, "-y", HEIGHT, "-c", folder, begun)
 
     def __enter__(self):
         return self
@@ -27,9 +28,8 @@ class Terminal:
         self.held.cleanup()
 
     def tmux(self, *words):
-        done = subprocess.run(["tmux", "-S", self.socket, *map(str, words)], env=self.environment, capture_output=True, text=True,
-                              check=False)
-        return done.stdout
+        words = ["tmux", "-S", self.socket, *map(str, words)]
+        return subprocess.run(words, env=self.environment, capture_output=True, text=True, check=False).stdout
 
     def keys(self, *names):
         """Keys by tmux's names, as Tab and C-u; `text` is typed as it is."""
