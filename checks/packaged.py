@@ -262,7 +262,7 @@ def unpacked(root: pathlib.Path) -> None:
     done = call(*inside(root, "/tmp"), "sh", "-c", remove)
     fault(done.returncode == 0, f"{remove}: {done.stderr}")
     left = sorted(path for path in files_of(root) - before if not (root / path.lstrip("/")).is_dir())
-    fault(left == [f"/tmp/{plain.name}"], f"left behind of the tar file: {left}")
+    fault(not left, f"left behind of the tar file: {left}")
 
 
 def main() -> int:
