@@ -1,6 +1,6 @@
 #!/usr/bin/env python3
-"""The units in a real systemd: a root with the package boots by systemd-nspawn, and checks/in_systemd.sh does there what
-OPERATING and the heads of the units have a person do.
+"""The units in a real systemd: a root with the package boots by systemd-nspawn, and checks/in_systemd.sh does there
+what OPERATING and the heads of the units have a person do.
 
     checks/in_systemd.py [--base FOLDER] [--mirror URL]
 

@@ -1,7 +1,11 @@
 # What checks/in_systemd.py has a booted systemd do, as root, with the package installed. Each `holds NAME COMMAND..` is
 # a line of what it tells.
 PATH=/usr/sbin:/usr/bin:/sbin:/bin
-holds() { local name=$1; shift; if "$@" >/tmp/told 2>&1; then echo "ok $name"; else echo "FAILED $name: $(tail -c 600 /tmp/told)"; fi; }
+holds() {
+    local name=$1
+    shift
+    if "$@" >/tmp/told 2>&1; then echo "ok $name"; else echo "FAILED $name: $(tail -c 600 /tmp/told)"; fi
+}
 # until SECONDS COMMAND..: whether it comes to hold.
 until_holds() { local late=$((SECONDS + $1)); shift; until "$@"; do ((SECONDS < late)) || return 1; sleep 0.2; done; }
 gets() { [ "$(curl -s -m 20 -o /dev/null -w '%{http_code}' "http://127.0.0.1:$1/keys/1")" = "$2" ]; }
@@ -40,12 +44,14 @@ mount -t tmpfs -o size=600k,mode=750,uid=keyreg,gid=keyreg tmpfs /var/lib/keyreg
 su keyreg -s /bin/sh -c 'umask 077; keyreg init --file /var/lib/keyreg/office.keyreg'
 cd /tmp
 client() { python3 /usr/share/keyreg/client.py --caller ann --numbers /tmp/ann.numbers --patience "$1"; }
-key='{"kind":"register","type":"master","owner":"bob","purpose":"root","activation":null,"protect_stop":null,"deactivation":null}'
+key='{"kind":"register","type":"master","owner":"bob","purpose":"root","activation":null,"protect_stop":null,'
+key+='"deactivation":null}'
 systemctl start keyreg
 until_holds 60 gets 8420 404
 holds "a request before" sh -c "$(declare -f client); echo '$key' | client 60"
+# A command that ends cuts the log off, so that the next request needs room.
 systemctl stop keyreg
-
+su keyreg -s /bin/sh -c 'keyreg report --file /var/lib/keyreg/office.keyreg --days 0' >/tmp/told
 head -c 600k /dev/zero >/var/lib/keyreg/filler 2>/tmp/told
 systemctl start keyreg
 until_holds 60 gets 8420 200
@@ -60,7 +66,8 @@ rm /var/lib/keyreg/filler
 wait "$sender"
 holds "a disk with room again: the request has its answer" grep -q '^ok 2 ' /tmp/answer
 systemctl stop keyreg
-holds "it acted once" sh -c '[ "$(sqlite3 /var/lib/keyreg/office.keyreg "SELECT count(*), count(DISTINCT number) FROM request")" = "2|2" ]'
+counts='SELECT count(*), count(DISTINCT number) FROM request'
+holds "it acted once" [ "$(sqlite3 /var/lib/keyreg/office.keyreg "$counts")" = "2|2" ]
 umount /var/lib/keyreg
 rm -r /run/systemd/system/keyreg.service.d
 systemctl daemon-reload
@@ -109,7 +116,8 @@ systemctl daemon-reload
 systemctl start keyreg
 holds "it serves after it" until_holds 60 gets 8420 200
 holds "systemd has the units of the package" sh -c '[ "$(systemctl show -p NeedDaemonReload --value keyreg)" = no ]'
-holds "a removal's first line" systemctl disable --now keyreg keyreg-advance.timer keyreg-nightly.timer keyreg@payroll keyreg@site-b
+holds "a removal's first line" systemctl disable --now keyreg keyreg-advance.timer keyreg-nightly.timer \
+    keyreg@payroll keyreg@site-b
 holds "a removal's second line" sh -c 'dpkg --purge keyreg && systemctl daemon-reload'
 holds "no unit is left" sh -c '! systemctl list-units --all --no-legend --type=service,timer "keyreg*" | grep .'
 holds "no link is left" sh -c '! find /etc/systemd -name "keyreg*" | grep .'

@@ -10,7 +10,8 @@
         except Refused as refusal:
             print(refusal.name, refusal.values)
 
-Or of a shell, a request as JSON on each line of standard input; the status is 1 where one was refused:
+Or of a shell, a request as JSON on each line of standard input; the status is 1 where one was refused, and 2 where no
+answer came:
 
     echo '{"kind":"advance"}' | client.py --caller clock.job --numbers clock.numbers
 
@@ -271,19 +272,32 @@ def main():
     words.add_argument("--numbers", required=True, metavar="FILE", help="the file of the last number")
     words.add_argument("--patience", type=float, default=60, metavar="SECONDS")
     words = words.parse_args()
-    status = 0
-    with Client(words.address, words.caller, words.numbers, patience=words.patience) as office:
-        resumed = office.resume()
-        if resumed:
-            print("resumed", *resumed, flush=True)
-        for line in sys.stdin:
-            request = json.loads(line)
-            try:
-                print("ok", *office.ask(request.pop("kind"), **request), flush=True)
-            except Refused as refusal:
-                status = 1
-                print("refused", refusal.number, refusal.name,
-                      *(f"{name}={value}" for name, value in refusal.values.items()), flush=True)
+    try:
+        with Client(words.address, words.caller, words.numbers, patience=words.patience) as office:
+            return typed(office, sys.stdin)
+    except (NoAnswer, Unexpected, OSError, ValueError, KeyError, TypeError) as fault:
+        print(f"client: {type(fault).__name__}: {fault}", file=sys.stderr)
+        return 2
+
+
+def line_of(reply):
+    """As a reply line has it."""
+    return f"{reply.key} {reply.state or '-'} {reply.moment}"
+
+
+def typed(office, lines):
+    """Sends what has no answer yet, and then the request of each line; the status is 1 where one was refused."""
+    status, resumed = 0, office.resume()
+    if resumed:
+        print("resumed", line_of(resumed), flush=True)
+    for line in lines:
+        request = json.loads(line)
+        try:
+            print("ok", line_of(office.ask(request.pop("kind"), **request)), flush=True)
+        except Refused as refusal:
+            status = 1
+            values = (f"{name}={value}" for name, value in refusal.values.items())
+            print("refused", refusal.number, refusal.name, *values, flush=True)
     return status
 
 
