@@ -59,13 +59,13 @@ def furnish(folder):
     os.symlink(os.path.abspath(PROGRAM), os.path.join(folder, "keyreg"))
 
 
-def printed(commands, folder):
+def printed(commands, folder, shell=("bash", "-c")):
     """What the commands print on both outputs, moments of the clock as documents have them."""
     begun = int(time.time())
     port = free_port()
     told = {**os.environ, "no_proxy": "*", "TZ": "UTC", "TMPDIR": folder}
     try:
-        run = subprocess.run(["bash", "-c", commands.replace(PORT, port)], cwd=folder, env=told,
+        run = subprocess.run([*shell, commands.replace(PORT, port)], cwd=folder, env=told,
                              timeout=SECONDS, stdin=subprocess.DEVNULL, stdout=subprocess.PIPE,
                              stderr=subprocess.STDOUT, text=True)
         text = run.stdout
@@ -104,14 +104,19 @@ def wrong_outputs(documents):
     """A line for each block of commands whose output is another one, and how many there are."""
     if not os.access(PROGRAM, os.X_OK):
         return [f"{documents[0]}: no program at {PROGRAM}: ./keyreg </dev/null builds it"], 0
-    faults = []
-    found = [(document, *block) for document in documents for block in blocks(read(document))]
     with tempfile.TemporaryDirectory() as folder:
         furnish(folder)
-        for document, number, commands, output in found:
-            got = plain(printed(commands, folder))
-            lines = difflib.unified_diff(plain(output), got, lineterm="", n=0)
-            differs = [line for line in lines if not line.startswith(("---", "+++", "@@"))]
-            if differs:
-                faults.append(f"{document}:{number}: another output: " + " / ".join(differs[:4]))
+        return compared({document: read(document) for document in documents}, folder)
+
+
+def compared(texts, folder, shell=("bash", "-c")):
+    """The same of texts by their names, run by a shell in a folder that has what they use."""
+    faults = []
+    found = [(document, *block) for document, text in texts.items() for block in blocks(text)]
+    for document, number, commands, output in found:
+        got = plain(printed(commands, folder, shell))
+        lines = difflib.unified_diff(plain(output), got, lineterm="", n=0)
+        differs = [line for line in lines if not line.startswith(("---", "+++", "@@"))]
+        if differs:
+            faults.append(f"{document}:{number}: another output: " + " / ".join(differs[:4]))
     return faults, len(found)

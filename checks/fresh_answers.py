@@ -11,21 +11,23 @@ each number is in its range. Where systemd-analyze is installed it has nothing t
 Build the program first: ./keyreg </dev/null
 """
 import argparse
-import json
 import os
 import pathlib
 import re
 import shutil
 import sqlite3
 import subprocess
+import sys
 import tempfile
 import time
 
-from office import get
 from registers import expect, keyreg
 from serving import Served
 
 EXAMPLES = pathlib.Path(__file__).resolve().parent.parent / "examples"
+sys.path.insert(0, str(EXAMPLES))
+from client import Client  # noqa: E402
+
 UNITS = [EXAMPLES / f"keyreg-advance.{kind}" for kind in ("service", "timer")]
 CRON = EXAMPLES / "keyreg-advance.cron"
 GREATEST_NUMBER = 9007199254740991
@@ -55,8 +57,9 @@ def posted(command, served):
 
 
 def protects(served, key):
-    reply = served.raw(get(f"/keys/{key}/usage"))
-    return json.loads(reply.partition(b"\r\n\r\n")[2])["protect"]
+    with tempfile.TemporaryDirectory() as folder:
+        with Client(f"http://127.0.0.1:{served.port}", "ann", os.path.join(folder, "numbers")) as office:
+            return office.usage(key)["protect"]
 
 
 def moves_on(command):

@@ -60,7 +60,7 @@ KINDS = (
     }),
     Kind("Add a refusal", r"\bNoApproval\b|\bno_approval key\b|Refusal::ApprovalsMissing|\(ApprovalsMissing ", {}),
     Kind("Add a route", r"ShowUsage|Route(Pattern)?::Usage|Show, Usage|/usage\b|\busage_(text|reply|data|value|row)", {
-        "one look-up stands for others": "checks/fresh_answers.py crates/test_fault_trials/src/lent.rt",
+        "one look-up stands for others": "crates/test_fault_trials/src/lent.rt",
     }),
     Kind("Add a table", r"TableName::Quorum|TheVariants\.\{[^}]*\bQuorum\}|"
                         r"\b(FROM|INTO|TABLE|UPDATE) (\w+\.)?quorum\b|\"quorum\"", {
@@ -77,14 +77,14 @@ KINDS = (
         "a day or a year of an office": "docs/AUDIT.md examples/office.txt examples/year.txt",
         "what a period means for keys": "*/UnsetPeriods.antt */register_core/src/laws.rt */KeyRowsOf.antt */exports.rt "
                                         "*/ListedRows.antt bench/tables.py checks/rules_tried.py",
-        "who the office is": "checks/behind_nginx.py",
+        "who the office is": "checks/behind_nginx.py checks/client_tried.py",
         "what version 1 has not": "checks/rebuilt.py checks/followed.py",
         "it came with version 2": "*/migrations.rt checks/migrated_by_sqlite3.py",
     }, ("Add a command", "Add a shape of fields", "Add a table")),
     Kind("Add a command of the program", r"Task::Report|\breport_file\b|keyreg report|\[\"report\"|\"report\":|"
                                          r"\n +report\)|from report'", {
         "they ask for a report": "checks/audit.py checks/copied_while_served.py checks/fresh_answers.py "
-                                 "checks/full_register.py checks/replayed.py docs/CHECKS.md examples/keyreg.service "
+                                 "checks/in_systemd.sh checks/full_register.py checks/replayed.py docs/CHECKS.md examples/keyreg.service "
                                  "bench/tables.py",
     }),
     Kind("Add a crate", r"\bregister_report\b", {
@@ -94,7 +94,7 @@ KINDS = (
     }),
     Kind("Add a version of the tables",
          r"Version::Second|Version\.TheVariants\.\{[^}]*Second|first_version|\bmigrate\b|\bversion_1\b",
-         {"it copies the file": "checks/commands.py"}),
+         {"it copies the file": "checks/commands.py packaging/pages.py"}),
     Kind("Add a test", r"\bis_need_of_no_key_refused\b", {"its module": "*/openings.rt"}),
 )
 

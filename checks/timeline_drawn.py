@@ -1,17 +1,20 @@
 #!/usr/bin/env python3
-"""Looks at what examples/timeline.py draws of an export. Each key is drawn once, its bars from date to date of the scale, in the
-state that checks/rules.py gives it, with its marks and what is due; patterns and colours differ by state. Every text of a key
-stays a text, and nothing is loaded: the page has one script and one style, both of this file, and its policy allows no other.
-Where chromium is installed its own reader and script show a thousand keys at once, turn ten thousand over by pages, filter and
-sort them, and tell no fault.
+"""Looks at what examples/timeline.py draws of an export, in chromium. Each key is drawn once; at moments drawn at
+random its line is high, low, waiting or not there as the states and the usage of checks/rules.py say, a destroyed key's
+ends where it was destroyed, and its marks and what is due are there. Every text of a key stays a text, and nothing is
+loaded: the page has one style, one script and its data, all of this file, and its policy allows no other.
+
+At 380, 800 and 1600 wide, light and dark, nothing runs over its neighbour or past the edge, the columns have their
+headings, the page links stand on one line, the count is a live region, and each row's button gives all texts and dates
+of its key. Colours stand out from the paper as WCAG asks. Printed, each sheet has the axis, and each row stands whole
+on one sheet. Ten thousand keys are shown within two seconds, sorted, filtered, and turned over by pages.
 
     checks/timeline_drawn.py [--screenshots FOLDER]
 
-Build the program first: ./keyreg </dev/null
+It needs chromium and poppler-utils of Debian. Build the program first: ./keyreg </dev/null
 """
 import argparse
 import csv
-import html.parser
 import io
 import os
 import pathlib
@@ -24,15 +27,16 @@ import tempfile
 import time
 from datetime import datetime, timezone
 
+from page_seen import Browser
 from registers import EXPORT_COLUMNS, EXPORT_DATES, expect, export_row, keyreg
-from rules import Key
+from rules import ACTIVE, COMPROMISED, PRE_ACTIVE, Key
 
 TIMELINE = pathlib.Path(__file__).resolve().parent.parent / "examples" / "timeline.py"
 NOW, DAY, DAYS = 1_800_000_000, 86400, 60
-TEXTS = ["<script>alert(1)</script>", '"><img src=x onerror=alert(1)>', "</title></svg><b>bold", "&amp; &lt;", "'; //", "a\u202eb",
-         "</script><script src=http://evil.example/x>", "url(http://evil.example)"]
+TEXTS = ["<script>alert(1)</script>", '"><img src=x onerror=alert(1)>', "</title></svg><b>bold", "&amp; &lt;",
+         "'; //", "a\u202eb", "</script><script src=http://evil.example/x>", "url(http://evil.example)"]
 LINES = [
-    f"{NOW - 900 * DAY} ann 1 register data-encryption bob {NOW - 900 * DAY} {NOW - 500 * DAY} {NOW - 300 * DAY} old disks",
+    f"{NOW - 900 * DAY} ann 1 register data-encryption bob {NOW - 900 * DAY} {NOW - 500 * DAY} {NOW - 300 * DAY} old",
     f"{NOW - 900 * DAY} ann 2 register master eve {NOW - 340 * DAY} {NOW + 20 * DAY} {NOW + 20 * DAY} due soon",
     f"{NOW - 900 * DAY} ann 3 register data-encryption bob {NOW - 700 * DAY} {NOW - 10 * DAY} - overdue",
     f"{NOW - 900 * DAY} ann 4 register data-encryption bob {NOW - 10 * DAY} - - far from due",
@@ -41,41 +45,23 @@ LINES = [
     f"{NOW - 900 * DAY} ann 7 register master bob {NOW - 800 * DAY} - - gone",
     f"{NOW - 900 * DAY} ann 8 register private-transport bob {NOW - 800 * DAY} - - lost",
     f"{NOW - 900 * DAY} ann 9 register master bob - - - both",
-    *(f"{NOW - 899 * DAY} bob {key * 10 + place} add-custodian {key} {name}" for key in (7, 9) for place, name in ((1, "cat"), (2, "dan"))),
-    *(f"{NOW - 300 * DAY} {name} {key} approve {key}" for key in (7, 9) for name in ("cat", "dan")),
-    f"{NOW - 200 * DAY} bob 3 destroy 7", f"{NOW - 200 * DAY} bob 4 destroy 9",
+    f"{NOW - 900 * DAY} ann 10 register master bob {NOW + 100 * DAY} - - destroyed before its dates",
+    f"{NOW - 900 * DAY} ann 11 register data-encryption bob {NOW - 120 * DAY} - - destroyed within its dates",
+    *(f"{NOW - 899 * DAY} bob {key * 10 + place} add-custodian {key} {name}" for key in (7, 9, 10, 11)
+      for place, name in ((1, "cat"), (2, "dan"))),
+    *(f"{NOW - 300 * DAY} {name} {key} approve {key}" for key in (7, 9, 10) for name in ("cat", "dan")),
+    *(f"{NOW - 200 * DAY} bob {key} destroy {key}" for key in (7, 9, 10)),
     f"{NOW - 100 * DAY} zed 1 revoke 8 2 {NOW - 150 * DAY}", f"{NOW - 100 * DAY} zed 2 revoke 9 3 -",
+    f"{NOW - 100 * DAY} zed 3 revoke 11 2 -", *(f"{NOW - 95 * DAY} {name} 11 approve 11" for name in ("cat", "dan")),
+    f"{NOW - 92 * DAY} bob 11 destroy 11",
     *(f"{NOW - 90 * DAY} ann {20 + place} register master eve - - - {text}" for place, text in enumerate(TEXTS)),
+    f"{NOW - 80 * DAY} ann 30 register data-encryption {'W' * 17} {NOW - 70 * DAY} - - {'many words, ' * 14}last",
+    f"{NOW - 80 * DAY} ann 31 register private-authentication {'w' * 64} {NOW + 90 * DAY} - - {'x' * 120}",
 ]
+WIDTHS, SECONDS = (380, 800, 1600), 2
 STATES = ("Pre-Active", "Active", "Deactivated", "Compromised", "Destroyed", "Destroyed-Compromised")
 # What may load something, or run.
 LOADING = {"src", "href", "xlink:href", "srcset", "action", "formaction", "data", "poster", "background", "style"}
-
-
-class Page(html.parser.HTMLParser):
-    """The elements of a page, each with its attributes and its text, and those within each key's group."""
-
-    def __init__(self, text):
-        super().__init__()
-        self.elements, self.keys, self.open = [], [], None
-        self.feed(text)
-
-    def handle_starttag(self, tag, attributes):
-        element = {"tag": tag, "text": "", **dict(attributes)}
-        self.elements.append(element)
-        if tag == "g" and element.get("class") == "key":
-            self.keys.append((element, []))
-            self.open = self.keys[-1][1]
-        elif self.open is not None:
-            self.open.append(element)
-
-    def handle_endtag(self, tag):
-        if tag == "g":
-            self.open = None
-
-    def handle_data(self, data):
-        if self.elements:
-            self.elements[-1]["text"] += data
 
 
 def drawn(export):
@@ -86,7 +72,9 @@ def drawn(export):
 
 
 def seconds(text):
-    return round(datetime.strptime(text, "%Y-%m-%dT%H:%M:%SZ").replace(tzinfo=timezone.utc).timestamp()) if text else None
+    if not text:
+        return None
+    return round(datetime.strptime(text, "%Y-%m-%dT%H:%M:%SZ").replace(tzinfo=timezone.utc).timestamp())
 
 
 def keys_of(export):
@@ -103,61 +91,96 @@ def plain(text):
     return re.sub("[\u202e]", lambda one: f"\\u{ord(one[0]):04x}", text)
 
 
-def looked_at(text, export):
-    """Holds the page to the keys; gives how many of each state."""
-    page, keys = Page(text), list(keys_of(export))
-    svg = next(element for element in page.elements if element.get("id") == "keys")
-    first, last, left, width = (int(svg[f"data-{name}"]) for name in ("first", "last", "left", "width"))
+def is_there(key, moment):
+    """What the line of a key shows at a moment, by the rules: protect, process, wait, or nothing."""
+    then = Key(key["type"], key["owner"], key["purpose"], key["initial"],
+               (key["activation"], key["protect_stop"], key["deactivation"]))
+    then.destroyed, then.compromised = (None if key[name] is None or key[name] > moment else key[name]
+                                        for name in ("destroyed", "compromised"))
+    state = then.state(moment)
+    if state == PRE_ACTIVE and moment >= key["initial"]:
+        return "wait"
+    if state == ACTIVE:
+        return "protect" if then.stop > moment else "process"
+    has_begun = then.activation is not None and then.activation <= moment < then.end
+    return "process" if state == COMPROMISED and has_begun else None
 
-    def x(moment):
-        return left + min(max((moment - first) / (last - first), 0), 1) * (width - left)
 
-    def near(one, other):
-        return abs(float(one) - other) <= 0.6
+def line_faults(key, parts, scale, chance):
+    """Where the line of a key is another one than the rules say, at moments drawn at random and beside its dates."""
+    spans = []
+    for part in parts:
+        words = part.get("class", "").split()
+        if part["tag"] == "line" and "wait" in words:
+            spans.append(("wait", number(part["x1"]), number(part["x2"])))
+        elif part["tag"] == "rect" and "bar" in words:
+            spans.append((words[1], number(part["x"]), number(part["x"]) + number(part["width"])))
+    first, last = scale
+    edges = [key[name] for name in EXPORT_DATES if key[name] is not None]
+    moments = [edge + side * 4 * DAY for edge in edges for side in (-1, 1)]
+    for moment in [*moments, *(chance.randrange(first, last) for _ in range(12))]:
+        if not first < moment < last or any(abs(moment - edge) < 3 * DAY for edge in edges):
+            continue
+        x = 100 * (moment - first) / (last - first)
+        found = {kind for kind, one, other in spans if one <= x <= other}
+        wanted = {is_there(key, moment)} - {None}
+        if found != wanted:
+            yield f"key {key['number']} at {moment} has {found}, not {wanted}"
 
-    expect([group["data-number"] for group, _ in page.keys] == [key["number"] for key in keys], "each key is drawn once")
+
+def number(text):
+    return float(text.rstrip("%"))
+
+
+def looked_at(page, export, first_key=0):
+    """Holds the rows of a page to the keys from one on; gives how many of each state."""
+    keys = list(keys_of(export))[first_key:first_key + 1000]
+    table = next(element for element in page.elements if element["tag"] == "table")
+    scale, chance = tuple(int(table[f"data-{name}"]) for name in ("first", "last")), random.Random(first_key)
+    expect([row["data-number"] for row, _ in page.keys] == [key["number"] for key in keys], "each key is drawn once")
     fills, counts = {}, dict.fromkeys(STATES, 0)
-    for key, (group, parts) in zip(keys, page.keys):
+    for key, (row, parts) in zip(keys, page.keys):
         named = f"key {key['number']}"
         is_due = key["state"] == "Active" and key["protect_stop"] <= NOW + DAYS * DAY
         due = ("overdue" if key["protect_stop"] <= NOW else "due") if is_due else ""
         wanted = (key["owner"], key["type"], key["state"], due)
-        found = tuple(group[f"data-{name}"] for name in ("owner", "type", "state", "due"))
+        found = tuple(row[f"data-{name}"] for name in ("owner", "type", "state", "due"))
         expect(found == wanted, f"{named} is {found}, not {wanted}")
-        title = next(part["text"] for part in parts if part["tag"] == "title")
-        expect(plain(key["purpose"]) in title, f"{named}: its purpose is not in its title {title!r}")
-        bars = [part for part in parts if part["tag"] == "rect" and part["class"].startswith("bar")]
-        spans = [(one, other) for one, other in ((key["activation"], key["protect_stop"]), (key["protect_stop"], key["deactivation"]))
-                 if one is not None and other is not None and other > one]
-        expect(len(bars) == len(spans), f"{named} has {len(bars)} bars, not {len(spans)}")
-        for bar, (one, other) in zip(bars, spans):
-            is_there = near(bar["x"], x(one)) and near(float(bar["x"]) + float(bar["width"]), x(other))
-            expect(is_there, f"{named}: a bar from {bar['x']} of {bar['width']}, not from {x(one)} to {x(other)}")
-            fills.setdefault(key["state"], set()).add((bar["fill"], bar["stroke"]))
-        shapes = [part.get("class", "") for part in parts]
-        marked = ("mark compromised" in shapes, "solid destroyed" in shapes)
-        expect(marked == (key["compromised"] is not None, key["destroyed"] is not None), f"{named} has the marks {marked}")
-        expect(not due or any(part.get("d", "").startswith(f"M{round(x(key['protect_stop']) - 6, 2):g}") for part in parts)
-               or any(part.get("d", "").endswith("h12l-6 9z") for part in parts), f"{named} has no mark of {due}")
+        texts = {part["class"].split()[0]: part["text"] for part in parts if part["tag"] == "td"}
+        wanted = (key["owner"], key["type"], due or key["state"], plain(key["purpose"]))
+        found = tuple(texts[name] for name in ("owner", "type", "state", "purpose"))
+        expect(found == wanted, f"{named} says {found}, not {wanted}")
+        faults = list(line_faults(key, parts, scale, chance))
+        expect(not faults, f"{faults[:3]}")
+        for part in parts:
+            if part["tag"] == "rect":
+                fills.setdefault(key["state"], set()).add((part["fill"], part["stroke"]))
+        shapes = {part.get("class", "") for part in parts}
+        marked = tuple(name in shapes for name in ("mark compromised", "solid destroyed", "solid rotation"))
+        wanted = (key["compromised"] is not None, key["destroyed"] is not None, bool(due))
+        expect(marked == wanted, f"{named} has the marks {marked}, not {wanted}")
         counts[key["state"]] += 1
     expect(all(len(both) == 1 for both in fills.values()), f"a state has several colours: {fills}")
     pairs = [next(iter(both)) for both in fills.values()]
-    expect(len({fill for fill, _ in pairs}) == len({line for _, line in pairs}) == len(fills), f"states look alike: {fills}")
-    loads_nothing(page, text)
+    for part in zip(*pairs):
+        expect(len(set(part)) == len(fills), f"states look alike: {fills}")
     return counts
 
 
 def loads_nothing(page, text):
     """Nothing of the page leads elsewhere, and no text of a key became an element."""
     tags = {element["tag"] for element in page.elements}
-    expect(tags <= set("html head meta title style body h1 p div span svg rect path line text g defs pattern circle form label select "
-                       "option input button script".split()), f"the page has {tags}")
-    for tag in ("script", "style", "form"):
-        expect(sum(element["tag"] == tag for element in page.elements) == 1, f"the page has several of {tag}")
+    known = ("html head meta title style body h1 p div span svg rect path line text defs pattern circle form label "
+             "select option input button script noscript table colgroup col thead tbody tr th td")
+    expect(tags <= set(known.split()), f"the page has {tags - set(known.split())}")
+    for tag, wanted in (("script", 2), ("style", 1), ("form", 1)):
+        count = sum(element["tag"] == tag for element in page.elements)
+        expect(count == wanted, f"the page has {count} of {tag}")
     for element in page.elements:
         expect(not set(element) & LOADING, f"{element} loads something")
         expect(not any(name.startswith("on") for name in element), f"{element} runs something")
-        expect(all(value.startswith("#") for value in re.findall(r"url\(([^)]*)", str(element.get("fill")))), f"{element}")
+        leads = re.findall(r"url\(([^)]*)", str(element.get("fill")))
+        expect(all(value.startswith("#") for value in leads), f"{element}")
     policy = next(element["content"] for element in page.elements if element.get("http-equiv"))
     expect(policy.startswith("default-src 'none';") and "unsafe" not in policy, f"the policy is {policy}")
     expect("@import" not in text, "the style loads something")
@@ -178,72 +201,137 @@ def many(count):
     return "\n".join(rows) + "\n"
 
 
-# ---- by chromium
-
-def browsed(page, folder, fragment="", *more):
-    """What chromium has of the page after its script, and what it told."""
-    words = ["chromium", "--headless=new", "--no-sandbox", "--disable-gpu", f"--user-data-dir={folder}/profile", "--enable-logging=stderr",
-             *more, f"file://{page}{fragment}"]
-    done = subprocess.run(words, capture_output=True, text=True, check=False, timeout=180)
-    told = [line for line in done.stderr.splitlines() if "CONSOLE" in line]
-    expect(not told, f"chromium: {told[:3]}")
-    return done.stdout
+# ---- what is seen
 
 
-def shown_in(dom):
-    """The count that the page tells, and the numbers of the keys that it shows, from above."""
-    count = re.search(r'<span id="count">([^<]*)<', dom)
-    expect(count, f"chromium did not run the script: {dom[:200]}")
-    rows = [group for group, _ in Page(dom).keys if "none" not in group.get("style", "")]
-    place = {int(group["data-number"]): float(re.search(r",\s*([\d.]+)", group["transform"])[1]) for group in rows}
-    return count[1], sorted(place, key=place.get)
+def as_told(key, moment_state):
+    """What a key's row has to give when it is opened, in any order."""
+    dates = [datetime.fromtimestamp(key[name], timezone.utc).strftime("%Y-%m-%dT%H:%M:%SZ") for name in EXPORT_DATES
+             if key[name] is not None]
+    return sorted([key["number"], plain(key["owner"]), key["type"], moment_state, plain(key["purpose"]), *dates])
 
 
-def by_chromium(folder, screenshots, small):
-    if not shutil.which("chromium"):
-        return "chromium is not installed, and was left out"
-    pages = {}
-    for name, export in (("small", small), ("thousand", many(1000)), ("ten", many(10_000))):
-        pages[name] = os.path.join(folder, f"{name}.html")
-        pathlib.Path(pages[name]).write_text(drawn(export), encoding="utf-8")
+def layout_faults(told, keys, width):
+    """What a person would not see or reach at a width, of what the probe told."""
+    names = ["key", "owner", "type", "state", "purpose", "years"]
+    heads = [name for name in names if not (name == "purpose" and width <= 1150 or name == "type" and width <= 640)]
+    rows = {"wider": (told["wider"], 0), "over": (told["over"], []), "heads": (told["heads"], heads),
+            "lines of the page links": (told["lines"], 1), "the count": (told["live"], "status"),
+            "page links": ([told["pages"][0], told["pages"][2]], ["previous", "next"]),
+            "columns below their heads": (told["below"], told["above"]), "width": (told["width"], width)}
+    faults = [f"{width} wide: {name}: {found}, not {wanted}" for name, (found, wanted) in rows.items()
+              if found != wanted]
+    for key, (is_reached, texts) in zip(keys, told["reached"]):
+        state = next((text for text in texts if text.split(",")[0] in STATES), "")
+        if not is_reached or sorted(texts) != as_told(key, state) or state.split(",")[0] != key["state"]:
+            faults.append(f"{width} wide: key {key['number']}: its button gives {texts}")
+    return faults + ([] if len(told["reached"]) == len(keys) else [f"{len(told['reached'])} rows"])
+
+
+def light(colour):
+    """The relative luminance of WCAG 2.1."""
+    parts = [int(one, 16) / 255 for one in re.findall("..", colour.lstrip("#").ljust(6, colour[-1]))]
+    return sum(share * (one / 12.92 if one <= 0.03928 else ((one + 0.055) / 1.055) ** 2.4)
+               for share, one in zip((0.2126, 0.7152, 0.0722), parts))
+
+
+def contrast_faults(text):
+    """Colours that do not stand out from the paper: 3 to 1 for what is drawn, 7 to 1 for texts."""
+    faults = []
+    for name, block in zip(("light", "dark"), re.findall(r":root\{([^}]*--paper[^}]*)\}", text)):
+        colours = dict(re.findall(r"--(\w+):(#\w+)", block))
+        for which, colour in colours.items():
+            least = 7 if which == "ink" else 3 if re.match(r"s\d|edge", which) else 1
+            one, other = sorted((light(colour), light(colours["paper"])))
+            if (other + 0.05) / (one + 0.05) < least:
+                faults.append(f"{name}: {which} {colour} has {(other + 0.05) / (one + 0.05):.2f}, not {least}, to 1")
+    return faults
+
+
+def print_faults(browser, page, count):
+    """What is missing or cut on the sheets of a printed page of so many keys `key N`."""
+    sheets, filled = browser.printed(page)
+    rows = [int(line.split()[0]) for sheet in sheets for line in sheet if re.match(r"\s*(\d+) .*\bkey \1\b", line)]
+    faults = [] if rows == list(range(1, count + 1)) else [f"printed: {len(rows)} whole rows, the first {rows[:2]}"]
+    for place, (sheet, part) in enumerate(zip(sheets, filled), 1):
+        axis = next((line for line in sheet if "owner" in line and "purpose" in line), "")
+        if len(re.findall(r"\b20\d\d\b", axis)) < 3:
+            faults.append(f"printed: sheet {place} has the axis {axis.split()}")
+        if part > 0.955:
+            faults.append(f"printed: a row of sheet {place} reaches to {part:.3f} of its height")
+    return faults, len(sheets)
+
+
+def turned_over(browser, pages, small):
+    """The page filters, sorts and turns over."""
     for name, fragment, wanted, first in (
-            ("thousand", "", "1 to 1000 of 1000 keys", [1, 2]), ("ten", "", "1 to 1000 of 10000 keys", [1, 2]),
-            ("ten", "#page=10", "9001 to 10000 of 10000 keys", [9001]), ("ten", "#owner=team-3", "1 to 1000 of 1429 keys", [3, 10]),
+            ("thousand", "", "1 to 1000 of 1000 keys", [1, 2]),
+            ("ten", "#page=10", "9001 to 10000 of 10000 keys", [9001]),
+            ("ten", "#owner=team-3", "1 to 1000 of 1429 keys", [3, 10]),
             ("ten", "#owner=team-3&sort=owner&page=2", "1001 to 1429 of 1429 keys", [7003])):
-        told, numbers = shown_in(browsed(pages[name], folder, fragment, "--dump-dom"))
+        told, numbers = shown_in(browser.elements(pages[name], fragment))
         expect(told == wanted and numbers[:len(first)] == first, f"{name}{fragment}: {told}, {numbers[:3]}")
-    keys = list(keys_of(small))
     for state in STATES:
-        _, numbers = shown_in(browsed(pages["small"], folder, f"#state={state}", "--dump-dom"))
-        expect(numbers == [int(key["number"]) for key in keys if key["state"] == state], f"{state}: {numbers}")
-    told, numbers = shown_in(browsed(pages["small"], folder, "#due=1&sort=stop", "--dump-dom"))
+        _, numbers = shown_in(browser.elements(pages["small"], f"#state={state}"))
+        wanted = [int(key["number"]) for key in keys_of(small) if key["state"] == state]
+        expect(numbers == wanted, f"{state}: {numbers}, not {wanted}")
+    _, numbers = shown_in(browser.elements(pages["small"], "#due=1&sort=stop"))
     expect(numbers == [3, 2], f"due, by Protect Stop: {numbers}")
-    for width in (1400, 700) if screenshots else ():
-        for name in ("small", "thousand"):
-            browsed(pages[name], folder, "", f"--window-size={width},900", f"--screenshot={screenshots}/{name}-{width}.png")
-    return "chromium showed, filtered, sorted and paged them without a fault"
+
+
+def shown_in(page):
+    """The count that the page tells, and the numbers of the keys that it shows, from above."""
+    count = next(element["text"].strip() for element in page.elements if element.get("id") == "count")
+    return count, [int(row["data-number"]) for row, _ in page.keys]
+
+
+def seen(browser, texts, small):
+    """Looks at the pages at each width, in both schemes, and printed."""
+    faults, keys = contrast_faults(texts["small"]), list(keys_of(small))
+    for width in WIDTHS:
+        for is_dark in (False, True):
+            told = browser.seen("small", texts["small"], width, is_dark)
+            faults += layout_faults(told, keys, width)
+            paper = [int(one) for one in re.findall(r"\d+", told["colours"][1])]
+            faults += [] if (sum(paper) < 200) == is_dark else [f"{width} wide: the paper is {paper}, dark: {is_dark}"]
+    told, sheets = print_faults(browser, browser.page("thousand", texts["thousand"]), 1000)
+    expect(not faults + told, "\n".join((faults + told)[:12]))
+    return sheets
 
 
 def main():
     words = argparse.ArgumentParser()
     words.add_argument("--screenshots", metavar="FOLDER")
     screenshots = words.parse_args().screenshots
+    missing = [tool for tool in ("chromium", "pdftotext") if not shutil.which(tool)]
+    expect(not missing, f"not here: {missing}: apt-get install chromium poppler-utils")
     with tempfile.TemporaryDirectory() as folder:
         file = os.path.join(folder, "office.keyreg")
         keyreg(["init", "--file", file])
         replies = keyreg(["run", "--file", file], LINES)
         expect(all(reply.startswith("ok ") for reply in replies), f"{replies}")
-        small = "".join(line + "\n" for line in keyreg(["export", "--file", file]))
-        counts = looked_at(drawn(small), small)
-        expect(all(counts.values()), f"a state has no key: {counts}")
-        begun, large = time.monotonic(), many(10_000)
-        text = drawn(large)
+        small, large = "".join(line + "\n" for line in keyreg(["export", "--file", file])), many(10_000)
+        begun = time.monotonic()
+        texts = {"ten": drawn(large)}
         taken = time.monotonic() - begun
-        looked_at(text, large)
-        told = by_chromium(folder, screenshots, small)
-    print(told)
-    print(f"{sum(counts.values())} keys of all states and 10000 keys are drawn where their dates are; 10000 took {taken:.1f} seconds "
-          f"and {len(text) / 1e6:.1f} MB")
+        texts |= {"small": drawn(small), "thousand": drawn(many(1000))}
+        browser = Browser(folder)
+        pages = {name: browser.page(name, text) for name, text in texts.items()}
+        page = browser.elements(pages["small"])
+        counts = looked_at(page, small)
+        expect(all(counts.values()), f"a state has no key: {counts}")
+        loads_nothing(page, texts["small"])
+        for place in range(10):
+            looked_at(browser.elements(pages["ten"], f"#page={place + 1}"), large, place * 1000)
+        turned_over(browser, pages, small)
+        sheets = seen(browser, texts, small)
+        laid = min(browser.seen("ten", texts["ten"], 1600, most=1)["laid"] for _ in range(3)) / 1000
+        expect(laid <= SECONDS, f"10000 keys are shown after {laid:.2f} seconds")
+        for width in WIDTHS if screenshots else ():
+            for name in pages:
+                browser.run(pages[name], f"--window-size={width},900", f"--screenshot={screenshots}/{name}-{width}.png")
+    print(f"{sum(counts.values())} keys of all states at {len(WIDTHS)} widths, and 1000 keys on {sheets} sheets")
+    print(f"10000 keys: drawn in {taken:.1f} seconds, {len(texts['ten']) / 1e6:.1f} MB, shown after {laid:.2f} seconds")
 
 
 main()

@@ -1,15 +1,17 @@
 #!/usr/bin/env python3
-"""Draws the keys of an export as one page of HTML: a line for each key over time.
+"""Draws the keys of an export as one page of HTML: a row for each key, with its line over time.
 
     keyreg export --file copy.keyreg | examples/timeline.py [--at SECONDS] [--days N] > keys.html
 
-The page stands alone: it loads nothing, and its own script sorts and filters by owner, type and state, and turns the pages of
-1000 keys. A key's bar is high from its Activation to its Protect Stop Date, where it may protect data, and low from there to
-its Deactivation Date. Its state has a colour and a pattern, so that it is told in grey too. Marked are the moments of a
-compromise and a destruction, and what is due within so many days.
+The page stands alone: it loads nothing, and its own script draws the rows, sorts and filters them by owner, type and
+state, and turns the pages of 1000 keys. A key's bar is high from its Activation to its Protect Stop Date, where it may
+protect data, and low from there to its Deactivation Date. A compromise ends the high part, a destruction the line. A
+state has a colour and a pattern, so that it is told in grey too. Marked are the moments of a compromise and a
+destruction, and what is due within so many days. A row that is clicked, touched, or opened by its button from the
+keyboard, has all texts and dates of its key. Printed, the axis stands on each sheet, and no row is cut.
 
---at    the moment of the states and of the line of today, in seconds since 1970; else the clock's. The states of the export
-        itself are those of the latest accepted moment.
+--at    the moment of the states and of the line of today, in seconds since 1970; else the clock's. The states of the
+        export itself are those of the latest accepted moment.
 --days  so many days ahead a Protect Stop Date is due; else 60
 
 Years more than ten before or after the moment are cut off: a bar that goes on there has an arrow.
@@ -19,6 +21,7 @@ import base64
 import csv
 import hashlib
 import io
+import json
 import sys
 import time
 import unicodedata
@@ -27,79 +30,178 @@ from html import escape
 
 EPOCH = datetime(1970, 1, 1, tzinfo=timezone.utc)
 # The columns that are drawn: the dates, and all.
-DATES = ("activation", "protect_stop", "deactivation", "initial", "destroyed", "compromised", "occurrence")
+DATES = ("initial", "activation", "protect_stop", "deactivation", "occurrence", "compromised", "destroyed")
 COLUMNS = ("number", "type", "owner", *DATES, "purpose")
-DAY, YEARS_SHOWN = 86400, 10
-# In units of the picture: its width, where the time begins, a row's height.
-WIDTH, LEFT, ROW, AXIS = 1200, 520, 20, 24
-PAGE = 1000
-# The states with their colours, which those who are colour-blind tell apart, and the lines of their patterns.
+DAY, YEARS_SHOWN, PAGE = 86400, 10, 1000
+# The states with their colours on paper and in the dark, which those who are colour-blind tell apart, and the lines of
+# their patterns.
 STATES = {
-    "Pre-Active": ("#8c8c8c", '<circle cx="4" cy="4" r="1.3" fill="{0}"/>'),
-    "Active": ("#0072b2", '<rect width="8" height="8" fill="{0}"/>'),
-    "Deactivated": ("#e69f00", '<path d="M-1 1l2-2M0 8l8-8M7 9l2-2" stroke="{0}" stroke-width="2.4"/>'),
-    "Compromised": ("#d55e00", '<path d="M0 0l8 8M0 8l8-8" stroke="{0}" stroke-width="1.8"/>'),
-    "Destroyed": ("#4d4d4d", '<path d="M2 0v8M6 0v8" stroke="{0}" stroke-width="1.4"/>'),
-    "Destroyed-Compromised": ("#b0487f", '<path d="M0 2h8M0 6h8M4 0v8" stroke="{0}" stroke-width="1.4"/>'),
+    "Pre-Active": ("#767676", "#a8a8a8", '<circle cx="4" cy="4" r="1.3" fill="{0}"/>'),
+    "Active": ("#0072b2", "#56b4e9", '<rect width="8" height="8" fill="{0}"/>'),
+    "Deactivated": ("#c98500", "#e69f00", '<path d="M-1 1l2-2M0 8l8-8M7 9l2-2" stroke="{0}" stroke-width="2.4"/>'),
+    "Compromised": ("#d55e00", "#ff8a3d", '<path d="M0 0l8 8M0 8l8-8" stroke="{0}" stroke-width="1.8"/>'),
+    "Destroyed": ("#4d4d4d", "#c8c8c8", '<path d="M2 0v8M6 0v8" stroke="{0}" stroke-width="1.4"/>'),
+    "Destroyed-Compromised": ("#b0487f", "#e58ab8", '<path d="M0 2h8M0 6h8M4 0v8" stroke="{0}" stroke-width="1.4"/>'),
 }
-SHORT = {"Destroyed-Compromised": "Destr.-Compr."}
 STYLE = """
-body{font:15px/1.4 system-ui,sans-serif;margin:1rem;color:#111;background:#fff}
-h1{font-size:1.3rem;margin:0 0 .3rem}
+:root{color-scheme:light dark;--paper:#fff;--ink:#111;--faint:#ccc;--edge:#888;@LIGHT@}
+@media screen and (prefers-color-scheme:dark){:root{--paper:#16181b;--ink:#eee;--faint:#3a3e44;--edge:#777;@DARK@}}
+*{box-sizing:border-box}
+body{font:15px/1.4 system-ui,sans-serif;margin:1rem;color:var(--ink);background:var(--paper)}
+h1{font-size:1.3rem;margin:0 0 .3rem}p{max-width:60rem;margin:.3rem 0}
 form{display:flex;flex-wrap:wrap;gap:.4rem 1rem;margin:.6rem 0;align-items:center}
-label{white-space:nowrap}select,button{font:inherit;max-width:15rem}
-.legend{display:flex;flex-wrap:wrap;gap:.2rem 1.1rem;margin:.3rem 0}.legend svg{width:34px;height:14px;vertical-align:-2px}
-.scroll{overflow:auto;max-height:88vh}.sheet{min-width:960px}
-#axis{position:sticky;top:0;background:#fff;border-bottom:1px solid #888}
-svg{display:block;width:100%;height:auto}.legend svg{display:inline-block}
-text{font:12px system-ui,sans-serif;fill:#111;unicode-bidi:isolate}.key:hover text{font-weight:600}
-.grid{stroke:#ccc;stroke-width:1}.today{stroke:#000;stroke-width:1.5;stroke-dasharray:5 3}
-.bar{stroke-width:1}.wait{stroke:#8c8c8c;stroke-dasharray:2 3}
-.mark{stroke:#000;stroke-width:1.6;fill:none}.solid{fill:#000;stroke:none}.due{font-weight:700}
-@media print{form{display:none}#axis{position:static}body{margin:0}.sheet{min-width:0}
-.scroll{max-height:none;overflow:visible}*{print-color-adjust:exact}}
+label,.pages{white-space:nowrap}select,button{font:inherit;max-width:15rem}
+.legend{display:flex;flex-wrap:wrap;gap:.2rem 1.1rem;margin:.3rem 0}.legend span{white-space:nowrap}
+.legend svg{width:34px;height:14px;vertical-align:-2px}.defs{position:absolute;width:0;height:0}
+table{width:100%;table-layout:fixed;border-collapse:collapse;font-size:13px;line-height:20px}
+col.number{width:4.6rem}col.owner{width:10rem}col.type{width:10rem}col.state{width:11rem}col.purpose{width:14rem}
+th,td{padding:0 .4rem;text-align:left;vertical-align:top;overflow:hidden;text-overflow:ellipsis;white-space:nowrap;
+unicode-bidi:isolate}
+th{position:sticky;top:0;z-index:1;background:var(--paper);border-bottom:1px solid var(--edge);font-weight:600;
+line-height:24px}
+tr.key{cursor:pointer}tr.key:hover td{font-weight:600}tr.key:hover td.time,tr.more td{font-weight:400}
+.number{text-align:right}
+td.number button{font:inherit;color:inherit;background:none;border:0;padding:0 .2rem;cursor:pointer;
+text-decoration:underline dotted}
+button:focus-visible{outline:2px solid var(--s1)}
+.time{padding:0}.grid{stroke:var(--faint);vector-effect:non-scaling-stroke}
+.time>svg{display:block;width:100%;height:20px;overflow:hidden}
+th.time,th.time>svg{overflow:visible}th.time>svg{height:24px}
+tr.more td{white-space:normal;overflow-wrap:anywhere;border-bottom:1px solid var(--edge);padding:.2rem .4rem .5rem 5rem}
+dl{display:grid;grid-template-columns:max-content 1fr;gap:0 1rem;margin:0}dt{color:var(--ink);opacity:.75}dd{margin:0}
+text{font:12px system-ui,sans-serif;fill:var(--ink)}
+.today{stroke:var(--ink);stroke-width:1.5;stroke-dasharray:5 3}.wait{stroke:var(--s0);stroke-dasharray:2 3}
+.mark{stroke:var(--ink);stroke-width:1.6;fill:none}.solid{fill:var(--ink);stroke:none}.due{font-weight:700}
+@media screen and (max-width:1150px){col.purpose{width:0}.purpose{display:none}}
+@media screen and (max-width:820px){col.owner{width:8rem}col.type{width:9rem}.year.odd,.year.half{display:none}}
+@media screen and (max-width:640px){
+body{margin:.5rem}table,tbody,thead{display:block}thead{position:sticky;top:0;z-index:1;background:var(--paper)}
+colgroup{display:none}tr{display:grid;grid-template-columns:3.2rem 1fr 11rem}th{position:static}
+.type{display:none}.time{grid-column:1/-1}tr.more td{grid-column:1/-1;padding-left:.4rem}
+tr.key{border-bottom:1px solid var(--faint)}td.number button{padding:.1rem .3rem}
+}
+@media print{@page{size:A4 landscape;margin:10mm}
+form label,form button{display:none}body{margin:0;font-size:11px}table{font-size:10px;line-height:16px}
+th{position:static}
+thead{display:table-header-group}tr,.legend{break-inside:avoid}td{white-space:normal;overflow-wrap:anywhere}
+col.number{width:3rem}col.owner{width:8rem}col.type{width:7.5rem}col.state{width:8.5rem}col.purpose{width:11rem}
+.purpose{display:table-cell}.year.odd{display:none}td.number button{text-decoration:none}*{print-color-adjust:exact}}
 """
 SCRIPT = """
 'use strict';
-const svg = document.getElementById('keys'), rows = [...svg.querySelectorAll('g.key')];
-const form = document.querySelector('form'), count = document.getElementById('count');
-const ROW = +svg.dataset.row, PAGE = +svg.dataset.page, WIDTH = +svg.dataset.width;
-const field = name => form.elements[name];
+const table = document.querySelector('table'), body = table.tBodies[0], form = document.querySelector('form');
+const {states, dates, today, years, keys} = JSON.parse(document.getElementById('data').textContent);
+const count = document.getElementById('count'), PAGE = +table.dataset.page;
+const [NUMBER, OWNER, TYPE, STATE, DUE, PURPOSE, MOMENTS, LINES, MARKS] = keys.columns.map((_, place) => place);
+const STOP = dates.indexOf('protect_stop'), field = name => form.elements[name];
+const part = (name, attributes) => {
+  const made = document.createElementNS('http://www.w3.org/2000/svg', name);
+  for (const [key, value] of Object.entries(attributes)) made.setAttribute(key, value);
+  return made;
+};
+const cell = (name, text) => {
+  const made = document.createElement('td');
+  made.className = name;
+  made.textContent = text;
+  return made;
+};
+const SHAPES = {
+  c: 'M-5 5l10 10M-5 15l10-10', d: 'M-5 5h10v10h-10z', r: 'M-6 0h12l-6 9z',
+  '>': 'M-8 4l7 6l-7 6z', '<': 'M8 4l-7 6l7 6z'
+};
+const CLASSES = {
+  c: 'mark compromised', d: 'solid destroyed', r: 'solid rotation', '>': 'solid later', '<': 'solid before'
+};
+function mark([kind, x, since]) {
+  const place = part('svg', {x: x + '%', overflow: 'visible', class: 'place'});
+  place.append(part('path', {class: CLASSES[kind], d: SHAPES[kind]}));
+  if (kind !== 'c') return [place];
+  const begun = part('svg', {x: since + '%', overflow: 'visible'});
+  begun.append(part('path', {class: 'mark', d: 'M0 3v14'}));
+  return [part('line', {class: 'mark', x1: since + '%', x2: x + '%', y1: 10, y2: 10}), begun, place];
+}
+function line([kind, from, to], state) {
+  if (kind === 'wait') return part('line', {class: kind, x1: from + '%', x2: to + '%', y1: 10, y2: 10});
+  const [y, height] = kind === 'protect' ? [3, 14] : [7, 6];
+  return part('rect', {class: 'bar ' + kind, x: from + '%', y, width: Math.max(to - from, .05).toFixed(3) + '%', height,
+    fill: `url(#s${state})`, stroke: `var(--s${state})`});
+}
+function drawn(key) {
+  const row = document.createElement('tr'), time = document.createElement('td');
+  const picture = part('svg', {'aria-hidden': true});
+  row.className = 'key';
+  row.dataset.number = key[NUMBER];
+  row.dataset.owner = key[OWNER];
+  row.dataset.type = key[TYPE];
+  row.dataset.due = key[DUE];
+  row.dataset.state = states[key[STATE]];
+  const number = cell('number', ''), button = document.createElement('button');
+  button.type = 'button';
+  button.textContent = key[NUMBER];
+  button.setAttribute('aria-expanded', false);
+  button.setAttribute('aria-label', `key ${key[NUMBER]}: all texts and dates`);
+  number.append(button);
+  const state = cell('state' + (key[DUE] ? ' due' : ''), key[DUE] || states[key[STATE]]);
+  time.className = 'time';
+  const grid = part('svg', {viewBox: '0 0 100 20', preserveAspectRatio: 'none', width: '100%', height: 20});
+  grid.append(part('path', {class: 'grid', d: years.map(x => `M${x} 0v20`).join('')}));
+  picture.append(grid, ...key[LINES].map(one => line(one, key[STATE])),
+    part('line', {class: 'today', x1: today + '%', x2: today + '%', y1: 0, y2: 20}), ...key[MARKS].flatMap(mark));
+  time.append(picture);
+  row.append(number, cell('owner', key[OWNER]), cell('type', key[TYPE]), state, cell('purpose', key[PURPOSE]), time);
+  row.addEventListener('click', event => {
+    if (event.target === button || getSelection().isCollapsed) toggle(row, button, key);
+  });
+  return row;
+}
+function toggle(row, button, key) {
+  const is_open = button.getAttribute('aria-expanded') === 'true';
+  button.setAttribute('aria-expanded', !is_open);
+  if (is_open) return row.nextSibling.remove();
+  const more = document.createElement('tr'), all = cell('all', ''), list = document.createElement('dl');
+  const told = [['key', key[NUMBER]], ['owner', key[OWNER]], ['type', key[TYPE]],
+    ['state', states[key[STATE]] + (key[DUE] && ', ' + key[DUE])], ['purpose', key[PURPOSE]],
+    ...dates.map((name, place) => [name.replace('_', ' '), moment(key[MOMENTS][place])]).filter(([, text]) => text)];
+  for (const [name, text] of told) {
+    const term = document.createElement('dt'), value = document.createElement('dd');
+    term.textContent = name;
+    value.textContent = text;
+    list.append(term, value);
+  }
+  more.className = 'more';
+  all.colSpan = 6;
+  all.append(list);
+  more.append(all);
+  row.after(more);
+}
+const moment = seconds => seconds === null ? '' : new Date(seconds * 1000).toISOString().replace('.000', '');
 let page = 0;
-const given = new URLSearchParams(location.hash.slice(1));
-for (const [name, value] of given) {
+for (const [name, value] of new URLSearchParams(location.hash.slice(1))) {
   if (name === 'page') page = Math.max(0, value - 1);
   else if (name === 'due') field('due').checked = true;
   else if (field(name)) field(name).value = value;
 }
 const by = {
-  number: r => [+r.dataset.number], stop: r => [r.dataset.stop ? +r.dataset.stop : Infinity],
-  owner: r => [r.dataset.owner], type: r => [r.dataset.type], state: r => [+r.dataset.order]
+  number: () => 0, owner: key => key[OWNER], type: key => key[TYPE], state: key => key[STATE],
+  stop: key => key[MOMENTS][STOP] === null ? Infinity : key[MOMENTS][STOP]
 };
 function show() {
-  const key = by[field('sort').value];
-  const kept = rows.filter(r => ['owner', 'type', 'state'].every(n => !field(n).value || r.dataset[n] === field(n).value)
-    && (!field('due').checked || r.dataset.due));
-  kept.sort((a, b) => {
-    const x = key(a)[0], y = key(b)[0];
-    return x < y ? -1 : x > y ? 1 : a.dataset.number - b.dataset.number;
-  });
+  const order = by[field('sort').value], is = (name, text) => !field(name).value || field(name).value === text;
+  const kept = keys.rows.filter(key => is('owner', key[OWNER]) && is('type', key[TYPE])
+    && is('state', states[key[STATE]]) && (!field('due').checked || key[DUE]));
+  kept.sort((a, b) => order(a) < order(b) ? -1 : order(a) > order(b) ? 1 : a[NUMBER] - b[NUMBER]);
   const pages = Math.max(1, Math.ceil(kept.length / PAGE));
   page = Math.min(page, pages - 1);
-  const shown = kept.slice(page * PAGE, (page + 1) * PAGE), on = new Set(shown);
-  for (const r of rows) r.style.display = on.has(r) ? '' : 'none';
-  shown.forEach((r, place) => r.setAttribute('transform', `translate(0,${place * ROW})`));
-  const height = Math.max(1, shown.length) * ROW;
-  svg.setAttribute('viewBox', `0 0 ${WIDTH} ${height}`);
-  for (const line of svg.querySelectorAll('.long')) line.setAttribute('y2', height);
+  const shown = kept.slice(page * PAGE, (page + 1) * PAGE);
+  body.replaceChildren(...shown.map(drawn));
   const first = kept.length ? page * PAGE + 1 : 0;
   count.textContent = `${first} to ${page * PAGE + shown.length} of ${kept.length} keys`;
-  field('back').disabled = page === 0;
-  field('on').disabled = page === pages - 1;
+  field('previous').disabled = page === 0;
+  field('next').disabled = page === pages - 1;
 }
 form.addEventListener('change', () => { page = 0; show(); });
-field('back').addEventListener('click', () => { page -= 1; show(); });
-field('on').addEventListener('click', () => { page += 1; show(); });
+field('previous').addEventListener('click', () => { page -= 1; show(); });
+field('next').addEventListener('click', () => { page += 1; show(); });
 form.addEventListener('submit', event => event.preventDefault());
 show();
 """
@@ -113,10 +215,12 @@ def text_of(moment):
     return (EPOCH + timedelta(seconds=moment)).strftime("%Y-%m-%dT%H:%M:%SZ")
 
 
-def shown(text, most=None):
+def shown(text):
     """A text of a key for the page: what would not be seen, or would move other text, stands by its number."""
-    text = "".join(f"\\u{ord(one):04x}" if unicodedata.category(one) in ("Cc", "Cf", "Zl", "Zp") else one for one in text)
-    return escape(text if most is None or len(text) <= most else text[:most - 1] + "…")
+    if text.isascii() and text.isprintable():
+        return text
+    return "".join(f"\\u{ord(one):04x}" if unicodedata.category(one) in ("Cc", "Cf", "Zl", "Zp") else one
+                   for one in text)
 
 
 def state_at(key, moment):
@@ -140,7 +244,7 @@ def keys_of(text):
 
 
 class Scale:
-    """Where a moment stands in the picture."""
+    """Where a moment stands in the picture, in hundredths of its width."""
 
     def __init__(self, keys, moment):
         dates = [key[name] for key in keys for name in DATES if key[name] is not None] + [moment]
@@ -148,120 +252,136 @@ class Scale:
         years = [(EPOCH + timedelta(seconds=date)).year
                  for date in (max(min(dates), moment - far, 0), min(max(dates), moment + far, 253370764800))]
         self.years = range(years[0], years[1] + 2)
-        self.first, self.last = (round((datetime(min(year, 9999), 1, 1, tzinfo=timezone.utc) - EPOCH).total_seconds())
-                                 for year in (self.years[0], self.years[-1]))
+        self.first, self.last = (self.begin(year) for year in (self.years[0], self.years[-1]))
+
+    @staticmethod
+    def begin(year):
+        return round((datetime(min(year, 9999), 1, 1, tzinfo=timezone.utc) - EPOCH).total_seconds())
 
     def x(self, moment):
         part = (moment - self.first) / (self.last - self.first)
-        return round(LEFT + min(max(part, 0), 1) * (WIDTH - LEFT), 2)
+        return round(100 * min(max(part, 0), 1), 3)
 
-    def lines(self, moment, height):
-        """The lines of years, and that of the moment."""
-        step = 1 + len(self.years) // 14
-        for year in self.years[::step]:
-            x = self.x(round((datetime(min(year, 9999), 1, 1, tzinfo=timezone.utc) - EPOCH).total_seconds()))
-            yield f'<line class="grid long" x1="{x}" x2="{x}" y1="0" y2="{height}"/>', f'<text x="{x + 3}" y="16">{year}</text>'
-        x = self.x(moment)
-        yield f'<line class="today long" x1="{x}" x2="{x}" y1="0" y2="{height}"/>', ""
+    def places(self):
+        """The years that have a line, each with its place."""
+        return [(year, self.x(self.begin(year))) for year in self.years[:-1][::1 + len(self.years) // 14]]
 
-
-def bars(key, state, scale):
-    """The high and the low part of a key's bar, where it has dates."""
-    begin, stop, end = key["activation"], key["protect_stop"], key["deactivation"]
-    if begin is None:
-        yield f'<path class="wait" d="M{scale.x(key["initial"])} 10H{WIDTH}"/>'
-        return
-    order = list(STATES).index(state)
-    yield f'<path class="wait" d="M{scale.x(key["initial"])} 10H{scale.x(begin)}"/>' if key["initial"] < begin else ""
-    for name, one, other, y, height in (("protect", begin, stop, 3, 14), ("process", stop, end, 7, 6)):
-        if one is not None and other is not None and other > one:
-            x = scale.x(one)
-            yield (f'<rect class="bar {name}" x="{x}" y="{y}" width="{round(max(scale.x(other) - x, 0.5), 2)}" height="{height}" '
-                   f'fill="url(#s{order})" stroke="{STATES[state][0]}"/>')
-    if end is not None and end > scale.last:
-        yield f'<path class="solid" d="M{WIDTH - 8} 4l7 6l-7 6z"/>'
-    if begin < scale.first:
-        yield f'<path class="solid" d="M{LEFT + 8} 4l-7 6l7 6z"/>'
+    def years_drawn(self):
+        """The axis: of narrow pages each second or fourth year alone."""
+        for place, (year, x) in enumerate(self.places()):
+            fewer = " odd" if place % 2 else " half" if place % 4 else ""
+            # At the edge there is no room for one.
+            yield f'<text class="year{fewer}" x="{x}%" dx="3" y="16">{year}</text>' if x < 94 else ""
 
 
-def marks(key, due, scale):
+def lines_of(key, scale):
+    """A key's line: where it waits, where it may protect data, and where it may only process them."""
+    never = float("inf")
+    begin, stop, end, destroyed, compromised = (never if key[name] is None else key[name] for name in (
+        "activation", "protect_stop", "deactivation", "destroyed", "compromised"))
+    last = min(end, destroyed)
+    turn = min(max(begin, min(stop, compromised)), last)
+    for kind, one, other in (("wait", key["initial"], min(begin, destroyed, compromised)), ("protect", begin, turn),
+                             ("process", turn, last)):
+        if one < other and (kind == "wait" or begin < never):
+            yield kind, scale.x(one), scale.x(min(other, scale.last))
+    if scale.last < last and begin < never:
+        yield ">", 100
+    if begin < scale.first and scale.first < last:
+        yield "<", 0
+
+
+def marks_of(key, due, scale):
     """What happened to it, and what is due: shapes that differ without a colour."""
     if key["compromised"] is not None:
-        x, since = scale.x(key["compromised"]), scale.x(key["occurrence"])
-        yield f'<path class="mark compromised" d="M{x - 5} 5l10 10M{x - 5} 15l10-10M{since} 3v14M{since} 10H{x}"/>'
+        yield "c", scale.x(key["compromised"]), scale.x(key["occurrence"])
     if key["destroyed"] is not None:
-        x = scale.x(key["destroyed"])
-        yield f'<rect class="solid destroyed" x="{x - 5}" y="5" width="10" height="10"/>'
+        yield "d", scale.x(key["destroyed"])
     if due:
-        x = scale.x(key["protect_stop"])
-        yield f'<path class="solid" d="M{x - 6} 0h12l-6 9z"/>'
+        yield "r", scale.x(key["protect_stop"])
 
 
-def row_of(place, key, moment, days, scale):
-    """The group of a key, with all of its texts in its title."""
+def row_of(key, moment, days, scale):
+    """What the script draws of a key."""
     state, stop = state_at(key, moment), key["protect_stop"]
     due = ""
     if state == "Active" and stop is not None and stop <= moment + days * DAY:
         due = "overdue" if stop <= moment else "due"
-    told = [f"{name.replace('_', ' ')} {text_of(key[name])}" for name in DATES if key[name] is not None]
-    title = f"key {key['number']}, {key['type']}, {shown(key['owner'])}: {shown(key['purpose'])}\n{state}{due and ', ' + due}\n"
-    labels = [(34, "end", key["number"]), (42, "start", shown(key["owner"], 18)), (166, "start", key["type"]),
-              (300, "start", due or SHORT.get(state, state)), (392, "start", shown(key["purpose"], 16))]
-    texts = "".join(f'<text x="{x}" y="14" text-anchor="{anchor}"{" class=due" if x == 300 and due else ""}>{text}</text>'
-                    for x, anchor, text in labels)
-    data = {"number": key["number"], "owner": key["owner"], "type": key["type"], "state": state, "order": list(STATES).index(state),
-            "due": due, "stop": "" if stop is None else stop}
-    named = "".join(f' data-{name}="{shown(str(value))}"' for name, value in data.items())
-    return (f'<g class="key"{named} transform="translate(0,{place * ROW})"><title>{title}{chr(10).join(told)}</title>{texts}'
-            f'{"".join(bars(key, state, scale))}{"".join(marks(key, due, scale))}</g>')
+    drawn = list(lines_of(key, scale))
+    lines = [one for one in drawn if len(one) == 3]
+    marks = [*(one for one in drawn if len(one) == 2), *marks_of(key, due, scale)]
+    return [int(key["number"]), shown(key["owner"]), key["type"], list(STATES).index(state), due, shown(key["purpose"]),
+            [key[name] for name in DATES], lines, marks]
 
 
 def choice(name, label, values):
-    options = "".join(f'<option value="{value}">{text}</option>' for value, text in values)
+    options = "".join(f'<option value="{escape(value)}">{escape(text)}</option>' for value, text in values)
     return f'<label>{label} <select name="{name}">{options}</select></label>'
 
 
 def legend():
-    for place, (state, (colour, _)) in enumerate(STATES.items()):
-        yield (f'<span><svg viewBox="0 0 34 14"><rect x="1" y="1" width="32" height="12" fill="url(#s{place})" stroke="{colour}"/>'
-               f"</svg> {state}</span>")
+    for place, state in enumerate(STATES):
+        yield (f'<span><svg viewBox="0 0 34 14"><rect x="1" y="1" width="32" height="12" fill="url(#s{place})" '
+               f'stroke="var(--s{place})"/></svg> {state}</span>')
     for drawn, told in (('<path class="mark" d="M12 2l10 10M12 12l10-10"/>', "compromise, from its occurrence on"),
                         ('<rect class="solid" x="12" y="2" width="10" height="10"/>', "destruction"),
                         ('<path class="solid" d="M11 2h12l-6 9z"/>', "due or overdue"),
-                        ('<path class="today" d="M17 0v14"/>', "the moment")):
+                        ('<path class="today" d="M17 0v14"/>', "the moment"),
+                        ('<path class="wait" d="M0 7h34"/>', "not yet Active")):
         yield f'<span><svg viewBox="0 0 34 14">{drawn}</svg> {told}</span>'
+
+
+def style_of():
+    light, dark = ("".join(f"--s{place}:{colours[which]};" for place, colours in enumerate(STATES.values()))
+                   for which in (0, 1))
+    return STYLE.replace("@LIGHT@", light).replace("@DARK@", dark)
+
+
+def form_of(keys):
+    owners = sorted({shown(key["owner"]) for key in keys})
+    types = sorted({key["type"] for key in keys})
+    pairs = [[("", "all"), *((value, value) for value in values)] for values in (owners, types, STATES)]
+    sorts = [*((name, name) for name in ("number", "owner", "type", "state")), ("stop", "Protect Stop Date")]
+    return f"""<form>{"".join(choice(name, name, values) for name, values in zip(("owner", "type", "state"), pairs))}
+<label><input type="checkbox" name="due"> due alone</label>{choice("sort", "sort by", sorts)}
+<span class="pages"><button type="button" name="previous">previous</button> <span id="count" role="status"></span>
+<button type="button" name="next">next</button></span></form>"""
 
 
 def page_of(keys, moment, days):
     scale = Scale(keys, moment)
-    height = max(1, len(keys)) * ROW
-    lines, years = zip(*scale.lines(moment, height))
-    rows = [row_of(place, key, moment, days, scale) for place, key in enumerate(keys)]
-    patterns = "".join(f'<pattern id="s{place}" width="8" height="8" patternUnits="userSpaceOnUse"><rect width="8" height="8" fill="#fff"/>'
-                       f"{lines_of.format(colour)}</pattern>" for place, (colour, lines_of) in enumerate(STATES.values()))
-    hashes = [base64.b64encode(hashlib.sha256(text.encode()).digest()).decode() for text in (STYLE, SCRIPT)]
-    owners = sorted({key["owner"] for key in keys})
-    types = sorted({key["type"] for key in keys})
-    pairs = [[("", "all"), *((shown(value), shown(value)) for value in values)] for values in (owners, types, STATES)]
-    sorts = [("number", "number"), ("owner", "owner"), ("type", "type"), ("state", "state"), ("stop", "Protect Stop Date")]
+    style = style_of()
+    patterns = "".join(f'<pattern id="s{place}" width="8" height="8" patternUnits="userSpaceOnUse">'
+                       f'<rect width="8" height="8" fill="var(--paper)"/>{drawn.format(f"var(--s{place})")}</pattern>'
+                       for place, (_, _, drawn) in enumerate(STATES.values()))
+    hashes = [base64.b64encode(hashlib.sha256(text.encode()).digest()).decode() for text in (style, SCRIPT)]
+    columns = ("number", "owner", "type", "state", "purpose", "time")
+    heads = "".join(f'<th scope="col" class="{name}">{"key" if name == "number" else name}</th>'
+                    for name in columns[:-1])
+    data = {"states": list(STATES), "dates": DATES, "today": scale.x(moment), "years": [x for _, x in scale.places()],
+            "keys": {"columns": ["number", "owner", "type", "state", "due", "purpose", "dates", "lines", "marks"],
+                     "rows": [row_of(key, moment, days, scale) for key in keys]}}
+    # In a script's element only `<` could end the text.
+    text = json.dumps(data, ensure_ascii=False, separators=(",", ":")).replace("<", "\\u003c")
     yield f"""<!DOCTYPE html>
 <html lang="en"><head><meta charset="utf-8"><title>Keys at {text_of(moment)}</title>
-<meta http-equiv="Content-Security-Policy" content="default-src 'none'; style-src 'sha256-{hashes[0]}'; script-src 'sha256-{hashes[1]}'">
-<meta name="viewport" content="width=device-width"><style>{STYLE}</style></head><body>
+<meta http-equiv="Content-Security-Policy"
+ content="default-src 'none'; style-src 'sha256-{hashes[0]}'; script-src 'sha256-{hashes[1]}'">
+<meta name="viewport" content="width=device-width"><style>{style}</style></head><body>
 <h1>Keys at {text_of(moment)}</h1>
-<p>{len(keys)} keys. States are those of this moment by the dates of the export. Due: Active, and its Protect Stop Date is within
-{days} days. A bar is high while the key may protect data, and low while it may only process what is protected.</p>
+<p>{len(keys)} keys. States are those of this moment by the dates of the export. Due: Active, and its Protect Stop Date
+is within {days} days. A bar is high while the key may protect data, and low while it may only process what is protected. A
+key's number opens all of its texts and dates.</p>
+<noscript><p>The rows are drawn by this page's own script, which this browser does not run.</p></noscript>
 <div class="legend">{"".join(legend())}</div>
-<form>{choice("owner", "owner", pairs[0])}{choice("type", "type", pairs[1])}{choice("state", "state", pairs[2])}
-<label><input type="checkbox" name="due"> due alone</label>{choice("sort", "sort by", sorts)}
-<button type="button" name="back">back</button><span id="count"></span><button type="button" name="on">on</button></form>
-<div class="scroll"><div class="sheet">
-<svg id="axis" viewBox="0 0 {WIDTH} {AXIS}">{"".join(years)}</svg>
-<svg id="keys" viewBox="0 0 {WIDTH} {height}" data-row="{ROW}" data-page="{PAGE}" data-width="{WIDTH}" data-left="{LEFT}"
- data-first="{scale.first}" data-last="{scale.last}"><defs>{patterns}</defs>{"".join(lines)}
+{form_of(keys)}
+<svg class="defs" aria-hidden="true"><defs>{patterns}</defs></svg>
+<table data-page="{PAGE}" data-first="{scale.first}" data-last="{scale.last}">
+<colgroup>{"".join(f'<col class="{name}">' for name in columns)}</colgroup>
+<thead><tr>{heads}<th scope="col" class="time" aria-label="years">
+<svg aria-hidden="true">{"".join(scale.years_drawn())}</svg></th></tr></thead><tbody></tbody></table>
+<script type="application/json" id="data">{text}</script><script>{SCRIPT}</script></body></html>
 """
-    yield "\n".join(rows)
-    yield f"\n</svg></div></div><script>{SCRIPT}</script></body></html>\n"
 
 
 def main():

@@ -6,10 +6,17 @@ _keyreg() {
         COMPREPLY=($(compgen -W "${commands// /$IFS}$IFS--help$IFS--version" -- "$word"))
         return
     fi
+    # bash takes `--file=PATH` for three words, and `--file=` for two.
+    if [[ $word == = ]]; then
+        word=
+    elif [[ $before == = ]]; then
+        before=${COMP_WORDS[COMP_CWORD - 2]}
+    fi
     case $before in
     --file)
-        compopt -o filenames
-        COMPREPLY=($(compgen -f -- "$word"))
+        # Names of files as bash itself completes them, with `~` and blanks.
+        compopt -o default
+        COMPREPLY=()
         return
         ;;
     --moment | --caller | --first | --days | --port | --exchanges) return ;;

@@ -9,24 +9,28 @@ _keyreg() {
         'export:write all keys as CSV'
         'report:write which keys are due for rotation'
         'serve:serve HTTP exchanges on 127.0.0.1'
+        'help:print the help of a command'
     )
+    # Braces are expanded among the words of an array, and in no other assignment.
+    local -a help=('(- *)'{-h,--help}'[print help]')
     if ((CURRENT == 2)); then
         _describe command commands
-        _arguments '(- *)'{-h,--help}'[print help]' '(- *)'{-V,--version}'[print the version]'
+        _arguments $help '(- *)'{-V,--version}'[print the version]'
         return
     fi
-    local file='--file[the file of the register]:file:_files' help='(- *)'{-h,--help}'[print help]'
+    local file='--file=[the file of the register]:file:_files'
     local command=$words[2]
     shift words
     ((CURRENT--))
     case $command in
-    init | run | export) _arguments "$file" $help ;;
+    init | run | export) _arguments $file $help ;;
     import)
-        _arguments "$file" '--moment[seconds since 1970]:seconds:' '--caller[who asks]:name:' \
-            '--first[request number of the first row]:number:' $help
+        _arguments $file '--moment=[seconds since 1970]:seconds:' '--caller=[who asks]:name:' \
+            '--first=[request number of the first row]:number:' $help
         ;;
-    report) _arguments "$file" '--days[how many days ahead]:days:' $help ;;
-    serve) _arguments "$file" '--port[the port]:port:' '--exchanges[how many to serve]:number:' $help ;;
+    report) _arguments $file '--days=[how many days ahead]:days:' $help ;;
+    serve) _arguments $file '--port=[the port]:port:' '--exchanges=[how many to serve]:number:' $help ;;
+    help) _describe command commands ;;
     esac
 }
 _keyreg "$@"

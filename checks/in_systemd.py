@@ -1,0 +1,82 @@
+#!/usr/bin/env python3
+"""The units in a real systemd: a root with the package boots by systemd-nspawn, and checks/in_systemd.sh does there
+what OPERATING and the heads of the units have a person do.
+
+    checks/in_systemd.py [--base FOLDER] [--mirror URL]
+
+The service starts by its own words; a port that is taken and a disk that is full while a client sends again are not
+given up; several registers are served by keyreg@.service; the nightly look passes, and fails after a change that no
+request made; upgrade and removal leave no unit behind. As root, with debootstrap and systemd-container of Debian. The
+root is one that debootstrap fetches, or a copy of FOLDER with the packages of MORE. `./package` is called first.
+"""
+import argparse
+import pathlib
+import shutil
+import subprocess
+import sys
+import tempfile
+
+TOP = pathlib.Path(__file__).resolve().parent.parent
+MORE = "systemd,systemd-sysv,dbus,python3,sqlite3,curl"
+UNIT = """[Unit]
+Description=What is tried
+[Service]
+Type=oneshot
+TimeoutStartSec=infinity
+ExecStart=/bin/bash -c '/bin/bash /tried.sh > /tried.log 2>&1; echo end >> /tried.log; systemctl poweroff --force'
+"""
+SECONDS = 900
+
+
+def run(*words, **more):
+    done = subprocess.run([str(word) for word in words], capture_output=True, text=True, check=False, **more)
+    if done.returncode:
+        sys.exit(f"FAILED: {words[0]}: {done.stdout[-1000:]}{done.stderr[-1000:]}")
+    return done.stdout
+
+
+def furnish(root, base, mirror):
+    """A root with the package, whose systemd runs what is tried and then ends."""
+    if base:
+        run("cp", "-a", f"{base}/.", root)
+    else:
+        run("debootstrap", "--variant=minbase", f"--include={MORE}", "bookworm", root, mirror)
+    run(TOP / "package")
+    shutil.copy(next((TOP / "packages").glob("*.deb")), root / "keyreg.deb")
+    run("chroot", root, "dpkg", "--install", "/keyreg.deb")
+    shutil.copy(TOP / "checks" / "in_systemd.sh", root / "tried.sh")
+    units = root / "etc/systemd/system"
+    (units / "tried.service").write_text(UNIT)
+    (units / "multi-user.target.wants").mkdir(parents=True, exist_ok=True)
+    (units / "multi-user.target.wants/tried.service").symlink_to("../tried.service")
+
+
+def main():
+    words = argparse.ArgumentParser(description=__doc__.split("\n")[0])
+    words.add_argument("--base")
+    words.add_argument("--mirror", default="http://deb.debian.org/debian")
+    given = words.parse_args()
+    missing = [tool for tool in ("debootstrap", "systemd-nspawn") if not shutil.which(tool)]
+    if missing:
+        sys.exit(f"FAILED: not here: {' '.join(missing)}: apt-get install debootstrap systemd-container")
+    with tempfile.TemporaryDirectory() as folder:
+        root = pathlib.Path(folder) / "root"
+        root.mkdir()
+        furnish(root, given.base, given.mirror)
+        booted = subprocess.run(
+            ["systemd-nspawn", f"--directory={root}", "--boot", "--private-network", "--register=no", "--keep-unit",
+             "--quiet"],
+            stdin=subprocess.DEVNULL, stdout=subprocess.PIPE, stderr=subprocess.STDOUT, timeout=SECONDS, check=False)
+        told = (root / "tried.log").read_text() if (root / "tried.log").exists() else ""
+    lines = [line for line in told.splitlines() if line.startswith(("ok ", "FAILED "))]
+    failed = [line for line in lines if line.startswith("FAILED ")]
+    print(told, end="")
+    if not told.endswith("end\n"):
+        failed.append(f"systemd ended early: {booted.stdout.decode(errors='replace')[-1500:]}")
+        print(failed[-1])
+    print(f"{len(lines)} things tried in a systemd that booted: {len(failed)} failed")
+    return 1 if failed else 0
+
+
+if __name__ == "__main__":
+    sys.exit(main())

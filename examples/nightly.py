@@ -1,0 +1,132 @@
+#!/usr/bin/env python3
+"""A nightly look at a register, served or not: a copy is taken and held to its own requests and to the last good copy
+by replay.py, exported, and drawn. What keyreg-nightly.service calls; it stands beside replay.py and timeline.py.
+
+    nightly.py --file FILE --folder FOLDER [--keyreg PROGRAM] [--nights N] [--stale SECONDS] [--room PERCENT]
+
+Each night has a folder in FOLDER, by its moment, with copy.keyreg, export.csv and keys.html. `last` leads to the last
+one where nothing failed; a night that fails stays to be looked at, and the next is held to the good one before it.
+Folders beyond --nights (30) are removed, that of `last` never.
+
+--keyreg  the program; else the one in the path
+--stale   so many seconds ago the latest accepted moment is at most
+--room    so many hundredths of the disk are free at least; else 10
+
+It prints a line for each step. The status is 0 where nothing differs, 1 where one of these fails: the copy, replay.py
+with any status, the export, the picture, a moment that is too old, a disk that is too full; 2 where words are wrong.
+"""
+import argparse
+import filecmp
+import os
+import pathlib
+import shutil
+import sqlite3
+import subprocess
+import sys
+import time
+from datetime import datetime, timezone
+
+HERE = pathlib.Path(__file__).resolve().parent
+NAME, LAST, TRIES = "copy.keyreg", "last", 20
+
+
+class Failed(Exception):
+    """A step that ends the night."""
+
+
+def log_of(path):
+    return path.with_name(path.name + "-wal")
+
+
+def copied(file, copy):
+    """Copies the database, then its log, until the database did not change in between."""
+    for _ in range(TRIES):
+        shutil.copyfile(file, copy)
+        log_of(copy).unlink(missing_ok=True)
+        if log_of(file).exists():
+            shutil.copyfile(log_of(file), log_of(copy))
+        if filecmp.cmp(file, copy, shallow=False):
+            print(f"copied: {copy.stat().st_size} bytes", flush=True)
+            return
+        time.sleep(0.5)
+    raise Failed(f"{file} changed under each of {TRIES} copies")
+
+
+def ran(words, step, **more):
+    """Runs a step's program; what it prints goes where ours goes."""
+    status = subprocess.run([str(word) for word in words], check=False, **more).returncode
+    if status:
+        raise Failed(f"{step}: status {status}")
+
+
+def looked_at(night, last, program):
+    """Holds the copy to its requests and to the last good one, and has it exported and drawn."""
+    since = ["--since", last / NAME] if last.exists() else []
+    ran([sys.executable, HERE / "replay.py", *since, night / NAME], "replay.py")
+    with open(night / "export.csv", "wb") as table:
+        ran([program, "export", "--file", night / NAME], "the export", stdout=table)
+    with open(night / "export.csv", "rb") as table, open(night / "keys.html", "wb") as page:
+        ran([sys.executable, HERE / "timeline.py"], "timeline.py", stdin=table, stdout=page)
+
+
+def watched(night, stale, room):
+    """How old the latest accepted moment is, and how full the disk."""
+    with sqlite3.connect(f"file:{night / NAME}?mode=ro", uri=True) as copy:
+        (latest,) = copy.execute("SELECT latest FROM meta").fetchone()
+    copy.close()
+    (night / (NAME + "-shm")).unlink(missing_ok=True)
+    age = int(time.time()) - latest
+    print(f"latest accepted moment: {age} seconds ago", flush=True)
+    disk = shutil.disk_usage(night)
+    free = 100 * disk.free / disk.total
+    print(f"disk: {free:.0f} in a hundred free", flush=True)
+    if stale is not None and age > stale:
+        raise Failed(f"the latest accepted moment is {age} seconds old: more than {stale}")
+    if free < room:
+        raise Failed(f"of the disk {free:.1f} in a hundred are free: fewer than {room}")
+
+
+def tidied(folder, nights):
+    """Removes the oldest nights beyond so many, and none that `last` leads to."""
+    kept = (folder / LAST).resolve()
+    dated = sorted(path for path in folder.glob("20*") if path.is_dir())
+    for path in dated[:-nights]:
+        if path.resolve() != kept:
+            shutil.rmtree(path)
+
+
+def spent(words):
+    """One night."""
+    folder = pathlib.Path(words.folder)
+    name = datetime.now(timezone.utc).strftime("%Y-%m-%dT%H-%M-%SZ")
+    night, last = folder / name, folder / LAST
+    before = last.resolve().name if last.exists() else None
+    night.mkdir(parents=True, mode=0o750)
+    copied(pathlib.Path(words.file), night / NAME)
+    looked_at(night, last, words.keyreg)
+    watched(night, words.stale, words.room)
+    (folder / "next").unlink(missing_ok=True)
+    (folder / "next").symlink_to(name)
+    os.replace(folder / "next", last)
+    tidied(folder, words.nights)
+    print(f"{night}: as its requests give" + (f", and as {before} had it" if before else ""), flush=True)
+
+
+def main():
+    words = argparse.ArgumentParser(description="A nightly look at a register.")
+    words.add_argument("--file", required=True)
+    words.add_argument("--folder", required=True)
+    words.add_argument("--keyreg", default="keyreg")
+    words.add_argument("--nights", type=int, default=30)
+    words.add_argument("--stale", type=int)
+    words.add_argument("--room", type=float, default=10)
+    try:
+        spent(words.parse_args())
+    except (Failed, OSError, sqlite3.Error) as fault:
+        print(f"nightly: {fault}", file=sys.stderr)
+        return 1
+    return 0
+
+
+if __name__ == "__main__":
+    sys.exit(main())

@@ -1,0 +1,103 @@
+#!/usr/bin/env python3
+"""Writes the pages of a package: those that who uses the program reads, each true where it lies.
+
+    packaging/pages.py FOLDER EXAMPLES
+
+The pages go to FOLDER as they stand in the sources, but
+
+- a paragraph, an item of a list or a row of a table that speaks of what only the sources have (`checks/`, `crates/`,
+  `./package`, `rt`) is left out, so such a sentence has a paragraph of its own there;
+- the program is `keyreg`, in the path, and examples are told to be copied from EXAMPLES, where the package has them;
+- a link to what the package has not is its text.
+"""
+import pathlib
+import re
+import sys
+
+TOP = pathlib.Path(__file__).resolve().parent.parent
+PAGES = ("README.md", "CHANGES.md", "docs/OPERATING.md", "docs/AUDIT.md", "docs/SPECIFICATION.md", "docs/WORKED.md")
+# What lies beside the pages as it is. openapi.yaml has what speaks of the sources in the comment at its head.
+BESIDE = ("docs/openapi.yaml", "docs/costs.svg")
+# A file of checks/ that a page uses.
+MOVED = {"checks/version_1.sql": "examples/version_1.sql"}
+SOURCES = re.compile(r"checks/|crates/|bench/|\./package\b|\.ci/run|`rt[ `]|CONTRIBUTING")
+NOTE = """What is named here without a link is with the sources of keyreg. Commands are typed in a folder of your own,
+beside a copy of the examples:
+
+```sh
+cp -r {examples} .
+```
+"""
+
+
+def parts(text):
+    """The text in the pieces that are left out or stay whole, each with whether it is of a fenced block."""
+    piece, inside = [], False
+    for line in text.split("\n"):
+        fence = line.startswith("```")
+        begins = line.startswith(("- ", "|")) or re.match(r"\d+\. |\[[^\]]+\]: ", line) or not line.strip() or fence
+        if not inside and begins and piece:
+            yield "\n".join(piece), False
+            piece = []
+        piece.append(line)
+        if inside and fence:
+            yield "\n".join(piece), True
+            piece = []
+        inside = inside != fence
+    yield "\n".join(piece), inside
+
+
+def is_there(target, page, given):
+    """Whether a link of a page leads to what the package has."""
+    if re.match(r"[a-z]+:", target) or target.startswith("#"):
+        return True
+    path = (pathlib.PurePosixPath("/") / page).parent / target.split("#")[0]
+    names = [part for part in path.parts[1:] if part != "."]
+    while ".." in names:
+        place = names.index("..")
+        del names[place - 1:place + 1]
+    return "/".join(names) in given
+
+
+def linked(text, page, given):
+    """The text with the links that lead somewhere."""
+    gone = [name for name, target in re.findall(r"(?m)^\[([^\]]+)\]: (\S+)", text) if not is_there(target, page, given)]
+    for name in gone:
+        text = re.sub(rf"(?m)^\[{re.escape(name)}\]: .*\n", "", text).replace(f"[{name}][]", name)
+    return re.sub(r"(?<!!)\[([^\]]+)\]\(([^)\s]+)\)",
+                  lambda link: link[0] if is_there(link[2], page, given) else link[1], text)
+
+
+def page_of(page, text, examples, given):
+    for name, moved in MOVED.items():
+        text = text.replace(name, moved)
+    kept = [piece for piece, fenced in parts(text) if fenced or not SOURCES.search(piece)]
+    text = linked("\n".join(kept).replace("./keyreg", "keyreg"), page, given)
+    if "```sh" in text:
+        title, rest = text.split("\n", 1)
+        text = f"{title}\n\n{NOTE.format(examples=examples)}{rest}"
+    return re.sub(r"\n{3,}", "\n\n", text)
+
+
+def plain_head(text):
+    """A YAML text without the paragraphs of its head that tell what holds it."""
+    head, rest = re.split(r"(?m)^(?=[^#])", text, maxsplit=1)
+    left_out = re.compile("checks/|commands hold|The first says")
+    return "#\n".join(piece for piece in head.split("#\n") if not left_out.search(piece)) + rest
+
+
+def main():
+    folder, examples = pathlib.Path(sys.argv[1]), sys.argv[2]
+    given = {*PAGES, *BESIDE, "examples", *MOVED.values()}
+    given |= {f"examples/{path.name}" for path in (TOP / "examples").iterdir() if path.is_file()}
+    texts = {page: page_of(page, (TOP / page).read_text("utf-8"), examples, given) for page in PAGES}
+    texts |= {name: (TOP / name).read_text("utf-8") for name in BESIDE}
+    texts["docs/openapi.yaml"] = plain_head(texts["docs/openapi.yaml"])
+    texts |= {moved: (TOP / name).read_text("utf-8") for name, moved in MOVED.items()}
+    for name, text in texts.items():
+        (folder / name).parent.mkdir(parents=True, exist_ok=True)
+        (folder / name).write_text(text, "utf-8")
+
+
+if __name__ == "__main__":
+    main()
