@@ -78,6 +78,7 @@ KINDS = (
         "what a period means for keys": "*/UnsetPeriods.antt */register_core/src/laws.rt */KeyRowsOf.antt */exports.rt "
                                         "*/ListedRows.antt bench/tables.py checks/rules_tried.py",
         "who the office is": "checks/behind_nginx.py checks/client_tried.py",
+        "what comes of one that is left out": "docs/OPERATING.md",
         "what version 1 has not": "checks/rebuilt.py checks/followed.py",
         "it came with version 2": "*/migrations.rt checks/migrated_by_sqlite3.py",
     }, ("Add a command", "Add a shape of fields", "Add a table")),
