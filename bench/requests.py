@@ -1,6 +1,6 @@
 #!/usr/bin/env python3
-"""What a request costs in microseconds over a file, beside the same statements given to the kit's `sqlite` alone, and to
-Python's `sqlite3` with the same rules; and what runs cost over no file, beside the same over a file in memory.
+"""What a request costs in microseconds over a file, beside the same statements given to the kit's `sqlite` alone, and
+to Python's `sqlite3` with the same rules; and what runs cost over no file, beside the same over a file in memory.
 
     bench/requests.py [--over file|memory] [--requests N] [--rounds N] [--instructions] [KEYS..]
 
@@ -33,9 +33,9 @@ answered and where the counted ones after them are. The difference is divided by
 rounds is told. Each reply of `keyreg` and of *python* is compared with what is expected, and after a run the rows that
 the three programs left.
 
-With --over memory KEYS are registrations, whose dates come out of their order: the program serves them in one run over no
-file, and in one over a new file in /dev/shm. The processor time of the whole run is told, the least of the rounds, and
-the most resident memory. Each reply is compared here too.
+With --over memory KEYS are registrations, whose dates come out of their order: the program serves them in one run over
+no file, and in one over a new file in /dev/shm. The processor time of the whole run is told, the least of the rounds,
+and the most resident memory. Each reply is compared here too.
 
 With --instructions valgrind's callgrind (Debian's package valgrind) counts what each program executes in place of time,
 in thousands: no other load changes that, but it leaves out what the system does for a program, its reads, writes and
@@ -869,7 +869,8 @@ def compared(figures, keys, count):
         kind = NAMES.get(span.kind, span.kind)
         kind += "" if span.kind == "repeat" else ", rising" if span.is_rising else ", level"
         rounds_of = ([found[at] for found in figures[name]] for name in PROGRAMS)
-        yield (f"{keys}", kind, f"{span.end - span.first}"), [[min(values) for values in zip(*found)] for found in rounds_of]
+        least = [[min(values) for values in zip(*found)] for found in rounds_of]
+        yield (f"{keys}", kind, f"{span.end - span.first}"), least
 
 
 def columns(names, runs):
@@ -927,8 +928,8 @@ def tell_memory(sizes, rounds):
             (mine, memory), (its, other) = whole_runs(count, rounds)
             yield [f"{count}", f"{mine:.1f}", f"{memory:.0f}", f"{its:.1f}", f"{other:.0f}", f"{mine / its:.2f}"]
 
-    table(("registrations", "no file: processor s", "memory, MB", "a file in /dev/shm: processor s", "memory, MB", "to it"),
-          lines())
+    table(("registrations", "no file: processor s", "memory, MB", "a file in /dev/shm: processor s", "memory, MB",
+           "to it"), lines())
 
 
 def main():

@@ -3,9 +3,9 @@
 
     checks/given.py
 
-A function reaches a file, a connection, a clock or the program's words only through what it is given: the calls of `std`
-that do take the runtime, or a value under one of its bounds. So where neither a word below nor a runtime stands, no
-function reaches them. A line for each word that stands in a crate that is not given it, and for each crate that is
+A function reaches a file, a connection, a clock or the program's words only through what it is given: the calls of
+`std` that do take the runtime, or a value under one of its bounds. So where neither a word below nor a runtime stands,
+no function reaches them. A line for each word that stands in a crate that is not given it, and for each crate that is
 given a word and has none; the last line counts them, and the status is 1 where there is one.
 """
 import pathlib
@@ -43,7 +43,8 @@ def code(path):
 def faults():
     names = crates()
     for what, (word, allowed) in GIVEN.items():
-        having = {name for name in names for path in (CRATES / name / "src").rglob("*.rt") if re.search(word, code(path))}
+        texts = {name: "".join(map(code, (CRATES / name / "src").rglob("*.rt"))) for name in names}
+        having = {name for name, text in texts.items() if re.search(word, text)}
         yield from (f"{name} names {what}, which it is not given" for name in sorted(having - allowed))
         yield from (f"{name} is given {what}, and names nothing of it" for name in sorted(allowed - having))
 

@@ -85,7 +85,8 @@ KINDS = (
     Kind("Add a command of the program", r"Task::Report|\breport_file\b|keyreg report|\[\"report\"|\"report\":|"
                                          r"\n +report\)|from report'", {
         "they ask for a report": "checks/audit.py checks/copied_while_served.py checks/fresh_answers.py "
-                                 "checks/in_systemd.sh checks/full_register.py checks/replayed.py docs/CHECKS.md examples/keyreg.service "
+                                 "checks/in_systemd.sh checks/full_register.py checks/replayed.py docs/CHECKS.md "
+                                 "examples/keyreg.service "
                                  "bench/tables.py",
     }),
     Kind("Add a crate", r"\bregister_report\b", {

@@ -104,7 +104,8 @@ def mark_faults() -> list[str]:
             if named != (MARKED.get(name, []) if path in (TURNS, WATCHED) else []):
                 faults.append(f"{path.name}: {name} names marks in {named}")
         if path == TURNS:
-            faults += [f"turns.rt: {name} has {len(body)} lines" for name, body in found.items() if len(body) > MOST_LINES]
+            lengths = {name: len(body) for name, body in found.items()}
+            faults += [f"turns.rt: {name} has {lines} lines" for name, lines in lengths.items() if lines > MOST_LINES]
     have = bodies(TURNS).keys() | bodies(WATCHED).keys()
     return faults + [f"no function {name} of a stream" for name in MARKED if name not in have]
 

@@ -428,8 +428,8 @@ def look_at_log(folder: str) -> None:
 
 def main() -> None:
     begun = time.monotonic()
-    for part in (look_at_wrong_words, look_at_values, look_at_terms, look_at_commands, look_at_no_files, look_at_odd_names,
-                 look_at_strangers, look_at_lock, look_at_streams, look_at_full_disk, look_at_log):
+    for part in (look_at_wrong_words, look_at_values, look_at_terms, look_at_commands, look_at_no_files,
+                 look_at_odd_names, look_at_strangers, look_at_lock, look_at_streams, look_at_full_disk, look_at_log):
         with tempfile.TemporaryDirectory() as folder:
             part(folder)
     with tempfile.TemporaryDirectory() as folder:

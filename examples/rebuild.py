@@ -18,8 +18,8 @@ The requests that are left out, and what that does to the others, are told on st
     refused:    a request that is written and that keyreg will refuse, with the refusal's name and what is lacking
     otherwise:  one that will be accepted with another reply than it had: another state, or another key
 
-Keys have their numbers by the order of their registrations. Where one of these is left out, the keys after it have other
-numbers, and a request that names one reaches another key than it meant.
+Keys have their numbers by the order of their registrations. Where one of these is left out, the keys after it have
+other numbers, and a request that names one reaches another key than it meant.
 
 The rules are those of replay.py, which stands beside this file, in version 2, since that is what keyreg makes. The
 last line counts. The status is
