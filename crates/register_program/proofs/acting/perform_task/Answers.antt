@@ -26,7 +26,7 @@ returns-in-Run g c =
     c.in-Run.is (
       c.run_file.result,
       refl,
-      (rw (c.new-reader.ensures) at c.run_file.ensures.runs),
+      (rw (c.new-reader-in-Run.ensures) at c.run_file.ensures.runs),
       untouched (λ w. g.W.Write.contents w.inner) _ _ _ c.run_file.ensures.untouched,
     )
 
@@ -45,8 +45,8 @@ returns-in-Some g c =
       ),
     ))
 
-pub returns-in-None : goal.returns-in-None
-returns-in-None g c =
+pub returns-in-Import : goal.returns-in-Import
+returns-in-Import g c =
     performs_as g.F.Opened.Store g.F.Files.may_leave g.F.Files.start _ _ _ _ c.args.task.now
     (Import c.in-Import.file c.in-Import.terms) c.in-Import.is
     (inr (c.in-None.ensures, refl, refl))
@@ -76,8 +76,8 @@ returns-in-Some-read_days g c =
       ),
     ))
 
-pub returns-in-None-read_days : goal.returns-in-None-read_days
-returns-in-None-read_days g c =
+pub returns-in-Report : goal.returns-in-Report
+returns-in-Report g c =
     performs_as g.F.Opened.Store g.F.Files.may_leave g.F.Files.start _ _ _ _ c.args.task.now
     (Report c.in-Report.file c.in-Report.days) c.in-Report.is
     (inr (c.in-None-read_days.ensures, refl, refl))
@@ -87,9 +87,3 @@ returns-in-Some-read g c =
     performs_as g.F.Opened.Store g.F.Files.may_leave g.F.Files.start _ _ _ _ c.args.task.now
     (Serve c.in-Serve.file c.in-Serve.bounds) c.in-Serve.is
     (inl (c.in-Some-read.bounds, c.in-Some-read.ensures, c.serve_file.result, refl, (c.serve_file.ensures, refl)))
-
-pub returns-in-None-read : goal.returns-in-None-read
-returns-in-None-read g c =
-    performs_as g.F.Opened.Store g.F.Files.may_leave g.F.Files.start _ _ _ _ c.args.task.now
-    (Serve c.in-Serve.file c.in-Serve.bounds) c.in-Serve.is
-    (inr (c.in-None-read.ensures, refl, refl))
