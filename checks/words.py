@@ -266,6 +266,14 @@ def look_at_no_files(folder: str) -> None:
 ODD_NAMES = ("a?b", "a#b", "a%41", "a ", "a-wal")
 
 
+def holds_rows(file: str) -> bool:
+    """Whether the file alone has the rows of the lines."""
+    try:
+        return all(rows_of(file)[table] == rows for table, rows in APPROVED_ANEW_ROWS.items())
+    except sqlite3.Error:
+        return False
+
+
 def look_at_odd_names(folder: str) -> None:
     """Files of odd names: each is the one that was named, and no other is made but its log."""
     for name in ODD_NAMES:
@@ -274,11 +282,10 @@ def look_at_odd_names(folder: str) -> None:
         look(f"export {name!r}", ["export", "--file", name], WELL, EXPORTED, cwd=folder)
     there, logs = set(os.listdir(folder)), {f"{name}-wal" for name in ODD_NAMES}
     Differences.tell(set(ODD_NAMES) <= there <= logs.union(ODD_NAMES), f"files of odd names made {sorted(there)}")
-    for name in ODD_NAMES:
+    for name in there.intersection(ODD_NAMES):
         held = os.path.join(folder, "held")
         shutil.copy(os.path.join(folder, name), held)
-        Differences.tell(all(rows_of(held)[table] == rows for table, rows in APPROVED_ANEW_ROWS.items()),
-                         f"{name!r} does not hold the register")
+        Differences.tell(holds_rows(held), f"{name!r} does not hold the register")
 
 
 STRANGERS = {
