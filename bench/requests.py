@@ -47,6 +47,7 @@ the rest. Build the register's own program first: ./keyreg </dev/null. It needs 
 """
 import argparse
 import calendar
+import filecmp
 import glob
 import os
 import re
@@ -899,25 +900,30 @@ def tell_files(runs, sizes, count, rounds):
 # ---- runs over no file
 
 
+def write_whole(count, given, wanted):
+    """Writes so many registrations, and their replies. None of them is held here: a program's memory begins as ours."""
+    span = Span("prepare", False, START, count, count, 0, count)
+    with open(given, "w", encoding="utf-8") as lines, open(wanted, "w", encoding="utf-8") as replies:
+        for place in range(count):
+            it = request(span, place)
+            lines.write(f"{it.moment} {it.caller} {it.number} {it.command}\n")
+            replies.write(f"ok {it.key} {STATES[it.state]} {it.moment}\n")
+
+
 def whole_runs(count, rounds):
     """What a run of so many registrations uses over no file, and over a file in memory: for each the least processor
     seconds and the most memory of the rounds."""
-    kept = requests(Span("prepare", False, START, count, count, 0, count))
+    found = {"memory": [], "file": []}
     with tempfile.TemporaryDirectory(dir="/dev/shm") as folder:
-        given, written, file = (os.path.join(folder, name) for name in ("given", "written", "office.keyreg"))
-        with open(given, "w", encoding="utf-8") as lines:
-            lines.writelines(f"{it.moment} {it.caller} {it.number} {it.command}\n" for it in kept)
-        wanted = "".join(f"ok {it.key} {STATES[it.state]} {it.moment}\n" for it in kept).encode()
-        found = {"memory": [], "file": []}
-        for _ in range(rounds):
-            for over, words in (("memory", []), ("file", ["run", "--file", file])):
-                if over == "file":
-                    for old in glob.glob(f"{file}*"):
-                        os.remove(old)
-                    subprocess.run([PROGRAM, "init", "--file", file], check=True)
-                found[over].append(run_whole([PROGRAM, *words], given, written))
-                with open(written, "rb") as replies:
-                    expect(replies.read() == wanted, f"{count} registrations over {over}: other replies")
+        given, wanted, written, file = (os.path.join(folder, name) for name in ("given", "wanted", "written", "keys"))
+        write_whole(count, given, wanted)
+        for over, words in [("memory", []), ("file", ["run", "--file", file])] * rounds:
+            if over == "file":
+                for old in glob.glob(f"{file}*"):
+                    os.remove(old)
+                subprocess.run([PROGRAM, "init", "--file", file], check=True)
+            found[over].append(run_whole([PROGRAM, *words], given, written))
+            expect(filecmp.cmp(written, wanted, shallow=False), f"{count} registrations over {over}: other replies")
     return [(min(used.processor for used in runs), max(used.memory for used in runs)) for runs in found.values()]
 
 
