@@ -21,12 +21,17 @@ import re
 import shutil
 import subprocess
 import tempfile
+from datetime import datetime, timezone
 
 from registers import expect, keyreg
 from rules import NAMES, PERIODS, Refused, Register, line, reply_line, request_object
 
 TOP = pathlib.Path(__file__).resolve().parent.parent
 DAY, FIRST = 86400, 1_700_000_000
+# The last days of months, of leap years too: a month more has no such day often.
+MONTH_ENDS = [int(datetime(year, month, day, 23, 59, 59, tzinfo=timezone.utc).timestamp())
+              for year in range(2023, 2033) for month, day in ((1, 31), (3, 31), (5, 30), (8, 29), (12, 31))]
+MONTH_ENDS += [int(datetime(year, 2, 29, tzinfo=timezone.utc).timestamp()) for year in (2024, 2028)]
 TYPES, PEOPLE = list(PERIODS), ("ann", "bob", "cat", "dan", "eve", "office")
 # What node runs: for each line of a request, a line with its judgement.
 JUDGE = """
@@ -143,7 +148,9 @@ def drawn_command(chance, moment, keys):
     """A command of any kind, with dates about the moment and now and then at the ends of the range."""
     def date():
         if chance.random() < 0.06:
-            return chance.choice([0, 253402300799, 253402300799 - chance.randrange(90 * 366 * DAY)])
+            return chance.choice([0, 253402300799, 253402300799 - chance.randrange(5 * 366 * DAY)])
+        if chance.random() < 0.2:
+            return chance.choice(MONTH_ENDS)
         return chance.choice([None, moment + chance.randrange(-900, 1900) * DAY, moment + chance.randrange(-9, 9)])
 
     key, name = chance.randint(1, keys + 1 if chance.random() < 0.05 else max(keys, 1)), chance.choice(PEOPLE)
@@ -160,6 +167,8 @@ def drawn_command(chance, moment, keys):
         "set-period": (chance.choice(TYPES), chance.choice([1, 12, 24, 1200]), chance.choice([0, 12, 36, 1200])),
         "advance": ()}
     weights = [9, 6, 9, 7, 3, 12, 4, 12, 4, 9, 3, 2, 1]
+    if chance.random() < 0.01:
+        return ("register", chance.choice(TYPES), name, 253402300799 - chance.randrange(3 * 366 * DAY), None, None, "late")
     word = chance.choices(list(texts), weights)[0]
     return (word, *texts[word])
 
@@ -171,8 +180,15 @@ def drawn(chance, count, register_size=60):
         if len(register.keys) >= register_size:
             register, moment = Register(), FIRST
         moment += chance.choice([0, 0, 1, 60, DAY, 30 * DAY, -1])
-        moment = max(moment, 0)
+        # Now and then one that is just reached, of any date of a key.
+        dates = [(date, place) for place, key in enumerate(register.keys[-9:], max(len(register.keys) - 8, 1))
+                 for date in (key.activation, key.stop, key.end)
+                 if date is not None and register.latest <= date < register.latest + 999 * DAY]
         command = drawn_command(chance, moment, len(register.keys))
+        if dates and chance.random() < 0.2:
+            moment, place = chance.choice(dates)
+            command = chance.choice([command, ("set", place, "=", chance.choice([None, moment + DAY]), "="),
+                                     ("approve", place), ("destroy", place)])
         named = command[1] if command[0] not in ("register", "set-period", "advance") else None
         caller = chance.choice(PEOPLE)
         # Most come from somebody who may send them.
