@@ -1,0 +1,58 @@
+// How the desk makes what is seen. Each text goes in as a text: nothing here, or elsewhere in the desk, reads markup.
+
+// An element with attributes, listeners (`onclick` and so on), and children that are elements or texts.
+export function el(tag, given = {}, ...children) {
+  const made = document.createElement(tag);
+  for (const [name, value] of Object.entries(given)) {
+    if (value === undefined || value === null || value === false) continue;
+    if (name.startsWith("on")) made.addEventListener(name.slice(2), value);
+    else made.setAttribute(name, value === true ? "" : value);
+  }
+  made.append(...children.flat(Infinity).filter((child) => child !== null && child !== undefined && child !== false));
+  return made;
+}
+
+const SVG = "http://www.w3.org/2000/svg";
+
+export function svg(tag, given = {}, ...children) {
+  const made = document.createElementNS(SVG, tag);
+  for (const [name, value] of Object.entries(given)) made.setAttribute(name, value);
+  made.append(...children);
+  return made;
+}
+
+export function replace(place, ...children) {
+  place.replaceChildren(...children.flat(Infinity).filter((child) => child !== null && child !== undefined && child !== false));
+}
+
+// Characters that turn the direction of a line round, end it, or are not seen: the register takes them in a purpose.
+const UNSEEN = /[\p{Cc}\p{Cf}\p{Zl}\p{Zp}\p{Co}\p{Cn}\p{Cs}\u00a0\u1680\u2000-\u200a\u202f\u205f\u3000\u115f\u1160\u3164\uffa0]/u;
+const PARTS = new RegExp(`(${UNSEEN.source})`, "u");
+
+const codeOf = (letter) => `U+${letter.codePointAt(0).toString(16).toUpperCase().padStart(4, "0")}`;
+
+// A text of somebody's own, which cannot disturb the line that it stands in: its direction is its own, and each
+// character that is not seen is shown by its code.
+export function shown(text) {
+  const parts = text.split(PARTS).filter((part) => part !== "");
+  return el("bdi", {class: "text"}, parts.map((part) =>
+    UNSEEN.test(part) && [...part].length === 1 ? el("span", {class: "code"}, codeOf(part)) : part));
+}
+
+// The same where no element can stand, as in an option or a label.
+export function plain(text) {
+  return text.split(PARTS).map((part) => (UNSEEN.test(part) && [...part].length === 1 ? `[${codeOf(part)}]` : part)).join("");
+}
+
+let places = 0;
+export const freshId = (word) => `${word}-${++places}`;
+
+// A label with its field, and a line beside it that tells more.
+export function field(label, input, ...more) {
+  input.id ||= freshId("field");
+  return el("div", {class: "field"}, el("label", {for: input.id}, label), input, ...more);
+}
+
+export function select(options, given = {}) {
+  return el("select", given, options.map(([value, text]) => el("option", {value}, text)));
+}
