@@ -70,9 +70,9 @@ async function learn(answer, command) {
 
 async function settle(answer, command) {
   await learn(answer, command);
-  if (answer.accepted && command.kind === "register" && location.hash !== `#key/${answer.key}`) {
-    location.hash = `#key/${answer.key}`;
-  } else await show();
+  // Without an event, which would take the focus from the answer.
+  if (answer.accepted && command.kind === "register") history.pushState(null, "", `#key/${answer.key}`);
+  await show();
   sayAnswer(answer, command);
 }
 

@@ -91,7 +91,7 @@ export function findPage(place, given) {
     look();
   };
   replace(place, el("h1", {}, "Find keys"), lacking() ? el("p", {class: "note"}, lacking()) : null,
-    el("form", {class: "find", role: "search", oninput: input, onsubmit: go},
+    el("form", {class: "find", role: "search", oninput: input, onchange: input, onsubmit: go},
       field("Number, owner, type or purpose", fields.text, el("button", {type: "submit"}, "Show the key of this number")),
       field("Owner", fields.owner, el("datalist", {id: "owners"}, owners().slice(0, 500).map((name) => el("option", {value: name})))),
       field("Type", fields.type), field("State now", fields.state), field("Due within days", fields.days),

@@ -37,7 +37,8 @@ export function date(member, label, given = null) {
   };
   const tell = () => {
     const value = dateOf(input);
-    hint.textContent = value === null ? "none" : value === undefined ? WRONG[member] : `your time: ${localText(value)}`;
+    hint.textContent = value === null ? "none" : value === undefined ? WRONG[member]
+      : `${utcText(value)}, in your time ${localText(value)}`;
   };
   input.addEventListener("input", tell);
   tell();
@@ -53,7 +54,7 @@ export function edit(member, label, given) {
   const how = select([["keep", "keep it"], ["set", "set it"], ["clear", "clear it"]], {"aria-label": `${label}: what to do`});
   const one = date(member, label, given);
   const look = () => one.element.classList.toggle("kept", how.value !== "set");
-  how.addEventListener("input", look);
+  for (const event of ["input", "change"]) how.addEventListener(event, look);
   one.input.addEventListener("input", (event) => {
     if (event.isTrusted || one.input.value !== "") how.value = "set";
     look();
@@ -176,7 +177,8 @@ export function commandForm(kind, {desk, key, isOwners = true}) {
     if (wrong.length) fields.find(({member}) => wrong.includes(member))?.input.focus();
     else desk.send(body);
   };
-  const form = el("form", {class: `command ${kind}`, novalidate: sure ? false : true, onsubmit: submit, oninput: look},
+  const form = el("form", {class: `command ${kind}`, novalidate: !sure, onsubmit: submit,
+    oninput: look, onchange: look},
     TELLS[kind] ? el("p", {}, TELLS[kind]) : null, fields.map(({element}) => element),
     sure ? el("div", {class: "sure"}, sure, el("label", {for: sure.id}, "I know that nothing takes this back")) : null,
     before, el("p", {class: "sends"}, "Sends ", sentence), button);
