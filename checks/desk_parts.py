@@ -37,7 +37,9 @@ PASSWORDS = {"ann": "word-a", "bob": "word-b", "cat": "word-c", "dan": "word-d",
 class Line:
     """The line between the browsers and nginx. It passes all on, until it is told what to do with the next POSTs:
 
-        cut     the request goes on, the answer comes, and the browser's connection is broken in its place
+        cut     the request goes on, and the browser's connection is broken within the answer
+        reset   the request goes on, and the connection is broken before the first byte of the answer: on a connection that it
+                used before a browser may send such a request again by itself
         lose    the connection is broken before the request goes on
         500, 503  the request goes on, and the browser gets this status in the place of the answer
         refuse  the same with an answer of a page that is no register's
@@ -67,8 +69,6 @@ class Line:
                     self.posts.append(re.search(rb"(?i)request-number: *(\d+)", given)[1].decode())
                     if self.todo and not self.post(self.todo.pop(0), given, browser):
                         return
-                    if self.done and self.done[-1][1] == given:
-                        continue
                 other.sendall(given)
 
     @staticmethod
@@ -90,18 +90,23 @@ class Line:
     def post(self, what, given, browser):
         """Does this with a request; whether the browser's connection goes on."""
         self.done.append((what, given))
+        answer = b""
         if what != "lose":
             # On a line of its own, which ends with the answer.
             with socket.create_connection(("127.0.0.1", self.to)) as own:
-                own.sendall(given.replace(b"\r\n", b"\r\nConnection: close\r\n", 1))
-                while own.recv(1 << 16):
-                    pass
+                own.sendall(re.sub(rb"(?i)\r\nconnection: [^\r]*", b"\r\nConnection: close", given, count=1))
+                while piece := own.recv(1 << 16):
+                    answer += piece
         if what in self.BODIES:
             body = self.BODIES[what]
             status = "502" if what == "refuse" else what
             browser.sendall(f"HTTP/1.1 {status} -\r\nContent-Length: {len(body)}\r\nConnection: close\r\n\r\n".encode() + body)
             browser.shutdown(socket.SHUT_WR)
             return False
+        if what == "cut":
+            browser.sendall(answer[:-9])
+            # So that the head is read before the reset takes it away.
+            time.sleep(0.1)
         # A reset, as of a network that breaks.
         browser.setsockopt(socket.SOL_SOCKET, socket.SO_LINGER, struct.pack("ii", 1, 0))
         browser.close()
@@ -207,7 +212,7 @@ class Reader:
             self.run("location.hash = arguments[0]", page)
         else:
             self.driver.get(where)
-        self.wait(lambda: self.find("header nav a") and "asked" not in self.text("main")[:60], f"{page} does not open")
+        self.wait(lambda: self.find("header nav a") and "The register is asked." not in self.text("main"), f"{page} does not open")
         return self
 
     def key(self, number):

@@ -204,6 +204,7 @@ async function begin() {
   showKept();
   await loadList();
   await show();
+  performance.mark("shown");
   addEventListener("hashchange", async () => {
     await show();
     place("main").focus();

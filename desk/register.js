@@ -30,7 +30,7 @@ export class Unanswered extends Error {}
 async function asked(path, how = {}) {
   const given = {cache: "no-store", credentials: "same-origin", redirect: "error", signal: AbortSignal.timeout(PATIENCE)};
   try {
-    const response = await fetch(path, {...given, ...how});
+    const response = await fetch(location.origin + path, {...given, ...how});
     look(response);
     return {status: response.status, text: await response.text()};
   } catch (fault) {
@@ -71,7 +71,7 @@ export async function keyOf(number) {
 let tag = null;
 export async function listed() {
   const how = {cache: "no-cache", credentials: "same-origin", redirect: "error"};
-  const response = await fetch("/list.json", how);
+  const response = await fetch(`${location.origin}/list.json`, how);
   look(response);
   if (!response.ok) throw new Unanswered(`status ${response.status}`);
   const found = response.headers.get("ETag") ?? response.headers.get("Last-Modified");

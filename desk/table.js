@@ -229,7 +229,7 @@ function table(place, desk) {
   replace(place, el("h1", {}, "Take in a table"), el("p", {}, shown(taken.name), `: ${taken.rows.length} rows: ${told("good")} would be accepted, `
     + `${told("refused")} refused, ${told("wrong")} are of another form, ${told("twice")} are there already`),
   taken.isKept ? null : el("p", {class: "note"}, "It is too large to be kept over a reload of this page: do not reload it before the rows are sent."),
-  buttons, progress, back, el("div", {class: "wide results", oninput: ended}, el("table", {class: "rows"}, el("caption", {},
+  buttons, progress, back, el("div", {class: "wide results", onchange: ended}, el("table", {class: "rows"}, el("caption", {},
     taken.rows.length > SHOWN ? `The first ${SHOWN} rows` : "The rows"), el("thead", {}, el("tr", {}, ["Send", "Row", "Fields", "What is said to it"]
     .map((head) => el("th", {scope: "col"}, head)))), el("tbody", {}, rows))));
 }
