@@ -156,7 +156,7 @@ def hostile_texts(reader):
         is_accepted, told = reader.answer(f"register data-encryption {reader.user} - - - {text}")
         expect(is_accepted, f"{text!r}: {told}")
         is_text(reader, text)
-    reader.open("find")
+    reader.open(f"find?owner={reader.user}")
     for text in HOSTILE:
         is_text(reader, text)
     expect(reader.driver.title.startswith("Find"), f"the title is {reader.driver.title}")
@@ -169,6 +169,7 @@ def hostile_list(reader):
     owner = '<img src=x onerror="document.title=2"><script>alert(2)</script>'
     given["names"] = [owner if name == "cat" else name for name in given["names"]]
     given["names"][given["keys"]["owner"][0]] = owner
+    given["keys"]["purpose"][0] = owner
     place.write_text(json.dumps(given), encoding="utf-8")
     os.utime(place, (time.time() + 5, time.time() + 5))
     reader.run("sessionStorage.clear()")

@@ -212,7 +212,7 @@ class Reader:
             self.run("location.hash = arguments[0]", page)
         else:
             self.driver.get(where)
-        self.wait(lambda: self.find("header nav a") and "The register is asked." not in self.text("main"), f"{page} does not open")
+        self.wait(lambda: self.find(f"main[data-page='{page.split('?')[0]}']"), f"{page} does not open")
         return self
 
     def key(self, number):
@@ -224,7 +224,7 @@ class Reader:
 
     def reload(self):
         self.driver.refresh()
-        self.wait(lambda: self.find("header nav a"), "the page does not come again")
+        self.wait(lambda: self.find("main[data-page]"), "the page does not come again")
 
     # ---- doing
 

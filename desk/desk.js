@@ -7,7 +7,8 @@ import {Unanswered, events, giveUp, kept, keyOf, now, resumed, send, sendNow, wh
 import {tableAnswer, tablePage} from "./table.js";
 import {away, commandText, refusalText, state, utcText} from "./words.js";
 
-const PAGES = [["find", "Find keys"], ["waits", "Waiting for you"], ["register", "Register a key"], ["table", "Take in a table"],
+const PAGES = [["find", "Find keys"], ["waits", "Waiting for you"], ["register", "Register a key"],
+  ["table", "Take in a table"],
   ["periods", "Periods"]];
 const RELOAD = 60000;
 const place = (id) => document.getElementById(id);
@@ -19,7 +20,8 @@ let isBusy = false, turn = 0;
 // ---- what is said
 
 function say(...told) {
-  const close = el("button", {type: "button", class: "close", "aria-label": "Close this answer", onclick: () => replace(place("said"))}, "×");
+  const close = el("button",
+    {type: "button", class: "close", "aria-label": "Close this answer", onclick: () => replace(place("said"))}, "×");
   replace(place("said"), el("div", {class: "answer", tabindex: "-1"}, told, close));
   place("said").firstChild.focus({preventScroll: false});
 }
@@ -29,7 +31,8 @@ function sayAnswer(answer, command) {
   if (!answer.accepted) {
     const word = answer.refused ? `Refused by the register (${answer.name}, ${answer.refused})` : "Refused";
     say(el("p", {class: "refused"}, el("strong", {}, `${word}. `), what), el("p", {}, refusalText(answer, command)),
-      command.key && answer.refused !== 4 ? el("p", {}, `Below key ${command.key} stands as it is in the register now.`) : null);
+      command.key && answer.refused !== 4 ? el("p", {}, `Below key ${command.key} stands as it is in the register now.`)
+        : null);
     return;
   }
   const is = answer.key ? [` Key ${answer.key} is `, state(answer.state), " "] : " ";
@@ -45,7 +48,8 @@ const dateText = (value) => (value === null ? "-" : value === "keep" ? "=" : Str
 function textOf(command) {
   const {kind} = command;
   if (kind === "register") return "register";
-  if (kind === "set") return ["set", ...["activation", "protect_stop", "deactivation"].map((name) => dateText(command[name]))].join(" ");
+  if (kind === "set") return ["set",
+    ...["activation", "protect_stop", "deactivation"].map((name) => dateText(command[name]))].join(" ");
   if (kind === "revoke") return `revoke ${command.reason} ${dateText(command.occurrence)}`;
   return [kind, command.owner ?? command.name ?? command.need].filter((part) => part !== undefined).join(" ");
 }
@@ -78,7 +82,8 @@ async function settle(answer, command) {
 
 async function sendAndSay(command) {
   if (isBusy || kept().length) {
-    say(el("p", {class: "refused"}, el("strong", {}, "Not sent. "), "A request waits for its answer. Nothing else is sent until it came."));
+    say(el("p", {class: "refused"}, el("strong", {}, "Not sent. "),
+      "A request waits for its answer. Nothing else is sent until it came."));
     return;
   }
   isBusy = true;
@@ -110,13 +115,16 @@ async function sendQuietly(command, number) {
 function keptLine({number, body, caller, cause, times}) {
   const command = JSON.parse(body), isMine = caller === desk.me;
   const told = !isMine ? [`It is of the user `, shown(caller), " and is sent when that user reads this page."]
-    : cause ? `${cause[0].toUpperCase()}${cause.slice(1)} (${times} ${times === 1 ? "time" : "times"}). It is sent again under its number ${number}, and acts once.`
+    : cause ? `${cause[0].toUpperCase()}${cause.slice(1)} (${times} ${times === 1 ? "time" : "times"}). `
+      + `It is sent again under its number ${number}, and acts once.`
       : `It is sent under the number ${number}.`;
-  return el("div", {class: "waiting"}, el("p", {}, el("strong", {}, "Not answered yet: "), commandText(command)), el("p", {}, told),
+  return el("div", {class: "waiting"}, el("p", {}, el("strong", {}, "Not answered yet: "), commandText(command)),
+    el("p", {}, told),
     cause && isMine ? el("button", {type: "button", onclick: sendNow}, "Send it again now") : null,
     cause || !isMine ? el("button", {type: "button", onclick: () => {
       giveUp(number);
-      say(el("p", {class: "refused"}, el("strong", {}, "Given up. "), `Whether it acted is not known: ${commandText(command)}. Look at the key before you send it anew.`));
+      say(el("p", {class: "refused"}, el("strong", {}, "Given up. "),
+        `Whether it acted is not known: ${commandText(command)}. Look at the key before you send it anew.`));
     }}, "Give it up") : null);
 }
 
@@ -140,24 +148,31 @@ function pageOf() {
 
 async function show() {
   const mine = ++turn, {word, number, given} = pageOf(), main = place("main");
-  replace(place("pages"), PAGES.map(([page, name]) => el("li", {}, el("a", {href: `#${page}`, "aria-current": page === word ? "page" : null}, name))));
+  delete main.dataset.page;
+  replace(place("pages"),
+    PAGES.map(([page, name]) =>
+      el("li", {}, el("a", {href: `#${page}`, "aria-current": page === word ? "page" : null}, name))));
   if (word === "key" && number >= 1 && number <= 4294967295) await keyPage(main, number, desk, () => mine === turn);
   else if (word === "waits") waitsPage(main, desk);
   else if (word === "register") registerPage(main, desk);
   else if (word === "table") tablePage(main, desk);
   else if (word === "periods") periodsPage(main, desk);
   else findPage(main, given);
+  if (mine !== turn) return;
+  main.dataset.page = word === "key" ? `key/${number}` : word;
   document.title = `${main.querySelector("h1").textContent} - keys`;
   tellTimes();
 }
 
 function tellTimes() {
   const at = now();
-  const old = list.isThere ? `The list is of ${utcText(list.made)} (${away(list.made, at)}); what this page learnt since stands over it.`
+  const old = list.isThere
+    ? `The list is of ${utcText(list.made)} (${away(list.made, at)}); what this page learnt since stands over it.`
     : "There is no list: keys are asked for by their numbers.";
   replace(place("as-of"), old, latest() ? ` The register was at ${utcText(latest())} when this page last heard.` : "");
 }
 
+// Without a list the desk goes on with what it knows.
 async function loadList() {
   try {
     return await load();
@@ -170,7 +185,8 @@ async function loadList() {
 async function renew() {
   if (document.hidden) return;
   const isNewer = await loadList(), {word} = pageOf();
-  if (isNewer && (word === "waits" || (word === "find" && !place("main").contains(document.activeElement)))) await show();
+  if (isNewer
+    && (word === "waits" || (word === "find" && !place("main").contains(document.activeElement)))) await show();
   tellTimes();
 }
 
@@ -182,7 +198,8 @@ async function named() {
       return await whoAmI();
     } catch (fault) {
       if (!(fault instanceof Unanswered)) throw fault;
-      replace(place("main"), el("h1", {}, "Register of keys"), el("p", {class: "note", role: "alert"}, "The register's machine does not answer. It is asked again."));
+      replace(place("main"), el("h1", {}, "Register of keys"),
+        el("p", {class: "note", role: "alert"}, "The register's machine does not answer. It is asked again."));
       await new Promise((go) => setTimeout(go, Math.min(1000 * 2 ** tries, 15000)));
     }
   }

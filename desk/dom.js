@@ -1,5 +1,8 @@
 // How the desk makes what is seen. Each text goes in as a text: nothing here, or elsewhere in the desk, reads markup.
 
+const present = (children) =>
+  children.flat(Infinity).filter((child) => child !== null && child !== undefined && child !== false);
+
 // An element with attributes, listeners (`onclick` and so on), and children that are elements or texts.
 export function el(tag, given = {}, ...children) {
   const made = document.createElement(tag);
@@ -8,7 +11,7 @@ export function el(tag, given = {}, ...children) {
     if (name.startsWith("on")) made.addEventListener(name.slice(2), value);
     else made.setAttribute(name, value === true ? "" : value);
   }
-  made.append(...children.flat(Infinity).filter((child) => child !== null && child !== undefined && child !== false));
+  made.append(...present(children));
   return made;
 }
 
@@ -22,12 +25,13 @@ export function svg(tag, given = {}, ...children) {
 }
 
 export function replace(place, ...children) {
-  place.replaceChildren(...children.flat(Infinity).filter((child) => child !== null && child !== undefined && child !== false));
+  place.replaceChildren(...present(children));
 }
 
 // Characters that turn the direction of a line round, end it, or are not seen: the register takes them in a purpose.
-const UNSEEN = /[\p{Cc}\p{Cf}\p{Zl}\p{Zp}\p{Co}\p{Cn}\p{Cs}\u00a0\u1680\u2000-\u200a\u202f\u205f\u3000\u115f\u1160\u3164\uffa0]/u;
-const PARTS = new RegExp(`(${UNSEEN.source})`, "u");
+const SORTS = "\\p{Cc}\\p{Cf}\\p{Zl}\\p{Zp}\\p{Co}\\p{Cn}\\p{Cs}";
+const SPACES = "\\u00a0\\u1680\\u2000-\\u200a\\u202f\\u205f\\u3000\\u115f\\u1160\\u3164\\uffa0";
+const UNSEEN = new RegExp(`^[${SORTS}${SPACES}]$`, "u"), PARTS = new RegExp(`([${SORTS}${SPACES}])`, "u");
 
 const codeOf = (letter) => `U+${letter.codePointAt(0).toString(16).toUpperCase().padStart(4, "0")}`;
 
@@ -36,12 +40,12 @@ const codeOf = (letter) => `U+${letter.codePointAt(0).toString(16).toUpperCase()
 export function shown(text) {
   const parts = text.split(PARTS).filter((part) => part !== "");
   return el("bdi", {class: "text"}, parts.map((part) =>
-    UNSEEN.test(part) && [...part].length === 1 ? el("span", {class: "code"}, codeOf(part)) : part));
+    UNSEEN.test(part) ? el("span", {class: "code"}, codeOf(part)) : part));
 }
 
 // The same where no element can stand, as in an option or a label.
 export function plain(text) {
-  return text.split(PARTS).map((part) => (UNSEEN.test(part) && [...part].length === 1 ? `[${codeOf(part)}]` : part)).join("");
+  return text.split(PARTS).map((part) => (UNSEEN.test(part) ? `[${codeOf(part)}]` : part)).join("");
 }
 
 let places = 0;

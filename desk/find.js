@@ -16,7 +16,8 @@ function row(key, at, act) {
   const stop = key.protect_stop === null ? "" : [utcText(key.protect_stop), " ",
     el("span", {class: "away"}, `(${away(key.protect_stop, at)})`)];
   const approvals = key.custodians.length ? `${key.approvals.length} of ${key.need}` : "";
-  const cells = [el("a", {href: `#key/${key.number}`}, String(key.number)), state(key.state), shown(key.owner), key.type, stop,
+  const cells = [el("a", {href: `#key/${key.number}`}, String(key.number)), state(key.state), shown(key.owner),
+    key.type, stop,
     approvals, shown(key.purpose)];
   return el("tr", {role: "row"}, cells.map((cell, place) =>
     el("td", {role: "cell", "data-head": HEADS[place], class: cell === "" ? "empty" : null}, cell)),
@@ -47,31 +48,37 @@ function filterFields() {
 function filterOf(given) {
   const days = given.get("days");
   return {text: given.get("text") ?? "", owner: given.get("owner") ?? "", type: given.get("type") ?? "",
-    state: given.get("state") ?? "", days: /^\d{1,5}$/.test(days ?? "") ? Number(days) : null, waits: given.get("waits") === "1"};
+    state: given.get("state") ?? "", days: /^\d{1,5}$/.test(days ?? "") ? Number(days) : null,
+      waits: given.get("waits") === "1"};
 }
 
 function written(fields) {
   const told = new URLSearchParams();
-  for (const name of ["text", "owner", "type", "state", "days"]) if (fields[name].value) told.set(name, fields[name].value);
+  for (const name of ["text", "owner", "type", "state", "days"]) if (fields[name].value) told.set(name,
+    fields[name].value);
   if (fields.waits.checked) told.set("waits", "1");
   return told;
 }
 
 function lacking() {
   if (!list.isThere) return "The list of keys is not there: keys are asked for by their numbers alone.";
-  if (!list.hasKeys) return `The register has ${list.count} keys, too many for the list: they are asked for by their numbers alone.`;
+  if (!list.hasKeys) {
+    return `The register has ${list.count} keys, too many for the list: they are asked for by their numbers alone.`;
+  }
   return "";
 }
 
 export function findPage(place, given) {
-  const fields = filterFields(), results = el("div", {class: "results"}), count = el("p", {class: "count", role: "status"});
+  const fields = filterFields(), results = el("div", {class: "results"}),
+    count = el("p", {class: "count", role: "status"});
   let most = SHOWN;
   const look = () => {
     const at = now(), told = written(fields), numbers = found(filterOf(told), at);
     history.replaceState(null, "", `#find${told.size ? `?${told}` : ""}`);
     const more = numbers.length - most;
     replace(count, `${numbers.length} of ${known()} keys`);
-    replace(results, numbers.length ? keyTable(numbers.slice(0, most).map((number) => keyAt(number, at)), at, "Keys found") : null,
+    replace(results, numbers.length
+      ? keyTable(numbers.slice(0, most).map((number) => keyAt(number, at)), at, "Keys found") : null,
       more > 0 ? el("button", {type: "button", onclick: () => {
         most += SHOWN;
         look();
@@ -92,8 +99,10 @@ export function findPage(place, given) {
   };
   replace(place, el("h1", {}, "Find keys"), lacking() ? el("p", {class: "note"}, lacking()) : null,
     el("form", {class: "find", role: "search", oninput: input, onchange: input, onsubmit: go},
-      field("Number, owner, type or purpose", fields.text, el("button", {type: "submit"}, "Show the key of this number")),
-      field("Owner", fields.owner, el("datalist", {id: "owners"}, owners().slice(0, 500).map((name) => el("option", {value: name})))),
+      field("Number, owner, type or purpose", fields.text,
+        el("button", {type: "submit"}, "Show the key of this number")),
+      field("Owner", fields.owner,
+        el("datalist", {id: "owners"}, owners().slice(0, 500).map((name) => el("option", {value: name})))),
       field("Type", fields.type), field("State now", fields.state), field("Due within days", fields.days),
       el("div", {class: "field check"}, fields.waits, label(fields.waits, "Waits for approvals"))), count, results);
   look();
@@ -109,15 +118,20 @@ function label(input, text) {
 export function waitsPage(place, desk) {
   const at = now(), {approves, destroys} = waiting(desk.me, at);
   const withState = (keys) => keys.map((key) => keyAt(key.number, at));
-  const act = (kind, word) => (key) => el("button", {type: "button", class: "send", "aria-label": `${word} the destruction of key ${key.number}`,
+  const act = (kind, word) => (key) =>
+    el("button", {type: "button", class: "send", "aria-label": `${word} the destruction of key ${key.number}`,
     onclick: () => desk.send({kind, key: key.number})}, word);
   replace(place, el("h1", {}, "What waits for you"), lacking() ? el("p", {class: "note"}, lacking()) : null,
     el("h2", {}, "For your approval"),
-    el("p", {class: "hint"}, "Keys whose destruction you may approve as a custodian, and have not. Those with most approvals come first."),
-    approves.length ? keyTable(withState(approves.slice(0, 200)), at, `${approves.length} keys`, act("approve", "Approve")) : el("p", {}, "None."),
+    el("p", {class: "hint"},
+      "Keys whose destruction you may approve as a custodian, and have not. Those with most approvals come first."),
+    approves.length
+      ? keyTable(withState(approves.slice(0, 200)), at, `${approves.length} keys`, act("approve", "Approve"))
+        : el("p", {}, "None."),
     el("h2", {}, "For your destruction"),
     el("p", {class: "hint"}, "Keys of yours that have the approvals they need. Open one to destroy it."),
-    destroys.length ? keyTable(withState(destroys.slice(0, 200)), at, `${destroys.length} keys`) : el("p", {}, "None."));
+    destroys.length ? keyTable(withState(destroys.slice(0, 200)), at, `${destroys.length} keys`)
+      : el("p", {}, "None."));
 }
 
 // ---- periods, and a registration
@@ -126,12 +140,15 @@ export function periodsPage(place, desk) {
   const set = periods();
   const rows = Object.entries(PERIODS).map(([type, [first, second]]) => {
     const [originator, recipient] = set[type] ?? [first, second];
-    return el("tr", {}, el("th", {scope: "row"}, type), el("td", {}, String(originator)), el("td", {}, String(recipient)),
+    return el("tr", {}, el("th", {scope: "row"}, type), el("td", {}, String(originator)),
+      el("td", {}, String(recipient)),
       el("td", {}, set[type] ? `set by ${OFFICE}` : "as the register began"));
   });
   replace(place, el("h1", {}, "Periods of the types"),
-    list.isThere ? null : el("p", {class: "note"}, "The list is not there, which has the periods that are set: these may be others."),
-    el("div", {class: "wide"}, el("table", {}, el("thead", {}, el("tr", {}, ["Type", "Months of protecting", "Months of processing after", ""]
+    list.isThere ? null
+      : el("p", {class: "note"}, "The list is not there, which has the periods that are set: these may be others."),
+    el("div", {class: "wide"},
+      el("table", {}, el("thead", {}, el("tr", {}, ["Type", "Months of protecting", "Months of processing after", ""]
       .map((head) => el("th", {scope: "col"}, head)))), el("tbody", {}, rows))),
     desk.me === OFFICE ? [el("h2", {}, "Set the periods of a type"), commandForm("set-period", {desk})]
       : el("p", {}, `Only the user ${OFFICE} sets them; you are `, plain(desk.me), "."));
@@ -139,5 +156,6 @@ export function periodsPage(place, desk) {
 
 export function registerPage(place, desk) {
   replace(place, el("h1", {}, "Register a key"),
-    el("p", {}, "A date that you leave out follows from the period of the type, once there is an Activation."), commandForm("register", {desk}));
+    el("p", {}, "A date that you leave out follows from the period of the type, once there is an Activation."),
+      commandForm("register", {desk}));
 }

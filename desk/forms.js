@@ -6,7 +6,8 @@ import {COMPROMISES, PERIODS, RANGES, REASONS, judged, wrongMembers} from "./rul
 import {TELLS, TITLES, localText, momentOf, momentText, refusalText, utcText} from "./words.js";
 
 const WRONG = {
-  owner: "A name has 1 to 64 letters of ASCII, digits, and - _ . @", name: "A name has 1 to 64 letters of ASCII, digits, and - _ . @",
+  owner: "A name has 1 to 64 letters of ASCII, digits, and - _ . @",
+    name: "A name has 1 to 64 letters of ASCII, digits, and - _ . @",
   purpose: "A purpose has 1 to 200 bytes, no control characters, and no space at its ends",
   activation: "This is no date and time", protect_stop: "This is no date and time",
   deactivation: "This is no date and time", occurrence: "This is no date and time", type: "Choose a type",
@@ -26,7 +27,8 @@ function dateInput(given) {
     value: given === null || given === undefined ? "" : momentText(given).replace("Z", "")});
 }
 
-const dateOf = (input) => (input.value === "" ? (input.validity.badInput ? undefined : null) : momentOf(input.value) ?? undefined);
+const dateOf = (input) =>
+  (input.value === "" ? (input.validity.badInput ? undefined : null) : momentOf(input.value) ?? undefined);
 
 // A date by a calendar, in UTC, with the reader's own time beside it.
 export function date(member, label, given = null) {
@@ -44,14 +46,17 @@ export function date(member, label, given = null) {
   tell();
   const about = label.toLowerCase();
   const buttons = el("span", {class: "beside"},
-    el("button", {type: "button", "aria-label": `Now, for ${about}`, onclick: () => set(momentText(now()).replace("Z", ""))}, "Now"),
+    el("button",
+      {type: "button", "aria-label": `Now, for ${about}`, onclick: () => set(momentText(now()).replace("Z", ""))},
+        "Now"),
     el("button", {type: "button", "aria-label": `No date, for ${about}`, onclick: () => set("")}, "None"));
   return {member, input, element: withHint(`${label} (UTC)`, input, hint, buttons), value: () => dateOf(input)};
 }
 
 // An edit of a date: kept, cleared or set.
 export function edit(member, label, given) {
-  const how = select([["keep", "keep it"], ["set", "set it"], ["clear", "clear it"]], {"aria-label": `${label}: what to do`});
+  const how = select([["keep", "keep it"], ["set", "set it"], ["clear", "clear it"]],
+    {"aria-label": `${label}: what to do`});
   const one = date(member, label, given);
   const look = () => one.element.classList.toggle("kept", how.value !== "set");
   for (const event of ["input", "change"]) how.addEventListener(event, look);
@@ -94,7 +99,8 @@ export function fieldsOf(kind, key, isOwners) {
   const fields = {
     "register": () => [types(), text("owner", "Owner"), text("purpose", "Purpose", {maxlength: 200}),
       date("activation", "Activation"), date("protect_stop", "Protect Stop"), date("deactivation", "Deactivation")],
-    "set": () => [edit("activation", "Activation", key.activation), edit("protect_stop", "Protect Stop", key.protect_stop),
+    "set": () =>
+      [edit("activation", "Activation", key.activation), edit("protect_stop", "Protect Stop", key.protect_stop),
       edit("deactivation", "Deactivation", key.deactivation)],
     "revoke": () => [reasons(isOwners), date("occurrence", "Compromised since")],
     "assign": () => [text("owner", "New owner")],
@@ -116,7 +122,8 @@ function becomes(command, before, after) {
   for (const [member, name] of DATES) {
     if (after[member] === (before?.[member] ?? null)) continue;
     const given = command[member];
-    const isOwn = given === after[member] || command.kind === "revoke" || (command.kind === "activate" && member === "activation");
+    const isOwn = given === after[member] || command.kind === "revoke"
+      || (command.kind === "activate" && member === "activation");
     const date = after[member] === null ? "none" : `${utcText(after[member])}, ${localText(after[member])}`;
     told.push(`${name}: ${date}${isOwn ? "" : " (by the period of the type)"}`);
   }
@@ -132,7 +139,8 @@ export function judgement(command, {caller, key}) {
 
 function foretold(command, told, key) {
   if (told === undefined) return [el("p", {}, "What the register will say the page cannot know.")];
-  if (told.refused) return [el("p", {class: "refused"}, el("strong", {}, "Would be refused: "), refusalText(told, command))];
+  if (told.refused) return [el("p", {class: "refused"}, el("strong", {}, "Would be refused: "),
+    refusalText(told, command))];
   const changes = told.key ? becomes(command, key, told.key) : [];
   return [el("p", {class: "accepted"}, el("strong", {}, "Would be accepted"), changes.length ? ", and then:" : "."),
     changes.length ? el("ul", {}, changes.map((change) => el("li", {}, change))) : null];
@@ -166,7 +174,8 @@ export function commandForm(kind, {desk, key, isOwners = true}) {
     markWrong(fields, wrong, isTold);
     if (kind === "revoke") fields[1].element.hidden = !COMPROMISES.includes(body.reason);
     replace(sentence, shown(JSON.stringify(body)));
-    replace(before, wrong.length ? el("p", {class: "hint"}, `Still lacking: ${wrong.map((name) => WRONG[name] ?? name).join("; ")}`)
+    replace(before, wrong.length
+      ? el("p", {class: "hint"}, `Still lacking: ${wrong.map((name) => WRONG[name] ?? name).join("; ")}`)
       : foretold(body, judgement(body, {caller: desk.me, key}), key));
   };
   const submit = (event) => {

@@ -65,7 +65,8 @@ function usage(key, told, at, desk) {
     el("div", {class: "wide"}, el("table", {class: "usage"},
       el("thead", {}, el("tr", {}, ["", "Protect new data", "Process protected data", "State", "As of"].map((head) =>
         el("th", {scope: "col"}, head)))), el("tbody", {}, rows))),
-    differs ? el("p", {class: "note"}, "The two differ: dates were reached since the register accepted a request.") : null,
+    differs ? el("p", {class: "note"}, "The two differ: dates were reached since the register accepted a request.")
+      : null,
     el("p", {}, el("button", {type: "button", class: "advance", onclick: () => desk.send({kind: "advance"})},
       "Bring the register to now"), " It posts an advance, and then answers as of this moment."));
 }
@@ -78,7 +79,8 @@ const KINDS = ["activate", "set", "approve", "withdraw", "destroy", "revoke", "a
 function ruleFor(kind, key, me, at) {
   if (kind !== "revoke") return {bar: barred(COMMANDS[kind], me, key, at), isOwners: true};
   const own = barred(COMMANDS.revoke, me, key, at);
-  return own ? {bar: barred(COMMANDS["revoke for compromise"], me, key, at), isOwners: false} : {bar: null, isOwners: true};
+  return own ? {bar: barred(COMMANDS["revoke for compromise"], me, key, at), isOwners: false}
+    : {bar: null, isOwners: true};
 }
 
 // Whether a command that a rule lets would do nothing but be refused.
@@ -92,7 +94,8 @@ function idle(kind, key, me) {
 function acts(key, desk, at) {
   const may = [], not = [];
   for (const kind of KINDS) {
-    const {bar, isOwners} = ruleFor(kind, key, desk.me, at), why = bar ? refusalText(bar, {kind, key: key.number}) : idle(kind, key, desk.me);
+    const {bar, isOwners} = ruleFor(kind, key, desk.me, at), why = bar ? refusalText(bar, {kind, key: key.number})
+      : idle(kind, key, desk.me);
     if (why) not.push([kind, why]);
     else {
       const title = kind === "revoke" && !isOwners ? "Tell a compromise" : TITLES[kind];
@@ -119,17 +122,21 @@ function facts(key, at) {
     ["Owner", shown(key.owner)], ["Purpose", shown(key.purpose)],
     ["Custodians", names(key.custodians, "none")],
     ["Approvals", el("span", {}, `${have} of ${key.need} that its destruction needs`, names(key.approvals, ""))],
-    ...DATES.filter(([name]) => (key[name] ?? null) !== null || ["activation", "protect_stop", "deactivation"].includes(name))
+    ...DATES.filter(([name]) => (key[name] ?? null) !== null
+      || ["activation", "protect_stop", "deactivation"].includes(name))
       .map(([name, told]) => [`${told} (${LETTERS[name]})`, moment(key[name], at)]),
   ].map(([head, told]) => [el("dt", {}, head), el("dd", {}, told)]));
 }
 
 function history(number, at) {
   const requests = requestsOf(number);
-  const told = list.isThere ? "Of this page's own and of the list: the last few alone." : "Of this page's own alone: the list is not there.";
-  return el("section", {"aria-labelledby": "history"}, el("h2", {id: "history"}, "Last requests"), el("p", {class: "hint"}, told),
+  const told = list.isThere ? "Of this page's own and of the list: the last few alone."
+    : "Of this page's own alone: the list is not there.";
+  return el("section", {"aria-labelledby": "history"}, el("h2", {id: "history"}, "Last requests"),
+    el("p", {class: "hint"}, told),
     requests.length ? el("ol", {class: "history"}, requests.map(({moment: when, caller, text}) =>
-      el("li", {}, el("span", {class: "when"}, `${utcText(when)} (${away(when, at)}) `), shown(caller), " ", requestText(text)))) : null);
+      el("li", {}, el("span", {class: "when"}, `${utcText(when)} (${away(when, at)}) `), shown(caller), " ",
+        requestText(text)))) : null);
 }
 
 function show(place, number, desk, note) {
@@ -139,10 +146,14 @@ function show(place, number, desk, note) {
     return;
   }
   const shows = {...key, state: stateAt(key, at)};
-  replace(place, el("h1", {}, `Key ${number} `, state(shows.state)), note ? el("p", {class: "note", role: "alert"}, note) : null,
-    isLong(key, periodOf(key.type)) ? el("p", {class: "note"}, "Its dates go past the period that the office set since.") : null,
-    el("p", {class: "hint"}, told ? `As the register told it at ${utcText(told.at)}.` : `As the list of ${utcText(list.made)} has it.`),
-    facts(key, at), el("figure", {}, line(key, at), el("figcaption", {}, el("span", {class: "swatch protects"}), " protects ",
+  replace(place, el("h1", {}, `Key ${number} `, state(shows.state)), note
+    ? el("p", {class: "note", role: "alert"}, note) : null,
+    isLong(key, periodOf(key.type))
+      ? el("p", {class: "note"}, "Its dates go past the period that the office set since.") : null,
+    el("p", {class: "hint"}, told ? `As the register told it at ${utcText(told.at)}.`
+      : `As the list of ${utcText(list.made)} has it.`),
+    facts(key, at),
+      el("figure", {}, line(key, at), el("figcaption", {}, el("span", {class: "swatch protects"}), " protects ",
       el("span", {class: "swatch processes"}), " processes what is protected; the letters stand at the dates above")),
     usage(key, told, at, desk), told ? acts(shows, desk, at) : null, history(number, at));
 }

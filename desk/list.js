@@ -1,4 +1,5 @@
-// The keys that the desk knows: those of the list, and over them what it learnt from the register since the list was made.
+// The keys that the desk knows: those of the list, and over them what it learnt from the register since the list was
+// made.
 import {listed} from "./register.js";
 import {DAY, PERIODS, isLong, stateAt} from "./rules.js";
 
@@ -176,7 +177,8 @@ function suits(key, filter, moment) {
   return !filter.waits || (AT_REST.includes(state) && key.custodians.length > 0 && key.approvals.length < key.need);
 }
 
-// The numbers of the keys that a filter lets through, in order of their numbers or of their Protect Stop Dates. Words are
+// The numbers of the keys that a filter lets through, in order of their numbers or of their Protect Stop Dates. Words
+// are
 // looked for in the number, the owner, the type and the purpose.
 export function found(filter, moment) {
   const words = filter.text.toLowerCase().split(/\s+/).filter(Boolean);
@@ -229,7 +231,8 @@ export function waiting(caller, moment) {
 // The number of a key that has just these fields, or 0: what an import of them would register a second time.
 let same = null, sameOf = 0;
 export function sameAs(row) {
-  const wordOf = (key) => JSON.stringify([key.type, key.owner, key.activation, key.protect_stop, key.deactivation, key.purpose]);
+  const wordOf = (key) =>
+    JSON.stringify([key.type, key.owner, key.activation, key.protect_stop, key.deactivation, key.purpose]);
   if (!same || sameOf !== list.made) {
     [same, sameOf] = [new Map(), list.made];
     for (let number = 1; number <= known(); number++) {

@@ -1,6 +1,7 @@
 // What goes between the desk and the register: keys that are asked for, and requests, each of which acts once.
 //
-// A request's number is drawn once. It is kept with its body until the register's answer came, and sent again under that
+// A request's number is drawn once. It is kept with its body until the register's answer came, and sent again under
+// that
 // number after a broken connection, a 500 or a 503, also after a reload of the page.
 import {GREATEST_NUMBER} from "./rules.js";
 
@@ -28,7 +29,8 @@ export const now = () => Math.floor((Date.now() + ahead) / 1000);
 export class Unanswered extends Error {}
 
 async function asked(path, how = {}) {
-  const given = {cache: "no-store", credentials: "same-origin", redirect: "error", signal: AbortSignal.timeout(PATIENCE)};
+  const given = {cache: "no-store", credentials: "same-origin", redirect: "error",
+    signal: AbortSignal.timeout(PATIENCE)};
   try {
     const response = await fetch(location.origin + path, {...given, ...how});
     look(response);

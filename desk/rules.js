@@ -3,7 +3,8 @@
 // checks/desk_rules.py holds the tables to those of the document, and each judgement to the register's. The register is
 // right where the two differ: the page only says beforehand what it can know, and shows what the register said.
 //
-// A key is an object as `GET /keys/<key>` gives it, a command one as a POST takes it, a moment a number of seconds since
+// A key is an object as `GET /keys/<key>` gives it, a command one as a POST takes it, a moment a number of seconds
+// since
 // 1970, a date a moment or null.
 
 export const LAST_MOMENT = 253402300799;
@@ -67,7 +68,8 @@ export const MEMBERS = {
 };
 
 export const RANGES = {
-  key: [1, 4294967295], date: [0, LAST_MOMENT], need: [2, 5], reason: [1, 7], originator: [1, 1200], recipient: [0, 1200],
+  key: [1, 4294967295], date: [0, LAST_MOMENT], need: [2, 5], reason: [1, 7], originator: [1, 1200],
+    recipient: [0, 1200],
 };
 
 export const REASONS = {
@@ -244,7 +246,8 @@ function changed(key, command, caller, moment, period) {
   return have < key.need ? refusal(18, {have, need: key.need}) : {destroyed: moment};
 }
 
-// The judgement of a command: a refusal, or the key as it is afterwards (null of a command about none). `key` is the one
+// The judgement of a command: a refusal, or the key as it is afterwards (null of a command about none). `key` is the
+// one
 // that the command names, undefined where it is not known, null where it is known that there is none. Where the page
 // cannot know, the judgement is undefined.
 export function judged(command, {caller, moment, latest, key, periods, count}) {

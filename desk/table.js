@@ -13,7 +13,8 @@ const TAKEN = "keyreg.table", SHOWN = 200, MOST_BYTES = 20_000_000;
 
 // ---- CSV
 
-// The records of a text by RFC 4180, with their fields; blank lines are none. A quote that is not closed ends with the text.
+// The records of a text by RFC 4180, with their fields; blank lines are none. A quote that is not closed ends with the
+// text.
 export function records(text) {
   const all = [], size = text.length;
   let place = 0;
@@ -55,7 +56,8 @@ function rowsOf(bytes) {
   if (text.startsWith("\ufeff")) return {fault: "It begins with a byte order mark: save it without."};
   const [head, ...rows] = records(text);
   if (!head || head.join() !== COLUMNS.join()) {
-    const told = head?.join("").includes(";") ? "Its fields are parted by ;" : `Its header row is ${plain((head ?? []).join(",")).slice(0, 200)}`;
+    const told = head?.join("").includes(";") ? "Its fields are parted by ;"
+      : `Its header row is ${plain((head ?? []).join(",")).slice(0, 200)}`;
     return {fault: `${told}, and it should be ${COLUMNS.join(",")}`};
   }
   return {rows};
@@ -73,7 +75,9 @@ function formFaults(row) {
   if (!isName(owner)) told.push(`owner is ${plain(owner)}, which is no name`);
   DATES.forEach((name, place) => {
     const date = row[place + 2];
-    if (date !== "" && (!whole.test(date) || momentOf(date) === null)) told.push(`${name} is ${plain(date)}, and not YYYY-MM-DDTHH:MM:SSZ`);
+    if (date !== ""
+      && (!whole.test(date)
+        || momentOf(date) === null)) told.push(`${name} is ${plain(date)}, and not YYYY-MM-DDTHH:MM:SSZ`);
   });
   if (!isPurpose(purpose)) told.push("purpose is empty, too long, or has a space at an end or a control character");
   return told;
@@ -81,7 +85,8 @@ function formFaults(row) {
 
 function commandOf([type, owner, activation, stop, end, purpose]) {
   const date = (text) => (text === "" ? null : momentOf(text));
-  return {kind: "register", type, owner, activation: date(activation), protect_stop: date(stop), deactivation: date(end), purpose};
+  return {kind: "register", type, owner, activation: date(activation), protect_stop: date(stop),
+    deactivation: date(end), purpose};
 }
 
 function judgedRow(row, caller) {
@@ -162,19 +167,23 @@ export function tableAnswer(answer, command) {
 
 function rowLine(place) {
   const {sort, told} = taken.judged[place], answer = taken.answers[place], row = taken.rows[place];
-  const said = !answer ? told : answer[0] ? ["accepted: ", el("a", {href: `#key/${answer[1]}`}, `key ${answer[1]}`)] : ["refused: ", answer[1]];
+  const said = !answer ? told : answer[0] ? ["accepted: ", el("a", {href: `#key/${answer[1]}`}, `key ${answer[1]}`)]
+    : ["refused: ", answer[1]];
   const check = el("input", {type: "checkbox", "aria-label": `send row ${place + 1}`, checked: taken.isSent[place],
     disabled: sort === "wrong" || answer || taken.first !== null, onchange: (event) => {
       taken.isSent[place] = event.target.checked;
       save();
     }});
-  return el("tr", {id: `row-${place}`, class: answer ? (answer[0] ? "accepted" : "refused") : sort}, el("td", {}, check),
-    el("th", {scope: "row"}, String(place + 1)), el("td", {}, shown(row.join(", ").slice(0, 300))), el("td", {class: "said"}, said));
+  return el("tr", {id: `row-${place}`, class: answer ? (answer[0] ? "accepted" : "refused") : sort},
+    el("td", {}, check),
+    el("th", {scope: "row"}, String(place + 1)), el("td", {}, shown(row.join(", ").slice(0, 300))),
+      el("td", {class: "said"}, said));
 }
 
 function counts() {
   const answers = taken.answers.filter(Boolean), accepted = answers.filter(([is]) => is).length;
-  return {wanted: taken.isSent.filter(Boolean).length, answered: answers.length, accepted, refused: answers.length - accepted};
+  return {wanted: taken.isSent.filter(Boolean).length, answered: answers.length, accepted,
+    refused: answers.length - accepted};
 }
 
 // The rows that are not registered: refused, wrong in form or left out.
@@ -185,7 +194,8 @@ function notTaken() {
 function givenBack() {
   const rows = notTaken(), text = csvOf(rows);
   const link = el("a", {download: `not-registered-${taken.name.replace(/[^A-Za-z0-9._-]/g, "_")}`, class: "button",
-    href: URL.createObjectURL(new Blob([text], {type: "text/csv"}))}, `Take back ${rows.length} rows that are not registered`);
+    href: URL.createObjectURL(new Blob([text], {type: "text/csv"}))},
+      `Take back ${rows.length} rows that are not registered`);
   return rows.length ? el("p", {}, link) : null;
 }
 
@@ -197,7 +207,8 @@ function bar() {
 
 function table(place, desk) {
   const sorts = Object.groupBy(taken.judged, ({sort}) => sort), told = (sort) => sorts[sort]?.length ?? 0;
-  const progress = el("div", {class: "progress", role: "status"}), buttons = el("p", {class: "buttons"}), back = el("div");
+  const progress = el("div", {class: "progress", role: "status"}), buttons = el("p", {class: "buttons"}),
+    back = el("div");
   const look = (row) => {
     replace(progress, bar());
     if (row !== undefined) document.getElementById(`row-${row}`)?.replaceWith(rowLine(row));
@@ -207,7 +218,8 @@ function table(place, desk) {
     const {wanted, answered} = counts(), isDone = answered >= wanted;
     replace(buttons, isGoing ? el("button", {type: "button", onclick: () => {
       isGoing = false;
-    }}, "Stop") : [isDone && wanted ? null : el("button", {type: "button", class: "send", disabled: wanted === 0, onclick: go},
+    }}, "Stop")
+      : [isDone && wanted ? null : el("button", {type: "button", class: "send", disabled: wanted === 0, onclick: go},
       answered ? "Go on" : `Send ${wanted} rows`), el("button", {type: "button", onclick: () => {
       taken = null;
       save();
@@ -226,11 +238,16 @@ function table(place, desk) {
   };
   const rows = taken.rows.slice(0, SHOWN).map((_, row) => rowLine(row));
   ended();
-  replace(place, el("h1", {}, "Take in a table"), el("p", {}, shown(taken.name), `: ${taken.rows.length} rows: ${told("good")} would be accepted, `
+  replace(place, el("h1", {}, "Take in a table"),
+    el("p", {}, shown(taken.name), `: ${taken.rows.length} rows: ${told("good")} would be accepted, `
     + `${told("refused")} refused, ${told("wrong")} are of another form, ${told("twice")} are there already`),
-  taken.isKept ? null : el("p", {class: "note"}, "It is too large to be kept over a reload of this page: do not reload it before the rows are sent."),
-  buttons, progress, back, el("div", {class: "wide results", onchange: ended}, el("table", {class: "rows"}, el("caption", {},
-    taken.rows.length > SHOWN ? `The first ${SHOWN} rows` : "The rows"), el("thead", {}, el("tr", {}, ["Send", "Row", "Fields", "What is said to it"]
+  taken.isKept ? null
+    : el("p", {class: "note"},
+      "It is too large to be kept over a reload of this page: do not reload it before the rows are sent."),
+  buttons, progress, back,
+    el("div", {class: "wide results", onchange: ended}, el("table", {class: "rows"}, el("caption", {},
+    taken.rows.length > SHOWN ? `The first ${SHOWN} rows` : "The rows"),
+      el("thead", {}, el("tr", {}, ["Send", "Row", "Fields", "What is said to it"]
     .map((head) => el("th", {scope: "col"}, head)))), el("tbody", {}, rows))));
 }
 
@@ -244,7 +261,8 @@ export function tablePage(place, desk) {
   input.addEventListener("change", async () => {
     const file = input.files[0];
     if (!file) return;
-    const {rows, fault} = file.size > MOST_BYTES ? {fault: "It has more than 20 MB: divide it."} : rowsOf(await file.arrayBuffer());
+    const {rows, fault} = file.size > MOST_BYTES ? {fault: "It has more than 20 MB: divide it."}
+      : rowsOf(await file.arrayBuffer());
     if (fault) replace(told, plain(file.name), ": ", fault);
     else {
       take(file.name, rows, desk);
@@ -253,8 +271,10 @@ export function tablePage(place, desk) {
       place.querySelector("h1").focus();
     }
   });
-  replace(place, el("h1", {}, "Take in a table"), el("p", {}, "A file of CSV in UTF-8, with commas and the header row ", el("code", {}, COLUMNS.join(",")),
-    ". A date is YYYY-MM-DDTHH:MM:SSZ, or left empty. Each row is judged before anything is sent."), field("The file", input), told);
+  replace(place, el("h1", {}, "Take in a table"),
+    el("p", {}, "A file of CSV in UTF-8, with commas and the header row ", el("code", {}, COLUMNS.join(",")),
+    ". A date is YYYY-MM-DDTHH:MM:SSZ, or left empty. Each row is judged before anything is sent."),
+      field("The file", input), told);
 }
 
 // Whether rows are being sent: what leaves the page then asks first.

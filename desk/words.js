@@ -1,5 +1,5 @@
 // What the desk says: moments, commands and refusals in words.
-import {el, plain, shown} from "./dom.js";
+import {el, plain} from "./dom.js";
 import {COMPROMISES, DAY, REASONS, RANGES} from "./rules.js";
 
 // ---- moments
@@ -56,20 +56,22 @@ const MARKS = {"Pre-Active": "◇", "Active": "●", "Deactivated": "◐", "Comp
 
 // A state by its word, a mark and a pattern, so that no colour is needed.
 export function state(word) {
-  return el("span", {class: `state ${word.toLowerCase()}`}, el("span", {"aria-hidden": "true"}, `${MARKS[word]} `), word);
+  return el("span", {class: `state ${word.toLowerCase()}`}, el("span", {"aria-hidden": "true"}, `${MARKS[word]} `),
+    word);
 }
 
 export const TITLES = {
-  "register": "Register a key", "activate": "Activate now", "set": "Set dates", "revoke": "Revoke", "assign": "Give to another owner",
+  "register": "Register a key", "activate": "Activate now", "set": "Set dates", "revoke": "Revoke",
+    "assign": "Give to another owner",
   "add-custodian": "Add a custodian", "remove-custodian": "Remove a custodian", "approve": "Approve the destruction",
   "withdraw": "Withdraw the approval", "destroy": "Destroy", "set-quorum": "Set the approvals needed",
   "set-period": "Set the periods of a type", "advance": "Bring the register to now",
 };
 
 export const TELLS = {
-  "activate": "The key becomes Active at this moment. Its other dates are cut to the period of its type, where they are later.",
-  "set": "Each date is kept, cleared or set. What is cleared is set by the period of the type, where an Activation stands.",
-  "revoke": "The key is Deactivated at once. Where it was compromised, anybody may say so, and it is Compromised for good.",
+  "activate": "The key becomes Active at this moment. Its other dates are cut to the period of its type.",
+  "set": "Each date is kept, cleared or set. A cleared one follows from the type's period, where an Activation stands.",
+  "revoke": "The key is Deactivated at once. After a compromise, which anybody may tell, it is Compromised for good.",
   "assign": "Another name owns the key from then on, and gives its commands.",
   "add-custodian": "A custodian may approve the destruction. The owner is none.",
   "remove-custodian": "Its approval ends with it.",
@@ -85,7 +87,9 @@ const edited = (value) => (value === "keep" ? "kept" : value === null ? "cleared
 export function commandText(command) {
   const {kind, key} = command;
   const of = key === undefined ? "" : ` key ${key}`;
-  if (kind === "register") return `Register a key of type ${command.type} for ${plain(command.owner)}: ${plain(command.purpose)}`;
+  if (kind === "register") {
+    return `Register a key of type ${command.type} for ${plain(command.owner)}: ${plain(command.purpose)}`;
+  }
   if (kind === "set") {
     return `Set dates of${of}: Activation ${edited(command.activation)}, Protect Stop ${edited(command.protect_stop)}, `
       + `Deactivation ${edited(command.deactivation)}`;
@@ -98,7 +102,8 @@ export function commandText(command) {
   if (kind === "withdraw") return `Withdraw the approval of${of}`;
   if (kind === "set-quorum") return `${command.need} approvals needed for${of}`;
   if (kind === "set-period") {
-    return `Periods of ${command.type}: ${command.originator} months of protecting, ${command.recipient} of processing after`;
+    const {type, originator, recipient} = command;
+    return `Periods of ${type}: ${originator} months of protecting, ${recipient} of processing after`;
   }
   return kind === "advance" ? TITLES.advance : `${TITLES[kind]}:${of}`;
 }
@@ -109,13 +114,17 @@ const dateOf = (text) => (/^\d+$/.test(text) ? utcText(Number(text)) : text === 
 export function requestText(text) {
   const [word, ...rest] = text.split(" ");
   if (word === "register") return "registered";
-  if (word === "set") return `set dates: Activation ${dateOf(rest[0])}, Protect Stop ${dateOf(rest[1])}, Deactivation ${dateOf(rest[2])}`;
+  if (word === "set") {
+    const [activation, stop, end] = rest.map(dateOf);
+    return `set dates: Activation ${activation}, Protect Stop ${stop}, Deactivation ${end}`;
+  }
   if (word === "revoke") {
     const when = rest[1] === "-" ? "" : `, compromised ${dateOf(rest[1])}`;
     return `revoked: ${REASONS[rest[0]]}${when}`;
   }
   const told = {"activate": "activated", "assign": "given to", "add-custodian": "added the custodian",
-    "remove-custodian": "removed the custodian", "approve": "approved the destruction", "withdraw": "withdrew the approval",
+    "remove-custodian": "removed the custodian", "approve": "approved the destruction",
+      "withdraw": "withdrew the approval",
     "destroy": "destroyed", "set-quorum": "set the approvals needed to"};
   return [told[word] ?? word, ...rest].join(" ");
 }
@@ -126,7 +135,7 @@ function wrongState(command, answer) {
   const isCompromise = command.kind === "revoke" && COMPROMISES.includes(command.reason);
   const why = {
     "activate": "only a Pre-Active key is activated", "set": "dates are set of a Pre-Active or an Active key alone",
-    "approve": "a destruction is approved of a Pre-Active, a Deactivated or a Compromised key: revoke an Active one first",
+    "approve": "a destruction is approved of a Pre-Active, Deactivated or Compromised key: revoke an Active one first",
     "destroy": "a Pre-Active, a Deactivated or a Compromised key is destroyed: revoke an Active one first",
     "withdraw": "no approval of a destroyed key ends", "remove-custodian": "a destroyed key keeps its custodians",
     "revoke": isCompromise ? "it is compromised already" : "only an Active key is revoked, but for a compromise",
@@ -139,14 +148,14 @@ export function refusalText(answer, command) {
   const {limit} = answer;
   const texts = {
     1: "The register takes the request for none: a field has a value that it cannot have.",
-    2: "Under this request's number you have an accepted request with another command. This one did nothing; send it anew.",
+    2: "Under this request's number you have an accepted request with another command. This one did nothing.",
     3: `The register is at ${answer.latest === undefined ? "a later moment" : utcText(answer.latest)} already, after the `
       + "machine's clock. Wait until then, or tell whoever runs it that a clock was wrong.",
     4: `There is no key ${command.key}.`,
     5: "Only the owner of the key may do this, and you are not.",
     6: "Only a custodian of the key may do this, and you are not.",
     7: answer.state ? wrongState(command, answer) : "",
-    8: "The Activation of a key that was Active, and a Protect Stop that is reached, stay as they are: keep them.",
+    8: "The Activation of an Active key, and a Protect Stop that is reached, stay as they are: keep them.",
     9: "The dates have to be in order: Activation, Protect Stop, Deactivation.",
     10: `The usage period is longer than the type's: the latest moment that is accepted is `
       + `${limit === undefined ? "earlier" : `${utcText(limit)} (${localText(limit)})`}.`,
@@ -157,12 +166,10 @@ export function refusalText(answer, command) {
     15: "The owner of a key is none of its custodians: name another.",
     16: "Your approval stands already.",
     17: "You have no approval that stands.",
-    18: `${answer.have} of ${answer.need} approvals stand: ${answer.need - answer.have} more custodians have to approve first.`,
+    18: `${answer.have} of ${answer.need} approvals stand: more custodians have to approve first.`,
     19: "The compromise occurred no later than now: take an earlier date.",
     20: "The register has 1,000,000 keys, and takes no more.",
     21: "Only the user office sets the periods of types.",
   };
   return texts[answer.refused] ?? "";
 }
-
-export {shown};
