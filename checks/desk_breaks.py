@@ -1,5 +1,6 @@
-"""What breaks between the desk and the register: connections, answers, pages and keyreg itself. Each request acts once, and the
-page says what is so. Beside it two pages at one key, texts that are meant to disturb, and a list that is not what it was."""
+"""What breaks between the desk and the register: connections, answers, pages and keyreg itself. Each request acts once,
+and the page says what is so. Beside it two pages at one key, texts that are meant to disturb, and a list that is not
+what it was."""
 import json
 import os
 import pathlib
@@ -10,8 +11,10 @@ from desk_day import refused, register
 from registers import expect
 
 HOSTILE = [
-    '<img src=x onerror="document.title=1">', "\"'><script>alert(1)</script>", "</td></table><b>bold</b>", "&lt;i&gt;&amp;",
-    "\u202egpj.exe", "a\u0085b\u2028c\u2029d", "\u2066isolate\u2069 \u200bzero", "x" * 200, "\u00fc" * 100, "${1+1} {{2}} `3`",
+    '<img src=x onerror="document.title=1">', "\"'><script>alert(1)</script>", "</td></table><b>bold</b>",
+    "&lt;i&gt;&amp;",
+    "\u202egpj.exe", "a\u0085b\u2028c\u2029d", "\u2066isolate\u2069 \u200bzero", "x" * 200, "\u00fc" * 100,
+    "${1+1} {{2}} `3`",
     "javascript:alert(1)", "\U000e0041tag \ufeffmark", "ب" * 60, "' style='position:fixed",
 ]
 # What no text of anybody may become.
@@ -44,7 +47,8 @@ def sent_again(reader, key):
         is_accepted, told = reader.answer(f"add-custodian {key} {name}")
         expect(is_accepted and not line.todo, f"{todo}: {told}")
         sent, number = line.posts[before:], str(reader.said[-1][1])
-        expect(len(sent) >= len(todo) + 1 and set(sent) == {number}, f"{todo}: sent under {sent}, and the page says {number}")
+        expect(len(sent) >= len(todo) + 1 and set(sent) == {number},
+               f"{todo}: sent under {sent}, and the page says {number}")
         expect(not reader.text("#kept"), f"{todo}: it is told to wait still")
         expect(name in reader.text("dl.facts"), f"{todo}: the key is not shown with {name}")
         reader.does("remove-custodian", f"remove-custodian {key} {name}", [("Custodian", name)])
@@ -73,7 +77,8 @@ def over_reload(reader, key):
     before = len(line.posts)
     reader.run("sessionStorage.setItem('keyreg.kept', arguments[0])", entry)
     reader.reload()
-    reader.wait(lambda: "is of the user zed" in reader.text("#kept").replace("It ", ""), "another user's request is not told")
+    reader.wait(lambda: "is of the user zed" in reader.text("#kept").replace("It ", ""),
+                "another user's request is not told")
     time.sleep(0.5)
     expect(len(line.posts) == before, "another user's request is sent")
     reader.one("#kept button", lambda button: button.text == "Give it up").click()
@@ -131,7 +136,8 @@ def two_pages(one, other, key):
 
 
 def is_text(reader, text):
-    """The text stands in the page as a text, with a code for each character that is not seen, and became nothing else."""
+    """The text stands in the page as a text, with a code for each character that is not seen, and became nothing
+    else."""
     found = reader.run("return [...document.querySelectorAll('#main .text')].map((place) => place.textContent)")
     wanted = re.sub("[\u0080-\u009f\u200b-\u200f\u2028-\u202e\u2066-\u2069\ufeff\U000e0000-\U000e007f]",
                     lambda mark: f"U+{ord(mark[0]):04X}", text)
@@ -189,12 +195,12 @@ def without_a_list(reader, key):
     reader.run("sessionStorage.clear()")
     reader.reload()
     reader.open("find")
-    expect("The list of keys is not there" in reader.text(), reader.text())
+    reader.wait(lambda: "The list of keys is not there" in reader.text(), "it is not told that there is no list")
     reader.key(key)
     place.write_text(json.dumps({**json.loads(kept), "keys": None, "count": 200000}), encoding="utf-8")
     reader.reload()
     reader.open("find")
-    expect("200000 keys, too many for the list" in reader.text(), reader.text())
+    reader.wait(lambda: "200000 keys, too many for the list" in reader.text(), "the number of keys is not told")
     place.write_bytes(kept)
     reader.reload()
 

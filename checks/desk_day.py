@@ -1,5 +1,6 @@
-"""A day of the desk: every command by those whom the rules let give it, what is refused, what is found, and a table that is
-taken in. What the page has to say comes from docs/SPECIFICATION.md and from the register's tables as SQLite reads them."""
+"""A day of the desk: every command by those whom the rules let give it, what is refused, what is found, and a table
+that is taken in. What the page has to say comes from docs/SPECIFICATION.md and from the register's tables as SQLite
+reads them."""
 import calendar
 import contextlib
 import os
@@ -97,7 +98,8 @@ def dates(ann, cat):
     ann.does("revoke", f"revoke {key} 5 -", [("Reason", "5")])
     expect("Deactivated" in ann.text("h1"), ann.text("h1"))
     ann.does("assign", f"assign {key} cat", [("New owner", "cat")])
-    expect("Give to another owner" not in [e.text for e in ann.find("details.act > summary")], "ann may still give it away")
+    may = [title.text for title in ann.find("details.act > summary")]
+    expect("Give to another owner" not in may, f"ann may still {may}")
     other = register(ann, "private-signature", "ann", "code of the desktop client")
     foretold = ann.submit("set", edits=[("set", "2026-02-28T23:30:00"), ("clear", ""), ("clear", "")])[1]
     # 36 months of protecting, and none of processing after.
@@ -105,7 +107,8 @@ def dates(ann, cat):
         expect(line in foretold and "by the period" in foretold, f"the default is not told: {foretold}")
     expect(ann.answer(f"set {other} {second('2026-02-28T23:30:00')} - -")[0], "dates are not set")
     since = day(-3)
-    cat.key(other).does("revoke", f"revoke {other} 2 {second(since)}", [("Reason", "2"), ("Compromised since (UTC)", since)])
+    cat.key(other).does("revoke", f"revoke {other} 2 {second(since)}",
+                        [("Reason", "2"), ("Compromised since (UTC)", since)])
     expect("Compromised" in cat.text("h1"), cat.text("h1"))
     third = register(ann, "authentication", "ann", "partner interface")
     ann.does("activate", f"activate {third}")
@@ -118,8 +121,9 @@ def periods(ann, office):
     ann.desk.list()
     ann.reload()
     office.open("periods")
-    office.does("set-period", "set-period master 6 0", [("Type", "master"), ("Months of protecting (originator use)", "6"),
-                                                         ("Months of processing after (recipient use)", "0")])
+    office.does("set-period", "set-period master 6 0", [
+        ("Type", "master"), ("Months of protecting (originator use)", "6"),
+        ("Months of processing after (recipient use)", "0")])
     expect("master 6 0 set by office" in office.text(), office.text())
     ann.open("periods")
     expect(not ann.find("form.set-period"), "ann is shown the office's form")
@@ -154,8 +158,8 @@ def moved_on(bob, key):
 def rows_of(file):
     """The keys of the register's tables, by SQLite."""
     with contextlib.closing(sqlite3.connect(f"file:{file}?mode=ro", uri=True)) as connection:
-        rows = connection.execute("SELECT number, kind, owner, purpose, initial, activation, protect_stop, deactivation, "
-                                  "destroyed, compromised FROM keys ORDER BY number").fetchall()
+        rows = connection.execute("SELECT number, kind, owner, purpose, initial, activation, protect_stop, "
+                                  "deactivation, destroyed, compromised FROM keys ORDER BY number").fetchall()
         custodians = {row[0] for row in connection.execute("SELECT key_no FROM custodian")}
         approvals = dict(connection.execute("SELECT key_no, count(*) FROM approval GROUP BY key_no"))
         needs = dict(connection.execute("SELECT key_no, need FROM quorum"))
@@ -170,8 +174,8 @@ def rows_of(file):
 
 
 def finds(reader, file):
-    """What is found by number, owner, type, state, purpose, what is due and what waits. The list may be older than what the
-    page did: a copy of the register's files is the measure."""
+    """What is found by number, owner, type, state, purpose, what is due and what waits. The list may be older than
+    what the page did: a copy of the register's files is the measure."""
     now, keys = int(time.time()), rows_of(file)
     at_rest = (STATES[1], STATES[3], STATES[4])
     due = [key for key in keys if key.state(now) == STATES[2] and key.stop <= now + 800 * 86400]
@@ -196,7 +200,8 @@ def finds(reader, file):
     reader.open("find")
     for row in reader.find("table.keys tbody tr"):
         cells = row.find_elements(By.TAG_NAME, "td")
-        expect(cells[1].text.split(" ", 1)[1] == states[int(cells[0].text)], f"{cells[0].text} is shown as {cells[1].text}")
+        number, shown = cells[0].text, cells[1].text
+        expect(shown.split(" ", 1)[1] == states[int(number)], f"{number} is shown as {shown}")
     box = reader.one("input[type='search']")
     box.send_keys("2\n")
     reader.wait(lambda: reader.text("h1").startswith("Key 2"), "a number does not lead to its key")
@@ -213,15 +218,17 @@ def table_text(good):
            'master,<img src=x onerror="document.title=1">,,,,markup in an owner', "master,ann,,,," + "x" * 1000,
            "master,ann,2027-01-01T00:00:00Z,2026-01-01T00:00:00Z,,in another order", "master,ann,,,"]
     rows = [f'authentication,ann,2026-01-31T23:30:00Z,,,"row {place}, ""quoted"""' for place in range(good)]
-    wanted = [f'register authentication ann {second("2026-01-31T23:30:00")} - - row {place}, "quoted"' for place in range(good)]
+    activation = second("2026-01-31T23:30:00")
+    wanted = [f'register authentication ann {activation} - - row {place}, "quoted"' for place in range(good)]
     text = HEAD + "\n".join(rows[:3] + bad[:4] + [""] + rows[3:] + bad[4:]) + "\n"
     return text, wanted, bad
 
 
 def wrong_files(reader, folder):
     """Files that are no table are told by name, and nothing is sent."""
-    for name, given, told in (("utf16.csv", HEAD.encode("utf-16"), "no UTF-8"), ("mark.csv", b"\xef\xbb\xbf" + HEAD.encode(), "mark"),
-                              ("semicolon.csv", HEAD.replace(",", ";").encode(), "parted by ;"), ("other.csv", b"a,b\n", "header row")):
+    files = (("utf16.csv", HEAD.encode("utf-16"), "no UTF-8"), ("mark.csv", b"\xef\xbb\xbf" + HEAD.encode(), "mark"),
+             ("semicolon.csv", HEAD.replace(",", ";").encode(), "parted by ;"), ("other.csv", b"a,b\n", "header row"))
+    for name, given, told in files:
         pathlib.Path(folder, name).write_bytes(given)
         reader.open("find")
         reader.open("table")
@@ -251,7 +258,8 @@ def taken_in(reader, folder, good=40):
     expect(0 < stopped < good, f"it was stopped after {stopped} rows")
     reader.reload()
     reader.one(".buttons button", lambda button: button.text == "Go on").click()
-    reader.wait(lambda: f"{good + 1} of {good + 1} rows answered: {good} accepted, 1 refused" in reader.text(), "the rest is not sent", 60)
+    told = f"{good + 1} of {good + 1} rows answered: {good} accepted, 1 refused"
+    reader.wait(lambda: told in reader.text(), "the rest is not sent", 60)
     accepted = len(reader.find("table.rows tr.accepted"))
     expect(accepted == good, f"{accepted} rows are shown as accepted, and {good} should be")
     reader.said += [(reader.user, None, command) for command in wanted]

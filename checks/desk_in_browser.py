@@ -1,20 +1,23 @@
 #!/usr/bin/env python3
-"""The desk in Chromium: people go through a day of every command, and after it the register is exactly what the pages said.
+"""The desk in Chromium: people go through a day of every command, and after it the register is exactly what the pages
+said.
 
-    checks/desk_in_browser.py [--least] [--screens FOLDER]
+    checks/desk_in_browser.py [--least] [--screens FOLDER] [PART..]
+    checks/desk_in_browser.py --picture docs/desk.png
 
-keyreg is served behind nginx with examples/nginx-keyreg.conf, and a browser for each user goes through a day by forms, keys
-and lists (desk_day.py): no second since 1970 is typed, nor a line of JSON. Connections are cut within an answer and before
-it, answers are 500 and 503, pages are loaded anew, keyreg is killed and started again, two pages stand at one key, and texts
-are meant to disturb (desk_breaks.py). Each page is looked at by Chromium's accessibility tree, for contrast, by Tab, at three
-widths, light, dark and printed, and with a list of 100,000 keys (desk_looks.py).
+keyreg is served behind nginx with examples/nginx-keyreg.conf, and a browser for each user goes through a day by forms,
+keys and lists (desk_day.py): no second since 1970 is typed, nor a line of JSON. Connections are cut within an answer
+and before it, answers are 500 and 503, pages are loaded anew, keyreg is killed and started again, two pages stand at
+one key, and texts are meant to disturb (desk_breaks.py). Each page is looked at by Chromium's accessibility tree, for
+contrast, by Tab, at three widths, light, dark and printed, and with a list of 100,000 keys (desk_looks.py).
 
-After it each request of which a page said that it was accepted is in the register's table `request`, with the number that
-the page told, and no other is; and by examples/replay.py all else in the register follows from them. The console has
-nothing but what Chromium writes of statuses of refusals and of connections that were cut on purpose; nothing was asked of
-another place.
+After it each request of which a page said that it was accepted is in the register's table `request`, with the number
+that the page told, and no other is; and by examples/replay.py all else in the register follows from them. The console
+has nothing but what Chromium writes of statuses of refusals and of connections that were cut on purpose; nothing was
+asked of another place.
 
---least does the smallest form alone: a key is registered, approved by two and destroyed. --screens keeps the pictures.
+The parts are day, breaks, looks and large, all where none is named. --least does the smallest form alone: a key is
+registered, approved by two and destroyed. --screens keeps the pictures; --picture takes that of the documents alone.
 It needs Debian's chromium, chromium-driver, python3-selenium and nginx-light, and Linux. Build the program first:
 ./keyreg </dev/null
 """
@@ -62,8 +65,10 @@ def compared(desk, readers, folder, made=()):
     for caller, number, command in said:
         if number:
             found = kept.get((caller, number))
-            expect(found == command, f"the page said that {command!r} of {caller} was accepted under {number}, and kept is {found!r}")
-    expect(len({request[:2] for request in said if request[1]}) == sum(bool(request[1]) for request in said), "a number is told twice")
+            expect(found == command,
+                   f"the page said that {command!r} of {caller} was accepted under {number}, and kept is {found!r}")
+    expect(len({request[:2] for request in said if request[1]}) == sum(bool(request[1]) for request in said),
+           "a number is told twice")
     one, other = (collections.Counter((row[0], row[2]) for row in some) for some in (rows, said))
     expect(one == other, f"the register has besides {one - other}, and the pages said besides {other - one}")
     return len(rows)
@@ -75,7 +80,8 @@ def quiet(readers):
         console, asked = reader.logs()
         told = [entry for entry in console if not BY_STATUS.fullmatch(entry)]
         expect(not told, f"{reader.user}'s console says {told[:5]}")
-        elsewhere = [place for place in asked if not place.startswith((reader.place, f"blob:{reader.place}", "data:image/"))
+        elsewhere = [place for place in asked
+                     if not place.startswith((reader.place, f"blob:{reader.place}", "data:image/"))
                      and "@" not in place]
         expect(not elsewhere, f"{reader.user}'s page asked for {elsewhere[:5]}")
 
@@ -96,7 +102,8 @@ def least(folder):
 
 
 def listed(desk, ann, folder):
-    """What the page did stands over a list that is older, before and after a reload, and the newer list says the same."""
+    """What the page did stands over a list that is older, before and after a reload, and the newer list says the
+    same."""
     for turn in range(3):
         desk_day.finds(ann, copied(desk, folder))
         if turn == 1:
@@ -104,8 +111,33 @@ def listed(desk, ann, folder):
         ann.reload()
 
 
-def whole(folder, screens):
-    """All of it."""
+def pictured(folder, place):
+    """The picture of the documents: a key that its owner and two custodians see to."""
+    with contextlib.ExitStack() as stack:
+        desk = Desk(folder, EXAMPLE)
+        stack.callback(desk.close)
+        reader = Reader(desk, "ann")
+        stack.callback(reader.close)
+        reader.key(1)
+        desk_looks.as_seen(reader, 900, 1000)
+        desk_looks.picture(reader, place, 880)
+    size = os.path.getsize(place)
+    expect(size < 100_000, f"{place} has {size} bytes")
+    return f"{place}: {size} bytes"
+
+
+# The requests of the picture.
+EXAMPLE = [
+    "1767600000 intake 1 register data-encryption ann 1767600000 1830672000 1925366400 payroll disks, site A",
+    "1767600060 ann 1 add-custodian 1 bob", "1767600120 ann 2 add-custodian 1 cat", "1767690000 ann 3 set-quorum 1 2",
+]
+PARTS = ("day", "breaks", "looks", "large")
+PAGES = {"find": "find", "key": "key/1", "waits": "waits", "register": "register", "table": "table",
+         "periods": "periods"}
+
+
+def whole(folder, screens, parts):
+    """The parts, over one register."""
     with contextlib.ExitStack() as stack:
         desk = Desk(folder)
         stack.callback(desk.close)
@@ -116,18 +148,22 @@ def whole(folder, screens):
             return reader
 
         readers = {name: reader_of(name) for name in ("ann", "bob", "cat", "office")}
-        desk_day.whole_day(readers, folder)
-        listed(desk, readers["ann"], folder)
-        readers["second"] = reader_of("ann")
-        desk_breaks.all_breaks(readers)
+        if "day" in parts:
+            desk_day.whole_day(readers, folder)
+            listed(desk, readers["ann"], folder)
+        if "breaks" in parts:
+            readers["second"] = reader_of("ann")
+            desk_breaks.all_breaks(readers)
         count = compared(desk, readers.values(), folder)
-        readers["bob"].reload()
-        pages = {"find": "find", "key": "key/5", "waits": "waits", "register": "register", "table": "table", "periods": "periods"}
-        parts = desk_looks.looked_at(readers["ann"], pages, screens)
+        if "looks" in parts:
+            desk_day.register(readers["ann"], "key-wrapping", "ann", "a key that is looked at", desk_day.day(-9), "", "")
+            number = desk_looks.looked_at(readers["ann"], PAGES, screens)
+            print(f"{number} parts of {len(PAGES)} pages have their names and roles, each at three widths")
         quiet(readers.values())
-        _, size, packed, first, letters = desk_looks.large(desk, reader_of, folder)
-    print(f"{parts} parts of {len(pages)} pages have their names and roles; a list of 100,000 keys has {size / 1e6:.1f} MB, "
-          f"{packed / 1e6:.1f} packed; the first view stood after {first:.2f} s, a letter showed within {letters[-1]:.0f} ms")
+        if "large" in parts:
+            _, size, packed, first, letters = desk_looks.large(desk, reader_of, folder)
+            print(f"a list of 100,000 keys has {size / 1e6:.1f} MB, {packed / 1e6:.1f} packed; the first view stood after "
+                  f"{first:.2f} s, a letter showed within {letters[-1]:.0f} ms")
     return f"{count} requests of {len(readers)} pages are the register's, as the pages said; the console is empty"
 
 
@@ -135,12 +171,17 @@ def main():
     words = argparse.ArgumentParser(description="The desk in Chromium.")
     words.add_argument("--least", action="store_true")
     words.add_argument("--screens", metavar="FOLDER")
+    words.add_argument("--picture", metavar="FILE")
+    words.add_argument("parts", metavar="PART", nargs="*", choices=[*PARTS, []], default=[])
     words = words.parse_args()
     if words.screens:
         os.makedirs(words.screens, exist_ok=True)
     with tempfile.TemporaryDirectory(dir=in_memory(2**28)) as folder:
         os.chmod(folder, 0o755)
-        told = least(folder) if words.least else whole(folder, words.screens)
+        if words.picture:
+            told = pictured(folder, words.picture)
+        else:
+            told = least(folder) if words.least else whole(folder, words.screens, words.parts or PARTS)
     print(told)
 
 

@@ -1,5 +1,5 @@
-"""How the desk looks: what Chromium's accessibility tree says of each page, contrast, focus, widths, dark and print; and how
-fast it is with 100,000 keys."""
+"""How the desk looks: what Chromium's accessibility tree says of each page, contrast, focus, widths, dark and print;
+and how fast it is with 100,000 keys."""
 import base64
 import os
 import pathlib
@@ -9,7 +9,8 @@ from desk_parts import By
 from registers import expect, keyreg
 
 WIDTHS = (360, 800, 1600)
-NAMED = {"button", "link", "textbox", "searchbox", "combobox", "checkbox", "spinbutton", "img", "image", "progressbar", "Date",
+NAMED = {"button", "link", "textbox", "searchbox", "combobox", "checkbox", "spinbutton", "img", "image", "progressbar",
+         "Date",
          "DateTime", "InputTime", "navigation", "table", "form", "dialog"}
 # Texts whose contrast with what they stand on is below 4.5 to 1, by what Chromium computes.
 FAINT = """
@@ -42,7 +43,8 @@ return faint;
 def as_seen(reader, width, height=1400, dark=False, printed=False):
     """The page at a width, light or dark, on a screen or on paper."""
     scheme = [{"name": "prefers-color-scheme", "value": "dark" if dark else "light"}]
-    reader.driver.execute_cdp_cmd("Emulation.setEmulatedMedia", {"media": "print" if printed else "screen", "features": scheme})
+    reader.driver.execute_cdp_cmd("Emulation.setEmulatedMedia",
+                                  {"media": "print" if printed else "screen", "features": scheme})
     reader.driver.execute_cdp_cmd("Emulation.setDeviceMetricsOverride", {
         "width": width, "height": height, "deviceScaleFactor": 1, "mobile": False})
 
@@ -61,7 +63,8 @@ def named(reader, page):
             expect(name.strip(), f"{page}: a {role} has no name: {node}")
     for role in ("banner", "main", "navigation", "status", "heading", "contentinfo"):
         expect(role in roles, f"{page} has no {role}: {set(roles)}")
-    expect(len(reader.find("h1")) == 1 and reader.run("return document.documentElement.lang") == "en", f"{page}: its heading")
+    expect(len(reader.find("h1")) == 1 and reader.run("return document.documentElement.lang") == "en",
+           f"{page}: its heading")
     return len(roles)
 
 
@@ -72,7 +75,8 @@ def focused(reader, page):
         return all.map((place, turn) => { place.dataset.turn = turn; return place.outerHTML.slice(0, 80); })"""
     places = reader.run(script)
     reader.run("document.activeElement.blur(); window.getSelection().removeAllRanges(); document.body.focus()")
-    reader.run("document.body.setAttribute('tabindex', '-1'); document.body.focus(); document.body.removeAttribute('tabindex')")
+    reader.run("const body = document.body; body.setAttribute('tabindex', '-1'); body.focus(); "
+               "body.removeAttribute('tabindex')")
     came = []
     for _ in range(5 * len(places) + 9):
         reader.driver.switch_to.active_element.send_keys("\ue004")
@@ -82,7 +86,8 @@ def focused(reader, page):
             if came:
                 break
             continue
-        expect(not ring.startswith("none") and not ring.endswith(" 0px"), f"{page}: no focus is seen at {places[int(turn)]}: {ring}")
+        expect(not ring.startswith("none") and not ring.endswith(" 0px"),
+               f"{page}: no focus is seen at {places[int(turn)]}: {ring}")
         # The parts of a date have the focus one after the other.
         if not came or came[-1] != int(turn):
             came.append(int(turn))
@@ -99,7 +104,9 @@ def looked_at(reader, pages, folder=None):
         reader.open(address)
         if address.startswith("key/"):
             reader.wait(lambda: "As the register told it" in reader.text(), f"{address} does not come")
-            reader.run("document.querySelectorAll('details').forEach((one) => { one.removeAttribute('name'); one.open = true; })")
+            # All forms at once, which a reader has one by one.
+            reader.run("document.querySelectorAll('details').forEach((one) => {"
+                       "one.removeAttribute('name'); one.open = true; })")
         as_seen(reader, 1000)
         parts += named(reader, page)
         focused(reader, page)
@@ -134,7 +141,8 @@ def many_lines(count=KEYS):
     """Lines of a large office: each key has two custodians, an approval and a change of dates."""
     for key in range(1, count + 1):
         moment, owner = 1_700_000_000 + key, f"team-{key % 200}.of.the.office@example"
-        yield f"{moment} intake {key} register data-encryption {owner} {moment - 86400} - - disks of volume {key}, hall {key % 97}, rack {key % 41}"
+        purpose = f"disks of volume {key}, hall {key % 97}, rack {key % 41}"
+        yield f"{moment} intake {key} register data-encryption {owner} {moment - 86400} - - {purpose}"
         yield f"{moment} {owner} {2 * key} add-custodian {key} officer-{key % 30}"
         yield f"{moment} {owner} {2 * key + 1} add-custodian {key} officer-{key % 30 + 30}"
         yield f"{moment} {owner} {900_000 + key} set {key} = = {moment + 86400 * 1500}"
@@ -153,13 +161,11 @@ def large(desk, reader_of, folder):
     expect(size <= 40_000_000, f"the list has {size} bytes")
     reader = reader_of("eve")
     reader.run("sessionStorage.clear()")
-    begun = time.monotonic()
     reader.driver.refresh()
     reader.wait(lambda: f"{KEYS} of {KEYS} keys" in reader.text(), "the list does not come", 60)
-    first = reader.run("const shown = performance.getEntriesByName('shown')[0]; return shown ? shown.startTime : -1") / 1000
-    if first < 0:
-        first = time.monotonic() - begun
-    packed = reader.run("return performance.getEntriesByType('resource').find((one) => one.name.endsWith('list.json')).encodedBodySize")
+    first = reader.run("return performance.getEntriesByName('shown')[0].startTime") / 1000
+    packed = reader.run("return performance.getEntriesByType('resource')"
+                        ".find((one) => one.name.endsWith('list.json')).encodedBodySize")
     expect(packed <= 8_000_000, f"the list has {packed} bytes packed")
     box, letters = reader.one("input[type='search']"), []
     script = """const [box, text, done] = arguments; const begun = performance.now();

@@ -1,7 +1,8 @@
-"""What the checks of the desk share: keyreg and nginx behind a line that can be cut, and readers of the desk, each a Chromium of
-its own that is led as a person leads it.
+"""What the checks of the desk share: keyreg and nginx behind a line that can be cut, and readers of the desk, each a
+Chromium of its own that is led as a person leads it.
 
-The browsers stand in another time zone than UTC, half hours from it, so that a date that is taken in local time is seen.
+The browsers stand in another time zone than UTC, half hours from it, so that a date that is taken in local time is
+seen.
 """
 import contextlib
 import json
@@ -38,8 +39,8 @@ class Line:
     """The line between the browsers and nginx. It passes all on, until it is told what to do with the next POSTs:
 
         cut     the request goes on, and the browser's connection is broken within the answer
-        reset   the request goes on, and the connection is broken before the first byte of the answer: on a connection that it
-                used before a browser may send such a request again by itself
+        reset   the request goes on, and the connection is broken before the first byte of the answer: on a connection
+                that it used before a browser may send such a request again by itself
         lose    the connection is broken before the request goes on
         500, 503  the request goes on, and the browser gets this status in the place of the answer
         refuse  the same with an answer of a page that is no register's
@@ -100,7 +101,8 @@ class Line:
         if what in self.BODIES:
             body = self.BODIES[what]
             status = "502" if what == "refuse" else what
-            browser.sendall(f"HTTP/1.1 {status} -\r\nContent-Length: {len(body)}\r\nConnection: close\r\n\r\n".encode() + body)
+            browser.sendall(f"HTTP/1.1 {status} -\r\nContent-Length: {len(body)}\r\nConnection: close\r\n\r\n".encode()
+                            + body)
             browser.shutdown(socket.SHUT_WR)
             return False
         if what == "cut":
@@ -144,7 +146,8 @@ class Desk:
 
     def list(self):
         """Makes the list anew."""
-        done = subprocess.run([sys.executable, "-B", LIST, self.file, os.path.join(self.guard.list_folder, "list.json")],
+        done = subprocess.run([sys.executable, "-B", LIST, self.file,
+                               os.path.join(self.guard.list_folder, "list.json")],
                               capture_output=True, text=True, check=False)
         expect(done.returncode == 0, f"list.py: {done.stderr}")
         return done.stdout
@@ -284,9 +287,12 @@ class Reader:
         self.wait(lambda: self.find("#said .answer"), "no answer is told", patience)
         told = self.text("#said .answer")
         is_accepted = bool(self.find("#said .answer .accepted"))
-        expect(is_accepted != bool(self.find("#said .answer .refused")), f"{self.user}: an answer of both kinds: {told}")
-        expect(self.run("return document.activeElement.className") == "answer", f"{self.user}: the focus is not at the answer")
-        expect(told.startswith("Accepted." if is_accepted else ("Refused", "Not sent", "Given up")), f"{self.user}: {told}")
+        expect(is_accepted != bool(self.find("#said .answer .refused")),
+               f"{self.user}: an answer of both kinds: {told}")
+        expect(self.run("return document.activeElement.className") == "answer",
+               f"{self.user}: the focus is not at the answer")
+        expect(told.startswith("Accepted." if is_accepted else ("Refused", "Not sent", "Given up")),
+               f"{self.user}: {told}")
         if is_accepted:
             number = int(re.search(r"request number was (\d+)", told)[1])
             self.said.append((self.user, number, command))

@@ -3,11 +3,12 @@
 
     checks/desk_rules.py [--requests N]
 
-Its tables of types, commands, reasons, refusals and members are compared with the document's. Then N requests are drawn,
-10,000 where nothing is said, of all commands in states that requests before them made. Each is judged by desk/rules.js
-under node, with what a page would know: the key, the periods and the latest moment. Where it makes a judgement, it has to
-be what checks/rules.py says, with the limit, the counts and the state that it tells, and the key afterwards has to be the
-same, date by date; likewise its state and its usage at that moment. Some hundreds more are put to the program itself.
+Its tables of types, commands, reasons, refusals and members are compared with the document's. Then N requests are
+drawn, 10,000 where nothing is said, of all commands in states that requests before them made. Each is judged by
+desk/rules.js under node, with what a page would know: the key, the periods and the latest moment. Where it makes a
+judgement, it has to be what checks/rules.py says, with the limit, the counts and the state that it tells, and the key
+afterwards has to be the same, date by date; likewise its state and its usage at that moment. Some hundreds more are put
+to the program itself.
 
 It needs node 18 or later (Debian's `nodejs`). Build the program first: ./keyreg </dev/null
 """
@@ -133,10 +134,11 @@ def members_of(text):
 
 def ranges_of(text):
     """The ranges of the fields of a request line."""
-    found = re.search(r"A key is a number from (\d+) to (\d+), a need one from (\d+) to (\d+), a reason one from (\d+) to "
-                      r"(\d+)\.", text)
+    found = re.search(r"A key is a number from (\d+) to (\d+), a need one from (\d+) to (\d+), a reason one from "
+                      r"(\d+) to (\d+)\.", text)
     key, need, reason = ([int(found[place]), int(found[place + 1])] for place in (1, 3, 5))
-    found = re.search(r"originator months are a number from (\d+) to (\d+), the recipient months one from (\d+) to (\d+)", text)
+    found = re.search(r"originator months are a number from (\d+) to (\d+), the recipient months one from (\d+) to "
+                      r"(\d+)", text)
     originator, recipient = ([int(found[place]), int(found[place + 1])] for place in (1, 3))
     return {"key": key, "date": [0, 253402300799], "need": need, "reason": reason, "originator": originator,
             "recipient": recipient}
@@ -168,7 +170,8 @@ def drawn_command(chance, moment, keys):
         "advance": ()}
     weights = [9, 6, 9, 7, 3, 12, 4, 12, 4, 9, 3, 2, 1]
     if chance.random() < 0.01:
-        return ("register", chance.choice(TYPES), name, 253402300799 - chance.randrange(3 * 366 * DAY), None, None, "late")
+        return ("register", chance.choice(TYPES), name, 253402300799 - chance.randrange(3 * 366 * DAY), None, None,
+                "late")
     word = chance.choices(list(texts), weights)[0]
     return (word, *texts[word])
 
@@ -212,7 +215,8 @@ def full_key(register, moment, key):
 def asked(register, moment, caller, command, key):
     """What a page knows, with which it judges."""
     shown = full_key(register, register.latest, key) if key else None
-    return {"command": request_object(command), "caller": caller, "moment": moment, "latest": register.latest, "key": shown,
+    return {"command": request_object(command), "caller": caller, "moment": moment, "latest": register.latest,
+            "key": shown,
             "periods": {kind: months for kind, months in register.periods.items() if months != PERIODS[kind]},
             "count": len(register.keys)}
 
@@ -270,7 +274,8 @@ def judge_by_program(chance, count):
             expect(judged == reply, f"{request}: judged {judged}, and the program says {reply}")
         else:
             state = told["key"]["state"] if told["key"] else "-"
-            expect(reply.split()[0] == "ok" and reply.split()[2] == state, f"{request}: judged {told}, and it is {reply}")
+            expect(reply.split()[0] == "ok" and reply.split()[2] == state,
+                   f"{request}: judged {told}, and it is {reply}")
     return len(rows)
 
 
@@ -278,11 +283,13 @@ def look_at_forms():
     """Bodies that are no command, each for one member; and what is just within the ranges."""
     good = {"kind": "register", "type": "master", "owner": "bob", "activation": None, "protect_stop": None,
             "deactivation": None, "purpose": "x"}
-    wrong = [{"type": "master2"}, {"type": "toString"}, {"owner": ""}, {"owner": "a b"}, {"owner": "x" * 65}, {"owner": "ü"},
+    wrong = [{"type": "master2"}, {"type": "toString"}, {"owner": ""}, {"owner": "a b"}, {"owner": "x" * 65},
+             {"owner": "ü"},
              {"owner": "bob\n"}, {"activation": -1}, {"activation": 253402300800}, {"activation": 1.5},
              {"activation": "keep"}, {"activation": "1"}, {"purpose": ""}, {"purpose": " x"}, {"purpose": "x "},
              {"purpose": "ü" * 101}, {"purpose": "a\tb"}, {"purpose": "a\x7f"}, {"purpose": "a\n"}]
-    right = [{"owner": "x" * 64}, {"activation": 253402300799, "protect_stop": 253402300799, "deactivation": 253402300799},
+    right = [{"owner": "x" * 64},
+             {"activation": 253402300799, "protect_stop": 253402300799, "deactivation": 253402300799},
              {"purpose": "ü" * 100}, {"purpose": "a\u2028b"}, {"purpose": "\u00a0x"}, {"purpose": "\u202ex"}]
     more_wrong = [{"kind": "set-quorum", "key": 1, "need": 1}, {"kind": "set-quorum", "key": 1, "need": 6},
                   {"kind": "activate", "key": 0}, {"kind": "activate", "key": 4294967296}, {"kind": "nothing"},
@@ -291,7 +298,8 @@ def look_at_forms():
                   {"kind": "set-period", "type": "master", "originator": 0, "recipient": 0},
                   {"kind": "set-period", "type": "master", "originator": 1, "recipient": 1201}]
     bodies = [{**good, **one} for one in wrong] + more_wrong + [{**good, **one} for one in right]
-    given = "\n".join(json.dumps({"command": body, "caller": "ann", "moment": 9, "latest": 0, "key": None, "periods": {},
+    given = "\n".join(json.dumps({"command": body, "caller": "ann", "moment": 9, "latest": 0, "key": None,
+                                  "periods": {},
                                   "count": 0}) for body in bodies)
     for place, (body, found) in enumerate(zip(bodies, node("judge", given + "\n"))):
         is_wrong = place < len(bodies) - len(right)
@@ -314,8 +322,8 @@ def main():
     # A page never judges that a number was used; and the ranges, a full register and the seventeenth name are rare.
     expect(never <= {"BadLine", "RequestReused", "Full", "TooManyCustodians"}, f"never drawn were {never}")
     by_program = judge_by_program(chance, 400)
-    print(f"desk/rules.js: {tables} tables are the document's; {forms} forms, {words.requests} judgements and {by_program} "
-          "by the program agree")
+    print(f"desk/rules.js: {tables} tables are the document's; {forms} forms, {words.requests} judgements and "
+          f"{by_program} by the program agree")
 
 
 main()

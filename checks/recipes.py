@@ -21,7 +21,7 @@ from typing import Iterator, NamedTuple
 TOP = pathlib.Path(__file__).resolve().parent.parent
 CRATES = {path.name: path for path in (TOP / "crates").iterdir()}
 QUOTED = re.compile(r"`([^`]+)`")
-PATH = re.compile(r"[\w./-]+\.(rt|antt|md|py|sh|txt|sql|bash|zsh|fish)|\./\w+")
+PATH = re.compile(r"[\w./-]+\.(rt|antt|md|py|sh|txt|sql|js|conf|bash|zsh|fish)|\./\w+")
 FOLDER = re.compile(r"\w+(/\w+)*/|\w+(/\w+)+")
 ITEM = re.compile(r"[A-Za-z_][\w:]*(\(\))?")
 DOCUMENT = re.compile(r"\bdocs/[\w.]*\w|\bREADME\b")

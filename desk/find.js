@@ -148,7 +148,8 @@ export function periodsPage(place, desk) {
     list.isThere ? null
       : el("p", {class: "note"}, "The list is not there, which has the periods that are set: these may be others."),
     el("div", {class: "wide"},
-      el("table", {}, el("thead", {}, el("tr", {}, ["Type", "Months of protecting", "Months of processing after", ""]
+      el("table", {"aria-label": "Periods of the types"},
+        el("thead", {}, el("tr", {}, ["Type", "Months of protecting", "Months of processing after", ""]
       .map((head) => el("th", {scope: "col"}, head)))), el("tbody", {}, rows))),
     desk.me === OFFICE ? [el("h2", {}, "Set the periods of a type"), commandForm("set-period", {desk})]
       : el("p", {}, `Only the user ${OFFICE} sets them; you are `, plain(desk.me), "."));

@@ -186,7 +186,7 @@ export function commandForm(kind, {desk, key, isOwners = true}) {
     if (wrong.length) fields.find(({member}) => wrong.includes(member))?.input.focus();
     else desk.send(body);
   };
-  const form = el("form", {class: `command ${kind}`, novalidate: !sure, onsubmit: submit,
+  const form = el("form", {class: `command ${kind}`, novalidate: !sure, "aria-label": TITLES[kind], onsubmit: submit,
     oninput: look, onchange: look},
     TELLS[kind] ? el("p", {}, TELLS[kind]) : null, fields.map(({element}) => element),
     sure ? el("div", {class: "sure"}, sure, el("label", {for: sure.id}, "I know that nothing takes this back")) : null,

@@ -62,7 +62,7 @@ function usage(key, told, at, desk) {
   }
   const differs = told && (told.key.state !== stateAt(key, at) || told.usage.protect !== usageAt(key, at).protect);
   return el("section", {"aria-labelledby": "usage"}, el("h2", {id: "usage"}, "What it may be used for"),
-    el("div", {class: "wide"}, el("table", {class: "usage"},
+    el("div", {class: "wide"}, el("table", {class: "usage", "aria-labelledby": "usage"},
       el("thead", {}, el("tr", {}, ["", "Protect new data", "Process protected data", "State", "As of"].map((head) =>
         el("th", {scope: "col"}, head)))), el("tbody", {}, rows))),
     differs ? el("p", {class: "note"}, "The two differ: dates were reached since the register accepted a request.")

@@ -94,8 +94,8 @@ def columns(connection, names, requests):
     custodians, approvals = by_key(connection, "custodian", names), by_key(connection, "approval", names)
     needs = dict(connection.execute("SELECT key_no, need FROM quorum")) if has_table(connection, "quorum") else {}
     last, cells = last_requests(connection, names, requests), []
-    asked = ("SELECT number, kind, owner, purpose, initial, activation, protect_stop, deactivation, destroyed, compromised, "
-             "occurrence FROM keys ORDER BY number")
+    asked = ("SELECT number, kind, owner, purpose, initial, activation, protect_stop, deactivation, destroyed, "
+             "compromised, occurrence FROM keys ORDER BY number")
     for place, (number, kind, owner, purpose, initial, *dates) in enumerate(connection.execute(asked), 1):
         if number != place or not 1 <= kind <= len(TYPES):
             raise Unreadable(f"key {number} of type {kind} stands at place {place}")
@@ -109,7 +109,8 @@ def list_of(path, most, requests):
     """The list of a register."""
     made = int(time.time())
     with opened(path, TRIES) as connection:
-        version, latest, count = connection.execute("SELECT version, latest, key_count FROM meta").fetchone() or (0, 0, 0)
+        asked = "SELECT version, latest, key_count FROM meta"
+        version, latest, count = connection.execute(asked).fetchone() or (0, 0, 0)
         if version not in (1, 2):
             raise Unreadable(f"its version is {version}")
         periods, names = {}, Names()
