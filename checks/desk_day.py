@@ -149,7 +149,7 @@ def moved_on(bob, key):
     bob.one("button.advance").click()
     is_accepted, told = bob.answer("advance")
     expect(is_accepted and "as of" in told, told)
-    rows = [row.text for row in bob.find("table.usage tbody tr")]
+    rows = [row.text for row in bob.find("section.usage tbody tr")]
     expect(len(rows) == 2 and all(" yes yes " in row for row in rows), f"the two answers are {rows}")
 
 
@@ -191,14 +191,14 @@ def finds(reader, file):
     for asked, should_be in wanted.items():
         reader.open("register")
         reader.open(f"find?{asked}" if asked else "find")
-        found = [cell.text for cell in reader.find("table.keys td:first-child")]
+        found = [cell.text for cell in reader.find("table.cards td:first-child")]
         numbers = [str(key.number) for key in should_be][:50]
-        reader.wait(lambda: [cell.text for cell in reader.find("table.keys td:first-child")] == numbers,
+        reader.wait(lambda: [cell.text for cell in reader.find("table.cards td:first-child")] == numbers,
                     f"{asked} finds {found}, and should find {numbers}", 3)
     states = {key.number: key.state(now) for key in keys}
     reader.open("register")
     reader.open("find")
-    for row in reader.find("table.keys tbody tr"):
+    for row in reader.find("table.cards tbody tr"):
         cells = row.find_elements(By.TAG_NAME, "td")
         number, shown = cells[0].text, cells[1].text
         expect(shown.split(" ", 1)[1] == states[int(number)], f"{number} is shown as {shown}")

@@ -178,7 +178,7 @@ def large(desk, reader_of, folder):
         begun = time.monotonic()
         reader.open("find?" + "&".join(f"{name}={value}" for name, value in given.items()))
         expect(time.monotonic() - begun < 3, f"{given} took {time.monotonic() - begun:.1f} s")
-    expect(reader.find("table.keys tbody tr"), "nothing is found")
+    expect(reader.find("table.cards tbody tr"), "nothing is found")
     begun = time.monotonic()
     reader.open("waits")
     expect(len(reader.find("h1")) == 1 and time.monotonic() - begun < 3, "what waits takes long")

@@ -223,6 +223,7 @@ async function begin() {
   await show();
   performance.mark("shown");
   addEventListener("hashchange", async () => {
+    replace(place("said"));
     await show();
     place("main").focus();
   });

@@ -60,3 +60,16 @@ export function field(label, input, ...more) {
 export function select(options, given = {}) {
   return el("select", given, options.map(([value, text]) => el("option", {value}, text)));
 }
+
+// A table with these heads and rows of cells, which is shown as cards where the page is narrow. It keeps its roles
+// then,
+// which a style would take from it.
+export function cards(heads, rows, given, caption) {
+  const cell = (content, place) =>
+    el("td", {role: "cell", "data-head": heads[place], class: content === "" ? "empty" : null},
+    content);
+  return el("table", {role: "table", ...given, class: "cards"}, caption ? el("caption", {}, caption) : null,
+    el("thead", {role: "rowgroup"}, el("tr", {role: "row"}, heads.map((head) =>
+      el("th", {scope: "col", role: "columnheader"}, head)))),
+    el("tbody", {role: "rowgroup"}, rows.map((cells) => el("tr", {role: "row"}, cells.map(cell)))));
+}

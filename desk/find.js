@@ -1,5 +1,5 @@
 // Keys that are found, what waits for the reader, and the periods of the types.
-import {el, field, plain, replace, select, shown} from "./dom.js";
+import {cards, el, field, plain, replace, select, shown} from "./dom.js";
 import {commandForm} from "./forms.js";
 import {found, keyAt, known, list, owners, periods, waiting} from "./list.js";
 import {now} from "./register.js";
@@ -17,18 +17,13 @@ function row(key, at, act) {
     el("span", {class: "away"}, `(${away(key.protect_stop, at)})`)];
   const approvals = key.custodians.length ? `${key.approvals.length} of ${key.need}` : "";
   const cells = [el("a", {href: `#key/${key.number}`}, String(key.number)), state(key.state), shown(key.owner),
-    key.type, stop,
-    approvals, shown(key.purpose)];
-  return el("tr", {role: "row"}, cells.map((cell, place) =>
-    el("td", {role: "cell", "data-head": HEADS[place], class: cell === "" ? "empty" : null}, cell)),
-  act ? el("td", {role: "cell"}, act(key)) : null);
+    key.type,
+    stop, approvals, shown(key.purpose)];
+  return act ? [...cells, act(key)] : cells;
 }
 
 export function keyTable(keys, at, caption, act) {
-  return el("table", {role: "table", class: "keys"}, el("caption", {}, caption),
-    el("thead", {role: "rowgroup"}, el("tr", {role: "row"}, [...HEADS, ...(act ? ["Act"] : [])].map((head) =>
-      el("th", {scope: "col", role: "columnheader"}, head)))),
-    el("tbody", {role: "rowgroup"}, keys.map((key) => row(key, at, act))));
+  return cards(act ? [...HEADS, "Act"] : HEADS, keys.map((key) => row(key, at, act)), {}, caption);
 }
 
 // ---- finding
@@ -140,17 +135,13 @@ export function periodsPage(place, desk) {
   const set = periods();
   const rows = Object.entries(PERIODS).map(([type, [first, second]]) => {
     const [originator, recipient] = set[type] ?? [first, second];
-    return el("tr", {}, el("th", {scope: "row"}, type), el("td", {}, String(originator)),
-      el("td", {}, String(recipient)),
-      el("td", {}, set[type] ? `set by ${OFFICE}` : "as the register began"));
+    return [el("strong", {}, type), String(originator), String(recipient),
+      set[type] ? `set by ${OFFICE}` : "as the register began"];
   });
-  replace(place, el("h1", {}, "Periods of the types"),
-    list.isThere ? null
-      : el("p", {class: "note"}, "The list is not there, which has the periods that are set: these may be others."),
-    el("div", {class: "wide"},
-      el("table", {"aria-label": "Periods of the types"},
-        el("thead", {}, el("tr", {}, ["Type", "Months of protecting", "Months of processing after", ""]
-      .map((head) => el("th", {scope: "col"}, head)))), el("tbody", {}, rows))),
+  replace(place, el("h1", {}, "Periods of the types"), list.isThere ? null : el("p", {class: "note"},
+    "The list is not there, which has the periods that are set: these may be others."),
+    cards(["Type", "Months of protecting", "Months of processing after", "Whose"], rows,
+      {"aria-label": "Periods of the types"}),
     desk.me === OFFICE ? [el("h2", {}, "Set the periods of a type"), commandForm("set-period", {desk})]
       : el("p", {}, `Only the user ${OFFICE} sets them; you are `, plain(desk.me), "."));
 }

@@ -150,6 +150,12 @@ function foretold(command, told, key) {
 
 const LAST = ["destroy", "revoke"];
 
+function lacking(fields, wrong) {
+  const labels = fields.filter(({member}) => wrong.includes(member)).map(({element}) =>
+    element.querySelector("label").textContent);
+  return labels.join(", ");
+}
+
 function markWrong(fields, wrong, isTold) {
   for (const {member, input} of fields) {
     if (wrong.includes(member) && isTold) input.setAttribute("aria-invalid", "true");
@@ -175,7 +181,7 @@ export function commandForm(kind, {desk, key, isOwners = true}) {
     if (kind === "revoke") fields[1].element.hidden = !COMPROMISES.includes(body.reason);
     replace(sentence, shown(JSON.stringify(body)));
     replace(before, wrong.length
-      ? el("p", {class: "hint"}, `Still lacking: ${wrong.map((name) => WRONG[name] ?? name).join("; ")}`)
+      ? el("p", {class: "hint"}, `Still lacking: ${lacking(fields, wrong)}`)
       : foretold(body, judgement(body, {caller: desk.me, key}), key));
   };
   const submit = (event) => {

@@ -1,5 +1,5 @@
 // One key, whole: its dates as a line, what it may be used for and as of when, and what the reader may do with it.
-import {el, replace, shown, svg} from "./dom.js";
+import {cards, el, replace, shown, svg} from "./dom.js";
 import {commandForm} from "./forms.js";
 import {keyAt, latest, learnKey, learntOf, list, periodOf, requestsOf} from "./list.js";
 import {Unanswered, keyOf, now} from "./register.js";
@@ -49,10 +49,10 @@ export function line(key, at) {
 
 const PROCESS = {yes: "yes", special: "only under extraordinary circumstances, with special permission", no: "no"};
 
-function usageRow(head, usage, word, when) {
-  return el("tr", {}, el("th", {scope: "row"}, head), el("td", {}, usage.protect ? "yes" : "no"),
-    el("td", {}, PROCESS[usage.process]), el("td", {}, word ? state(word) : ""), el("td", {}, when));
-}
+const USAGE = ["What says so", "Protect new data", "Process protected data", "State", "As of"];
+
+const usageRow = (head, usage, word, when) => [el("strong", {}, head), usage.protect ? "yes" : "no",
+  PROCESS[usage.process], state(word), when];
 
 function usage(key, told, at, desk) {
   const rows = [usageRow("By its dates", usageAt(key, at), stateAt(key, at), utcText(at))];
@@ -61,14 +61,13 @@ function usage(key, told, at, desk) {
     rows.push(usageRow("The register says", told.usage, told.key.state, when));
   }
   const differs = told && (told.key.state !== stateAt(key, at) || told.usage.protect !== usageAt(key, at).protect);
-  return el("section", {"aria-labelledby": "usage"}, el("h2", {id: "usage"}, "What it may be used for"),
-    el("div", {class: "wide"}, el("table", {class: "usage", "aria-labelledby": "usage"},
-      el("thead", {}, el("tr", {}, ["", "Protect new data", "Process protected data", "State", "As of"].map((head) =>
-        el("th", {scope: "col"}, head)))), el("tbody", {}, rows))),
+  return el("section", {class: "usage", "aria-labelledby": "usage"}, el("h2", {id: "usage"}, "What it may be used for"),
+    cards(USAGE, rows, {"aria-labelledby": "usage"}),
     differs ? el("p", {class: "note"}, "The two differ: dates were reached since the register accepted a request.")
       : null,
-    el("p", {}, el("button", {type: "button", class: "advance", onclick: () => desk.send({kind: "advance"})},
-      "Bring the register to now"), " It posts an advance, and then answers as of this moment."));
+    el("p", {class: "onscreen"}, el("button", {type: "button", class: "advance",
+      onclick: () => desk.send({kind: "advance"})}, "Bring the register to now"),
+    " It posts an advance, and then answers as of this moment."));
 }
 
 // ---- what the reader may do
