@@ -121,6 +121,7 @@ def pictured(folder, place):
         reader.key(1)
         desk_looks.as_seen(reader, 900, 1000)
         desk_looks.picture(reader, place, 880)
+        desk_looks.put_in_few_colours(place)
     size = os.path.getsize(place)
     expect(size < 100_000, f"{place} has {size} bytes")
     return f"{place}: {size} bytes"

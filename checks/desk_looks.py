@@ -1,12 +1,16 @@
 """How the desk looks: what Chromium's accessibility tree says of each page, contrast, focus, widths, dark and print;
 and how fast it is with 100,000 keys."""
 import base64
+import contextlib
 import os
 import pathlib
+import sqlite3
+import struct
 import time
+import zlib
 
 from desk_parts import By
-from registers import expect, keyreg
+from registers import TABLES, UNSET, VERSION, expect, put_rows
 
 WIDTHS = (360, 800, 1600)
 NAMED = {"button", "link", "textbox", "searchbox", "combobox", "checkbox", "spinbutton", "img", "image", "progressbar",
@@ -132,31 +136,78 @@ def picture(reader, place, height=None):
     pathlib.Path(place).write_bytes(base64.b64decode(told["data"]))
 
 
+def unfiltered(raw, width):
+    """The rows of a PNG's bytes, three to a pixel, without their filters."""
+    rows, above, size = [], bytes(3 * width), 3 * width
+    for start in range(0, len(raw), size + 1):
+        way, row = raw[start], bytearray(raw[start + 1:start + 1 + size])
+        for place in range(size):
+            left, up = row[place - 3] if place > 2 else 0, above[place]
+            corner = above[place - 3] if place > 2 else 0
+            guess = min((abs(up - corner), 0, left), (abs(left - corner), 1, up), (abs(left + up - 2 * corner), 2, corner))[2]
+            row[place] = (row[place] + (0, left, up, (left + up) // 2, guess)[way]) & 255
+        rows.append(bytes(row))
+        above = row
+    return rows
+
+
+def put_in_few_colours(place):
+    """Writes a PNG of three bytes a pixel anew with one, in at most 256 colours: a third of its size."""
+    given, at, parts = pathlib.Path(place).read_bytes(), 8, []
+    while at < len(given):
+        length, name = struct.unpack(">I4s", given[at:at + 8])
+        parts.append((name, given[at + 8:at + 8 + length]))
+        at += 12 + length
+    width, height, depth, kind = struct.unpack(">IIBB", dict(parts)[b"IHDR"][:10])
+    expect((depth, kind) == (8, 2), f"{place} has {depth} bits of kind {kind}")
+    rows = unfiltered(zlib.decompress(b"".join(data for name, data in parts if name == b"IDAT")), width)
+    # Each part of a colour has 8 steps, so that there are at most 256 of those that are there.
+    few = bytes(round(value / 255 * 7) * 255 // 7 for value in range(256))
+    rows = [row.translate(few) for row in rows]
+    colours = sorted({row[at:at + 3] for row in rows for at in range(0, 3 * width, 3)})
+    expect(len(colours) <= 256, f"{place} has {len(colours)} colours")
+    codes = {colour: code for code, colour in enumerate(colours)}
+    raw = b"".join(b"\0" + bytes(codes[row[at:at + 3]] for at in range(0, 3 * width, 3)) for row in rows)
+    made = [(b"IHDR", struct.pack(">IIBBBBB", width, height, 8, 3, 0, 0, 0)), (b"PLTE", b"".join(colours)),
+            (b"IDAT", zlib.compress(raw, 9)), (b"IEND", b"")]
+    told = [struct.pack(">I", len(data)) + name + data + struct.pack(">I", zlib.crc32(name + data)) for name, data in made]
+    pathlib.Path(place).write_bytes(given[:8] + b"".join(told))
+
+
 # ---- 100,000 keys
 
-KEYS = 100_000
+KEYS, BEGUN, DAY = 100_000, 1_700_000_000, 86400
 
 
-def many_lines(count=KEYS):
-    """Lines of a large office: each key has two custodians, an approval and a change of dates."""
-    for key in range(1, count + 1):
-        moment, owner = 1_700_000_000 + key, f"team-{key % 200}.of.the.office@example"
-        purpose = f"disks of volume {key}, hall {key % 97}, rack {key % 41}"
-        yield f"{moment} intake {key} register data-encryption {owner} {moment - 86400} - - {purpose}"
-        yield f"{moment} {owner} {2 * key} add-custodian {key} officer-{key % 30}"
-        yield f"{moment} {owner} {2 * key + 1} add-custodian {key} officer-{key % 30 + 30}"
-        yield f"{moment} {owner} {900_000 + key} set {key} = = {moment + 86400 * 1500}"
+def many(file, count=KEYS):
+    """The tables of a large office, by SQLite: each key has two custodians, an approval and five requests."""
+    with contextlib.closing(sqlite3.connect(file)) as connection:
+        connection.executescript("PRAGMA synchronous = OFF; PRAGMA journal_mode = OFF;" + TABLES)
+        keys, custodians, requests = [], [], []
+        for key in range(1, count + 1):
+            moment, owner = BEGUN + key, f"team-{key % 200}.of.the.office@example"
+            dates = (moment - 9 * DAY, moment + key % 2000 * DAY, moment + (key % 2000 + 400) * DAY)
+            purpose = f"disks of volume {key}, hall {key % 97}, rack {key % 41}"
+            names = (f"officer-{key % 30}", f"officer-{key % 30 + 30}")
+            keys.append((key, 1, owner, purpose, 2, moment, *dates, UNSET, UNSET, UNSET))
+            custodians += [(key, name) for name in names]
+            told = (f"register data-encryption {owner} - - - {purpose}", f"set {key} {dates[0]} = -",
+                    *(f"add-custodian {key} {name}" for name in names))
+            requests += [(owner, 10 * key + place, text, key, 2, moment) for place, text in enumerate(told)]
+            requests.append((names[0], key, f"approve {key}", key, 2, moment))
+        connection.execute("INSERT INTO meta VALUES (1, ?, ?, ?)", (VERSION, BEGUN + count, count))
+        put_rows(connection, "keys", keys)
+        put_rows(connection, "custodian", custodians)
+        put_rows(connection, "approval", custodians[::2])
+        put_rows(connection, "request", requests)
+        connection.commit()
 
 
 def large(desk, reader_of, folder):
-    """A list of 100,000 keys: its bytes, the first view, and a letter of the search."""
-    desk.kill()
+    """A list of 100,000 keys: its bytes, the first view, and a letter of the search. keyreg serves its own register."""
     file = os.path.join(folder, "large.keyreg")
-    keyreg(["init", "--file", file])
-    keyreg(["run", "--file", file], many_lines())
-    desk.file = file
-    desk.start()
-    told = desk.list()
+    many(file)
+    told = desk.list(file)
     size = int(told.rsplit(" bytes", 1)[0].rsplit(" ", 1)[1])
     expect(size <= 40_000_000, f"the list has {size} bytes")
     reader = reader_of("eve")
@@ -182,6 +233,7 @@ def large(desk, reader_of, folder):
     begun = time.monotonic()
     reader.open("waits")
     expect(len(reader.find("h1")) == 1 and time.monotonic() - begun < 3, "what waits takes long")
+    expect(first <= 2 and max(letters) <= 100, f"the first view stood after {first:.2f} s, letters took {letters} ms")
     return reader, size, packed, first, sorted(letters)
 
 

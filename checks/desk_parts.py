@@ -144,9 +144,9 @@ class Desk:
         self.process.kill()
         self.process.wait()
 
-    def list(self):
-        """Makes the list anew."""
-        done = subprocess.run([sys.executable, "-B", LIST, self.file,
+    def list(self, file=None):
+        """Makes the list anew, of the register or of another file."""
+        done = subprocess.run([sys.executable, "-B", LIST, file or self.file,
                                os.path.join(self.guard.list_folder, "list.json")],
                               capture_output=True, text=True, check=False)
         expect(done.returncode == 0, f"list.py: {done.stderr}")
