@@ -170,10 +170,11 @@ def one_way(all_recipes: Recipes) -> tuple[list[str], int, int]:
 
 
 def sources() -> Iterator[str]:
-    """The files of the repository, without what a build, a package or Python makes."""
+    """The files of the repository, without pictures and what a build, a package or Python makes."""
     for folder, inner, files in os.walk(TOP):
         inner[:] = [name for name in inner if name not in MADE and not name.startswith(".")]
-        yield from (str(pathlib.Path(folder, name).relative_to(TOP)) for name in files if ".keyreg" not in name)
+        yield from (str(pathlib.Path(folder, name).relative_to(TOP)) for name in files
+                    if ".keyreg" not in name and not name.endswith(".png"))
 
 
 def other_way(all_recipes: Recipes) -> tuple[list[str], int]:
