@@ -236,15 +236,21 @@ def wrong_files(reader, folder):
         reader.wait(lambda: told in reader.text(), f"{name} is not told: {told}")
 
 
+def chosen(reader, folder, text):
+    """A table's file is chosen on its page."""
+    pathlib.Path(folder, "keys.csv").write_text(text, encoding="utf-8")
+    reader.open("find")
+    reader.open("table")
+    reader.one("input[type='file']").send_keys(os.path.join(folder, "keys.csv"))
+    reader.wait(lambda: "rows: " in reader.text(), "the rows are not shown")
+
+
 def taken_in(reader, folder, good=40):
     """A table is judged row by row, sent, stopped, gone on with after a reload, and its other rows are given back."""
     wrong_files(reader, folder)
     text, wanted, bad = table_text(good)
-    pathlib.Path(folder, "keys.csv").write_text(text, encoding="utf-8")
     reader.driver.execute_cdp_cmd("Browser.setDownloadBehavior", {"behavior": "allow", "downloadPath": folder})
-    reader.open("find")
-    reader.open("table")
-    reader.one("input[type='file']").send_keys(os.path.join(folder, "keys.csv"))
+    chosen(reader, folder, text)
     reader.wait(lambda: f"{good + 7} rows: {good} would be accepted, 1 refused, 6 are of another form" in reader.text(),
                 "the rows are not judged")
     # A row that the page would not send is sent all the same where the reader wants it.

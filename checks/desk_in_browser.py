@@ -158,6 +158,7 @@ def whole(folder, screens, parts):
         count = compared(desk, readers.values(), folder)
         if "looks" in parts:
             desk_day.register(readers["ann"], "key-wrapping", "ann", "a key that is looked at", desk_day.day(-9), "", "")
+            desk_day.chosen(readers["ann"], folder, desk_day.table_text(9)[0])
             number = desk_looks.looked_at(readers["ann"], PAGES, screens)
             print(f"{number} parts of {len(PAGES)} pages have their names and roles, each at three widths")
         quiet(readers.values())
