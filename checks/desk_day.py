@@ -289,3 +289,5 @@ def whole_day(readers, folder):
     periods(ann, office)
     moved_on(bob, third)
     taken_in(ann, folder)
+    # After the last list, which has the key as Active.
+    ann.key(third).does("revoke", f"revoke {third} 1 -", [("Reason", "1")])
