@@ -3,7 +3,8 @@
 user who sent it, whatever `Caller` it bears: another user than `office` gets NotOffice. Who has no password, and who names
 another host, is refused by nginx, and nothing of it reaches the register. A client that stalls holds up nobody. Without nginx
 the register takes the same requests, with a foreign host and a forged name, as docs/OPERATING.md says; what a browser asks
-before it sends another page's request it refuses.
+before it sends another page's request it refuses. The desk, the user's name and the list are for users alone, and the desk
+comes with its content policy.
 
     checks/behind_nginx.py
 
@@ -25,6 +26,7 @@ from registers import expect
 from serving import PATIENCE, Served, free_port, listens, received
 
 CONF = pathlib.Path(__file__).resolve().parent.parent / "examples" / "nginx-keyreg.conf"
+DESK = CONF.parent.parent / "desk"
 HOST, USERS = "keyreg.example", {"alice.meyer": "wonder", "office": "desk"}
 PERIOD = {"kind": "set-period", "type": "master", "originator": 6, "recipient": 0}
 KEY = {"kind": "register", "type": "master", "owner": "bob", "activation": None, "protect_stop": None, "deactivation": None,
@@ -50,16 +52,21 @@ def program():
 
 
 class Guard:
-    """nginx with the example's file, on ports of its own."""
+    """nginx with the example's file, on ports of its own. The desk's list is handed out of the folder's `list`."""
 
-    def __init__(self, register_port):
+    def __init__(self, register_port, words=None):
         self.port, self.folder = free_port(), tempfile.TemporaryDirectory()
         folder = self.folder.name
+        # nginx reads the list and the desk as another user.
+        os.chmod(folder, 0o755)
+        self.list_folder = os.path.join(folder, "list")
+        os.mkdir(self.list_folder)
         text = CONF.read_text(encoding="ascii")
-        for old, new in (("8420", str(register_port)), ("8421", str(self.port)), ("/etc/nginx/keyreg.users", f"{folder}/users")):
+        for old, new in (("8420", str(register_port)), ("8421", str(self.port)), ("/etc/nginx/keyreg.users", f"{folder}/users"),
+                         ("/usr/local/share/keyreg/desk", str(DESK)), ("/var/lib/keyreg-list", self.list_folder)):
             expect(old in text, f"no {old} in {CONF.name}")
             text = text.replace(old, new)
-        users = "".join(f"{name}:{{PLAIN}}{word}\n" for name, word in USERS.items())
+        users = "".join(f"{name}:{{PLAIN}}{word}\n" for name, word in (words or USERS).items())
         main = MAIN.format(folder=folder, user="user root;" if os.geteuid() == 0 else "")
         for name, given in (("keyreg.conf", text), ("users", users), ("nginx.conf", main)):
             pathlib.Path(folder, name).write_text(given, encoding="ascii")
@@ -120,6 +127,34 @@ def behind(guard):
     expect((status, told["key"]) == (200, 0), f"the office: {status}, {told}")
 
 
+def got(guard, path, user=None, word=None):
+    """The status, the head and the body of what a GET of the path brings."""
+    token = base64.b64encode(f"{user}:{word or USERS.get(user, '')}".encode()).decode()
+    fields = [f"Authorization: Basic {token}"] if user else []
+    with socket.create_connection(("127.0.0.1", guard.port), timeout=PATIENCE) as connection:
+        connection.sendall(head(f"GET {path} HTTP/1.1", f"Host: {HOST}", "Connection: close", *fields))
+        reply = received(connection)
+    lines, _, body = reply.partition(b"\r\n\r\n")
+    return int(lines.split()[1]), lines.decode().lower(), body
+
+
+def desk(guard):
+    """The desk, the user's name and the list: each for users alone, with the content policy."""
+    pathlib.Path(guard.list_folder, "list.json").write_text('{"form":1}', encoding="ascii")
+    for path in ("/", "/desk.js", "/me", "/list.json"):
+        for user, word in ((None, None), ("office", "another"), ("nobody", "desk")):
+            status, lines, body = got(guard, path, user, word)
+            expect(status == 401 and b"office" not in body, f"{path} for {user} with {word}: {status}, {body}")
+        status, lines, body = got(guard, path, "office")
+        expect(status == 200 and body, f"{path}: {status}")
+        policy = "content-security-policy: default-src 'none'; script-src 'self'; style-src 'self'; connect-src 'self';"
+        expect(path == "/list.json" or policy in lines, f"{path} comes without its policy: {lines}")
+        expect("unsafe" not in lines and "nosniff" in lines, f"{path}: {lines}")
+    expect(got(guard, "/me", "alice.meyer")[2] == b"alice.meyer", "the name of the user")
+    for path in ("/../list/list.json", "/nginx.conf", "/%2e%2e/users"):
+        expect(got(guard, path, "office")[0] in (400, 404), f"{path} is handed out")
+
+
 def stalled(guard):
     """A client that sends half a body holds up nobody."""
     with socket.create_connection(("127.0.0.1", guard.port), timeout=PATIENCE) as connection:
@@ -149,6 +184,7 @@ def main():
         with Guard(served.port) as guard:
             behind(guard)
             stalled(guard)
+            desk(guard)
         without(served.port)
         served.process.kill()
         served.process.wait()
@@ -160,4 +196,5 @@ def main():
     print("behind nginx a caller is the user who sent the request, and a foreign host is refused; without it both are taken")
 
 
-main()
+if __name__ == "__main__":
+    main()

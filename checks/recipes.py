@@ -21,7 +21,7 @@ from typing import Iterator, NamedTuple
 TOP = pathlib.Path(__file__).resolve().parent.parent
 CRATES = {path.name: path for path in (TOP / "crates").iterdir()}
 QUOTED = re.compile(r"`([^`]+)`")
-PATH = re.compile(r"[\w./-]+\.(rt|antt|md|py|sh|txt|sql|bash|zsh|fish)|\./\w+")
+PATH = re.compile(r"[\w./-]+\.(rt|antt|md|py|sh|txt|sql|js|conf|bash|zsh|fish)|\./\w+")
 FOLDER = re.compile(r"\w+(/\w+)*/|\w+(/\w+)+")
 ITEM = re.compile(r"[A-Za-z_][\w:]*(\(\))?")
 DOCUMENT = re.compile(r"\bdocs/[\w.]*\w|\bREADME\b")
@@ -172,10 +172,11 @@ def one_way(all_recipes: Recipes) -> tuple[list[str], int, int]:
 
 
 def sources() -> Iterator[str]:
-    """The files of the repository, without what a build, a package or Python makes."""
+    """The files of the repository, without pictures and what a build, a package or Python makes."""
     for folder, inner, files in os.walk(TOP):
         inner[:] = [name for name in inner if name not in MADE and not name.startswith(".")]
-        yield from (str(pathlib.Path(folder, name).relative_to(TOP)) for name in files if ".keyreg" not in name)
+        yield from (str(pathlib.Path(folder, name).relative_to(TOP)) for name in files
+                    if ".keyreg" not in name and not name.endswith(".png"))
 
 
 def other_way(all_recipes: Recipes) -> tuple[list[str], int]:

@@ -6,18 +6,20 @@
 The pages go to FOLDER as they stand in the sources, but
 
 - a paragraph, an item of a list or a row of a table that speaks of what only the sources have (`checks/`, `crates/`,
-  `./package`, `rt`) is left out, so such a sentence has a paragraph of its own there;
+  `./package`, `rt`) is left out, so such a sentence has a paragraph of its own there; so are commands in `bash`;
 - the program is `keyreg`, in the path, and examples are told to be copied from EXAMPLES, where the package has them;
 - a link to what the package has not is its text.
 """
 import pathlib
 import re
+import shutil
 import sys
 
 TOP = pathlib.Path(__file__).resolve().parent.parent
 PAGES = ("README.md", "CHANGES.md", "docs/OPERATING.md", "docs/AUDIT.md", "docs/SPECIFICATION.md", "docs/WORKED.md")
 # What lies beside the pages as it is. openapi.yaml has what speaks of the sources in the comment at its head.
 BESIDE = ("docs/openapi.yaml", "docs/costs.svg")
+PICTURES = ("docs/desk.png",)
 # A file of checks/ that a page uses.
 MOVED = {"checks/version_1.sql": "examples/version_1.sql"}
 SOURCES = re.compile(r"checks/|crates/|bench/|\./package\b|\.ci/run|`rt[ `]|CONTRIBUTING")
@@ -71,7 +73,8 @@ def linked(text, page, given):
 def page_of(page, text, examples, given):
     for name, moved in MOVED.items():
         text = text.replace(name, moved)
-    kept = [piece for piece, fenced in parts(text) if fenced or not SOURCES.search(piece)]
+    kept = [piece for piece, fenced in parts(text)
+            if (not piece.startswith("```bash") if fenced else not SOURCES.search(piece))]
     text = linked("\n".join(kept).replace("./keyreg", "keyreg"), page, given)
     if "```sh" in text:
         title, rest = text.split("\n", 1)
@@ -88,7 +91,7 @@ def plain_head(text):
 
 def main():
     folder, examples = pathlib.Path(sys.argv[1]), sys.argv[2]
-    given = {*PAGES, *BESIDE, "examples", *MOVED.values()}
+    given = {*PAGES, *BESIDE, *PICTURES, "examples", *MOVED.values()}
     given |= {f"examples/{path.name}" for path in (TOP / "examples").iterdir() if path.is_file()}
     texts = {page: page_of(page, (TOP / page).read_text("utf-8"), examples, given) for page in PAGES}
     texts |= {name: (TOP / name).read_text("utf-8") for name in BESIDE}
@@ -97,6 +100,8 @@ def main():
     for name, text in texts.items():
         (folder / name).parent.mkdir(parents=True, exist_ok=True)
         (folder / name).write_text(text, "utf-8")
+    for name in PICTURES:
+        shutil.copyfile(TOP / name, folder / name)
 
 
 if __name__ == "__main__":

@@ -1,0 +1,191 @@
+#!/usr/bin/env python3
+"""The desk in Chromium: people go through a day of every command, and after it the register is exactly what the pages
+said.
+
+    checks/desk_in_browser.py [--least] [--screens FOLDER] [PART..]
+    checks/desk_in_browser.py --picture docs/desk.png
+
+keyreg is served behind nginx with examples/nginx-keyreg.conf, and a browser for each user goes through a day by forms,
+keys and lists (desk_day.py): no second since 1970 is typed, nor a line of JSON. Connections are cut within an answer
+and before it, answers are 500 and 503, pages are loaded anew, keyreg is killed and started again, two pages stand at
+one key, and texts are meant to disturb (desk_breaks.py). Each page is looked at by Chromium's accessibility tree, for
+contrast, by Tab, at three widths, light, dark and printed, and with a list of 100,000 keys (desk_looks.py).
+
+After it each request of which a page said that it was accepted is in the register's table `request`, with the number
+that the page told, and no other is; and by examples/replay.py all else in the register follows from them. The console
+has nothing but what Chromium writes of statuses of refusals and of connections that were cut on purpose; nothing was
+asked of another place.
+
+The parts are day, breaks, looks and large, all where none is named. --least does the smallest form alone: a key is
+registered, approved by two and destroyed. --screens keeps the pictures; --picture takes that of the documents alone.
+It needs Debian's chromium, chromium-driver, python3-selenium and nginx-light, and Linux. Build the program first:
+./keyreg </dev/null
+"""
+import argparse
+import collections
+import contextlib
+import os
+import re
+import shutil
+import sqlite3
+import subprocess
+import sys
+import tempfile
+import time
+
+import desk_breaks
+import desk_day
+import desk_looks
+from desk_parts import Desk, Reader, in_memory
+from registers import expect
+
+REPLAY = os.path.join(os.path.dirname(os.path.abspath(__file__)), "..", "examples", "replay.py")
+# What Chromium itself writes to the console: of each refusal, and of what was broken on purpose.
+BY_STATUS = re.compile(r"\S+/(requests|keys/\d+(/usage)?|list\.json|favicon\.ico|me) - Failed to load resource: "
+                       r"(the server responded with a status of (40[049]|50[023]) .*|net::ERR_[A-Z_]+)")
+
+
+def copied(desk, folder):
+    """A copy of the register and its log, while nothing is sent."""
+    other = os.path.join(folder, f"copy-{time.monotonic_ns()}.keyreg")
+    for end in ("", "-wal"):
+        shutil.copyfile(desk.file + end, other + end)
+    return other
+
+
+def compared(desk, readers, folder, made=()):
+    """Compares the register with what the pages said; how many requests it has."""
+    copy = copied(desk, folder)
+    done = subprocess.run([sys.executable, "-B", REPLAY, copy], capture_output=True, text=True, check=False)
+    expect(done.returncode == 0, f"replay.py: {done.stdout}{done.stderr}")
+    with contextlib.closing(sqlite3.connect(copy)) as connection:
+        rows = connection.execute("SELECT caller, number, command FROM request").fetchall()
+    said = [request for reader in readers for request in reader.said] + list(made)
+    kept = {(caller, number): command for caller, number, command in rows}
+    for caller, number, command in said:
+        if number:
+            found = kept.get((caller, number))
+            expect(found == command,
+                   f"the page said that {command!r} of {caller} was accepted under {number}, and kept is {found!r}")
+    expect(len({request[:2] for request in said if request[1]}) == sum(bool(request[1]) for request in said),
+           "a number is told twice")
+    one, other = (collections.Counter((row[0], row[2]) for row in some) for some in (rows, said))
+    expect(one == other, f"the register has besides {one - other}, and the pages said besides {other - one}")
+    return len(rows)
+
+
+def quiet(readers):
+    """The console is empty, and nothing was asked of another place."""
+    for reader in readers:
+        console, asked = reader.logs()
+        told = [entry for entry in console if not BY_STATUS.fullmatch(entry)]
+        expect(not told, f"{reader.user}'s console says {told[:5]}")
+        elsewhere = [place for place in asked
+                     if not place.startswith((reader.place, f"blob:{reader.place}", "data:image/"))
+                     and "@" not in place]
+        expect(not elsewhere, f"{reader.user}'s page asked for {elsewhere[:5]}")
+
+
+def least(folder):
+    """The smallest form."""
+    with contextlib.ExitStack() as stack:
+        desk = Desk(folder)
+        stack.callback(desk.close)
+        readers = []
+        for name in ("ann", "bob", "cat"):
+            readers.append(Reader(desk, name))
+            stack.callback(readers[-1].close)
+        desk_day.destroyed(*readers)
+        count = compared(desk, readers, folder)
+        quiet(readers)
+    return f"a key is registered, approved by two and destroyed in {count} requests, as the pages said"
+
+
+def listed(desk, ann, folder):
+    """What the page did stands over a list that is older, before and after a reload, and the newer list says the
+    same."""
+    for turn in range(3):
+        desk_day.finds(ann, copied(desk, folder))
+        if turn == 1:
+            desk.list()
+        ann.reload()
+
+
+def pictured(folder, place):
+    """The picture of the documents: a key that its owner and two custodians see to."""
+    with contextlib.ExitStack() as stack:
+        desk = Desk(folder, EXAMPLE)
+        stack.callback(desk.close)
+        reader = Reader(desk, "ann")
+        stack.callback(reader.close)
+        reader.key(1)
+        desk_looks.as_seen(reader, 900, 1000)
+        desk_looks.picture(reader, place, 880)
+        desk_looks.put_in_few_colours(place)
+    size = os.path.getsize(place)
+    expect(size < 100_000, f"{place} has {size} bytes")
+    return f"{place}: {size} bytes"
+
+
+# The requests of the picture.
+EXAMPLE = [
+    "1767600000 intake 1 register data-encryption ann 1767600000 1830672000 1925366400 payroll disks, site A",
+    "1767600060 ann 1 add-custodian 1 bob", "1767600120 ann 2 add-custodian 1 cat", "1767690000 ann 3 set-quorum 1 2",
+]
+PARTS = ("day", "breaks", "looks", "large")
+PAGES = {"find": "find", "key": "key/1", "waits": "waits", "register": "register", "table": "table",
+         "periods": "periods"}
+
+
+def whole(folder, screens, parts):
+    """The parts, over one register."""
+    with contextlib.ExitStack() as stack:
+        desk = Desk(folder)
+        stack.callback(desk.close)
+
+        def reader_of(name):
+            reader = Reader(desk, name)
+            stack.callback(reader.close)
+            return reader
+
+        readers = {name: reader_of(name) for name in ("ann", "bob", "cat", "office")}
+        if "day" in parts:
+            desk_day.whole_day(readers, folder)
+            listed(desk, readers["ann"], folder)
+        if "breaks" in parts:
+            readers["second"] = reader_of("ann")
+            desk_breaks.all_breaks(readers)
+        count = compared(desk, readers.values(), folder)
+        if "looks" in parts:
+            desk_day.register(readers["ann"], "key-wrapping", "ann", "a key that is looked at", desk_day.day(-9), "", "")
+            desk_day.chosen(readers["ann"], folder, desk_day.table_text(9)[0])
+            number = desk_looks.looked_at(readers["ann"], PAGES, screens)
+            print(f"{number} parts of {len(PAGES)} pages have their names and roles, each at three widths")
+        quiet(readers.values())
+        if "large" in parts:
+            _, size, packed, first, letters = desk_looks.large(desk, reader_of, folder)
+            print(f"a list of 100,000 keys has {size / 1e6:.1f} MB, {packed / 1e6:.1f} packed; the first view stood after "
+                  f"{first:.2f} s, a letter showed within {letters[-1]:.0f} ms")
+    return f"{count} requests of {len(readers)} pages are the register's, as the pages said; the console is empty"
+
+
+def main():
+    words = argparse.ArgumentParser(description="The desk in Chromium.")
+    words.add_argument("--least", action="store_true")
+    words.add_argument("--screens", metavar="FOLDER")
+    words.add_argument("--picture", metavar="FILE")
+    words.add_argument("parts", metavar="PART", nargs="*", choices=[*PARTS, []], default=[])
+    words = words.parse_args()
+    if words.screens:
+        os.makedirs(words.screens, exist_ok=True)
+    with tempfile.TemporaryDirectory(dir=in_memory(2**28)) as folder:
+        os.chmod(folder, 0o755)
+        if words.picture:
+            told = pictured(folder, words.picture)
+        else:
+            told = least(folder) if words.least else whole(folder, words.screens, words.parts or PARTS)
+    print(told)
+
+
+if __name__ == "__main__":
+    main()

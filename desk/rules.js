@@ -1,0 +1,278 @@
+// The rules that the desk knows: the tables of docs/SPECIFICATION.md, and how a request is judged by them.
+//
+// checks/desk_rules.py holds the tables to those of the document, and each judgement to the register's. The register is
+// right where the two differ: the page only says beforehand what it can know, and shows what the register said.
+//
+// A key is an object as `GET /keys/<key>` gives it, a command one as a POST takes it, a moment a number of seconds
+// since
+// 1970, a date a moment or null.
+
+export const LAST_MOMENT = 253402300799;
+export const GREATEST_NUMBER = 9007199254740991;
+export const MOST_CUSTODIANS = 16;
+export const MOST_KEYS = 1000000;
+export const LEAST_NEED = 2;
+export const OFFICE = "office";
+export const DAY = 86400;
+
+// Months of originator use, and of recipient use after, where the office has set none.
+export const PERIODS = {
+  "data-encryption": [24, 36],
+  "authentication": [24, 36],
+  "key-wrapping": [24, 36],
+  "private-signature": [36, 0],
+  "private-authentication": [24, 0],
+  "private-transport": [24, 0],
+  "master": [12, 0],
+};
+
+export const STATES = ["Pre-Active", "Active", "Deactivated", "Compromised", "Destroyed", "Destroyed-Compromised"];
+const [PRE_ACTIVE, ACTIVE, DEACTIVATED, COMPROMISED, DESTROYED, DESTROYED_COMPROMISED] = STATES;
+const NOT_DESTROYED = [PRE_ACTIVE, ACTIVE, DEACTIVATED, COMPROMISED];
+const AT_REST = [PRE_ACTIVE, DEACTIVATED, COMPROMISED];
+
+// Who may give a command, and of a key in which states; null where it names none.
+export const COMMANDS = {
+  "register": {who: "anybody", states: null},
+  "activate": {who: "owner", states: [PRE_ACTIVE]},
+  "set": {who: "owner", states: [PRE_ACTIVE, ACTIVE]},
+  "revoke": {who: "owner", states: [ACTIVE]},
+  "revoke for compromise": {who: "anybody", states: [PRE_ACTIVE, ACTIVE, DEACTIVATED, DESTROYED]},
+  "assign": {who: "owner", states: STATES},
+  "add-custodian": {who: "owner", states: STATES},
+  "remove-custodian": {who: "owner", states: NOT_DESTROYED},
+  "approve": {who: "custodian", states: AT_REST},
+  "withdraw": {who: "custodian", states: NOT_DESTROYED},
+  "destroy": {who: "owner", states: AT_REST},
+  "set-quorum": {who: "owner", states: STATES},
+  "set-period": {who: "office", states: null},
+  "advance": {who: "anybody", states: null},
+};
+
+// The members of a command beside its kind, each with what its value is.
+export const MEMBERS = {
+  "register": {type: "type", owner: "name", activation: "date", protect_stop: "date", deactivation: "date",
+    purpose: "purpose"},
+  "activate": {key: "key"},
+  "set": {key: "key", activation: "edit", protect_stop: "edit", deactivation: "edit"},
+  "revoke": {key: "key", reason: "reason", occurrence: "date"},
+  "assign": {key: "key", owner: "name"},
+  "add-custodian": {key: "key", name: "name"},
+  "remove-custodian": {key: "key", name: "name"},
+  "approve": {key: "key"},
+  "withdraw": {key: "key"},
+  "destroy": {key: "key"},
+  "set-quorum": {key: "key", need: "need"},
+  "set-period": {type: "type", originator: "originator", recipient: "recipient"},
+  "advance": {},
+};
+
+export const RANGES = {
+  key: [1, 4294967295], date: [0, LAST_MOMENT], need: [2, 5], reason: [1, 7], originator: [1, 1200],
+    recipient: [0, 1200],
+};
+
+export const REASONS = {
+  1: "Unspecified", 2: "Key Compromise", 3: "CA Compromise", 4: "Affiliation Changed", 5: "Superseded",
+  6: "Cessation of Operation", 7: "Privilege Withdrawn",
+};
+export const COMPROMISES = [2, 3];
+
+export const REFUSALS = {
+  1: "BadLine", 2: "RequestReused", 3: "MomentBehind", 4: "UnknownKey", 5: "NotOwner", 6: "NotCustodian",
+  7: "WrongState", 8: "DateFrozen", 9: "DateOrder", 10: "PeriodTooLong", 11: "DateRange", 12: "AlreadyCustodian",
+  13: "NoSuchCustodian", 14: "TooManyCustodians", 15: "OwnerCustodian", 16: "AlreadyApproved", 17: "NoApproval",
+  18: "ApprovalsMissing", 19: "OccurrenceLater", 20: "Full", 21: "NotOffice",
+};
+
+// ---- the form of a command
+
+const NAME = /^[A-Za-z0-9._@-]{1,64}$/;
+const CONTROL = /[\u0000-\u001f\u007f]/;
+
+export const isName = (text) => typeof text === "string" && NAME.test(text);
+
+export function isPurpose(text) {
+  if (typeof text !== "string" || CONTROL.test(text) || text.startsWith(" ") || text.endsWith(" ")) return false;
+  const size = new TextEncoder().encode(text).length;
+  return size >= 1 && size <= 200 && text.isWellFormed();
+}
+
+const isWithin = (value, [least, most]) => Number.isInteger(value) && value >= least && value <= most;
+
+function isOf(what, value) {
+  if (what === "type") return Object.hasOwn(PERIODS, value);
+  if (what === "name") return isName(value);
+  if (what === "purpose") return isPurpose(value);
+  if (what === "edit" && value === "keep") return true;
+  if (what === "edit" || what === "date") return value === null || isWithin(value, RANGES.date);
+  return isWithin(value, RANGES[what]);
+}
+
+// The members of a command that have no value of theirs.
+export function wrongMembers(command) {
+  const members = MEMBERS[command.kind];
+  if (!members) return ["kind"];
+  const wrong = Object.entries(members).filter(([name, what]) => !isOf(what, command[name])).map(([name]) => name);
+  if (command.kind === "revoke" && command.occurrence !== null && !COMPROMISES.includes(command.reason)) {
+    wrong.push("occurrence");
+  }
+  return wrong;
+}
+
+// ---- moments, periods and states
+
+// The same day so many months later, or that month's last; null past the range of moments.
+export function plusMonths(moment, months) {
+  const day = new Date(moment * 1000);
+  const month = day.getUTCFullYear() * 12 + day.getUTCMonth() + months;
+  const year = Math.floor(month / 12);
+  if (year > 9999) return null;
+  const last = new Date(Date.UTC(year, month % 12 + 1, 0)).getUTCDate();
+  const date = Math.min(day.getUTCDate(), last);
+  return Date.UTC(year, month % 12, date, day.getUTCHours(), day.getUTCMinutes(), day.getUTCSeconds()) / 1000;
+}
+
+function refusal(number, told = {}) {
+  return {refused: number, name: REFUSALS[number], ...told};
+}
+
+const isSet = (date) => date !== null && date !== undefined;
+
+// The dates after Fill, or after Trim, by a usage period; or their refusal.
+export function fitted(activation, stop, end, [originator, recipient], isTrimmed) {
+  const limit = isSet(activation) ? plusMonths(activation, originator) : null;
+  let isPast = false;
+  if (isSet(activation) && !isSet(stop)) {
+    const isEndFirst = isSet(end) && (limit === null || end < limit);
+    stop = isEndFirst ? end : limit;
+    isPast = !isEndFirst && limit === null;
+  }
+  if (isTrimmed && limit !== null && isSet(stop)) stop = Math.min(stop, limit);
+  const last = isSet(stop) ? plusMonths(stop, recipient) : null;
+  if (isSet(activation) && !isSet(end) && isSet(stop)) {
+    end = last;
+    isPast = isPast || last === null;
+  }
+  if (isTrimmed && last !== null && isSet(end)) end = Math.min(end, last);
+  const given = [activation, stop, end].filter(isSet);
+  if (given.some((date, place) => place > 0 && given[place - 1] > date)) return refusal(9);
+  if (!isTrimmed && limit !== null && isSet(stop) && stop > limit) return refusal(10, {limit});
+  if (!isTrimmed && last !== null && isSet(end) && end > last) return refusal(10, {limit: last});
+  if (isPast) return refusal(11);
+  return {activation, protect_stop: stop, deactivation: end};
+}
+
+// The state that a key's dates give at a moment.
+export function stateAt(key, moment) {
+  if (isSet(key.destroyed)) return isSet(key.compromised) ? DESTROYED_COMPROMISED : DESTROYED;
+  if (isSet(key.compromised)) return COMPROMISED;
+  if (!isSet(key.activation) || key.activation > moment) return PRE_ACTIVE;
+  return isSet(key.deactivation) && key.deactivation <= moment ? DEACTIVATED : ACTIVE;
+}
+
+export function usageAt(key, moment) {
+  const state = stateAt(key, moment);
+  const process = {[ACTIVE]: "yes", [DEACTIVATED]: "special", [COMPROMISED]: "special"}[state] ?? "no";
+  return {process, protect: state === ACTIVE && isSet(key.protect_stop) && key.protect_stop > moment};
+}
+
+// Whether a key's dates go past a period, as where the office set a shorter one after them.
+export function isLong(key, [originator, recipient]) {
+  const isPast = (first, last, months) => {
+    const limit = isSet(first) ? plusMonths(first, months) : null;
+    return limit !== null && isSet(last) && last > limit;
+  };
+  return isPast(key.activation, key.protect_stop, originator) || isPast(key.protect_stop, key.deactivation, recipient);
+}
+
+// ---- the judgement
+
+export function ruleOf(command) {
+  const isCompromise = command.kind === "revoke" && COMPROMISES.includes(command.reason);
+  return COMMANDS[isCompromise ? "revoke for compromise" : command.kind];
+}
+
+// Why a caller may not give a command of this rule now, whatever else it says; null where the rule lets it.
+export function barred(rule, caller, key, moment) {
+  if (rule.who === "office" && caller !== OFFICE) return refusal(21);
+  if (rule.who === "owner" && caller !== key.owner) return refusal(5);
+  if (rule.who === "custodian" && !key.custodians.includes(caller)) return refusal(6);
+  if (rule.states && !rule.states.includes(stateAt(key, moment))) return refusal(7, {state: stateAt(key, moment)});
+  return null;
+}
+
+function dated(key, command, period, moment) {
+  if (command.kind === "activate") return fitted(moment, key.protect_stop, key.deactivation, period, true);
+  const isFrozen = command.activation !== "keep" && stateAt(key, moment) !== PRE_ACTIVE;
+  const isReached = command.protect_stop !== "keep" && isSet(key.protect_stop) && key.protect_stop <= moment;
+  if (isFrozen || isReached) return refusal(8);
+  const after = (name) => (command[name] === "keep" ? key[name] : command[name]);
+  return fitted(after("activation"), after("protect_stop"), after("deactivation"), period, false);
+}
+
+function revoked(key, command, moment) {
+  if (!COMPROMISES.includes(command.reason)) {
+    return {deactivation: moment, protect_stop: Math.min(key.protect_stop, moment)};
+  }
+  if (isSet(command.occurrence) && command.occurrence > moment) return refusal(19);
+  const approvals = isSet(key.destroyed) ? key.approvals : [];
+  return {compromised: moment, occurrence: command.occurrence ?? key.initial, approvals};
+}
+
+function guarded(key, {kind, name, owner, need}, caller) {
+  const without = (names, one) => names.filter((other) => other !== one);
+  if (kind === "assign") return key.custodians.includes(owner) ? refusal(15) : {owner};
+  if (kind === "add-custodian") {
+    if (key.custodians.includes(name)) return refusal(12);
+    if (key.custodians.length >= MOST_CUSTODIANS) return refusal(14);
+    return name === key.owner ? refusal(15) : {custodians: [...key.custodians, name].sort()};
+  }
+  if (kind === "remove-custodian") {
+    if (!key.custodians.includes(name)) return refusal(13);
+    return {custodians: without(key.custodians, name), approvals: without(key.approvals, name)};
+  }
+  const stands = key.approvals.includes(caller);
+  if (kind === "approve") return stands ? refusal(16) : {approvals: [...key.approvals, caller].sort()};
+  if (kind === "withdraw") return stands ? {approvals: without(key.approvals, caller)} : refusal(17);
+  return {need};
+}
+
+function changed(key, command, caller, moment, period) {
+  if (command.kind === "activate" || command.kind === "set") return dated(key, command, period, moment);
+  if (command.kind === "revoke") return revoked(key, command, moment);
+  if (command.kind !== "destroy") return guarded(key, command, caller);
+  const have = key.approvals.length;
+  return have < key.need ? refusal(18, {have, need: key.need}) : {destroyed: moment};
+}
+
+// The judgement of a command: a refusal, or the key as it is afterwards (null of a command about none). `key` is the
+// one
+// that the command names, undefined where it is not known, null where it is known that there is none. Where the page
+// cannot know, the judgement is undefined.
+export function judged(command, {caller, moment, latest, key, periods, count}) {
+  if (wrongMembers(command).length) return refusal(1);
+  if (isSet(latest) && moment < latest) return refusal(3, {latest});
+  const rule = ruleOf(command);
+  if (command.kind === "advance") return {key: null};
+  if (command.kind === "set-period") return barred(rule, caller, null, moment) ?? {key: null};
+  const period = periods && (periods[command.type ?? key?.type] ?? PERIODS[command.type ?? key?.type]);
+  if (command.kind === "register") {
+    if (!period) return undefined;
+    const dates = fitted(command.activation, command.protect_stop, command.deactivation, period, false);
+    if (dates.refused) return dates;
+    if (count >= MOST_KEYS) return refusal(20);
+    const after = {type: command.type, owner: command.owner, purpose: command.purpose, initial: moment, ...dates,
+      destroyed: null, compromised: null, occurrence: null, custodians: [], approvals: [], need: LEAST_NEED};
+    return {key: {...after, state: stateAt(after, moment)}};
+  }
+  if (key === undefined) return undefined;
+  if (key === null) return refusal(4);
+  const bar = barred(rule, caller, key, moment);
+  if (bar) return bar;
+  if (!period && (command.kind === "activate" || command.kind === "set")) return undefined;
+  const change = changed(key, command, caller, moment, period);
+  if (change.refused) return change;
+  const after = {...key, ...change};
+  return {key: {...after, state: stateAt(after, moment)}};
+}

@@ -1,0 +1,175 @@
+// What the desk says: moments, commands and refusals in words.
+import {el, plain} from "./dom.js";
+import {COMPROMISES, DAY, REASONS, RANGES} from "./rules.js";
+
+// ---- moments
+
+// The text of a moment, as the register writes it.
+export function momentText(moment) {
+  return new Date(moment * 1000).toISOString().replace(".000Z", "Z");
+}
+
+// The moment of a text without a zone, as a field for dates gives it. The field says UTC, and so it is taken: never as
+// the reader's own time. null where it is none.
+export function momentOf(text) {
+  const found = /^(\d{4})-(\d\d)-(\d\d)T(\d\d):(\d\d)(?::(\d\d))?(Z?)$/.exec(text);
+  if (!found) return null;
+  const [year, month, day, hour, minute, second] = found.slice(1, 7).map((digits) => Number(digits ?? 0));
+  const moment = Date.UTC(year, month - 1, day, hour, minute, second) / 1000;
+  const [least, most] = RANGES.date;
+  if (!(moment >= least && moment <= most)) return null;
+  return momentText(moment).startsWith(text.slice(0, 16)) ? moment : null;
+}
+
+export const utcText = (moment) => momentText(moment).replace("T", " ").replace("Z", " UTC");
+
+const LOCAL = {year: "numeric", month: "short", day: "numeric", hour: "2-digit", minute: "2-digit", second: "2-digit",
+  timeZoneName: "short"};
+let local;
+
+export function localText(moment) {
+  local ??= new Intl.DateTimeFormat(undefined, LOCAL);
+  return local.format(new Date(moment * 1000));
+}
+
+export function away(moment, now) {
+  const seconds = Math.abs(moment - now);
+  const told = [[366 * DAY, 365.25 * DAY, "year"], [61 * DAY, 30.44 * DAY, "month"], [2 * DAY, DAY, "day"],
+    [7200, 3600, "hour"], [120, 60, "minute"], [0, 1, "second"]].find(([least]) => seconds >= least);
+  const count = Math.round(seconds / told[1]);
+  const text = `${count} ${told[2]}${count === 1 ? "" : "s"}`;
+  return moment === now ? "now" : moment > now ? `in ${text}` : `${text} ago`;
+}
+
+// A moment in UTC and in the reader's own time.
+export function moment(value, now) {
+  if (value === null || value === undefined) return el("span", {class: "none"}, "not set");
+  return el("span", {class: "moment"}, el("time", {datetime: momentText(value)}, utcText(value)),
+    el("span", {class: "local"}, ` ${localText(value)}`), now === undefined ? null : el("span", {class: "away"},
+      ` (${away(value, now)})`));
+}
+
+// ---- keys and commands
+
+const MARKS = {"Pre-Active": "◇", "Active": "●", "Deactivated": "◐", "Compromised": "▲", "Destroyed": "✕",
+  "Destroyed-Compromised": "⊗"};
+
+// A state by its word, a mark and a pattern, so that no colour is needed.
+export function state(word) {
+  return el("span", {class: `state ${word.toLowerCase()}`}, el("span", {"aria-hidden": "true"}, `${MARKS[word]} `),
+    word);
+}
+
+export const TITLES = {
+  "register": "Register a key", "activate": "Activate now", "set": "Set dates", "revoke": "Revoke",
+    "assign": "Give to another owner",
+  "add-custodian": "Add a custodian", "remove-custodian": "Remove a custodian", "approve": "Approve the destruction",
+  "withdraw": "Withdraw the approval", "destroy": "Destroy", "set-quorum": "Set the approvals needed",
+  "set-period": "Set the periods of a type", "advance": "Bring the register to now",
+};
+
+export const TELLS = {
+  "activate": "The key becomes Active at this moment. Its other dates are cut to the period of its type.",
+  "set": "Each date is kept, cleared or set. A cleared one follows from the type's period, where an Activation stands.",
+  "revoke": "The key is Deactivated at once. After a compromise, which anybody may tell, it is Compromised for good.",
+  "assign": "Another name owns the key from then on, and gives its commands.",
+  "add-custodian": "A custodian may approve the destruction. The owner is none.",
+  "remove-custodian": "Its approval ends with it.",
+  "approve": "Your approval stands until you withdraw it. The owner destroys the key once enough stand.",
+  "withdraw": "Your approval ends.",
+  "destroy": "The record says from then on that the key is destroyed. There is no way back.",
+  "set-quorum": "How many custodians have to approve before the key is destroyed.",
+};
+
+const edited = (value) => (value === "keep" ? "kept" : value === null ? "cleared" : utcText(value));
+
+// What a command says, in a line.
+export function commandText(command) {
+  const {kind, key} = command;
+  const of = key === undefined ? "" : ` key ${key}`;
+  if (kind === "register") {
+    return `Register a key of type ${command.type} for ${plain(command.owner)}: ${plain(command.purpose)}`;
+  }
+  if (kind === "set") {
+    return `Set dates of${of}: Activation ${edited(command.activation)}, Protect Stop ${edited(command.protect_stop)}, `
+      + `Deactivation ${edited(command.deactivation)}`;
+  }
+  if (kind === "revoke") return `Revoke${of}: ${REASONS[command.reason]}`;
+  if (kind === "assign") return `Give${of} to ${plain(command.owner)}`;
+  if (kind === "add-custodian") return `Add ${plain(command.name)} as a custodian of${of}`;
+  if (kind === "remove-custodian") return `Remove the custodian ${plain(command.name)} of${of}`;
+  if (kind === "approve") return `Approve the destruction of${of}`;
+  if (kind === "withdraw") return `Withdraw the approval of${of}`;
+  if (kind === "set-quorum") return `${command.need} approvals needed for${of}`;
+  if (kind === "set-period") {
+    const {type, originator, recipient} = command;
+    return `Periods of ${type}: ${originator} months of protecting, ${recipient} of processing after`;
+  }
+  return kind === "advance" ? TITLES.advance : `${TITLES[kind]}:${of}`;
+}
+
+const dateOf = (text) => (/^\d+$/.test(text) ? utcText(Number(text)) : text === "=" ? "kept" : "none");
+
+// A kept request's text, without its key, in words.
+export function requestText(text) {
+  const [word, ...rest] = text.split(" ");
+  if (word === "register") return "registered";
+  if (word === "set") {
+    const [activation, stop, end] = rest.map(dateOf);
+    return `set dates: Activation ${activation}, Protect Stop ${stop}, Deactivation ${end}`;
+  }
+  if (word === "revoke") {
+    const when = rest[1] === "-" ? "" : `, compromised ${dateOf(rest[1])}`;
+    return `revoked: ${REASONS[rest[0]]}${when}`;
+  }
+  const told = {"activate": "activated", "assign": "given to", "add-custodian": "added the custodian",
+    "remove-custodian": "removed the custodian", "approve": "approved the destruction",
+      "withdraw": "withdrew the approval",
+    "destroy": "destroyed", "set-quorum": "set the approvals needed to"};
+  return [told[word] ?? word, ...rest].join(" ");
+}
+
+// ---- refusals
+
+function wrongState(command, answer) {
+  const isCompromise = command.kind === "revoke" && COMPROMISES.includes(command.reason);
+  const why = {
+    "activate": "only a Pre-Active key is activated", "set": "dates are set of a Pre-Active or an Active key alone",
+    "approve": "a destruction is approved of a Pre-Active, Deactivated or Compromised key: revoke an Active one first",
+    "destroy": "a Pre-Active, a Deactivated or a Compromised key is destroyed: revoke an Active one first",
+    "withdraw": "no approval of a destroyed key ends", "remove-custodian": "a destroyed key keeps its custodians",
+    "revoke": isCompromise ? "it is compromised already" : "only an Active key is revoked, but for a compromise",
+  }[command.kind];
+  return `The key is ${answer.state}, and ${why}.`;
+}
+
+// What a refusal says, and what would be accepted.
+export function refusalText(answer, command) {
+  const {limit} = answer;
+  const texts = {
+    1: "The register takes the request for none: a field has a value that it cannot have.",
+    2: "Under this request's number you have an accepted request with another command. This one did nothing.",
+    3: `The register is at ${answer.latest === undefined ? "a later moment" : utcText(answer.latest)} already, after the `
+      + "machine's clock. Wait until then, or tell whoever runs it that a clock was wrong.",
+    4: `There is no key ${command.key}.`,
+    5: "Only the owner of the key may do this, and you are not.",
+    6: "Only a custodian of the key may do this, and you are not.",
+    7: answer.state ? wrongState(command, answer) : "",
+    8: "The Activation of an Active key, and a Protect Stop that is reached, stay as they are: keep them.",
+    9: "The dates have to be in order: Activation, Protect Stop, Deactivation.",
+    10: `The usage period is longer than the type's: the latest moment that is accepted is `
+      + `${limit === undefined ? "earlier" : `${utcText(limit)} (${localText(limit)})`}.`,
+    11: "A date that follows by the type's period is past the year 9999: set it by hand.",
+    12: "The name is a custodian of the key already.",
+    13: "The name is no custodian of the key.",
+    14: "The key has sixteen custodians, and no more may be added: remove one first.",
+    15: "The owner of a key is none of its custodians: name another.",
+    16: "Your approval stands already.",
+    17: "You have no approval that stands.",
+    18: `${answer.have} of ${answer.need} approvals stand: more custodians have to approve first.`,
+    19: "The compromise occurred no later than now: take an earlier date.",
+    20: "The register has 1,000,000 keys, and takes no more.",
+    21: "Only the user office sets the periods of types.",
+  };
+  return texts[answer.refused] ?? "";
+}
