@@ -16,7 +16,6 @@ It prints a line for each step. The status is 0 where nothing differs, 1 where o
 with any status, the export, the picture, a moment that is too old, a disk that is too full; 2 where words are wrong.
 """
 import argparse
-import filecmp
 import os
 import pathlib
 import shutil
@@ -26,6 +25,10 @@ import sys
 import time
 from datetime import datetime, timezone
 
+# What is read from beside this file leaves none there.
+sys.dont_write_bytecode = True
+from replay import is_copied
+
 HERE = pathlib.Path(__file__).resolve().parent
 NAME, LAST, TRIES = "copy.keyreg", "last", 20
 
@@ -34,18 +37,10 @@ class Failed(Exception):
     """A step that ends the night."""
 
 
-def log_of(path):
-    return path.with_name(path.name + "-wal")
-
-
 def copied(file, copy):
     """Copies the database, then its log, until the database did not change in between."""
     for _ in range(TRIES):
-        shutil.copyfile(file, copy)
-        log_of(copy).unlink(missing_ok=True)
-        if log_of(file).exists():
-            shutil.copyfile(log_of(file), log_of(copy))
-        if filecmp.cmp(file, copy, shallow=False):
+        if is_copied(str(file), str(copy)):
             print(f"copied: {copy.stat().st_size} bytes", flush=True)
             return
         time.sleep(0.5)
