@@ -36,7 +36,7 @@ item_in_range : (line : List ℕ) (item : Option Request) → IsItem line item �
 item_in_range line None is = tt
 item_in_range line (Some q) is = is.request
 
-items_in_range : (lines : List (List ℕ)) (items : List (Option Request)) → AreItems lines items → AreInRange items
+pub items_in_range : (lines : List (List ℕ)) (items : List (Option Request)) → AreItems lines items → AreInRange items
 items_in_range [] [] each = tt
 items_in_range (line ∷ lines) (item ∷ items) each = (item_in_range line item each.0, items_in_range lines items each.1)
 items_in_range [] (item ∷ items) each = absurd each

@@ -2,7 +2,9 @@
 use Rattle.std.specs.Prelude.{◌≡◌, ◌≢◌, ℕ, List, [], Option, Some}
 use Rattle.sqlite_trees.specs.declared.store.Store.{Ghosts}
 use Rattle.sqlite_store.specs.declared.store.FileStore.{FileStore}
+use Rattle.sqlite_trees.specs.View.{IsClean as IsCleanStore}
 use Rattle.sqlite.specs.Files.{over_files}
+use Rattle.sqlite.specs.State.{State}
 use Rattle.memory_disk.specs.declared.MemoryDisk.{MemoryDisk}
 use Rattle.memory_disk.specs.contracts.MemoryDiskDisk.TheImpl as disk
 use Rattle.register_requests.specs.declared.request.Request.{Request}
@@ -10,6 +12,7 @@ use Rattle.register_desk.specs.declared.desk.Desk.{Desk}
 use Rattle.register_desk.specs.declared.end.End.TheVariants.{Broken}
 use Rattle.register_desk.specs.declared.runs.Finish.TheVariants.{Ended}
 use Rattle.register_desk.specs.declared.runs.Outcome.{Outcome}
+use Rattle.register_desk.specs.DatabaseFiles.{ShowsNothing}
 use Rattle.register_desk.specs.Input.{HasItems}
 use Rattle.register_desk.specs.Run.{RunsOver}
 
@@ -21,14 +24,25 @@ abbrev pub over_memory : Ghosts MemoryStore
 over_memory = over_files
 
 -- From the empty history it was a run over these items; a new register is never a broken one.
-pub record RunsFromNone (items : List (Option Request)) (rest : List ℕ) (old new : Option (List ℕ))
-    (outcome : Outcome) : Type 0 where
-  pub desk : Desk MemoryStore over_memory
-  pub over : RunsOver over_memory [] items rest outcome.end outcome.replies old new desk
+pub record RunsFromNone {S : Type 0} (g : Ghosts S) (items : List (Option Request)) (rest : List ℕ)
+    (old new : Option (List ℕ)) (outcome : Outcome) : Type 0 where
+  pub desk : Desk S g
+  pub over : RunsOver g [] items rest outcome.end outcome.replies old new desk
   pub sound : outcome.end ≢ Ended Broken
 
 -- over an input whose bytes are known it is a run over the items of these
-abbrev pub RunsInMemory : Option (List ℕ) → Option (List ℕ) → Option (List ℕ) → Outcome → Type 0
-RunsInMemory input old new outcome =
+abbrev pub RunsOverInput : {S : Type 0} → Ghosts S → Option (List ℕ) → Option (List ℕ) → Option (List ℕ) → Outcome
+    → Type 0
+RunsOverInput g input old new outcome =
     (bytes : List ℕ) (items : List (Option Request)) (rest : List ℕ)
-    → input ≡ Some bytes → HasItems bytes items rest → RunsFromNone items rest old new outcome
+    → input ≡ Some bytes → HasItems bytes items rest → RunsFromNone g items rest old new outcome
+
+-- so it is in an empty database, of a store that nothing makes doubtful
+abbrev pub RunsNew : {S : Type 0} → Ghosts S → State → Option (List ℕ) → Option (List ℕ) → Option (List ℕ) → Outcome
+    → Type 0
+RunsNew {S} g s input old new outcome =
+    ShowsNothing s → ((store : S) → IsCleanStore (g.view store)) → RunsOverInput g input old new outcome
+
+-- and in memory
+abbrev pub RunsInMemory : Option (List ℕ) → Option (List ℕ) → Option (List ℕ) → Outcome → Type 0
+RunsInMemory = RunsOverInput over_memory

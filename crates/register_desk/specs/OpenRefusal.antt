@@ -119,6 +119,10 @@ abbrev pub LeavesMade : State → State → Type 0
 LeavesMade old new = IsTrue old.is_open → HasCleanDisk new → (trees : Trees) → new.may_leave trees
     → (trees ≡ old.committed.trees) ⊎ IsMadeIn old trees
 
+-- a stop leaves that alone
+abbrev pub LeavesNew : State → State → Type 0
+LeavesNew old new = (trees : Trees) → new.may_leave trees → IsMadeIn old trees
+
 -- What a creation that was refused leaves: what was committed stands, and a stop leaves what it left before, or an
 -- empty register where none of its tables was there.
 pub record CreatesNothingIn (old new : State) : Type 0 where

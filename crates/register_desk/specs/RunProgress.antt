@@ -7,6 +7,7 @@ use Rattle.sqlite_trees.specs.declared.store.Store.{Ghosts}
 use Rattle.sqlite.specs.State.{HasCleanDisk}
 use Rattle.register_store.specs.TableReads.{seen}
 use Rattle.register_requests.specs.declared.request.Request.{Request}
+use Rattle.register_requests.specs.CommandRule.{looks_at_custody}
 use Rattle.register_requests.specs.Request.{IsItem}
 use Rattle.register_core.specs.Fold.{history, history_after, answers, answer_to}
 use Rattle.register_desk.specs.declared.end.End.{End}
@@ -80,8 +81,12 @@ module _ {S : Type 0} (g : Ghosts S) where
     pub broken : now.is_broken ≡ true
     pub same : now ≡ kept
 
-  -- memory gave out before the item was applied, and the desk goes on to stand for what it stood for
-  pub record HoldsBack (kept now : Desk S g) : Type 0 where
+  -- memory gave out before the item was applied, a request that looks at the custody of a key, and the desk goes on to
+  -- stand for what it stood for
+  pub record HoldsBack (kept now : Desk S g) (item : Option Request) : Type 0 where
+    pub request : Request
+    pub is : item ≡ Some request
+    pub looks : looks_at_custody request.command ≡ true
     pub was : kept.is_broken ≡ false
     pub whole : now.is_broken ≡ false
     pub stands : (h : List Request) → StandsFor g kept h → StandsFor g now h
@@ -90,7 +95,7 @@ module _ {S : Type 0} (g : Ghosts S) where
   abbrev pub StopsItem : Desk S g → Desk S g → Option Request → End → Type 0
   StopsItem kept now item Store = BreaksAt kept now item
   StopsItem kept now item Broken = IsBrokenAt kept now item
-  StopsItem kept now item Memory = HoldsBack kept now
+  StopsItem kept now item Memory = HoldsBack kept now item
   StopsItem kept now item ReadFault = ⊥
   StopsItem kept now item WriteFault = ⊥
   StopsItem kept now item BadHeader = ⊥

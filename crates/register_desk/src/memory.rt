@@ -1,13 +1,14 @@
 //! A run over a register in memory.
 ghost use Rattle.std.specs.Prelude.{◌≡◌, ◌⊎◌, false, IfOk, IfErr};
 ghost use Rattle.register_desk.specs.Run.{LeavesReader, LeavesWriter};
-ghost use Rattle.register_desk.specs.InMemory.{RunsInMemory};
+ghost use Rattle.sqlite.specs.Held.{state};
+ghost use Rattle.register_desk.specs.InMemory.{RunsInMemory, RunsNew};
 
 use crate::desk::Desk;
 use crate::opening::OpenRefusal;
 use crate::runs::{Outcome, run};
 use memory_disk::MemoryDisk;
-use sqlite::{Connection, Files, Options};
+use sqlite::{Alter, Connection, Files, Options};
 use std::alloc::Global;
 use std::io::{Read, Write};
 use streams::Watched;
@@ -51,6 +52,29 @@ pub fn run_in_memory<R: Read, W: Write>(
     let Ok(connection) = Connection::open_files(alloc, files, options) else {
         return Err(OpenRefusal::Memory);
     };
+    run_new(alloc, connection, reader, writer)
+}
+
+/// Makes an empty register in the database and runs over the request lines of `reader` there.
+///
+/// # Errors
+/// [`OpenRefusal::Store`] where no register could be made; nothing was read or written then.
+fn run_new<S: Alter + Drop, R: Read, W: Write>(
+    alloc: Global,
+    connection: Connection<S>,
+    reader: &mut Watched<R>,
+    writer: &mut Watched<W>,
+) -> Result<Outcome, OpenRefusal>
+    requires idle { connection.in_transaction ≡ false }
+    requires reader { reader.old.failed ≡ false }
+    requires writer { writer.old.failed ≡ false }
+    ensures runs { IfOk result (RunsNew S.Store (state S.Store connection)
+        (R.remaining reader.old.inner) (W.contents writer.old.inner) (W.contents writer.new.inner)) }
+    ensures reader { IfOk result (LeavesReader R.remaining reader.old reader.new) }
+    ensures writer { IfOk result (LeavesWriter W.contents writer.old writer.new) }
+    ensures refused { IfErr result (λ refusal. refusal ≡ OpenRefusal.Store) }
+    ensures untouched { IfErr result (λ _. writer.new ≡ writer.old) }
+{
     let Ok(mut desk) = Desk::create(alloc, connection) else {
         return Err(OpenRefusal::Store);
     };

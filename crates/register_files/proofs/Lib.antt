@@ -1,4 +1,4 @@
-mod OfBoth
+mod OfDesk
 mod Living
 mod Refusing
 mod Served

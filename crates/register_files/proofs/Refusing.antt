@@ -1,13 +1,14 @@
 -- Files that were refused are left as they were found.
-use Rattle.std.proofs.Common.{◌≡◌, ◌⊎◌, List, Option, None, Some, Result, Ok, Err, IsTrue, inl, inr, sym, subst, ◌∙◌}
+use Rattle.std.proofs.Common.{◌≡◌, ◌⊎◌, List, [], Option, None, Some, Result, Ok, Err, IsTrue, inl, inr, refl}
+use Rattle.std.proofs.Common.{sym, subst, ◌∙◌}
 use Rattle.std.specs.Prelude.{IfErr, IfSome, IsErrAnd}
 use Rattle.std.proofs.Math.Logic.{∥∥₁_map}
 use Rattle.sqlite_trees.specs.declared.store.Store.{Ghosts}
 use Rattle.sqlite_trees.specs.View.{IsClean as IsCleanStore}
-use Rattle.sqlite.specs.Files.{AreFoundIn, HoldsDatabase}
+use Rattle.sqlite.specs.Files.{AreFoundIn, HoldsDatabase, IsEmpty}
 use Rattle.sqlite.specs.Held.{Held, AreDatabases, state}
 use Rattle.sqlite.specs.Recovery.{Image}
-use Rattle.sqlite.specs.State.{HasCleanDisk}
+use Rattle.sqlite.specs.State.{State, HasCleanDisk}
 use Rattle.sqlite.specs.Tree.{Trees}
 use Rattle.register_requests.specs.declared.request.Request.{Request}
 use Rattle.register_requests.specs.declared.version.Version.{Version}
@@ -15,16 +16,20 @@ use Rattle.register_core.specs.Fold.{IsLawful, IsLawfulIn}
 use Rattle.register_desk.specs.declared.opening.OpenRefusal.{OpenRefusal}
 use Rattle.register_desk.specs.declared.opening.OpenRefusal.TheVariants.{Memory, NewerVersion, NotARegister, Store}
 use Rattle.register_desk.specs.declared.opening.Unopened.{Unopened}
-use Rattle.register_desk.specs.DatabaseFiles.{HoldsRegister, ShowsFiles}
+use Rattle.register_desk.specs.declared.desk.Desk.{Desk}
+use Rattle.register_desk.specs.DatabaseFiles.{HoldsNothing, HoldsRegister, ShowsFiles}
 use Rattle.register_desk.specs.OpenRefusal.{IsMadeIn, IsReasonOf, IsTakenIn, LeavesBehind, LeavesCommitted, LeavesMade}
 use Rattle.register_desk.specs.OpenRefusal.{LeavesStored, RefusesNoTable, ShowsTable}
 use Rattle.register_desk.specs.Register.{HasHistoryIn}
-use Rattle.register_desk.proofs.Found.{finds_register, lawful_there, registered_left}
+use Rattle.register_desk.proofs.Found.{finds_empty, finds_nothing, finds_register, holds_now, lawful_there}
+use Rattle.register_desk.proofs.Found.{registered_left}
+use Rattle.register_desk.proofs.NoRegister.{passes_nothing}
 use Rattle.register_desk.proofs.Opened.{stored_in}
 use Rattle.register_files.specs.declared.files.Closed.{Closed}
 use Rattle.register_files.specs.declared.register_file.Refused.{Refused}
-use Rattle.register_files.specs.FileCalls.{MakesRegister}
-use Rattle.register_files.specs.Life.{ClosesAs, GivesBack, IsFoundIn, LeavesBehindIn, LeavesFound, LeavesInFiles}
+use Rattle.register_files.specs.FileCalls.{MakesRegister, OpensFile}
+use Rattle.register_files.specs.Life.{ClosesAs, GivesBack, IsCommittedOrMade, IsFoundIn, LeavesBehindIn, LeavesFound}
+use Rattle.register_files.specs.Life.{LeavesInFiles, LeavesNoRequest, LeavesNothing}
 use Rattle.register_files.specs.Life.{RefusesFiles, Refuses, RefusesMaking, RefusesToMake, SparesRegister}
 
 -- what is said of a value that may be there, of the one that is there
@@ -34,7 +39,64 @@ of_some P o x is said = subst (λ o. IfSome o P) (sym is) said
 not_none : {X A : Type 0} (o : Option X) (x : X) → o ≡ Some x → o ≡ None → A
 not_none o x is none = let both = sym is ∙ none in absurd (cc)
 
+-- what is found in files that hold nothing is nothing
+left_empty : (found : Image) (db : Trees) → HoldsNothing found → IsFoundIn found db → IsEmpty db
+left_empty found db nothing is = finds_empty found db nothing is.reads is.holds
+
+nothing_found : (found left : Image) (db : Trees) → HoldsNothing found → IsFoundIn found db → HoldsDatabase left db
+    → HoldsNothing left
+nothing_found found left db nothing is held = inr (db, held, left_empty found db nothing is)
+
+nothing_left : (refusal : OpenRefusal) (found : Image) (s : State) (may : Image → Type 0) → ShowsFiles found s
+    → HoldsNothing found → LeavesBehindIn refusal found s may → LeavesNothing may
+nothing_left Store found s may shows nothing leaves left is = ∥∥₁_map (leaves left is) (λ one. elim one.1 [
+  | inl same ↦ nothing_found found left one.0 nothing same one.2
+  | inr taken ↦ absurd (passes_nothing taken.t s (finds_nothing found s nothing shows) taken.passes)
+])
+nothing_left NotARegister found s may shows nothing leaves left is =
+    ∥∥₁_map (leaves left is) (λ one. nothing_found found left one.0 nothing one.1 one.2)
+nothing_left (NewerVersion later) found s may shows nothing leaves left is =
+    ∥∥₁_map (leaves left is) (λ one. nothing_found found left one.0 nothing one.1 one.2)
+nothing_left Memory found s may shows nothing leaves left is =
+    ∥∥₁_map (leaves left is) (λ one. nothing_found found left one.0 nothing one.1 one.2)
+
+-- or the empty register that was made in it
+none_or_made : (found : Image) (s : State) (may : Image → Type 0) → ShowsFiles found s → HoldsNothing found
+    → ((left : Image) → may left → ∥ ((db : Trees) × HoldsDatabase left db × IsCommittedOrMade s db) ∥₁)
+    → LeavesNoRequest may
+none_or_made found s may shows nothing leaves left is = ∥∥₁_map (leaves left is) (λ one. elim one.2 [
+  | inl same ↦
+      let empty = finds_empty found s.committed.trees nothing shows.finds.reads shows.finds.holds in
+      inl (inr (one.0, one.1, subst IsEmpty (sym same) empty))
+  | inr made ↦
+      let holds = (made.1.1.register (finds_nothing found s nothing shows)).holds in
+      inr (holds_now [] left made.0 holds (subst (HoldsDatabase left) made.2 one.1))
+])
+
 module _ {S : Type 0} (g : Ghosts S) (may_leave : S → Image → Type 0) (found : Image) where
+  -- no register was opened
+  no_table : (Spares : S → Type 0) (store : Option S) (refusal : OpenRefusal)
+      → IfSome store (λ it. IsCleanStore (g.view it) → RefusesNoTable refusal × Spares it)
+      → (store ≡ None → RefusesNoTable refusal) → IfSome store (λ it. IsCleanStore (g.view it))
+      → RefusesNoTable refusal
+  no_table Spares None refusal spares unopened clean = unopened refl
+  no_table Spares (Some it) refusal spares unopened clean = (spares clean).0
+
+  pub opens_refused : (refused : Refused S) → Refuses g may_leave found refused
+      → OpensFile g may_leave found (Err refused)
+  opens_refused refused refuses = record {
+    stands = λ h lawful holds. no_table (λ it. LeavesInFiles h h (may_leave it)) refused.store refused.refusal
+        (refuses.spares h lawful holds) refuses.unopened;
+    whole = tt;
+    nothing = λ nothing. tt;
+    refuses = refuses;
+  }
+
+  pub opens_none : (P : Refused S → Type 0) (result : Result (Desk S g) (Refused S)) → IsErrAnd result P
+      → IfErr result (Refuses g may_leave found) → OpensFile g may_leave found result
+  opens_none P (Ok desk) is refuses = absurd is
+  opens_none P (Err refused) is refuses = opens_refused refused refuses
+
   -- no register was made
   pub made_none : (P : Refused S → Type 0) (result : Result (Closed S) (Refused S)) → IsErrAnd result P
       → IfErr result (RefusesMaking g may_leave found) → MakesRegister g may_leave found result
@@ -51,7 +113,7 @@ module _ {S : Type 0} (g : Ghosts S) (may_leave : S → Image → Type 0) (found
       → refused ≡ record { refusal = refusal; store = None } → RefusesNoTable refusal
       → Refuses g may_leave found refused
   refuses_closed refusal refused is none = subst (Refuses g may_leave found) (sym is)
-      (record { cause = tt; spares = λ h lawful holds. tt; unopened = λ same. none })
+      (record { cause = tt; spares = λ h lawful holds. tt; nothing = λ nothing. tt; unopened = λ same. none })
 
   pub refuses_unopened : {X : Type 0} (refusal : OpenRefusal) (result : Result X (Refused S))
       → IsErrAnd result (λ refused. refused ≡ record { refusal = refusal; store = None }) → RefusesNoTable refusal
@@ -64,7 +126,7 @@ module _ {S : Type 0} (g : Ghosts S) (may_leave : S → Image → Type 0) (found
       → IfErr result (RefusesMaking g may_leave found)
   refuses_unmade refusal (Ok x) is none = absurd is
   refuses_unmade refusal (Err refused) is none = subst (RefusesMaking g may_leave found) (sym is)
-      (record { cause = tt; spares = λ h holds. tt; unopened = λ same. none })
+      (record { cause = tt; spares = λ h holds. tt; nothing = λ nothing. tt; unopened = λ same. none })
 
   module _ (opens_again : (it : S) → IsTrue (g.view it).is_numbered → AreDatabases (g.recovers it) → (left : Image)
       → may_leave it left → ∥ ((db : Trees) × (g.recovers it db) × HoldsDatabase left db) ∥₁)
@@ -161,6 +223,10 @@ module _ {S : Type 0} (g : Ghosts S) (may_leave : S → Image → Type 0) (found
             spares = λ h lawful holds. of_some (λ it. IsCleanStore (g.view it)
                 → SparesRegister h refused.refusal (may_leave it)) refused.store gives.store gives.back
                 (spares_register gives.store closes refused.refusal same h lawful holds);
+            nothing = λ none. of_some (λ it. IsCleanStore (g.view it) → LeavesNothing (may_leave it))
+                refused.store gives.store gives.back (λ clean. nothing_left refusal found (state g old)
+                (may_leave gives.store) (shown gives.store closes clean) none
+                (left_behind gives.store closes clean refusal after));
             unopened = λ none. not_none refused.store gives.store gives.back none;
           }
 
@@ -209,5 +275,9 @@ module _ {S : Type 0} (g : Ghosts S) (may_leave : S → Image → Type 0) (found
                 (refuses_to_make gives.store closes refused.refusal (gives.same ∙ was));
             spares = λ h holds. of_some (λ it. IsCleanStore (g.view it) → LeavesInFiles h h (may_leave it))
                 refused.store gives.store gives.back (left_as_held gives.store closes h holds);
+            nothing = λ none. of_some (λ it. IsCleanStore (g.view it) → LeavesNoRequest (may_leave it))
+                refused.store gives.store gives.back (λ clean. none_or_made found (state g old)
+                (may_leave gives.store) (shown gives.store closes clean) none
+                (left_as_made gives.store closes clean made));
             unopened = λ none. not_none refused.store gives.store gives.back none;
           }

@@ -1,19 +1,20 @@
 -- What closing the files of a store leaves in them.
-use Rattle.std.specs.Prelude.{◌≡◌, ◌⊎◌, ℕ, List, [], Option, IsTrue}
+use Rattle.std.specs.Prelude.{◌≡◌, ◌⊎◌, ℕ, true, List, [], Option, IsTrue}
 use Rattle.sqlite_trees.specs.declared.store.Store.{Ghosts}
 use Rattle.sqlite_trees.specs.View.{IsClean as IsCleanStore}
 use Rattle.sqlite.specs.Files.{HoldsDatabase}
-use Rattle.sqlite.specs.Held.{AreDatabases}
+use Rattle.sqlite.specs.Held.{Held, AreDatabases, state}
 use Rattle.sqlite.specs.Recovery.{Image}
 use Rattle.sqlite.specs.Tree.{Trees}
 use Rattle.register_requests.specs.declared.request.Request.{Request}
 use Rattle.register_desk.specs.declared.desk.Desk.{Desk}
 use Rattle.register_desk.specs.declared.runs.Finish.{Finish}
-use Rattle.register_desk.specs.Desk.{LeavesEither}
+use Rattle.register_desk.specs.Desk.{LeavesEither, connection_of}
 use Rattle.register_desk.specs.Lives.{LeavesLife}
+use Rattle.register_desk.specs.OpenRefusal.{LeavesNew}
 use Rattle.register_files.specs.declared.files.Closed.{Closed}
 use Rattle.register_files.specs.declared.files.LogCopy.TheVariants.{Copied, Broken}
-use Rattle.register_files.specs.Life.{LeavesInFiles, LeavesLifeInFiles}
+use Rattle.register_files.specs.Life.{ClosesAs, LeavesInFiles, LeavesLifeInFiles, LeavesMadeIn}
 
 -- the database file of these two alone, with no log beside it
 abbrev pub alone : Image → Image
@@ -24,6 +25,7 @@ pub record LeavesAsDesk {S : Type 0} (g : Ghosts S) (desk : Desk S g) (may : Ima
   pub one_of : (h other : List Request) → LeavesEither g h other desk → LeavesInFiles h other may
   pub lives : (h : List Request) (items : List (Option Request)) (end : Finish) (replies : ℕ)
       → LeavesLife g h items end replies desk → LeavesLifeInFiles h items end replies may
+  pub made : (old : Held S) → LeavesNew (state g old) (state g (connection_of desk)) → LeavesMadeIn (state g old) may
 
 module _ {S : Type 0} (g : Ghosts S) (may_leave : S → Image → Type 0) where
   -- What may be found in files that were closed: what a stop leaves of them, from when their log was copied on, and, once
@@ -39,20 +41,24 @@ module _ {S : Type 0} (g : Ghosts S) (may_leave : S → Image → Type 0) where
   abbrev pub HoldsStored : S → Image → Type 0
   HoldsStored store left = ∥ ((db : Trees) × (g.recovers store db) × HoldsDatabase left db) ∥₁
 
-  -- The files of a store were closed: what may be found in them is a database that it could come back as.
+  -- The files of a store were closed: what may be found in them is a database that it could come back as. A copy of the
+  -- log that is told as broken shut the store.
   pub record ClosesFiles (store : S) (closed : Closed S) : Type 0 where
     pub clean : IsCleanStore (g.view closed.store) → IsCleanStore (g.view store)
+    pub shut : closed.log ≡ Broken → IsCleanStore (g.view closed.store) → (g.view closed.store).is_broken ≡ true
     pub leaves : IsCleanStore (g.view closed.store) → IsTrue (g.view store).is_numbered
         → AreDatabases (g.recovers store)
         → (left : Image) → LeftIn closed left → HoldsStored store left
 
-  -- This is said of what a stop leaves in the files up to their closing, and of what may be found in them from then on.
-  pub record OfClosed (closed : Closed S) (Says : (Image → Type 0) → Type 0) : Type 0 where
+  -- The files of the desk's connection were closed. This is said of what a stop leaves in them up to their closing, and
+  -- of what may be found in them from then on.
+  pub record ClosesDesk (desk : Desk S g) (closed : Closed S) (Says : (Image → Type 0) → Type 0) : Type 0 where
     pub before : S
+    pub gives : ClosesAs g (connection_of desk) before
     pub closes : ClosesFiles before closed
     pub up_to : Says (may_leave before)
     pub from : Says (LeftIn closed)
 
-  -- the files of a desk's database were closed
-  abbrev pub ClosesDesk : Desk S g → Closed S → Type 0
-  ClosesDesk desk closed = OfClosed closed (LeavesAsDesk g desk)
+  -- it is said of the desk and of the files that were closed behind it
+  abbrev pub OfClosed : Closed S → (Desk S g → (Image → Type 0) → Type 0) → Type 0
+  OfClosed closed Says = (desk : Desk S g) × ClosesDesk desk closed (Says desk)

@@ -1,15 +1,11 @@
 //! The register in a file: the database file, and its log beside it.
-ghost use Rattle.std.specs.Prelude.{◌≡◌, List, None, false, IfOk, IfErr};
+ghost use Rattle.std.specs.Prelude.{◌≡◌, None, false, IfErr};
 ghost use Rattle.sqlite_trees.specs.View.{IsClean as IsCleanStore};
-ghost use Rattle.register_requests.specs.declared.request.Request.{Request};
-ghost use Rattle.register_core.specs.Fold.{IsLawful};
-ghost use Rattle.register_desk.specs.DatabaseFiles.{HoldsRegister};
-ghost use Rattle.register_desk.specs.Desk.{IsClean, IsWhole};
-ghost use Rattle.register_desk.specs.Register.{StandsFor};
-ghost use Rattle.register_files.specs.Closing.{ClosesDesk};
-ghost use Rattle.register_files.specs.FileCalls.{Exports, ImportsRows, MakesRegister, Reports};
-ghost use Rattle.register_files.specs.FileCalls.{RunsLines, ServesExchanges};
-ghost use Rattle.register_files.specs.Life.{ClosesAs, Refuses};
+ghost use Rattle.register_desk.specs.Desk.{IsClean};
+ghost use Rattle.register_files.specs.Closing.{ClosesDesk, LeavesAsDesk};
+ghost use Rattle.register_files.specs.FileCalls.{Exports, ImportsRows, MakesRegister, OpensFile};
+ghost use Rattle.register_files.specs.FileCalls.{Reports, RunsLines, ServesExchanges};
+ghost use Rattle.register_files.specs.Life.{ClosesAs};
 
 use crate::files::{Closed, Files};
 use crate::network::Network;
@@ -83,7 +79,8 @@ fn close_desk<F: Files>(desk: Desk<F::Opened>) -> Closed<F::Opened>
     // What a stop leaves of the register is what is found in the files, up to their closing and from
     // then on.
     ensures closes { IsCleanStore (F.Opened.Store.view result.store)
-        → ClosesDesk F.Opened.Store F.may_leave desk result }
+        → ClosesDesk F.Opened.Store F.may_leave desk result
+        (LeavesAsDesk F.Opened.Store desk) }
 {
     F::close(close_connection_into_store(desk.into_connection()))
 }
@@ -117,12 +114,7 @@ pub fn open_file<F: Files + Drop>(
     file: &str,
     files: F,
 ) -> Result<Desk<F::Opened>, Refused<F::Opened>>
-    // The desk stands for the history whose register the files hold.
-    ensures stands { (h : List Request) → IsLawful h → HoldsRegister h F.start
-        → IfOk result (λ desk. IsClean F.Opened.Store desk → StandsFor F.Opened.Store desk h) }
-    ensures whole { IfOk result IsWhole }
-    // A refusal has its cause in what the files hold, and a stop leaves what they held.
-    ensures refuses { IfErr result (Refuses F.Opened.Store F.may_leave F.start) }
+    ensures { OpensFile F.Opened.Store F.may_leave F.start result }
 {
     if !files.may_be_there(file) {
         return Err(Refused::from(OpenRefusal::Store));

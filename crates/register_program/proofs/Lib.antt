@@ -1,1 +1,2 @@
 mod Acted
+mod FoundAgain

@@ -3,6 +3,7 @@
 #![tactic(auto)]
 
 mod acting;
+pub mod laws;
 
 pub use acting::{
     Done, Machine, Outputs, act, perform_task, report_bad_value, report_end, report_refusal,

@@ -3,7 +3,7 @@
 use crate::desk::Desk;
 use crate::end::End;
 use register_core::{Accept, Answer, KeptReply, Name, Refusal, Request, RequestNumber, decide};
-use register_store::{StoreError, commit_request, find_request};
+use register_store::{commit_request, find_request};
 use sqlite::Alter;
 
 impl<S: Alter> Desk<S> {
@@ -183,10 +183,10 @@ impl<S: Alter> Desk<S> {
     {
         match find_request(&mut self.connection, caller, number) {
             Ok(Some(kept)) if !kept.reply.is_within_counts(self.latest, self.keys) => {
-                Err(self.break_unless_out_of_memory(StoreError::NoRegister))
+                Err(self.break_desk())
             }
             Ok(found) => Ok(found),
-            Err(_) => Err(self.break_unless_out_of_memory(StoreError::NoRegister)),
+            Err(_) => Err(self.break_desk()),
         }
     }
 }

@@ -11,7 +11,7 @@ use register_core::{
     Command, Held, Key, KeyPart, MIN_APPROVALS, Names, Purpose, Quorum, Request, View,
     needed_period_type,
 };
-use register_store::{StoreError, find_key_need, find_key_row, find_office_period, load_key};
+use register_store::{find_key_need, find_key_row, find_office_period, load_key};
 use sqlite::Alter;
 use std::alloc::Global;
 
@@ -90,7 +90,7 @@ impl<S: Alter> Desk<S> {
     {
         match find_office_period(&mut self.connection, kind) {
             Ok(found) => Ok(period_or_default(kind, found)),
-            Err(_) => Err(self.break_unless_out_of_memory(StoreError::NoRegister)),
+            Err(_) => Err(self.break_desk()),
         }
     }
 
@@ -130,9 +130,7 @@ impl<S: Alter> Desk<S> {
         ensures broken { IfErr result (λ end. (end ≡ End.Store) × IsBroken self.new) }
     {
         match found {
-            Some(held) if !held.row.has_right_state_at(self.latest) => {
-                Err(self.break_unless_out_of_memory(StoreError::NoRegister))
-            }
+            Some(held) if !held.row.has_right_state_at(self.latest) => { Err(self.break_desk()) }
             found => Ok(found),
         }
     }
@@ -215,7 +213,7 @@ impl<S: Alter> Desk<S> {
         ensures broken { IfErr result (λ end. (end ≡ End.Store) × IsBroken self.new) }
     {
         if found.is_none() && self.is_counted_key(number) {
-            return Err(self.break_unless_out_of_memory(StoreError::NoRegister));
+            return Err(self.break_desk());
         }
         Ok(found)
     }
@@ -231,7 +229,7 @@ impl<S: Alter> Desk<S> {
     {
         match find_key_row(&mut self.connection, number) {
             Ok(found) => self.row_or_break_on_missing_key(number, found),
-            Err(_) => Err(self.break_unless_out_of_memory(StoreError::NoRegister)),
+            Err(_) => Err(self.break_desk()),
         }
     }
 
@@ -245,7 +243,7 @@ impl<S: Alter> Desk<S> {
     {
         match find_key_need(&mut self.connection, number) {
             Ok(found) => Ok(need_or_default(found)),
-            Err(_) => Err(self.break_unless_out_of_memory(StoreError::NoRegister)),
+            Err(_) => Err(self.break_desk()),
         }
     }
 

@@ -1,4 +1,4 @@
-use Rattle.std.proofs.Common.{◌≡◌, IsTrue, arith, ap, false, inl, inr, refl, subst, sym, ◌∙◌}
+use Rattle.std.proofs.Common.{◌≡◌, IsTrue, arith, ap, true, false, inl, inr, refl, subst, sym, ◌∙◌}
 use Rattle.std.proofs.Math.Logic.{∥∥₁_map}
 use Rattle.sqlite.specs.Files.{HoldsDatabase, over_files}
 use Rattle.sqlite.specs.Held.{AreDatabases}
@@ -17,15 +17,17 @@ use Rattle.disk_files.proofs.disk_files.checkpoint_store.Goals as goal
 
 -- nothing is new in what a stop leaves, and where the log was copied the database file alone holds it too
 closes_by : {D : Type 0} {g : Ghosts D} (old last : FileStore D g) (log : LogCopy)
-    → (IsClean (view last) → IsClean (view old)) → ((db : Trees) → recovers last db → recovers old db)
+    → (IsClean (view last) → IsClean (view old))
+    → (log ≡ Broken → IsClean (view last) → (view last).is_broken ≡ true) → ((db : Trees) → recovers last db → recovers old db)
     → (IsClean (view last) → IsTrue (view old).is_numbered → (log ≡ Broken → IsTrue (view last).is_numbered)
     → IsTrue (view last).is_numbered)
     → (log ≡ Copied → IsClean (view last) → IsTrue (view last).is_numbered → AreDatabases (recovers last)
     → (whole : Image) → (state last).may_leave whole
     → ∥ ((db : Trees) × recovers last db × HoldsDatabase (alone whole) db) ∥₁)
     → ClosesFiles over_files (λ left. (state left).may_leave) old (record { store = last; log = log })
-closes_by old last log clean outcomes numbered holds = record {
+closes_by old last log clean shut outcomes numbered holds = record {
   clean = clean;
+  shut = shut;
   leaves = λ none was sound left may.
       let sound_now = λ (db : Trees) (may : recovers last db). sound db (outcomes db may) in
       let now = numbered none was may.numbered in
@@ -42,7 +44,7 @@ closes_by old last log clean outcomes numbered holds = record {
 
 pub returns-then-is_broken : goal.returns-then-is_broken
 returns-then-is_broken g c =
-    closes_by c.args.store c.args.store Kept (λ none. none) (λ db may. may) (λ none was known. was)
+    closes_by c.args.store c.args.store Kept (λ none. none) (λ is. absurd (cc is)) (λ db may. may) (λ none was known. was)
     (λ is. absurd (cc is))
 
 pub returns-in-Ok : goal.returns-in-Ok
@@ -53,7 +55,7 @@ returns-in-Ok g c =
     let second = c.checkpoint.ensures.quiet in
     let kept : IsClean (view last) → IsClean (view c.rollback.new.self) = λ none. omega (arith, none, second.clean) in
     let stays = g.met.D.Disk.seen_may_stay in
-    closes_by c.args.store last Copied (λ none. omega (arith, none, first.clean, second.clean))
+    closes_by c.args.store last Copied (λ none. omega (arith, none, first.clean, second.clean)) (λ is. absurd (cc is))
     (λ db may. first.outcomes db (second.outcomes db may))
     (λ none was known. ap (λ (v : View). v.is_numbered) (c.checkpoint.ensures.same (c.in-Ok.ensures.open none))
     ∙ undone.numbered ∙ was)
@@ -69,6 +71,7 @@ returns-in-Err g c =
     let first = c.rollback.ensures.quiet in
     let second = c.checkpoint.ensures.quiet in
     closes_by c.args.store c.checkpoint.new.self Broken (λ none. omega (arith, none, first.clean, second.clean))
+    (λ is none. cc (c.if-is_broken-2.ensures.shown none, c.if-is_broken-2.true))
     (λ db may. first.outcomes db (second.outcomes db may)) (λ none was known. known refl) (λ is. absurd (cc is))
 
 pub returns-in-Err-2 : goal.returns-in-Err-2
@@ -76,7 +79,7 @@ returns-in-Err-2 g c =
     let last = c.checkpoint.new.self in
     let first = c.rollback.ensures.quiet in
     let second = c.checkpoint.ensures.quiet in
-    closes_by c.args.store last Kept (λ none. omega (arith, none, first.clean, second.clean))
+    closes_by c.args.store last Kept (λ none. omega (arith, none, first.clean, second.clean)) (λ is. absurd (cc is))
     (λ db may. first.outcomes db (second.outcomes db may))
     (λ none was known.
     let sound : (view last).is_broken ≡ false = cc (c.if-is_broken-2.ensures.shown none, c.if-is_broken-2.false) in

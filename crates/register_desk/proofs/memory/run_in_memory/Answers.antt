@@ -1,4 +1,5 @@
-use Rattle.std.proofs.Common.{true, refl, []}
+use Rattle.std.proofs.Common.{true, refl, inl, inr}
+use Rattle.std.proofs.lemmas.Result.{IfOk-weaker, IfErr-weaker}
 use Rattle.sqlite_trees.proofs.Doubt.{no_doubt}
 use Rattle.sqlite_pool.specs.Pool.{state}
 use Rattle.register_desk.proofs.Found.{finds_nothing}
@@ -7,20 +8,13 @@ use Rattle.register_desk.proofs.memory.run_in_memory.Goals as goal
 -- the files have no byte, and what is read of them is what was written
 pub returns-clause-runs : goal.returns-clause-runs
 unfolding state
-returns-clause-runs g c bytes items rest known cut =
+returns-clause-runs g c =
     let clean = no_doubt true refl in
     let opened = c.in-Ok.ensures.opened clean in
     let found = c.in-Ok.ensures.found clean in
-    let nothing = finds_nothing _ _ c.new-2.ensures.empty (record {
+    let nothing = finds_nothing _ _ (inl c.new-2.ensures.empty) (record {
       opens = opened.0;
       live = opened.1;
       finds = record { holds = found.holds; reads = found.reads };
     }) in
-    record {
-      desk = c.run.new.desk;
-      over = c.run.ensures.agrees [] bytes items rest (c.in-Ok-create.ensures.stands nothing) clean known cut;
-      sound = λ is.
-          let broken = c.run.ensures.desk.was_broken is in
-          let whole = c.in-Ok-create.ensures.whole in
-          absurd (cc);
-    }
+    IfOk-weaker c.run_new.result _ _ (λ outcome runs. runs nothing (λ store. clean)) c.run_new.ensures.runs

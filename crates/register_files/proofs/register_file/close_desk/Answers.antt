@@ -1,4 +1,5 @@
 use Rattle.std.proofs.Common.{◌≡◌, subst, sym}
+use Rattle.std.proofs.Math.Logic.{∥∥₁_map}
 use Rattle.sqlite_trees.specs.declared.store.Store.{Ghosts}
 use Rattle.sqlite.specs.Files.{HoldsDatabase}
 use Rattle.sqlite.specs.Held.{Held, state}
@@ -8,6 +9,7 @@ use Rattle.sqlite.specs.Tree.{Trees}
 use Rattle.register_desk.specs.declared.desk.Desk.{Desk}
 use Rattle.register_desk.specs.Desk.{connection_of}
 use Rattle.register_desk.specs.Lives.{LeavesAfter}
+use Rattle.register_desk.specs.OpenRefusal.{LeavesNew}
 use Rattle.register_desk.specs.Register.{LeavesOneOf}
 use Rattle.register_desk.proofs.Found.{leaves_in_files, life_in_files}
 use Rattle.register_files.specs.Closing.{LeavesAsDesk}
@@ -27,6 +29,9 @@ as_desk g desk connection store same closes may opens = record {
       life_in_files g h items end replies connection
       (subst (λ (k : Held _). LeavesAfter h items end replies (state g k)) same leaves) store
       closes.outcomes left (opens left found);
+  made = λ old leaves left found. ∥∥₁_map (opens left found) (λ one.
+      let new = subst (λ (k : Held _). LeavesNew (state g old) (state g k)) same leaves in
+      (one.0, one.2, new one.0 (closes.outcomes one.0 one.1)));
 }
 
 pub returns-clause-clean : goal.returns-clause-clean
@@ -43,6 +48,7 @@ returns-clause-closes g c clean =
     let left_by = as_desk g.F.Opened.Store c.args.desk c.into_connection.result store same closes in
     record {
       before = store;
+      gives = subst (λ (k : Held _). ClosesAs g.F.Opened.Store k store) c.into_connection.ensures.same closes;
       closes = c.close.ensures;
       up_to = left_by _ (g.met.F.Files.opens_again store (closes.numbered sound) (closes.sound sound));
       from = left_by _ (c.close.ensures.leaves clean (closes.numbered sound) (closes.sound sound));

@@ -1,0 +1,30 @@
+//! Laws about runs of the program. A function's contract is the law; it does nothing.
+ghost use Rattle.std.specs.Prelude.{ℕ, List, Option};
+ghost use Rattle.sqlite.specs.Recovery.{Image};
+ghost use Rattle.register_desk.specs.DatabaseFiles.{HoldsNothing};
+ghost use Rattle.register_program.specs.declared.acting.Done.{Done};
+ghost use Rattle.register_program.specs.Sentence.{Follow, FoundAgain, LeadsFrom, ProgramRun};
+ghost use Rattle.register_program.specs.Sentence.{left_after};
+ghost use Rattle.register_program.specs.Task.{Performs};
+ghost use Rattle.register_words.specs.declared.words.Task.{Task};
+
+use register_files::Files;
+
+/// A task that was done as [`perform_task`](crate::perform_task) does it leads from what the files
+/// held to what they hold after the life that it was.
+pub fn tasks_are_lives<F: Files>()
+    ensures { (task : Task) (input : Option (List ℕ)) (old : Option (List ℕ))
+        (new : Option (List ℕ)) (done : Done F.Opened) →
+        Performs F.Opened.Store F.may_leave F.start task input old new done →
+        LeadsFrom F.Opened.Store F.may_leave F.start task input old new done }
+{}
+
+/// Whatever the program is run for, as often as one likes, each run over what the one before left,
+/// at its end or at a stop, and the first over files that hold nothing: the files hold nothing
+/// still, or exactly the register of lives that the runs were, and an opening finds it.
+pub fn register_is_found_again<F: Files>()
+    ensures { (first : Image) (runs : List (ProgramRun F.Opened.Store F.may_leave)) →
+        HoldsNothing first → Follow F.Opened.Store F.may_leave first runs →
+        ∥ FoundAgain F.Opened.Store F.may_leave runs
+        (left_after F.Opened.Store F.may_leave first runs) ∥₁ }
+{}
