@@ -10,7 +10,8 @@ import time
 
 from desk_parts import By
 from registers import STATES, TYPES, UNSET, expect
-from rules import Key
+from register_rules import ACTIVE, ALL, STILL, Key
+
 
 def second(text):
     """The second of a text in UTC."""
@@ -86,7 +87,8 @@ def custody(ann, bob, cat):
 
 
 def dates(ann, cat):
-    """Dates that are set, defaults that are told before they are taken, an activation, a revocation and a compromise."""
+    """Dates that are set, defaults that are told before they are taken, an activation, a revocation and a
+    compromise."""
     key = register(ann, "data-encryption", "ann", "disks of site C", day(-40), day(200))
     expect("Active" in ann.text("h1"), ann.text("h1"))
     end = day(400)
@@ -155,53 +157,55 @@ def moved_on(bob, key):
 
 # ---- finding
 
-def rows_of(file):
-    """The keys of the register's tables, by SQLite."""
+def keys_of(file):
+    """The keys of the register's tables by their numbers, by SQLite."""
     with contextlib.closing(sqlite3.connect(f"file:{file}?mode=ro", uri=True)) as connection:
         rows = connection.execute("SELECT number, kind, owner, purpose, initial, activation, protect_stop, "
                                   "deactivation, destroyed, compromised FROM keys ORDER BY number").fetchall()
-        custodians = {row[0] for row in connection.execute("SELECT key_no FROM custodian")}
-        approvals = dict(connection.execute("SELECT key_no, count(*) FROM approval GROUP BY key_no"))
+        custodians = connection.execute("SELECT key_no, name FROM custodian").fetchall()
+        approvals = connection.execute("SELECT key_no, name FROM approval").fetchall()
         needs = dict(connection.execute("SELECT key_no, need FROM quorum"))
-    keys = []
+    keys = {}
     for number, kind, owner, purpose, initial, *cells in rows:
-        found = [None if cell == UNSET else cell for cell in cells]
-        key = Key(TYPES[kind], owner, purpose, initial, found[:3])
-        key.destroyed, key.compromised, key.number = found[3], found[4], number
-        key.waits = number in custodians and approvals.get(number, 0) < needs.get(number, 2)
-        keys.append(key)
+        dates = [None if cell == UNSET else cell for cell in cells]
+        names, approved = ({name for key, name in found if key == number} for found in (custodians, approvals))
+        keys[number] = Key(TYPES[kind], owner, purpose, initial, *dates, custodians=names, approvals=approved,
+                           need=needs.get(number, 2))
     return keys
 
 
 def finds(reader, file):
     """What is found by number, owner, type, state, purpose, what is due and what waits. The list may be older than
     what the page did: a copy of the register's files is the measure."""
-    now, keys = int(time.time()), rows_of(file)
-    at_rest = (STATES[1], STATES[3], STATES[4])
-    due = [key for key in keys if key.state(now) == STATES[2] and key.stop <= now + 800 * 86400]
+    now, keys = int(time.time()), keys_of(file)
+    states = {number: key.state(now) for number, key in keys.items()}
+
+    def those(holds):
+        return [number for number, key in keys.items() if holds(key)]
+
+    due = those(lambda key: key.state(now) == ACTIVE and key.stop <= now + 800 * 86400)
     wanted = {
-        "": keys, "owner=cat": [key for key in keys if key.owner == "cat"],
-        "type=master": [key for key in keys if key.kind == "master"],
-        "text=SITE+b": [key for key in keys if "site B" in key.purpose],
-        "text=disks+ann": [key for key in keys if "disks" in key.purpose and key.owner == "ann"],
-        "days=800": sorted(due, key=lambda key: (key.stop, key.number)),
-        "waits=1": [key for key in keys if key.waits and key.state(now) in at_rest],
-        **{f"state={state}": [key for key in keys if key.state(now) == state] for state in list(STATES.values())[1:]},
+        "": list(keys), "owner=cat": those(lambda key: key.owner == "cat"),
+        "type=master": those(lambda key: key.kind == "master"),
+        "text=SITE+b": those(lambda key: "site B" in key.purpose),
+        "text=disks+ann": those(lambda key: "disks" in key.purpose and key.owner == "ann"),
+        "days=800": sorted(due, key=lambda number: (keys[number].stop, number)),
+        "waits=1": those(lambda key: key.custodians and len(key.approvals) < key.need and key.state(now) in STILL),
+        **{f"state={STATES[code]}": [number for number in keys if states[number] == code] for code in ALL},
     }
-    for asked, should_be in wanted.items():
+    for asked, numbers in wanted.items():
         reader.open("register")
         reader.open(f"find?{asked}" if asked else "find")
         found = [cell.text for cell in reader.find("table.cards td:first-child")]
-        numbers = [str(key.number) for key in should_be][:50]
-        reader.wait(lambda: [cell.text for cell in reader.find("table.cards td:first-child")] == numbers,
-                    f"{asked} finds {found}, and should find {numbers}", 3)
-    states = {key.number: key.state(now) for key in keys}
+        texts = [str(number) for number in numbers][:50]
+        reader.wait(lambda: [cell.text for cell in reader.find("table.cards td:first-child")] == texts,
+                    f"{asked} finds {found}, and should find {texts}", 3)
     reader.open("register")
     reader.open("find")
     for row in reader.find("table.cards tbody tr"):
         cells = row.find_elements(By.TAG_NAME, "td")
         number, shown = cells[0].text, cells[1].text
-        expect(shown.split(" ", 1)[1] == states[int(number)], f"{number} is shown as {shown}")
+        expect(shown.split(" ", 1)[1] == STATES[states[int(number)]], f"{number} is shown as {shown}")
     box = reader.one("input[type='search']")
     box.send_keys("2\n")
     reader.wait(lambda: reader.text("h1").startswith("Key 2"), "a number does not lead to its key")
@@ -242,7 +246,7 @@ def chosen(reader, folder, text):
     reader.open("find")
     reader.open("table")
     reader.one("input[type='file']").send_keys(os.path.join(folder, "keys.csv"))
-    reader.wait(lambda: "rows: " in reader.text(), "the rows are not shown")
+    reader.wait(lambda: "judged before" in reader.text(), "the rows are not shown")
 
 
 def taken_in(reader, folder, good=40):
@@ -251,8 +255,9 @@ def taken_in(reader, folder, good=40):
     text, wanted, bad = table_text(good)
     reader.driver.execute_cdp_cmd("Browser.setDownloadBehavior", {"behavior": "allow", "downloadPath": folder})
     chosen(reader, folder, text)
-    reader.wait(lambda: f"{good + 7} rows: {good} would be accepted, 1 refused, 6 are of another form" in reader.text(),
-                "the rows are not judged")
+    judged = (f"{good + 7} rows, judged before they are sent: {good} would be accepted, 1 refused, 6 of another form, "
+              "0 there already, 0 changed by a spreadsheet")
+    reader.wait(lambda: judged in reader.text(), "the rows are not judged")
     # A row that the page would not send is sent all the same where the reader wants it.
     order = next(row for row in reader.find("table.rows tbody tr") if "another order" in row.text)
     order.find_element(By.TAG_NAME, "input").click()

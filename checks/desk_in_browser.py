@@ -16,8 +16,13 @@ that the page told, and no other is; and by examples/replay.py all else in the r
 has nothing but what Chromium writes of statuses of refusals and of connections that were cut on purpose; nothing was
 asked of another place.
 
-The parts are day, breaks, looks and large, all where none is named. --least does the smallest form alone: a key is
-registered, approved by two and destroyed. --screens keeps the pictures; --picture takes that of the documents alone.
+One key lives by Tab, arrows, Enter and typed text alone (desk_keyboard.py). Tables that a spreadsheet changed are told
+field by field (desk_sheets.py). What waits for a custodian, a table with its answers and a request without an answer
+are looked at as the pages are (desk_screens.py).
+
+The parts are day, breaks, looks and large, all where none is named. --least does the smallest form alone, as the gate
+has it: a key is registered, approved by two and destroyed. --screens keeps the pictures; --picture takes that of the
+documents alone.
 It needs Debian's chromium, chromium-driver, python3-selenium and nginx-light, and Linux. Build the program first:
 ./keyreg </dev/null
 """
@@ -35,9 +40,13 @@ import time
 
 import desk_breaks
 import desk_day
+import desk_keyboard
 import desk_looks
+import desk_screens
+import desk_sheets
 from desk_parts import Desk, Reader, in_memory
 from registers import expect
+from register_rules import FORMS
 
 REPLAY = os.path.join(os.path.dirname(os.path.abspath(__file__)), "..", "examples", "replay.py")
 # What Chromium itself writes to the console: of each refusal, and of what was broken on purpose.
@@ -137,6 +146,18 @@ PAGES = {"find": "find", "key": "key/1", "waits": "waits", "register": "register
          "periods": "periods"}
 
 
+def day_of_all(readers, folder):
+    """The day by clicks, a life of a key by the keyboard alone, lists that are older, and tables of spreadsheets."""
+    ann, bob, cat, _ = readers.values()
+    met, tabs = desk_keyboard.life(ann, bob, cat)
+    print(f"a key lives by the keyboard alone: {met} parts are met by {tabs} Tabs")
+    desk_day.whole_day(readers, folder)
+    given = {command.split(" ")[0] for reader in readers.values() for _, _, command in reader.said}
+    expect(given == set(FORMS), f"the day of the pages lacks {set(FORMS) - given}")
+    listed(ann.desk, ann, folder)
+    print(f"{desk_sheets.all_tables(bob, folder)} fields that a spreadsheet changed are told")
+
+
 def whole(folder, screens, parts):
     """The parts, over one register."""
     with contextlib.ExitStack() as stack:
@@ -150,22 +171,27 @@ def whole(folder, screens, parts):
 
         readers = {name: reader_of(name) for name in ("ann", "bob", "cat", "office")}
         if "day" in parts:
-            desk_day.whole_day(readers, folder)
-            listed(desk, readers["ann"], folder)
+            day_of_all(readers, folder)
         if "breaks" in parts:
             readers["second"] = reader_of("ann")
             desk_breaks.all_breaks(readers)
         count = compared(desk, readers.values(), folder)
         if "looks" in parts:
-            desk_day.register(readers["ann"], "key-wrapping", "ann", "a key that is looked at", desk_day.day(-9), "", "")
-            desk_day.chosen(readers["ann"], folder, desk_day.table_text(9)[0])
-            number = desk_looks.looked_at(readers["ann"], PAGES, screens)
-            print(f"{number} parts of {len(PAGES)} pages have their names and roles, each at three widths")
+            ann = readers["ann"]
+            desk_day.register(ann, "key-wrapping", "ann", "a key that is looked at", desk_day.day(-9), "", "")
+            desk_day.chosen(ann, folder, desk_day.table_text(9)[0])
+            number = desk_looks.all_pages(ann, PAGES, screens)
+            ann.open("table")
+            ann.one(".buttons button", lambda button: button.text == "Put the table away").click()
+            number += desk_screens.all_screens(readers, folder, screens)
+            count = compared(desk, readers.values(), folder)
+            print(f"{number} parts of {len(PAGES)} pages and three screens of them have their names and roles, "
+                  "each at three widths")
         quiet(readers.values())
         if "large" in parts:
             _, size, packed, first, letters = desk_looks.large(desk, reader_of, folder)
-            print(f"a list of 100,000 keys has {size / 1e6:.1f} MB, {packed / 1e6:.1f} packed; the first view stood after "
-                  f"{first:.2f} s, a letter showed within {letters[-1]:.0f} ms")
+            print(f"a list of 100,000 keys has {size / 1e6:.1f} MB, {packed / 1e6:.1f} packed; the first view stood "
+                  f"after {first:.2f} s, a letter showed within {letters[-1]:.0f} ms")
     return f"{count} requests of {len(readers)} pages are the register's, as the pages said; the console is empty"
 
 

@@ -100,8 +100,32 @@ def focused(reader, page):
     expect(came == list(range(len(places))), f"{page}: Tab goes {came}, of {len(places)} parts: {places}")
 
 
-def looked_at(reader, pages, folder=None):
-    """Looks at each page at three widths, light and dark and printed; a picture of each goes into the folder."""
+def looked_at(reader, page, folder=None):
+    """Looks at the page as it stands at three widths, light and dark and printed; a picture of each goes into the
+    folder, and the page as it goes to a printer."""
+    as_seen(reader, 1000)
+    parts = named(reader, page)
+    focused(reader, page)
+    for width in WIDTHS:
+        for dark, printed in ((False, False), (True, False), (False, True)):
+            as_seen(reader, width, dark=dark, printed=printed)
+            where = f"{page} at {width}{' dark' * dark}{' printed' * printed}"
+            faint = reader.run(FAINT)
+            expect(not faint, f"{where}: faint are {faint[:5]}")
+            wide = reader.run("return document.scrollingElement.scrollWidth - window.innerWidth")
+            expect(wide <= 0, f"{where}: it is {wide} pixels wider than the screen")
+            if folder:
+                picture(reader, os.path.join(folder, where.replace(" ", "-") + ".png"))
+    as_seen(reader, 1000)
+    if folder:
+        reader.driver.execute_cdp_cmd("Emulation.setEmulatedMedia", {"media": ""})
+        paper = reader.driver.execute_cdp_cmd("Page.printToPDF", {"paperWidth": 8.27, "paperHeight": 11.69})
+        pathlib.Path(folder, f"{page}.pdf").write_bytes(base64.b64decode(paper["data"]))
+    return parts
+
+
+def all_pages(reader, pages, folder=None):
+    """Looks at each page."""
     parts = 0
     for page, address in pages.items():
         reader.open("find")
@@ -111,20 +135,7 @@ def looked_at(reader, pages, folder=None):
             # All forms at once, which a reader has one by one.
             reader.run("document.querySelectorAll('details').forEach((one) => {"
                        "one.removeAttribute('name'); one.open = true; })")
-        as_seen(reader, 1000)
-        parts += named(reader, page)
-        focused(reader, page)
-        for width in WIDTHS:
-            for dark, printed in ((False, False), (True, False), (False, True)):
-                as_seen(reader, width, dark=dark, printed=printed)
-                where = f"{page} at {width}{' dark' * dark}{' printed' * printed}"
-                faint = reader.run(FAINT)
-                expect(not faint, f"{where}: faint are {faint[:5]}")
-                wide = reader.run("return document.scrollingElement.scrollWidth - window.innerWidth")
-                expect(wide <= 0, f"{where}: it is {wide} pixels wider than the screen")
-                if folder:
-                    picture(reader, os.path.join(folder, where.replace(" ", "-") + ".png"))
-    as_seen(reader, 1000)
+        parts += looked_at(reader, page, folder)
     return parts
 
 
@@ -144,7 +155,8 @@ def unfiltered(raw, width):
         for place in range(size):
             left, up = row[place - 3] if place > 2 else 0, above[place]
             corner = above[place - 3] if place > 2 else 0
-            guess = min((abs(up - corner), 0, left), (abs(left - corner), 1, up), (abs(left + up - 2 * corner), 2, corner))[2]
+            guess = min((abs(up - corner), 0, left), (abs(left - corner), 1, up),
+                        (abs(left + up - 2 * corner), 2, corner))[2]
             row[place] = (row[place] + (0, left, up, (left + up) // 2, guess)[way]) & 255
         rows.append(bytes(row))
         above = row
@@ -170,7 +182,8 @@ def put_in_few_colours(place):
     raw = b"".join(b"\0" + bytes(codes[row[at:at + 3]] for at in range(0, 3 * width, 3)) for row in rows)
     made = [(b"IHDR", struct.pack(">IIBBBBB", width, height, 8, 3, 0, 0, 0)), (b"PLTE", b"".join(colours)),
             (b"IDAT", zlib.compress(raw, 9)), (b"IEND", b"")]
-    told = [struct.pack(">I", len(data)) + name + data + struct.pack(">I", zlib.crc32(name + data)) for name, data in made]
+    told = [struct.pack(">I", len(data)) + name + data + struct.pack(">I", zlib.crc32(name + data))
+            for name, data in made]
     pathlib.Path(place).write_bytes(given[:8] + b"".join(told))
 
 
@@ -203,6 +216,24 @@ def many(file, count=KEYS):
         connection.commit()
 
 
+LETTER = """const [box, text, done] = arguments; const begun = performance.now();
+box.value = text; box.dispatchEvent(new Event("input", {bubbles: true}));
+requestAnimationFrame(() => setTimeout(() => done(performance.now() - begun)));"""
+
+
+def letter_times(reader):
+    """The milliseconds of each letter on a page that comes anew. Other work of the machine takes its time too: the best
+    of some pages counts."""
+    reader.reload()
+    reader.wait(lambda: f"{KEYS} of {KEYS} keys" in reader.text(), "the list does not come", 60)
+    box = reader.one("input[type='search']")
+    texts = ("h", "ha", "hall 9", "rack 7 team-3", "zzz", "", "5")
+    told = [reader.driver.execute_async_script(LETTER, box, text) for text in texts]
+    reader.open("register")
+    reader.open("find")
+    return told
+
+
 def large(desk, reader_of, folder):
     """A list of 100,000 keys: its bytes, the first view, and a letter of the search. keyreg serves its own register."""
     file = os.path.join(folder, "large.keyreg")
@@ -218,12 +249,7 @@ def large(desk, reader_of, folder):
     packed = reader.run("return performance.getEntriesByType('resource')"
                         ".find((one) => one.name.endsWith('list.json')).encodedBodySize")
     expect(packed <= 8_000_000, f"the list has {packed} bytes packed")
-    box, letters = reader.one("input[type='search']"), []
-    script = """const [box, text, done] = arguments; const begun = performance.now();
-        box.value = text; box.dispatchEvent(new Event("input", {bubbles: true}));
-        requestAnimationFrame(() => setTimeout(() => done(performance.now() - begun)));"""
-    for text in ("h", "ha", "hall 9", "rack 7 team-3", "zzz", "", "5"):
-        letters.append(reader.driver.execute_async_script(script, box, text))
+    letters = min((letter_times(reader) for _ in range(3)), key=max)
     for given in ({"state": "Active"}, {"days": "100"}, {"owner": "team-7.of.the.office@example"}, {"waits": "1"}):
         reader.open("register")
         begun = time.monotonic()
@@ -237,4 +263,4 @@ def large(desk, reader_of, folder):
     return reader, size, packed, first, sorted(letters)
 
 
-__all__ = ["By", "large", "looked_at", "picture"]
+__all__ = ["By", "all_pages", "large", "looked_at", "picture"]

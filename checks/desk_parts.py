@@ -25,7 +25,9 @@ try:
     from selenium import webdriver
     from selenium.common.exceptions import StaleElementReferenceException, WebDriverException
     from selenium.webdriver.chrome.service import Service
+    from selenium.webdriver.common.action_chains import ActionChains
     from selenium.webdriver.common.by import By
+    from selenium.webdriver.common.keys import Keys
     from selenium.webdriver.support.select import Select
 except ImportError:
     sys.exit("FAILED: selenium is not here: apt-get install chromium chromium-driver python3-selenium nginx-light")
@@ -320,4 +322,4 @@ class Reader:
         self.driver.quit()
 
 
-__all__ = ["By", "Desk", "Line", "PASSWORDS", "Reader", "in_memory"]
+__all__ = ["ActionChains", "By", "Desk", "Keys", "Line", "PASSWORDS", "Reader", "in_memory"]

@@ -6,9 +6,9 @@
 Its tables of types, commands, reasons, refusals and members are compared with the document's. Then N requests are
 drawn, 10,000 where nothing is said, of all commands in states that requests before them made. Each is judged by
 desk/rules.js under node, with what a page would know: the key, the periods and the latest moment. Where it makes a
-judgement, it has to be what checks/rules.py says, with the limit, the counts and the state that it tells, and the key
-afterwards has to be the same, date by date; likewise its state and its usage at that moment. Some hundreds more are put
-to the program itself.
+judgement, it has to be what examples/register_rules.py says, with the limit, the counts and the state that it tells,
+and the key afterwards has to be the same, date by date; likewise its state and its usage at that moment. Some hundreds
+more are put to the program itself.
 
 It needs node 18 or later (Debian's `nodejs`). Build the program first: ./keyreg </dev/null
 """
@@ -24,8 +24,9 @@ import subprocess
 import tempfile
 from datetime import datetime, timezone
 
-from registers import expect, keyreg
-from rules import NAMES, PERIODS, Refused, Register, line, reply_line, request_object
+from answers import MEMBERS, reply_line, request_object, shown, usage
+from registers import STATES, expect, keyreg
+from register_rules import PERIODS, RANGES, REFUSALS, WHO, Refused, Register, Request, line
 
 TOP = pathlib.Path(__file__).resolve().parent.parent
 DAY, FIRST = 86400, 1_700_000_000
@@ -115,12 +116,24 @@ def look_at_tables(tables):
         if name == "MEMBERS":
             found = {word: sorted(members) for word, members in found.items()}
         expect(found == value, f"{name} of desk/rules.js is\n  {found}\nand of the document\n  {value}")
-    expect(len(refusals) == 21 and refusals == {str(number): name for number, name in NAMES.items()}, "refusals")
+    look_at_rules(wanted)
     most = {"LAST_MOMENT": 253402300799, "GREATEST_NUMBER": 9007199254740991, "MOST_KEYS": 1000000}
     for name, value in most.items():
         expect(tables[name] == value and str(value) in text, f"{name} is {tables[name]}")
     expect("up to 16 *custodians*" in text and tables["MOST_CUSTODIANS"] == 16, "custodians")
     return len(wanted)
+
+
+def look_at_rules(wanted):
+    """Compares the tables of examples/register_rules.py, and the members of checks/answers.py, with the document."""
+    found = {"STATES": list(STATES.values())[1:], "PERIODS": {kind: list(months) for kind, months in PERIODS.items()},
+             "REFUSALS": {str(number): name for number, name in enumerate(REFUSALS, 1)},
+             "MEMBERS": {word: sorted(members) for word, members in MEMBERS.items()},
+             "RANGES": {form: list(RANGES[form]) for form in wanted["RANGES"]}}
+    for name, value in found.items():
+        expect(value == wanted[name], f"{name} of the rules is\n  {value}\nand of the document\n  {wanted[name]}")
+    who = {word: {"who": who, "states": [STATES[state] for state in states]} for word, (who, states) in WHO.items()}
+    expect(all(wanted["COMMANDS"][word] == told for word, told in who.items()), f"WHO of the rules is {who}")
 
 
 def members_of(text):
@@ -184,7 +197,7 @@ def drawn(chance, count, register_size=60):
             register, moment = Register(), FIRST
         moment += chance.choice([0, 0, 1, 60, DAY, 30 * DAY, -1])
         # Now and then one that is just reached, of any date of a key.
-        dates = [(date, place) for place, key in enumerate(register.keys[-9:], max(len(register.keys) - 8, 1))
+        dates = [(date, place) for place, key in list(register.keys.items())[-9:]
                  for date in (key.activation, key.stop, key.end)
                  if date is not None and register.latest <= date < register.latest + 999 * DAY]
         command = drawn_command(chance, moment, len(register.keys))
@@ -195,29 +208,20 @@ def drawn(chance, count, register_size=60):
         named = command[1] if command[0] not in ("register", "set-period", "advance") else None
         caller = chance.choice(PEOPLE)
         # Most come from somebody who may send them.
-        key = register.keys[named - 1] if named and named <= len(register.keys) else None
+        key = register.keys.get(named)
         if command[0] == "set-period" and chance.random() < 0.7:
             caller = "office"
         elif key and chance.random() < 0.75:
             people = sorted(key.custodians) if command[0] in ("approve", "withdraw") else [key.owner]
             caller = chance.choice(people or [caller])
-        yield register, moment, caller, number, command, key
-
-
-def full_key(register, moment, key):
-    """A key's members as they would be shown at a moment."""
-    latest, register.latest = register.latest, moment
-    shown = register.shown(register.keys.index(key) + 1)
-    register.latest = latest
-    return shown
+        yield register, moment, caller, number, command, named if key else None
 
 
 def asked(register, moment, caller, command, key):
     """What a page knows, with which it judges."""
-    shown = full_key(register, register.latest, key) if key else None
     return {"command": request_object(command), "caller": caller, "moment": moment, "latest": register.latest,
-            "key": shown,
-            "periods": {kind: months for kind, months in register.periods.items() if months != PERIODS[kind]},
+            "key": shown(register, key) if key else None,
+            "periods": {kind: months for kind, months in register.set_periods.items() if months != PERIODS[kind]},
             "count": len(register.keys)}
 
 
@@ -226,14 +230,13 @@ def wanted_of(register, moment, caller, number, command, key):
     state = {"shown": None}
     if key:
         latest, register.latest = register.latest, moment
-        place = register.keys.index(key) + 1
-        state["shown"] = {"state": key.state(moment), "usage": register.usage(place)}
+        state["shown"] = {"state": STATES[register.keys[key].state(moment)], "usage": usage(register, key)}
         register.latest = latest
     try:
-        named, _, _ = register.apply(moment, caller, number, command)
+        named = register.answer(Request(moment, caller, number, command)).key_no
     except Refused as refused:
-        return {"told": {"refused": refused.number, "name": NAMES[refused.number], **refused.told}, **state}
-    after = register.shown(named) if named else None
+        return {"told": {"refused": refused.number, "name": refused.name, **refused.told}, **state}
+    after = shown(register, named) if named else None
     if command[0] == "register":
         del after["number"]
     return {"told": {"key": after}, **state}
@@ -316,7 +319,7 @@ def main():
     tables = look_at_tables(node("tables")[0])
     forms = look_at_forms()
     counts = judge_drawn(chance, words.requests)
-    never = set(NAMES.values()) - set(counts)
+    never = set(REFUSALS) - set(counts)
     print(", ".join(f"{name} {count}" for name, count in counts.most_common()))
     expect(counts["accepted"] > words.requests / 5, f"only {counts['accepted']} were accepted")
     # A page never judges that a number was used; and the ranges, a full register and the seventeenth name are rare.

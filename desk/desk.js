@@ -118,8 +118,9 @@ function keptLine({number, body, caller, cause, times}) {
     : cause ? `${cause[0].toUpperCase()}${cause.slice(1)} (${times} ${times === 1 ? "time" : "times"}). `
       + `It is sent again under its number ${number}, and acts once.`
       : `It is sent under the number ${number}.`;
-  return el("div", {class: "waiting"}, el("p", {}, el("strong", {}, "Not answered yet: "), commandText(command)),
-    el("p", {}, told),
+  return el("div", {class: "waiting", id: `waiting-${number}`},
+    el("p", {}, el("strong", {}, "Not answered yet: "), commandText(command)),
+    el("p", {class: "told"}, told),
     cause && isMine ? el("button", {type: "button", onclick: sendNow}, "Send it again now") : null,
     cause || !isMine ? el("button", {type: "button", onclick: () => {
       giveUp(number);
@@ -128,14 +129,27 @@ function keptLine({number, body, caller, cause, times}) {
     }}, "Give it up") : null);
 }
 
+// A line that is there already gets its new words alone: its buttons stay, and with them the focus of who is at one.
+function putKept() {
+  const lines = kept().map((entry) => {
+    const made = keptLine(entry), there = place(made.id);
+    if (there?.childElementCount !== made.childElementCount) return made;
+    there.querySelector(".told").replaceChildren(...made.querySelector(".told").childNodes);
+    return there;
+  });
+  const shows = [...place("kept").children];
+  if (lines.length !== shows.length || lines.some((line, turn) => line !== shows[turn])) replace(place("kept"), lines);
+}
+
 let later = 0;
 
 // A request that is answered at once is not told: the line would flicker.
 function showKept() {
   clearTimeout(later);
-  const put = () => replace(place("kept"), kept().map(keptLine));
-  if (kept().some(({cause, caller}) => cause || caller !== desk.me) || !kept().length) put();
-  else later = setTimeout(put, 400);
+  const waiting = kept();
+  document.body.classList.toggle("busy", isBusy || waiting.length > 0);
+  if (waiting.some(({cause, caller}) => cause || caller !== desk.me) || !waiting.length) putKept();
+  else later = setTimeout(putKept, 400);
 }
 
 // ---- pages

@@ -70,6 +70,6 @@ export function cards(heads, rows, given, caption) {
     content);
   return el("table", {role: "table", ...given, class: "cards"}, caption ? el("caption", {}, caption) : null,
     el("thead", {role: "rowgroup"}, el("tr", {role: "row"}, heads.map((head) =>
-      el("th", {scope: "col", role: "columnheader"}, head)))),
+      el("th", {scope: "col", role: "columnheader", class: head === "Act" ? "act" : null}, head)))),
     el("tbody", {role: "rowgroup"}, rows.map((cells) => el("tr", {role: "row"}, cells.map(cell)))));
 }

@@ -4,7 +4,7 @@ import {commandForm} from "./forms.js";
 import {found, keyAt, known, list, owners, periods, waiting} from "./list.js";
 import {now} from "./register.js";
 import {OFFICE, PERIODS, STATES} from "./rules.js";
-import {away, state, utcText} from "./words.js";
+import {away, counted, state, utcText} from "./words.js";
 
 const SHOWN = 50;
 
@@ -121,11 +121,11 @@ export function waitsPage(place, desk) {
     el("p", {class: "hint"},
       "Keys whose destruction you may approve as a custodian, and have not. Those with most approvals come first."),
     approves.length
-      ? keyTable(withState(approves.slice(0, 200)), at, `${approves.length} keys`, act("approve", "Approve"))
+      ? keyTable(withState(approves.slice(0, 200)), at, counted(approves.length, "key"), act("approve", "Approve"))
         : el("p", {}, "None."),
-    el("h2", {}, "For your destruction"),
+    el("h2", {}, "Yours to destroy"),
     el("p", {class: "hint"}, "Keys of yours that have the approvals they need. Open one to destroy it."),
-    destroys.length ? keyTable(withState(destroys.slice(0, 200)), at, `${destroys.length} keys`)
+    destroys.length ? keyTable(withState(destroys.slice(0, 200)), at, counted(destroys.length, "key"))
       : el("p", {}, "None."));
 }
 

@@ -5,9 +5,9 @@ import {judgement} from "./forms.js";
 import {sameAs} from "./list.js";
 import {drawn, kept} from "./register.js";
 import {PERIODS, isName, isPurpose} from "./rules.js";
-import {momentOf, refusalText} from "./words.js";
+import {COLUMNS, WHOLE, changes, seems} from "./sheet.js";
+import {counted, momentOf, refusalText} from "./words.js";
 
-const COLUMNS = ["type", "owner", "activation", "protect_stop", "deactivation", "purpose"];
 const DATES = COLUMNS.slice(2, 5);
 const TAKEN = "keyreg.table", SHOWN = 200, MOST_BYTES = 20_000_000;
 
@@ -65,21 +65,21 @@ function rowsOf(bytes) {
 
 // ---- the judgement of a row
 
-const whole = /^\d{4}-\d\d-\d\dT\d\d:\d\d:\d\dZ$/;
-
-// Why the register would refuse a row for its form.
+// Why the register would refuse a row for its form: of each field that it would, its name and the words.
 function formFaults(row) {
-  if (row.length !== COLUMNS.length) return [`it has ${row.length} fields, and not six`];
+  if (row.length !== COLUMNS.length) return [["", `it has ${row.length} fields, and not six`]];
   const [type, owner, , , , purpose] = row, told = [];
-  if (!Object.hasOwn(PERIODS, type)) told.push(`type is ${plain(type)}, which is none of the seven`);
-  if (!isName(owner)) told.push(`owner is ${plain(owner)}, which is no name`);
+  if (!Object.hasOwn(PERIODS, type)) told.push(["type", `type is ${plain(type)}, which is none of the seven`]);
+  if (!isName(owner)) told.push(["owner", `owner is ${plain(owner)}, which is no name`]);
   DATES.forEach((name, place) => {
     const date = row[place + 2];
-    if (date !== ""
-      && (!whole.test(date)
-        || momentOf(date) === null)) told.push(`${name} is ${plain(date)}, and not YYYY-MM-DDTHH:MM:SSZ`);
+    if (date !== "" && (!WHOLE.test(date) || momentOf(date) === null)) {
+      told.push([name, `${name} is ${plain(date)}, and not YYYY-MM-DDTHH:MM:SSZ`]);
+    }
   });
-  if (!isPurpose(purpose)) told.push("purpose is empty, too long, or has a space at an end or a control character");
+  if (!isPurpose(purpose)) {
+    told.push(["purpose", "purpose is empty, too long, or has a space at an end or a control character"]);
+  }
   return told;
 }
 
@@ -91,12 +91,39 @@ function commandOf([type, owner, activation, stop, end, purpose]) {
 
 function judgedRow(row, caller) {
   const faults = formFaults(row);
-  if (faults.length) return {sort: "wrong", told: faults.join("; ")};
+  if (faults.length) return {sort: "wrong", faults, told: ""};
   const command = commandOf(row), told = judgement(command, {caller});
-  if (told?.refused) return {sort: "refused", told: refusalText(told, command)};
+  if (told?.refused) return {sort: "refused", faults, told: `would be refused: ${refusalText(told, command)}`};
   const number = sameAs(command);
-  if (number) return {sort: "twice", told: `it is key ${number} as it stands, and this makes a second one`};
-  return {sort: "good", told: "would be accepted"};
+  if (number) return {sort: "twice", faults, told: `it is key ${number} as it stands, and this makes a second one`};
+  return {sort: "good", faults, told: "would be accepted"};
+}
+
+// What is told of a row, with what a spreadsheet did to the key that it came from, or seems to have done to a field.
+function withChange({sort, faults, told}, row, change) {
+  const isBarred = faults.length > 0, hints = new Map(COLUMNS.map((name, column) =>
+    [name, sort === "twice" ? "" : seems(name, row[column] ?? "")]).filter(([, hint]) => hint));
+  if (change) {
+    const {number, fields} = change, names = change.told.map(([column]) => COLUMNS[column]);
+    const lines = change.told.map(([column, how]) =>
+      `${COLUMNS[column]} was ${plain(fields[column])} and is ${plain(row[column])}: ${how}`);
+    const others = faults.filter(([name]) => !names.includes(name)).map(([, fault]) => fault);
+    const end = sort === "refused" ? [told] : [];
+    const all = [...lines, ...others, ...end].join("; ");
+    return {sort: "changed", isBarred, told: `changed by a spreadsheet: of key ${number} ${all}`};
+  }
+  const lines = faults.map(([name, fault]) => (hints.has(name) ? `${fault}: ${hints.get(name)}` : fault));
+  if (isBarred) return {sort, isBarred, told: `of another form: ${lines.join("; ")}`};
+  if (!hints.size) return {sort, isBarred, told};
+  const seen = [...hints].map(([name, hint]) => `${name} is ${plain(row[COLUMNS.indexOf(name)])}: ${hint}`);
+  return {sort: "changed", isBarred, told: `changed by a spreadsheet, as it seems: ${[...seen, told].join("; ")}`};
+}
+
+function judgedRows(rows, caller) {
+  const judged = rows.map((row) => judgedRow(row, caller));
+  const isAsIs = rows.map((row, place) => !judged[place].faults.length && sameAs(commandOf(row)) > 0);
+  const changed = changes(rows, isAsIs);
+  return judged.map((one, place) => withChange(one, rows[place], changed[place]));
 }
 
 // ---- what is taken in. It is kept over a reload, with the number of its first row once it is sent.
@@ -123,7 +150,7 @@ function stored() {
 
 // `answers` has of each row what was said to it: [1, key], [0, words], or null where nothing was yet.
 function take(name, rows, desk) {
-  const judged = rows.map((row) => judgedRow(row, desk.me));
+  const judged = judgedRows(rows, desk.me);
   const isSent = judged.map(({sort}) => sort === "good");
   taken = {name, rows, judged, isSent, first: null, answers: rows.map(() => null), caller: desk.me, isKept: true};
   taken.isKept = save();
@@ -166,18 +193,19 @@ export function tableAnswer(answer, command) {
 // ---- the page
 
 function rowLine(place) {
-  const {sort, told} = taken.judged[place], answer = taken.answers[place], row = taken.rows[place];
+  const {sort, isBarred, told} = taken.judged[place], answer = taken.answers[place], row = taken.rows[place];
   const said = !answer ? told : answer[0] ? ["accepted: ", el("a", {href: `#key/${answer[1]}`}, `key ${answer[1]}`)]
     : ["refused: ", answer[1]];
   const check = el("input", {type: "checkbox", "aria-label": `send row ${place + 1}`, checked: taken.isSent[place],
-    disabled: sort === "wrong" || answer || taken.first !== null, onchange: (event) => {
+    disabled: sort === "wrong" || isBarred || answer || taken.first !== null, onchange: (event) => {
       taken.isSent[place] = event.target.checked;
       save();
     }});
-  return el("tr", {id: `row-${place}`, class: answer ? (answer[0] ? "accepted" : "refused") : sort},
-    el("td", {}, check),
-    el("th", {scope: "row"}, String(place + 1)), el("td", {}, shown(row.join(", ").slice(0, 300))),
-      el("td", {class: "said"}, said));
+  return el("tr", {role: "row", id: `row-${place}`, class: answer ? (answer[0] ? "accepted" : "refused") : sort},
+    el("td", {role: "cell", class: "send"}, check),
+    el("th", {role: "rowheader", scope: "row"}, String(place + 1)),
+    el("td", {role: "cell", class: "fields"}, shown(row.join(", ").slice(0, 300))),
+    el("td", {role: "cell", class: "said"}, said));
 }
 
 function counts() {
@@ -195,7 +223,7 @@ function givenBack() {
   const rows = notTaken(), text = csvOf(rows);
   const link = el("a", {download: `not-registered-${taken.name.replace(/[^A-Za-z0-9._-]/g, "_")}`, class: "button",
     href: URL.createObjectURL(new Blob([text], {type: "text/csv"}))},
-      `Take back ${rows.length} rows that are not registered`);
+      `Take back ${counted(rows.length, "row")} not registered`);
   return rows.length ? el("p", {}, link) : null;
 }
 
@@ -220,7 +248,7 @@ function table(place, desk) {
       isGoing = false;
     }}, "Stop")
       : [isDone && wanted ? null : el("button", {type: "button", class: "send", disabled: wanted === 0, onclick: go},
-      answered ? "Go on" : `Send ${wanted} rows`), el("button", {type: "button", onclick: () => {
+      answered ? "Go on" : `Send ${counted(wanted, "row")}`), el("button", {type: "button", onclick: () => {
       taken = null;
       save();
       tablePage(place, desk);
@@ -239,16 +267,18 @@ function table(place, desk) {
   const rows = taken.rows.slice(0, SHOWN).map((_, row) => rowLine(row));
   ended();
   replace(place, el("h1", {}, "Take in a table"),
-    el("p", {}, shown(taken.name), `: ${taken.rows.length} rows: ${told("good")} would be accepted, `
-    + `${told("refused")} refused, ${told("wrong")} are of another form, ${told("twice")} are there already`),
+    el("p", {}, shown(taken.name), `: ${counted(taken.rows.length, "row")}, judged before they are sent: `
+    + `${told("good")} would be accepted, ${told("refused")} refused, ${told("wrong")} of another form, `
+    + `${told("twice")} there already, ${told("changed")} changed by a spreadsheet`),
   taken.isKept ? null
     : el("p", {class: "note"},
       "It is too large to be kept over a reload of this page: do not reload it before the rows are sent."),
   buttons, progress, back,
-    el("div", {class: "wide results", onchange: ended}, el("table", {class: "rows"}, el("caption", {},
-    taken.rows.length > SHOWN ? `The first ${SHOWN} rows` : "The rows"),
-      el("thead", {}, el("tr", {}, ["Send", "Row", "Fields", "What is said to it"]
-    .map((head) => el("th", {scope: "col"}, head)))), el("tbody", {}, rows))));
+    el("div", {class: "wide results", onchange: ended}, el("table", {role: "table", class: "rows"},
+      el("caption", {}, taken.rows.length > SHOWN ? `The first ${SHOWN} rows` : "The rows"),
+      el("thead", {role: "rowgroup"}, el("tr", {role: "row"}, ["Send", "Row", "Fields", "What is said to it"]
+        .map((head) => el("th", {role: "columnheader", scope: "col"}, head)))),
+      el("tbody", {role: "rowgroup"}, rows))));
 }
 
 export function tablePage(place, desk) {

@@ -51,6 +51,9 @@ export function moment(value, now) {
 
 // ---- keys and commands
 
+// A count with its word.
+export const counted = (count, word) => `${count} ${word}${count === 1 ? "" : "s"}`;
+
 const MARKS = {"Pre-Active": "◇", "Active": "●", "Deactivated": "◐", "Compromised": "▲", "Destroyed": "✕",
   "Destroyed-Compromised": "⊗"};
 
@@ -149,8 +152,8 @@ export function refusalText(answer, command) {
   const texts = {
     1: "The register takes the request for none: a field has a value that it cannot have.",
     2: "Under this request's number you have an accepted request with another command. This one did nothing.",
-    3: `The register is at ${answer.latest === undefined ? "a later moment" : utcText(answer.latest)} already, after the `
-      + "machine's clock. Wait until then, or tell whoever runs it that a clock was wrong.",
+    3: `The register is at ${answer.latest === undefined ? "a later moment" : utcText(answer.latest)} already, after `
+      + "the machine's clock. Wait until then, or tell whoever runs it that a clock was wrong.",
     4: `There is no key ${command.key}.`,
     5: "Only the owner of the key may do this, and you are not.",
     6: "Only a custodian of the key may do this, and you are not.",
