@@ -55,12 +55,17 @@ from measuring import built, measured, measured_behind, table  # noqa: E402
 from opened import opened  # noqa: E402
 from registers import EXPORT_COLUMNS, EXPORT_DATES, IMPORT_COLUMNS, INDEXES, STATES, TABLES, TYPES  # noqa: E402
 from registers import UNSET, VERSION  # noqa: E402
-from registers import all_rows, expect, keyreg, show  # noqa: E402
-from rules import PERIODS, is_long  # noqa: E402
+from registers import all_rows, columns_of, expect, keyreg, show  # noqa: E402
+from register_rules import PERIODS, is_long, state_at  # noqa: E402
 
+# The cells of an export that are no column of `keys` of the same name, in SQL. What the text of such a cell is made of
+# stands in CELL_TEXTS too, unless it is a text or a number.
+CELLS = {"type": "kind"}
+expect(set(EXPORT_COLUMNS) <= {*columns_of("keys"), *CELLS}, f"{set(EXPORT_COLUMNS) - {*columns_of('keys'), *CELLS}}: "
+       "columns of an export that `keys` has not: CELLS of bench/tables.py has to say what they are in SQL")
 # What is read of the keys, by the bare program and by Python.
 SELECTS = {
-    "export": f"SELECT {', '.join(EXPORT_COLUMNS).replace('type', 'kind')} FROM keys ORDER BY number",
+    "export": f"SELECT {', '.join(CELLS.get(column, column) for column in EXPORT_COLUMNS)} FROM keys ORDER BY number",
     "report": "SELECT number, protect_stop, kind, owner, purpose FROM keys WHERE state = 2 AND protect_stop <= ?1 "
     "ORDER BY protect_stop, number",
 }
@@ -106,14 +111,9 @@ def ends_at(place):
     return (UNSET, LATEST - 10, LATEST - 20) if place % 16 == 12 else (UNSET, UNSET, UNSET)
 
 
-def state_at(moment, activation, deactivation, destroyed=UNSET, compromised=UNSET):
-    if destroyed != UNSET:
-        return 5 if compromised == UNSET else 6
-    if compromised != UNSET:
-        return 4
-    if activation > moment:
-        return 1
-    return 3 if deactivation <= moment else 2
+def state_of(moment, *cells):
+    """The state by the cells of Activation, Deactivation, Destroy and Compromise."""
+    return state_at(moment, *(None if cell == UNSET else cell for cell in cells))
 
 
 def registrations(keys):
@@ -127,7 +127,7 @@ def key_rows(keys):
     for place, (kind, owner, *dates, text) in enumerate(registrations(keys)):
         activation, _, deactivation = dates
         destroyed, compromised, occurrence = ends_at(place)
-        state = state_at(LATEST, activation, deactivation, destroyed, compromised)
+        state = state_of(LATEST, activation, deactivation, destroyed, compromised)
         yield place + 1, kind, owner, text, state, MADE, *dates, destroyed, compromised, occurrence
 
 
@@ -138,7 +138,7 @@ def command(kind, owner, activation, stop, deactivation, text):
 
 def request_rows(keys):
     for number, (kind, owner, *dates, text) in enumerate(registrations(keys), 1):
-        state = state_at(MADE, dates[0], dates[2])
+        state = state_of(MADE, dates[0], dates[2], UNSET, UNSET)
         yield "ann", number, command(kind, owner, *dates, text), number, state, MADE
 
 
@@ -194,7 +194,7 @@ def listed_rows(connection, until):
     for *row, activation, deactivation in connection.execute(DATED, (UNSET - 1,)):
         _, stop, kind, *_ = row
         dates = (None if date == UNSET else date for date in (activation, stop, deactivation))
-        if stop <= until or is_long(periods[kind], *dates):
+        if stop <= until or is_long(dates, periods[kind]):
             yield row
 
 
@@ -391,7 +391,7 @@ def write_inputs(folder, keys):
         for number, (kind, owner, *dates, text) in enumerate(registrations(keys), 1):
             rows.writerow((TYPES[kind], owner, *map(date_text, dates), text))
             lines.write(f"{LATEST} ann {number} {command(kind, owner, *dates, text)}\n")
-            replies.write(f"ok {number} {STATES[state_at(LATEST, dates[0], dates[2])]} {LATEST}\n")
+            replies.write(f"ok {number} {STATES[state_of(LATEST, dates[0], dates[2], UNSET, UNSET)]} {LATEST}\n")
     return names
 
 

@@ -1,6 +1,7 @@
 #!/usr/bin/env python3
 """Runs each command of docs/AUDIT.md in a folder of its own and compares what it prints with what
-stands there. Then the views of examples/audit.sql are compared with the rules of checks/rules.py:
+stands there. Then the views of examples/audit.sql are compared with the rules of
+examples/register_rules.py:
 each key's state and usage, and what is due with what `keyreg report` writes. Of a file of version 1
 each view answers what it does of the same file in version 2.
 
@@ -20,8 +21,9 @@ import subprocess
 import sys
 import tempfile
 
-from registers import PROGRAM, expect, keyreg
-from rules import Register, command_of, reply_line
+from answers import reply_line
+from registers import PROGRAM, STATES, expect, keyreg
+from register_rules import Register, command_of
 
 TOP = pathlib.Path(__file__).resolve().parent.parent
 PAGE = TOP / "docs" / "AUDIT.md"
@@ -56,12 +58,10 @@ def look_at_views(folder):
     for moment, caller, number, command in requests:
         reply = reply_line(register, int(moment), caller, int(number), command_of(command))
         expect(reply.startswith("ok "), f"{command} is refused: {reply}")
-    numbers = range(1, len(register.keys) + 1)
-    wanted = []
-    for number in numbers:
-        usage = register.usage(number)
-        protects = "yes" if usage["protect"] else "no"
-        wanted.append([str(number), register.shown(number)["state"], protects, usage["process"]])
+    wanted, latest = [], register.latest
+    for number, key in register.keys.items():
+        protects = "yes" if key.protects(latest) else "no"
+        wanted.append([str(number), STATES[key.state(latest)], protects, key.processes(latest)])
     found = asked(file, "SELECT number, state, protects, processes FROM standing ORDER BY number")
     expect(found == wanted, f"standing is {found}, not {wanted}")
     lines = keyreg(["report", "--file", os.path.join(folder, "year.keyreg"), "--days", str(DAYS)])
@@ -69,7 +69,7 @@ def look_at_views(folder):
     found = ["  ".join([f"{n:>7}", stop, f"{mark:7}", f"{kind:22}", owner, purpose])
              for n, stop, mark, kind, owner, purpose in due]
     expect(found == lines[1:-1], f"due is {found}, not {lines[1:-1]}")
-    return len(requests), len(numbers)
+    return len(requests), len(wanted)
 
 
 def look_at_version_1(folder):

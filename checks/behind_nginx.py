@@ -3,8 +3,8 @@
 user who sent it, whatever `Caller` it bears: another user than `office` gets NotOffice. Who has no password, and who names
 another host, is refused by nginx, and nothing of it reaches the register. A client that stalls holds up nobody. Without nginx
 the register takes the same requests, with a foreign host and a forged name, as docs/OPERATING.md says; what a browser asks
-before it sends another page's request it refuses. The desk, the user's name and the list are for users alone, and the desk
-comes with its content policy.
+before it sends another page's request it refuses. The desk, the user's name and the list are for users alone, and the
+desk comes with its content policy.
 
     checks/behind_nginx.py
 
@@ -62,8 +62,9 @@ class Guard:
         self.list_folder = os.path.join(folder, "list")
         os.mkdir(self.list_folder)
         text = CONF.read_text(encoding="ascii")
-        for old, new in (("8420", str(register_port)), ("8421", str(self.port)), ("/etc/nginx/keyreg.users", f"{folder}/users"),
-                         ("/usr/local/share/keyreg/desk", str(DESK)), ("/var/lib/keyreg-list", self.list_folder)):
+        for old, new in (("8420", str(register_port)), ("8421", str(self.port)),
+                         ("/etc/nginx/keyreg.users", f"{folder}/users"), ("/usr/local/share/keyreg/desk", str(DESK)),
+                         ("/var/lib/keyreg-list", self.list_folder)):
             expect(old in text, f"no {old} in {CONF.name}")
             text = text.replace(old, new)
         users = "".join(f"{name}:{{PLAIN}}{word}\n" for name, word in (words or USERS).items())

@@ -16,8 +16,8 @@ import subprocess
 import threading
 import time
 
+from answers import compact, request_object
 from registers import expect, keyreg, show
-from rules import compact, request_object
 from serving import Served
 
 # A key that is Active, and is so to the end of the check: a report of this many days lists it.

@@ -11,7 +11,8 @@ parts, all but the last where none is named:
     promises   each name in docs/PROMISES.md is one of the code; each function that it or a table of
                README.md names with clauses has these; each law stands there with each of its
                clauses; no cell there has more than 25 words
-    paths      each path and link of a document leads to a file, and an anchor to a heading
+    paths      each path and link of a document leads to a file, and an anchor to a heading; what it
+               has installed of examples/ comes with what that imports from beside it
     calls      each call in the example of a crate's src/lib.rt is that of a function of ours with
                as many arguments
     commands   the commands of README.md, docs/OPERATING.md and docs/AUDIT.md, one after the other
@@ -22,6 +23,8 @@ parts, all but the last where none is named:
     pictures   README's picture of the states has the transitions of docs/SPECIFICATION.md,
                docs/costs.svg the figures of docs/COSTS.md, and the graph of docs/ARCHITECTURE.md
                the arrows of crates.txt; what its pictures name is a function or a crate
+    theorem    docs/THEOREM.md has the theorem and each definition on which it stands, as the sources have
+               them, and each document that says how many there are has that figure (checks/theorem.py)
     look       README's first look, which `rt try` answers without a proof, in a copy of the sources; it takes
                minutes
 
@@ -37,6 +40,7 @@ import sys
 
 import commands
 import sources
+import theorem
 from sources import TOP, listed, read
 
 QUOTED = re.compile(r"`([^`\n]+)`")
@@ -259,8 +263,19 @@ def is_there(path):
     return any(file == path or file.endswith("/" + path) for file in all_files())
 
 
+def install_faults():
+    """Programs of examples/ that are to be installed without what they import from beside them."""
+    for path in [*documents(), *listed("examples/*.service")]:
+        for command in re.findall(r"\binstall (?:[^\n\\]|\\\n)*examples/(?:[^\n\\]|\\\n)*", read(path)):
+            given = set(re.findall(r"examples/(\w+)\.py", command))
+            for name in sorted(given):
+                modules = re.findall(r"(?m)^(?:from|import) (\w+)", read(f"examples/{name}.py"))
+                yield from (f"{path}: {name}.py is installed without {module}.py" for module in modules
+                            if module not in given and os.path.exists(os.path.join(TOP, f"examples/{module}.py")))
+
+
 def path_faults():
-    faults, count = [], 0
+    faults, count = list(install_faults()), 0
     for document in documents():
         for number, line in numbered(document):
             links = re.findall(r"\]\(([^)\s]+)\)|^\[[^\]]+\]: (\S+)", line)
@@ -452,7 +467,7 @@ def look_faults():
 
 PARTS = {"words": missing_words, "promises": promise_faults, "paths": path_faults,
          "calls": call_faults, "commands": output_faults, "stale": stale_faults,
-         "pictures": picture_faults, "look": look_faults}
+         "pictures": picture_faults, "theorem": theorem.faults, "look": look_faults}
 # Those that are run where none is named: the others take minutes.
 SHORT = [part for part in PARTS if part != "look"]
 

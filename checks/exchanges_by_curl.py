@@ -4,7 +4,7 @@ cannot make them: the status line, each header and the body are compared byte fo
 
     checks/exchanges_by_curl.py [--full] [--ab] [--stalls] [--bound SECONDS]
 
-What is expected comes of the rules as checks/rules.py states them, which are first put to worked rows of
+What is expected comes of the rules as examples/register_rules.py states them, which are first put to worked rows of
 docs/SPECIFICATION.md; nothing is taken from the program but the second at which it served, which has to lie within the
 exchange. Each difference is printed, and a last line says how many exchanges agreed; the status is 1 where not all did.
 After each part the file's own tables are read by SQLite and compared too.
@@ -31,21 +31,38 @@ import sys
 import threading
 import time
 
+from answers import (
+    BAD, LENGTH_REQUIRED, MEMBERS, NO_ROUTE, STORE, TOO_LARGE, compact, get_reply, not_allowed, post_reply, reply_line,
+    request_object,
+)
+from day import SHORT
 from exchanges_in_bulk import by_ab, full
 from office import (
     ADVANCE, ANN, DAY, Ended, FAR, INTERFACE, MOST_BODY, MOST_FIELDS, MOST_HEAD, Office, YEAR,
     get, head, post, with_a_key,
 )
 from registers import expect
-from rules import (
-    BAD, GREATEST_NUMBER, LAST, LENGTH_REQUIRED, MEMBERS, NO_ROUTE, STORE, TOO_LARGE, Register,
-    compact, get_reply, line, not_allowed, post_reply, reply_line, request_object,
-)
+from register_rules import ACTIVE, DEACTIVATED, FORMS, GREATEST_NUMBER, LAST, Register, line
 from rules_tried import look_at_rules
 from serving import Served, listens
 
 
 # ---- the parts
+
+
+def day_of_every_command():
+    """The short day, each command of it accepted: its dates are to come by the clock, as they are by its moments."""
+    later = int(time.time()) + DAY - SHORT[0].request.moment
+    with Served() as served:
+        office = Office("a day", served)
+        for place, (request, *_) in enumerate(SHORT):
+            is_date = [request.word in ("register", "set") and form in ("date", "edit") for form in FORMS[request.word]]
+            values = [value + later if moves and isinstance(value, int) else value
+                      for moves, value in zip(is_date, request.command[1:])]
+            way = ("curl", "python", "raw")[place % 3]
+            office.post(request.caller, request.number, (request.word, *values), None, way)
+            office.get(request.named or 1)
+        office.look_at_tables()
 
 
 def commands():
@@ -176,7 +193,7 @@ def commands():
         ways = ["curl", "curl", "raw", "curl", "python", "bytes"]
         for place, (caller, number, command, said) in enumerate(asked):
             office.post(caller, number, command, said, ways[place % len(ways)])
-            if len(command) > 1 and command[0] not in ("register", "set-period") and command[1] <= len(office.register.keys):
+            if len(command) > 1 and command[1] in office.register.keys:
                 office.get(command[1], ways[place % 5])
         for key in range(1, len(office.register.keys) + 2):
             office.get(key)
@@ -185,12 +202,12 @@ def commands():
         office.post("ann", 40, ("register", "master", "bob", now + 2, None, now + 4, "soon"))
         key = len(office.register.keys)
         office.get(key)
-        for number, state in ((41, "Active"), (42, "Deactivated")):
+        for number, state in ((41, ACTIVE), (42, DEACTIVATED)):
             time.sleep(max(0, now + (2 if number == 41 else 4) - time.time()) + 0.05)
             office.get(key)
             office.post("ann", number, ("advance",))
             office.get(key)
-            expect(office.register.keys[key - 1].state(office.register.latest) == state, "the clock and the rules differ")
+            expect(office.register.keys[key].state(office.register.latest) == state, "the clock and the rules differ")
         office.look_at_tables()
 
 
@@ -440,12 +457,8 @@ def lengths_and_callers():
         office.look_at_tables()
 
 
-# A good command of each kind, of callers that may give it while the key is Pre-Active.
-SAMPLES = [
-    ("register", "master", "bob", 5, 6, 7, "spare"), ("activate", 1), ("set", 1, 5, 6, 7), ("revoke", 1, 2, 5), ("assign", 1, "bob"),
-    ("add-custodian", 1, "cat"), ("remove-custodian", 1, "cat"), ("approve", 1), ("withdraw", 1), ("destroy", 1), ("advance",),
-    ("set-quorum", 1, 3), ("set-period", "master", 6, 7),
-]
+# A good command of each kind: the last one of the day, whose revocation is for compromise.
+SAMPLES = list({asked.request.word: asked.request.command for asked in SHORT}.values())
 # What no member may be; a number is written into the text as it stands here.
 NO_MOMENT = [
     "1.0", "1e0", "5E2", "-0", "-1", "253402300800", "18446744073709551616", "1" * 40, "true", "[]", "{}", '"5"', '""', '"Keep"',
@@ -509,7 +522,7 @@ def bodies():
                 refused(f"{kind} with a member more", body_text({**sample, name: "1"}))
                 refused(f"{kind} with a member more", body_text({name: "null", **sample}))
         for name in ("activation", "protect_stop", "deactivation"):
-            sample = {name: json.dumps(value) for name, value in request_object(SAMPLES[0]).items()}
+            sample = {name: json.dumps(value) for name, value in request_object(SHORT[0].request.command).items()}
             refused("register keeps nothing", body_text({**sample, name: '"keep"'}))
         for reason in (1, 4, 5, 6, 7):
             refused("an occurrence without a compromise", compact({"kind": "revoke", "key": 1, "reason": reason, "occurrence": 5}))
@@ -716,8 +729,8 @@ def main():
     right = examples - len(wrong)
     print(f"{right} of {examples} examples of docs/openapi.yaml are in the specification", flush=True)
     for part in [
-        commands, late, routes_and_methods, heads, lengths_and_callers, bodies, own_end, refused_store, left_clients,
-        several_at_once,
+        day_of_every_command, commands, late, routes_and_methods, heads, lengths_and_callers, bodies, own_end,
+        refused_store, left_clients, several_at_once,
     ]:
         before = Office.sent
         try:

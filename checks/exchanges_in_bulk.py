@@ -4,9 +4,10 @@ import shutil
 import sqlite3
 import subprocess
 
+from answers import UNKNOWN, compact, refusal_reply, reply, request_object
 from office import ADVANCE, Office, post, with_a_key
 from registers import INDEXES, TABLES, UNSET, VERSION
-from rules import UNKNOWN, compact, plus_months, refusal_reply, reply, request_object
+from register_rules import plus_months
 from serving import Served
 
 

@@ -14,6 +14,7 @@ import os
 import pathlib
 import pty
 import re
+import select
 import shutil
 import signal
 import struct
@@ -169,7 +170,7 @@ class Copy:
         return begun.returncode, wrote, said
 
     def on_terminal(self, columns, at=None):
-        """The same of a call on a terminal, at which Ctrl-C is pressed once `at` holds."""
+        """The same of a call on a terminal; Ctrl-C is pressed once `at` holds and a line tells how far it is."""
         given, written = self.told / "given", self.told / "written"
         given.write_text(GIVEN, encoding="utf-8")
         process, terminal = pty.fork()
@@ -178,10 +179,13 @@ class Copy:
             os.dup2(os.open(given, os.O_RDONLY), 0)
             os.dup2(os.open(written, os.O_WRONLY | os.O_CREAT | os.O_TRUNC), 1)
             os.execve(self.words[0], self.words, self.environ)
-        if at:
-            until(at)
-            os.write(terminal, b"\x03")
         said = b""
+        if at:
+            end = time.monotonic() + 30
+            while not (at() and re.search(rb"keyreg: \d", said)) and time.monotonic() < end:
+                if select.select([terminal], [], [], 0.01)[0]:
+                    said += os.read(terminal, 4096)
+            os.write(terminal, b"\x03")
         # Reading ends with the last process that writes to the terminal.
         with contextlib.suppress(OSError):
             while part := os.read(terminal, 4096):

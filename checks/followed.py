@@ -1,9 +1,9 @@
 #!/usr/bin/env python3
 """A standby follows a register by examples/follow.py. While the register takes one request after the other, calls are
 begun and killed at random, some with the program that they called and some without it. After each kill the standby is
-a register of the first requests: its rows are those that checks/rules.py gives for so many. After a last call, which
-is let go on to its end, it has the rows of the register in each table, and the same export. What is no standby of the
-register is told, and left as it is.
+a register of the first requests: its rows are those that examples/register_rules.py gives for so many. After a last
+call, which is let go on to its end, it has the rows of the register in each table, and the same export. What is no
+standby of the register is told, and left as it is.
 
     checks/followed.py [--lines N] [--kills N] [--longest SECONDS] [--seed N]
 
@@ -24,7 +24,7 @@ import time
 
 from drawn_registers import DAY, FULL, HOSTILE, changed, drawn, first_version, made, rows_of
 from registers import PROGRAM, expect, keyreg, show
-from rules import Refused, Register, request_of
+from register_rules import OF_VERSION_2, Refused, Register, request_of
 from rules_shown import tables
 
 TOP = pathlib.Path(__file__).resolve().parent.parent
@@ -111,7 +111,7 @@ def holds_prefix(looks, lines):
     for line in ["", *lines]:
         try:
             if line:
-                register.apply(*request_of(line))
+                register.answer(request_of(line))
         except Refused:
             continue
         for found in by_count.pop(len(register.kept), ()):
@@ -159,8 +159,7 @@ def killed_at_random(folder, lines, kills, longest, chance):
 
 def of_both_versions(folder, chance):
     """A standby of a file of version 1 has its requests, in a file of version 2."""
-    later = ("set-period", "set-quorum")
-    lines = [line for line in drawn(chance, 60, (0, DAY), HOSTILE) if line.split(" ")[3] not in later]
+    lines = [line for line in drawn(chance, 60, (0, DAY), HOSTILE) if line.split(" ")[3] not in OF_VERSION_2]
     first, standby = first_version(made(folder, "first", lines)[0]), os.path.join(folder, "of_first.keyreg")
     status, told = followed(first, standby)
     expect(status == 0 and rows_of(standby)["request"] == rows_of(first)["request"], f"of version 1: {status}, {told}")

@@ -47,16 +47,18 @@ class Part(NamedTuple):
 
 # Those that keep both cores come first, then the longest.
 PARTS = (
-    Part("want_of_memory.py", 360, cores=2),
+    Part("want_of_memory.py", 600, cores=2),
     Part("power_cuts.py --points 60 --choices 1", 120, cores=2),
     Part("exchanges_by_curl.py --bound 20", 120),
     Part("first_build.py", 120),
     Part("large_office.py", 120),
     Part("words.py", 90),
     Part("copied_while_served.py --seconds 15", 90),
+    Part("desk_in_browser.py --least", 180),
     Part("killed_migrations.py 16", 90),
     Part("killed_runs.py 20", 90),
     Part("documents.py", 90),
+    Part("every_command.py", 30),
     Part("read_export.py", 30),
     Part("given.py", 30),
     Part("manual.py", 30),
@@ -67,10 +69,11 @@ PARTS = (
 # What the scripts call, by the Debian package that has it. Those of one command stand together:
 # the compiler needs the headers of the C library.
 COMMANDS = {
-    "bash": "bash", "cmp": "diffutils", "curl": "curl", "gcc": "gcc libc6-dev",
-    "groff": "groff-base", "mandoc": "mandoc", "sqlite3": "sqlite3", "strace": "strace",
+    "bash": "bash", "chromedriver": "chromium-driver", "chromium": "chromium", "cmp": "diffutils",
+    "curl": "curl", "gcc": "gcc libc6-dev", "groff": "groff-base", "mandoc": "mandoc",
+    "nginx": "nginx-light", "sqlite3": "sqlite3", "strace": "strace",
 }
-MODULES = {"jsonschema": "python3-jsonschema", "yaml": "python3-yaml"}
+MODULES = {"jsonschema": "python3-jsonschema", "selenium": "python3-selenium", "yaml": "python3-yaml"}
 # Debian's modules belong to its own interpreter.
 INTERPRETERS = (sys.executable, "/usr/bin/python3")
 
@@ -87,9 +90,14 @@ def missing_modules(python: str) -> list[str]:
     return [module for module in MODULES if not shutil.which(python) or not has(module)]
 
 
+def has_command(name: str) -> bool:
+    """Whether a command is there. Those of services stand where not everybody's PATH leads."""
+    return bool(shutil.which(name) or shutil.which(name, path="/usr/sbin"))
+
+
 def missing() -> dict[str, str]:
     """What is not there, each with its package."""
-    found = {name: package for name, package in COMMANDS.items() if not shutil.which(name)}
+    found = {name: package for name, package in COMMANDS.items() if not has_command(name)}
     if all(missing_modules(python) for python in INTERPRETERS):
         found |= {name: MODULES[name] for name in missing_modules(INTERPRETERS[-1])}
     return found
@@ -100,7 +108,8 @@ def install(packages: list[str]) -> None:
     if os.geteuid() != 0 or not shutil.which("apt-get"):
         return
     print("gate: installs", *packages, flush=True)
-    told = {**os.environ, "DEBIAN_FRONTEND": "noninteractive"}
+    # Without a service that starts, as nginx would on the port of others.
+    told = {**os.environ, "DEBIAN_FRONTEND": "noninteractive", "RUNLEVEL": "1"}
     for words in (["update"], ["install", "--yes", "--no-install-recommends", *packages]):
         subprocess.run(["apt-get", "--quiet", "--quiet", *words], env=told, check=False,
                        stdin=subprocess.DEVNULL, stdout=sys.stderr)

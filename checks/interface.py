@@ -16,7 +16,8 @@ except ImportError as missing:
     sys.exit(f"FAILED: {missing.name} is not installed: pip install openapi-spec-validator; "
              "or Debian's python3-jsonschema and python3-yaml, with /usr/bin/python3")
 
-from rules import MEMBERS, compact, line
+from answers import MEMBERS, compact
+from register_rules import command_text
 
 DOCS = pathlib.Path(__file__).resolve().parent.parent / "docs"
 MOST_PURPOSE = 200
@@ -41,10 +42,10 @@ def whole_number(text):
     return no_number(text) if text == "-0" else int(text)
 
 
-def command_text(value):
+def text_of_body(value):
     """The text that the command of a JSON body has in a request line."""
     values = ["=" if value[name] == "keep" else value[name] for name in MEMBERS[value["kind"]]]
-    return line(0, "-", 1, (value["kind"], *values)).split(" ", 3)[3]
+    return command_text((value["kind"], *values))
 
 
 class Interface:
@@ -134,7 +135,7 @@ class Interface:
                 wrong = self.wrong(media["schema"], value)
                 text = f"`{compact(value).decode()}`"
                 if media is self.body and not wrong:
-                    text = f" {command_text(value)}`"
+                    text = f" {text_of_body(value)}`"
                 if wrong or text not in texts:
                     told.append(f"the example {name}: {wrong or 'it is not in the specification'}")
         return told, number

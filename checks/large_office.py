@@ -1,13 +1,14 @@
 #!/usr/bin/env python3
-"""Registers of some size, in both versions: every command and every call over them gives what the rules of checks/rules.py
-give. A program that gives up past some number of keys, needs, rows or requests is seen here: no contract can refuse an end
-that comes too early.
+"""Registers of some size, in both versions: every command and every call over them gives what the rules of
+examples/register_rules.py give. A program that gives up past some number of keys, needs, rows or requests is seen here:
+no contract can refuse an end that comes too early.
 
     checks/large_office.py [--rows N]
 
-An office has 150 keys of all types, 1 to 16 custodians on most of them, needs of 2 to 5, a period set for each type, and more
-than 600 requests. Its register is made by the program, and once more from a file of version 1 that SQLite's library wrote. Each
-is opened, exported, reported, served, imported into, asked behind its last key, and read by SQLite. Then one of 1100 keys is
+An office has 150 keys of all types, 1 to 16 custodians on most of them, needs of 2 to 5, a period set for each type,
+and more than 1600 requests; every tenth key goes through the day on which each command is accepted (checks/day.py). Its
+register is made by the program, and once more from a file of version 1 that SQLite's library wrote. Each is opened,
+exported, reported, served, imported into, asked behind its last key, and read by SQLite. Then one of 1100 keys is
 imported at once, and one of so many rows as --rows says, 100000 where nothing is said.
 
 It needs Linux. Build the program first: ./keyreg </dev/null
@@ -24,9 +25,11 @@ import tempfile
 import time
 from typing import Any, Iterator
 
+from answers import compact, get_reply, post_reply, reply_line, request_object
+from day import SHORT
 from registers import FIRST_TABLES, INDEXES, PROGRAM, TYPES
 from registers import all_rows, are_sound, expect, in_memory, keyreg, put_rows, show
-from rules import PERIODS, Register, compact, get_reply, line, post_reply, reply_line, request_object
+from register_rules import FORMS, PERIODS, Register, line
 from rules_shown import DAY, export_text, import_table, report_text, tables
 from serving import Served
 
@@ -55,7 +58,7 @@ class Office:
         self.replies.append(reply)
 
     def owner(self, key: int) -> str:
-        return self.register.keys[key - 1].owner
+        return self.register.keys[key].owner
 
     def accepted(self) -> list[tuple[str, str]]:
         """The lines that were accepted, which are answered the same when they come again."""
@@ -134,7 +137,7 @@ def activated(office: Office, key: int) -> None:
 
 def destroyed(office: Office, key: int) -> None:
     """As many approvals as the key's need, the last of them after a refusal; then the destruction."""
-    wanted = office.register.keys[key - 1].need
+    wanted = office.register.keys[key].need
     for place in range(wanted):
         if place == wanted - 1:
             office.ask(office.owner(key), "destroy", key, said=f"refused 18 ApprovalsMissing have={place} need={wanted}")
@@ -142,8 +145,23 @@ def destroyed(office: Office, key: int) -> None:
     office.ask(office.owner(key), "destroy", key)
 
 
+def lived(office: Office, key: int) -> None:
+    """What the day's first key goes through once registered, by this key's Activation, and what is about no key."""
+    _, _, activation, *_ = SHORT[0].request.values
+    apart = office.register.keys[key].activation - activation
+    for request in (asked.request for asked in SHORT if asked.request.named == 1 or asked.reply.startswith("ok 0 ")):
+        values = [value + apart if form == "edit" and isinstance(value, int) else value
+                  for form, value in zip(FORMS[request.word], request.command[1:])]
+        if request.named:
+            values[0] = key
+        caller = office.owner(key) if request.caller == "bob" else request.caller
+        office.ask(caller, request.word, *values)
+
+
 def later_requests(office: Office) -> None:
     """What version 2 added: a period for each type, a need for most keys, and sixteen custodians."""
+    for key in range(2, KEYS + 1, 10):
+        lived(office, key)
     for place, kind in enumerate(PERIODS):
         office.ask("office", "set-period", kind, (3, 1200, 18, 36, 7, 24, 12)[place], (0, 1200, 5, 36, 1, 0, 12)[place])
     for key in range(1, KEYS + 1):
@@ -227,11 +245,11 @@ def shown(served: Served, register: Register, key: int) -> None:
 def posts(register: Register) -> Iterator[tuple]:
     """Requests over HTTP: destructions of keys of each need, a new key, and some at the last key."""
     for key in (10, 20, 30, 40):
-        yield register.keys[key - 1].owner, 9000 + key, ("destroy", key)
+        yield register.keys[key].owner, 9000 + key, ("destroy", key)
     last = len(register.keys)
     yield "zed", 9000, ("register", "master", "zed", None, None, None, "one more")
     yield "zed", 9001, ("add-custodian", last + 1, "ann")
-    yield register.keys[last - 1].owner, 9002, ("set-quorum", last, 5)
+    yield register.keys[last].owner, 9002, ("set-quorum", last, 5)
     yield "zed", 9003, ("destroy", last + 2)
 
 
@@ -254,7 +272,7 @@ def behind(office: Office, register: Register) -> tuple[list[str], list[str]]:
     """Lines at the last keys, and behind them."""
     lines, replies = [], []
     for number, key in enumerate(range(len(register.keys) - 40, len(register.keys) + 1), 20_000):
-        owner = register.keys[key - 1].owner
+        owner = register.keys[key].owner
         for request in ((FAR, owner, number, ("assign", key, f"late-{key}")), (FAR, "zed", number, ("revoke", key, 2, None))):
             lines.append(line(*request))
             replies.append(reply_line(register, *request))
@@ -351,6 +369,31 @@ def look_at_rows_of_import(file: str, count: int, keys: int) -> None:
     expect(len(found) == keys + 1 and found[-1].startswith(f"{keys},master,bob,"), f"an export of {len(found)} lines, {found[-1]}")
 
 
+def look_at_far_keys(file: str, count: int) -> None:
+    """Requests, keys and usages at the first key of an import of so many, at the last ones, and about the 65536th."""
+    register, rows = Register(), [("master", "bob", None, None, None, f"key {place}") for place in range(1, count + 1)]
+    for place, row in enumerate(rows, 1):
+        reply_line(register, 100, "importer", place, ("register", *row))
+    keys = sorted({1, *(key for key in (65535, 65536, 65537) if key < count), count - 1, count, count + 1})
+    lines, replies = [], []
+    for key in keys:
+        commands = (("bob", "set-quorum", key, 2), ("bob", "add-custodian", key, "ann"),
+                    ("bob", "add-custodian", key, "cy"), ("bob", "activate", key), ("bob", "revoke", key, 1, None),
+                    ("ann", "approve", key), ("cy", "approve", key), ("bob", "destroy", key))
+        for caller, *command in commands:
+            request = (200 + len(lines), caller, 1 + len(lines), tuple(command))
+            lines.append(line(*request))
+            replies.append(reply_line(register, *request))
+    told = collections.Counter(reply.split()[0] for reply in replies)
+    expect(told == {"ok": 8 * len(keys) - 8, "refused": 8}, f"the rules say {told}")
+    in_order(keyreg(["run", "--file", file], lines), replies, f"keys {keys}")
+    with Served(exchanges=2 * len(keys), file=file) as served:
+        for key in keys:
+            shown(served, register, key)
+        ended = served.ended()
+    expect(ended is None, f"serve: {ended}")
+
+
 def main() -> None:
     words = argparse.ArgumentParser()
     words.add_argument("--rows", type=int, default=100_000)
@@ -362,9 +405,11 @@ def main() -> None:
         office = look_at_versions(folder)
         show("imports")
         look_at_import(os.path.join(folder, "imported"))
-        look_at_rows_of_import(os.path.join(folder, "rows"), told.rows, told.rows if memory else min(told.rows, 3000))
+        keys, file = told.rows if memory else min(told.rows, 3000), os.path.join(folder, "rows")
+        look_at_rows_of_import(file, told.rows, keys)
+        look_at_far_keys(file, keys)
     show()
-    ends = collections.Counter(key.need for key in office.register.keys if key.destroyed is not None)
+    ends = collections.Counter(key.need for key in office.register.keys.values() if key.destroyed is not None)
     expect(set(ends) == {2, 3, 4, 5}, f"destroyed keys by need: {ends}")
     print(f"{len(office.lines)} requests over {KEYS} keys in both versions, imports of {len(ROWS)}, 1100 and {told.rows} rows: all by the rules, "
           f"in {time.monotonic() - begun:.0f} s")

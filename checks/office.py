@@ -5,9 +5,11 @@ import sqlite3
 import subprocess
 import time
 
+from answers import get_reply, post_reply, request_object
 from interface import Interface
-from registers import STATES, VERSION, expect
-from rules import Register, get_reply, line, post_reply, request_object
+from registers import all_rows, expect
+from register_rules import Register, Request, line
+from rules_shown import tables
 
 DAY, YEAR = 86400, 365 * 86400
 MOST_HEAD, MOST_FIELDS, MOST_BODY = 8192, 64, 65536
@@ -157,23 +159,11 @@ class Office:
         """Ends the program and compares the tables with the rules' register."""
         self.served.process.kill()
         self.served.process.wait()
-        register = self.register
-        codes = {state: code for code, state in STATES.items()}
         connection = sqlite3.connect(self.served.file)
-        found = connection.execute("SELECT caller, number, command, key_no, state, moment FROM request").fetchall()
-        wanted = []
-        for (caller, number), (command, (key, state, moment)) in register.kept.items():
-            text = line(moment, caller, number, command).split(" ", 3)[3]
-            wanted.append((caller, number, text, key, codes[state or "-"], moment))
-        if sorted(found) != sorted(wanted):
-            self.fail(f"{self.name}: the kept requests\n    are       {sorted(found)}\n    should be {sorted(wanted)}")
-        found = connection.execute("SELECT * FROM meta").fetchall()
-        if found != [(1, VERSION, register.latest, len(register.keys))]:
-            self.fail(f"{self.name}: meta is {found}, latest {register.latest}, keys {len(register.keys)}")
-        found = connection.execute("SELECT number, state, owner FROM keys ORDER BY number").fetchall()
-        wanted = [(n, codes[key.state(register.latest)], key.owner) for n, key in enumerate(register.keys, 1)]
-        if found != wanted:
-            self.fail(f"{self.name}: the keys\n    are       {found}\n    should be {wanted}")
+        found, wanted = all_rows(connection), tables(self.register)
+        for name, rows in wanted.items():
+            if found[name] != rows:
+                self.fail(f"{self.name}: table {name}\n    is        {found[name]}\n    should be {rows}")
         connection.close()
 
 
@@ -200,5 +190,5 @@ def with_a_key():
     """A register with one key, Active."""
     register = Register()
     request = (100, "bob", 1, ("register", "data-encryption", "bob", None, None, None, "payroll disks"))
-    register.apply(*request)
+    register.answer(Request(*request))
     return register, [line(*request)]

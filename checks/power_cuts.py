@@ -4,11 +4,12 @@ next opening finds exactly the register of the answered requests, or of one more
 
     checks/power_cuts.py [--choices N] [--points N] [--seed N] [--forgets]
 
-strace records the calls of a creation, a day of all thirteen commands, a file of version 1 that is taken to version 2, an import
-that is long enough for the log to be copied into the database on the way, and exchanges. checks/disk_cuts.py says what a disk may
-hold: each file all old, all new or all noise, and N choices at random, 4 where nothing is said; --points bounds the points that are
-tried of each recording, 300 where nothing is said. The program opens each pair of files, SQLite's library reads the rows, and
-checks/rules.py says which they are to be. Of every eighth pair all requests are sent again: each has its first reply, and acts once.
+strace records the calls of a creation, a day of all commands (checks/day.py), a file of version 1 that is taken to
+version 2, an import that is long enough for the log to be copied into the database on the way, and exchanges.
+checks/disk_cuts.py says what a disk may hold: each file all old, all new or all noise, and N choices at random, 4 where
+nothing is said; --points bounds the points that are tried of each recording, 300 where nothing is said. The program
+opens each pair of files, SQLite's library reads the rows, and examples/register_rules.py says which they are to be. Of
+every eighth pair all requests are sent again: each has its first reply, and acts once.
 
 A disk that keeps what it synced has to lose nothing. A second one, that takes every second sync for done and forgets it, has to be
 found out, or this check sees nothing. --forgets tries that one alone, which fails.
@@ -30,43 +31,28 @@ import tempfile
 import time
 from typing import Any, Callable, NamedTuple, Optional
 
+from answers import compact, reply_line, request_object
+from day import SHORT
 from disk_cuts import AT_RANDOM, EXTREMES, PARTS, Choice, Disk, Event, events_of, put, recorded, traced
 from registers import FIRST_TABLES, INDEXES, PROGRAM, all_rows, are_sound, expect, in_memory, keyreg, put_rows, show
-from rules import Register, compact, line, reply_line, request_object
+from register_rules import OF_VERSION_2, Register, Request, line
 from rules_shown import Rows, import_table, tables
 from serving import PATIENCE, free_port, listens, received
 
 PROCESSES = 2
 # Of so many pairs of files one is given all requests again.
 AGAIN = 8
-Request = tuple[int, str, int, tuple]
 
-# Each of the thirteen commands, a repeat and refusals. Time moves the second key as the first one is worked at.
-DAY: list[Request] = [
-    (100, "ann", 1, ("register", "master", "bob", 1000, 2000, 2000, "root")),
-    (101, "ann", 2, ("register", "data-encryption", "eve", 105, 109, 112, "disks")),
-    (102, "bob", 1, ("add-custodian", 1, "cat")),
-    (103, "bob", 2, ("add-custodian", 1, "dan")),
-    (104, "cat", 1, ("approve", 1)),
-    (105, "cat", 2, ("withdraw", 1)),
-    (105, "cat", 2, ("withdraw", 1)),
-    (106, "bob", 3, ("remove-custodian", 1, "dan")),
-    (106, "bob", 4, ("destroy", 1)),
-    (107, "bob", 5, ("add-custodian", 1, "dan")),
-    (108, "cat", 3, ("approve", 1)),
-    (108, "dan", 1, ("approve", 1)),
-    (109, "bob", 6, ("set", 1, 1200, "=", "=")),
-    (110, "bob", 7, ("assign", 1, "fay")),
-    (111, "fay", 1, ("activate", 1)),
-    (112, "fay", 2, ("revoke", 1, 5, None)),
-    (112, "fay", 3, ("set-quorum", 1, 2)),
-    (113, "office", 1, ("set-period", "master", 24, 12)),
-    (114, "fay", 4, ("destroy", 1)),
-    (115, "zed", 1, ("advance",)),
-    (116, "zed", 2, ("revoke", 1, 2, 50)),
-]
-# What a file of version 1 has of the day, and what is asked of it then.
-FIRST, AFTER = DAY[:6], DAY[6:10] + DAY[16:18]
+# The short day, in which time moves the second key as the first one is worked at, with a repeat and a refusal behind
+# the first approval.
+DAY = [asked.request for asked in SHORT]
+APPROVED = next(place for place, request in enumerate(DAY, 1) if request.word == "approve")
+DAY[APPROVED:APPROVED] = [DAY[APPROVED - 1], Request(DAY[APPROVED - 1].moment, "bob", 99, ("destroy", 1))]
+# What a file of version 1 has of the day, and what is asked of it then: the repeat, the refusal, and what it has not.
+FIRST = DAY[:APPROVED]
+AFTER = DAY[APPROVED:APPROVED + 4] + [request for request in DAY if request.word in OF_VERSION_2]
+# What is accepted of it at any moment of the clock.
+OF_CUSTODY = ("register", "add-custodian", "remove-custodian", "approve", "withdraw")
 # So many rows that the log is copied before the last is answered, which comes after a thousand of its frames.
 ROWS = [("master", "bob", None, None, None, f"key {place} " + "x" * 150) for place in range(1, 361)]
 
@@ -166,7 +152,7 @@ def migration(file: str) -> Recording:
 
 def long_import(file: str) -> Recording:
     keyreg(["init", "--file", file])
-    requests = [(100, "imp", number, ("register", *row)) for number, row in enumerate(ROWS, 1)]
+    requests = [Request(100, "imp", number, ("register", *row)) for number, row in enumerate(ROWS, 1)]
     words = ["import", "--file", file, "--moment", "100", "--caller", "imp", "--first", "1"]
     recording = record("import", file, words, import_table(ROWS).encode(), [], requests)
     last = max(place for place, event in enumerate(recording.events) if event.kind == "answered")
@@ -185,7 +171,7 @@ def asked(port: int, caller: str, number: int, command: tuple) -> bytes:
 
 def exchanges(file: str) -> Recording:
     """Requests over HTTP, at the moments that their replies tell."""
-    asks = [(caller, number, command) for _, caller, number, command in (*DAY[:1], *DAY[2:8], *DAY[9:12])]
+    asks = [request[1:4] for request in DAY if request.word in OF_CUSTODY]
     keyreg(["init", "--file", file])
     files, port, trace = files_of(file), free_port(), file + ".trace"
     words = [PROGRAM, "serve", "--file", file, "--port", str(port), "--exchanges", str(len(asks))]
@@ -200,7 +186,7 @@ def exchanges(file: str) -> Recording:
             replies.append(asked(port, *ask))
             told = b'"moment":'
             moment = int(replies[-1].split(told)[1].split(b",")[0]) if told in replies[-1] else begun
-            requests.append((moment, *ask))
+            requests.append(Request(moment, *ask))
             reply_line(register, moment, *ask)
         expect(served.wait(PATIENCE) == 0, "exchanges: the end")
     expect(all(reply.startswith(b"HTTP/1.1 200 ") for reply in replies), f"exchanges: {[reply[:20] for reply in replies]}")

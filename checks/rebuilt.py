@@ -4,10 +4,10 @@ with purposes that a terminal, a shell or a spreadsheet takes for something else
 many requests: given to `keyreg run` on a new file, the lines make the same rows in the same order in each table, and
 the same export.
 
-With --until the tables are those that checks/rules.py gives for the lines of that prefix. With --without each request
-that is said to be refused is refused by that name, each that is said to be answered otherwise is, and no other one.
-Rows that are no requests, one of which would be two lines, come through to no line. Of a damaged file what is whole
-comes. What cannot be read or written ends with its own status.
+With --until the tables are those that examples/register_rules.py gives for the lines of that prefix. With --without
+each request that is said to be refused is refused by that name, each that is said to be answered otherwise is, and no
+other one. Rows that are no requests, one of which would be two lines, come through to no line. Of a damaged file what
+is whole comes. What cannot be read or written ends with its own status.
 
     checks/rebuilt.py [--requests N] [--registers N] [--lines N] [--seed N]
 
@@ -28,7 +28,7 @@ import time
 
 from drawn_registers import DAY, FULL, HOSTILE, changed, drawn, first_version, made, rows_of
 from registers import PROGRAM, STATES, expect, keyreg, show
-from rules import Refused, Register, request_of
+from register_rules import OF_VERSION_2, Refused, Register, request_of
 from rules_shown import tables
 
 TOP = pathlib.Path(__file__).resolve().parent.parent
@@ -90,9 +90,9 @@ def prefixes(folder, copy, lines, chance):
         register = Register()
         for line in lines:
             request = request_of(line)
-            if request[0] <= until:
+            if request.moment <= until:
                 try:
-                    register.apply(*request)
+                    register.answer(request)
                 except Refused:
                     pass
         status, given, told = rebuilt(copy, "--until", str(until))
@@ -241,7 +241,7 @@ def main():
             show(f"{place} of {words.registers} registers")
             steps, is_first = STEPS[place // 2 % len(STEPS)], place % 2
             lines = list(drawn(chance, words.lines, steps, HOSTILE))
-            lines = [line for line in lines if not is_first or line.split(" ")[3] not in ("set-period", "set-quorum")]
+            lines = [line for line in lines if not is_first or line.split(" ")[3] not in OF_VERSION_2]
             copy, _ = made(folder, f"drawn_{place}", lines)
             copy = first_version(copy) if is_first else copy
             requests += whole(folder, copy)

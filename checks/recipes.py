@@ -1,5 +1,5 @@
 #!/usr/bin/env python3
-"""The recipes of CONTRIBUTING.md name what is there, and all that has to change.
+"""The recipes of docs/RECIPES.md name what is there, and all that has to change.
 
     checks/recipes.py
 
@@ -21,7 +21,7 @@ from typing import Iterator, NamedTuple
 TOP = pathlib.Path(__file__).resolve().parent.parent
 CRATES = {path.name: path for path in (TOP / "crates").iterdir()}
 QUOTED = re.compile(r"`([^`]+)`")
-PATH = re.compile(r"[\w./-]+\.(rt|antt|md|py|sh|txt|sql|js|conf|bash|zsh|fish)|\./\w+")
+PATH = re.compile(r"[\w./-]+\.(rt|antt|md|py|sh|txt|tsv|sql|js|conf|bash|zsh|fish)|\./\w+")
 FOLDER = re.compile(r"\w+(/\w+)*/|\w+(/\w+)+")
 ITEM = re.compile(r"[A-Za-z_][\w:]*(\(\))?")
 DOCUMENT = re.compile(r"\bdocs/[\w.]*\w|\bREADME\b")
@@ -42,18 +42,22 @@ class Kind(NamedTuple):
 
 # Whatever is added.
 ALWAYS = {
-    "the recipes": "CONTRIBUTING.md checks/recipes.py",
+    "the recipes": "docs/RECIPES.md checks/recipes.py",
+    "the page that checks/theorem.py makes": "docs/THEOREM.md",
     "wrong bodies, of which rt tells those whose lines changed": "crates/*/must-fail/*",
 }
 KINDS = (
     Kind("Add a command", r"\b[Ww]ithdraw\b", {
         "its refusal NoApproval": "*/CustodyRefusal.antt crates/register_core/src/decision.rt",
         "a day or a year of an office": "docs/AUDIT.md examples/year.txt checks/version_1.sql",
+        "what they look at beside the day": "checks/power_cuts.py checks/want_of_memory.py checks/large_office.py "
+                                            "checks/exchanges_by_curl.py",
     }),
     Kind("Add a command", r"\b(Activate|Assign|AddCustodian|Approve)\b", {
         "they stand for their shapes": "*/Commands.antt */command_with_key/*",
         "their refusals": "*/CustodyRefusal.antt crates/register_core/src/decision.rt",
-        "any command would do": "crates/test_desk_trials/src/desks.rt docs/COSTS.md",
+        "any command would do": "crates/test_desk_trials/src/desks.rt docs/COSTS.md "
+                                "checks/desk_keyboard.py checks/desk_screens.py",
     }),
     Kind("Add a shape of fields", r"\bTypeAndPeriod\b|type_and_period|\bDateEdits\b", {
         "the kinds that have it": "*/CommandKind.antt */command_fields.rt",
@@ -78,8 +82,9 @@ KINDS = (
         "what a period means for keys": "*/UnsetPeriods.antt */register_core/src/laws.rt */KeyRowsOf.antt */exports.rt "
                                         "*/ListedRows.antt bench/tables.py checks/rules_tried.py",
         "who the office is": "checks/behind_nginx.py checks/client_tried.py",
+        "what they look at beside the day": "checks/want_of_memory.py checks/large_office.py checks/mutated.py",
         "what comes of one that is left out": "docs/OPERATING.md",
-        "what version 1 has not": "checks/rebuilt.py checks/followed.py",
+        "what version 1 has not": "checks/rebuilt.py",
         "it came with version 2": "*/migrations.rt checks/migrated_by_sqlite3.py",
     }, ("Add a command", "Add a shape of fields", "Add a table")),
     Kind("Add a command of the program", r"Task::Report|\breport_file\b|keyreg report|\[\"report\"|\"report\":|"
@@ -199,7 +204,7 @@ def other_way(all_recipes: Recipes) -> tuple[list[str], int]:
 
 
 def main() -> int:
-    all_recipes = dict(recipes((TOP / "CONTRIBUTING.md").read_text()))
+    all_recipes = dict(recipes((TOP / "docs" / "RECIPES.md").read_text()))
     gone, paths, items = one_way(all_recipes)
     faults, count = other_way(all_recipes)
     print(*gone, *faults, sep="\n", end="\n" if gone or faults else "")

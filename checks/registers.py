@@ -1,5 +1,5 @@
-"""What the checks over files share: the program (the one that KEYREG names, if set), runs of it, and the tables of
-docs/SPECIFICATION.md."""
+"""What the checks over files share: the program (the one that KEYREG names, if set), runs of it, the tables of
+docs/SPECIFICATION.md, and the path to the rules, which stand in examples/register_rules.py alone."""
 import contextlib
 import os
 import shutil
@@ -7,16 +7,18 @@ import sqlite3
 import subprocess
 import sys
 
-PROGRAM = os.environ.get("KEYREG") or os.path.join(os.path.dirname(os.path.abspath(__file__)), "..", "crates", "keyreg", "out", "keyreg")
+TOP = os.path.join(os.path.dirname(os.path.abspath(__file__)), "..")
+sys.path.insert(0, os.path.join(TOP, "examples"))
+import register_rules  # noqa: E402
+
+PROGRAM = os.environ.get("KEYREG") or os.path.join(TOP, "crates", "keyreg", "out", "keyreg")
 
 # The texts of the key types by their codes, and of the states; 0 stands where a reply names no state.
-TYPES = {1: "data-encryption", 2: "authentication", 3: "key-wrapping", 4: "private-signature", 5: "private-authentication",
-         6: "private-transport", 7: "master"}
-STATES = {0: "-", 1: "Pre-Active", 2: "Active", 3: "Deactivated", 4: "Compromised", 5: "Destroyed",
-          6: "Destroyed-Compromised"}
+TYPES = dict(enumerate(register_rules.TYPES, 1))
+STATES = dict(enumerate(register_rules.STATES))
 
 # A date that is not set.
-UNSET = 253402300800
+UNSET = register_rules.UNSET
 
 # The version of the tables.
 VERSION = 2

@@ -74,8 +74,9 @@ REFUSED = [
     ("ApprovalsMissing", "eve", "destroy 3"), ("OccurrenceLater", "ann", "revoke 4 2 9999"),
     ("NotOffice", "ann", "set-period master 5 5"),
 ]
-NO_COMMANDS = ["Advance", "advance ", "activate 01", "activate 0", "approve  3", "revoke 4 5 7", "revoke 4 8 -",
-               "destroy 3 3", "set 4 = = +5", "set-quorum 3 6", "set-period master 0 0", "assign 3 b\u00f6b",
+NO_COMMANDS = ["Advance", "advance ", " advance", "advances 1", "activate 01", "activate 0", "approve  3",
+               "revoke 4 5 7", "revoke 4 8 -", "destroy 3 3", "set 4 = = +5", "set-quorum 3 6", "set-period master 0 0",
+               "assign 3 b\u00f6b",
                "register master bob - - - x ", "register master bob - - - a\tb", "register masters bob - - - x", ""]
 
 

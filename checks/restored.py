@@ -14,8 +14,8 @@ these bytes. Then
     backup
 
 What a trap comes to is told, and not held to anything but this: where the program says nothing, the rows of all tables
-are those that checks/rules.py gives for the requests that are there, or examples/replay.py finds it. The right way has
-to lead to the backup's rows at each length. Build the program first: ./keyreg </dev/null
+are those that examples/register_rules.py gives for the requests that are there, or examples/replay.py finds it. The
+right way has to lead to the backup's rows at each length. Build the program first: ./keyreg </dev/null
 """
 import argparse
 import collections
@@ -30,7 +30,7 @@ import tempfile
 
 from drawn_registers import rows_of
 from registers import PROGRAM, expect, keyreg, show
-from rules import Register, request_of
+from register_rules import Register, request_of
 from rules_shown import tables
 
 TOP = os.path.dirname(os.path.dirname(os.path.abspath(__file__)))
@@ -49,7 +49,7 @@ def rows_after(count):
     """The rows of each table after so many requests, by the rules."""
     register = Register()
     for place in range(1, count + 1):
-        register.apply(*request_of(line_at(place)))
+        register.answer(request_of(line_at(place)))
     return tables(register)
 
 

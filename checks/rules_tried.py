@@ -1,6 +1,10 @@
-"""The rules of rules.py, put to worked rows and to replies of the documents before anything is held to them."""
+"""The rules of examples/register_rules.py, put to worked rows and to replies of the documents before anything is held
+to them."""
+import contextlib
+
+from answers import compact, post_reply, reply_line, shown, usage
 from registers import expect
-from rules import LAST, Register, compact, post_reply, reply_line
+from register_rules import LAST, Register, Request, request_of
 
 WORKED_ROWS = [
     [((100, "ann", 1, ("register", "data-encryption", "bob", 0, 500, 1000, "payroll disks")), "ok 1 Active 100"),
@@ -56,7 +60,25 @@ WORKED_ROWS = [
 ]
 
 
+# Lines that are no request, by the rows *not a request*, *two spaces*, *refused to strangers* and *three approvals
+# asked for*, and by the bounds of the fields; of the last purpose a byte less would do.
+NO_REQUESTS = [
+    "253402300800 ann 1 advance", "0100 ann 1 advance", "100 ann 1  advance", "200 bob 1 revoke 1 5 100",
+    "108 bob 6 set-quorum 1 6", "108 bob 6 set-quorum 1 1", "100 ann 0 advance", "100 ann 9007199254740992 advance",
+    "100 a/b 1 advance", "100 ann 1 Advance", "100 ann 1 advance 1", "100 ann 1 activate 0",
+    "100 ann 1 activate 4294967296", "100 ann 1 revoke 1 8 -", "100 ann 1 set 1 = = 253402300800",
+    "100 office 1 set-period master 0 0", "100 office 1 set-period master 1 1201",
+    "100 ann 1 register Master bob - - - x",
+    f"100 ann 1 register master {'b' * 65} - - - x",
+    f"100 ann 1 register master bob - - - {'ü' * 100}x",
+]
+
+
 def look_at_rules():
+    for text in NO_REQUESTS:
+        with contextlib.suppress(ValueError):
+            expect(False, f"the rules take {text!r} as {request_of(text)}")
+    request_of(f"{LAST} {'a' * 64} 9007199254740991 register master bob - - - {'ü' * 100}")
     for row in WORKED_ROWS:
         register = Register()
         for request, wanted in row:
@@ -68,11 +90,11 @@ def look_at_rules():
     )
     expect(post_reply(Register(), 100, "ann", 1, ("advance",)) == wanted, "the rules' reply")
     register = Register()
-    register.apply(100, "ann", 1, ("register", "data-encryption", "bob", 0, None, None, "payroll disks"))
-    shown = (
+    register.answer(Request(100, "ann", 1, ("register", "data-encryption", "bob", 0, None, None, "payroll disks")))
+    wanted = (
         b'{"activation":0,"approvals":[],"compromised":null,"custodians":[],"deactivation":157766400,"destroyed":null,'
         b'"initial":100,"need":2,"number":1,"occurrence":null,"owner":"bob","protect_stop":63072000,'
         b'"purpose":"payroll disks","state":"Active","type":"data-encryption"}'
     )
-    expect(compact(register.shown(1)) == shown, "the rules' record")
-    expect(compact(register.usage(1)) == b'{"process":"yes","protect":true}', "the rules' usage")
+    expect(compact(shown(register, 1)) == wanted, "the rules' record")
+    expect(compact(usage(register, 1)) == b'{"process":"yes","protect":true}', "the rules' usage")

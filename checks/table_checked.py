@@ -236,4 +236,5 @@ def main():
           f"10000 rows took {taken:.1f} seconds, and 10000 changed ones {most:.1f} at most")
 
 
-main()
+if __name__ == "__main__":
+    main()

@@ -1,8 +1,9 @@
 #!/usr/bin/env python3
 """Looks at what examples/timeline.py draws of an export, in chromium. Each key is drawn once; at moments drawn at
-random its line is high, low, waiting or not there as the states and the usage of checks/rules.py say, a destroyed key's
-ends where it was destroyed, and its marks and what is due are there. Every text of a key stays a text, and nothing is
-loaded: the page has one style, one script and its data, all of this file, and its policy allows no other.
+random its line is high, low, waiting or not there as the states and the usage of examples/register_rules.py say, a
+destroyed key's ends where it was destroyed, and its marks and what is due are there. Every text of a key stays a text,
+and nothing is loaded: the page has one style, one script and its data, all of this file, and its policy allows no
+other.
 
 At 380, 800 and 1600 wide, light and dark, nothing runs over its neighbour or past the edge, the columns have their
 headings, the page links stand on one line, the count is a live region, and each row's button gives all texts and dates
@@ -29,7 +30,7 @@ from datetime import datetime, timezone
 
 from page_seen import Browser
 from registers import EXPORT_COLUMNS, EXPORT_DATES, expect, export_row, keyreg
-from rules import ACTIVE, COMPROMISED, PRE_ACTIVE, Key
+from register_rules import ACTIVE, COMPROMISED, PRE_ACTIVE, STATES, Key
 
 TIMELINE = pathlib.Path(__file__).resolve().parent.parent / "examples" / "timeline.py"
 NOW, DAY, DAYS = 1_800_000_000, 86400, 60
@@ -59,7 +60,6 @@ LINES = [
     f"{NOW - 80 * DAY} ann 31 register private-authentication {'w' * 64} {NOW + 90 * DAY} - - {'x' * 120}",
 ]
 WIDTHS, SECONDS = (380, 800, 1600), 2
-STATES = ("Pre-Active", "Active", "Deactivated", "Compromised", "Destroyed", "Destroyed-Compromised")
 # What may load something, or run.
 LOADING = {"src", "href", "xlink:href", "srcset", "action", "formaction", "data", "poster", "background", "style"}
 
@@ -81,10 +81,9 @@ def keys_of(export):
     """The rows of an export, with the state that the rules give each at the moment."""
     for row in csv.DictReader(io.StringIO(export)):
         dates = {name: seconds(row[name]) for name in EXPORT_DATES}
-        key = Key(row["type"], row["owner"], row["purpose"], dates["initial"],
-                  (dates["activation"], dates["protect_stop"], dates["deactivation"]))
-        key.destroyed, key.compromised, key.occurrence = dates["destroyed"], dates["compromised"], dates["occurrence"]
-        yield {**row, **dates, "state": key.state(NOW)}
+        key = Key(row["type"], row["owner"], row["purpose"], dates["initial"], dates["activation"],
+                  dates["protect_stop"], dates["deactivation"], dates["destroyed"], dates["compromised"])
+        yield {**row, **dates, "state": STATES[key.state(NOW)]}
 
 
 def plain(text):
@@ -93,10 +92,9 @@ def plain(text):
 
 def is_there(key, moment):
     """What the line of a key shows at a moment, by the rules: protect, process, wait, or nothing."""
-    then = Key(key["type"], key["owner"], key["purpose"], key["initial"],
-               (key["activation"], key["protect_stop"], key["deactivation"]))
-    then.destroyed, then.compromised = (None if key[name] is None or key[name] > moment else key[name]
-                                        for name in ("destroyed", "compromised"))
+    ends = (None if key[name] is None or key[name] > moment else key[name] for name in ("destroyed", "compromised"))
+    then = Key(key["type"], key["owner"], key["purpose"], key["initial"], key["activation"], key["protect_stop"],
+               key["deactivation"], *ends)
     state = then.state(moment)
     if state == PRE_ACTIVE and moment >= key["initial"]:
         return "wait"
@@ -138,7 +136,7 @@ def looked_at(page, export, first_key=0):
     table = next(element for element in page.elements if element["tag"] == "table")
     scale, chance = tuple(int(table[f"data-{name}"]) for name in ("first", "last")), random.Random(first_key)
     expect([row["data-number"] for row, _ in page.keys] == [key["number"] for key in keys], "each key is drawn once")
-    fills, counts = {}, dict.fromkeys(STATES, 0)
+    fills, counts = {}, dict.fromkeys(STATES[1:], 0)
     for key, (row, parts) in zip(keys, page.keys):
         named = f"key {key['number']}"
         is_due = key["state"] == "Active" and key["protect_stop"] <= NOW + DAYS * DAY
@@ -222,7 +220,7 @@ def layout_faults(told, keys, width):
     faults = [f"{width} wide: {name}: {found}, not {wanted}" for name, (found, wanted) in rows.items()
               if found != wanted]
     for key, (is_reached, texts) in zip(keys, told["reached"]):
-        state = next((text for text in texts if text.split(",")[0] in STATES), "")
+        state = next((text for text in texts if text.split(",")[0] in STATES[1:]), "")
         if not is_reached or sorted(texts) != as_told(key, state) or state.split(",")[0] != key["state"]:
             faults.append(f"{width} wide: key {key['number']}: its button gives {texts}")
     return faults + ([] if len(told["reached"]) == len(keys) else [f"{len(told['reached'])} rows"])
@@ -271,7 +269,7 @@ def turned_over(browser, pages, small):
             ("ten", "#owner=team-3&sort=owner&page=2", "1001 to 1429 of 1429 keys", [7003])):
         told, numbers = shown_in(browser.elements(pages[name], fragment))
         expect(told == wanted and numbers[:len(first)] == first, f"{name}{fragment}: {told}, {numbers[:3]}")
-    for state in STATES:
+    for state in STATES[1:]:
         _, numbers = shown_in(browser.elements(pages["small"], f"#state={state}"))
         wanted = [int(key["number"]) for key in keys_of(small) if key["state"] == state]
         expect(numbers == wanted, f"{state}: {numbers}, not {wanted}")

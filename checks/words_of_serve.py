@@ -9,8 +9,9 @@ import subprocess
 import time
 from typing import Any, Iterator
 
+from answers import BAD, compact, get_reply, post_reply, request_object
 from registers import APPROVED_ANEW, PROGRAM, keyreg
-from rules import BAD, Register, compact, get_reply, post_reply, request_object
+from register_rules import Register, Request
 from serving import Served, free_port, listens
 
 # So long, in seconds, an end may take, and so long a program is looked at that is not to end.
@@ -25,7 +26,7 @@ Case = tuple[str, Any]
 def register() -> Register:
     """The register of the rules that the lines make."""
     made = Register()
-    made.apply(100, "ann", 1, ("register", "master", "bob", None, None, None, "spare"))
+    made.answer(Request(100, "ann", 1, ("register", "master", "bob", None, None, None, "spare")))
     return made
 
 

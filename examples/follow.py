@@ -28,9 +28,9 @@ import sys
 
 # What is read from beside this file leaves none there.
 sys.dont_write_bytecode = True
-from replay import Unreadable, columns_of, opened, row_place, text_of
+from register_rules import STATES, text_of
+from replay import Unreadable, columns_of, opened, row_place
 
-STATES = ("-", "Pre-Active", "Active", "Deactivated", "Compromised", "Destroyed", "Destroyed-Compromised")
 # How often a copy is begun anew of a register that is written to meanwhile.
 TRIES = 50
 ROWS = "SELECT caller, number, command, key_no, state, moment FROM request NOT INDEXED ORDER BY "

@@ -37,7 +37,8 @@ import time
 
 # What is read from beside this file leaves none there.
 sys.dont_write_bytecode = True
-from replay import TYPES, UNSET, Unreadable, columns_of, opened, row_place, text_of
+from register_rules import TYPES, UNSET, text_of
+from replay import Unreadable, columns_of, opened, row_place
 
 # How often a copy is begun anew of a register that is written to meanwhile.
 TRIES = 50

@@ -12,7 +12,8 @@ import collections
 import graphlib
 import itertools
 
-from replay import PERIODS, TYPES, Refused, after, by_moment, key_rows
+from register_rules import PERIODS, TYPES, Refused, after, key_rows
+from replay import by_moment
 
 KEY_STEPS, ALL_STEPS, MOST_AT_ONCE, MOST_PERIODS, MOST_ORDERS = 20_000, 2_000_000, 64, 4, 24
 OF_DATES = ("register", "set", "activate")

@@ -21,8 +21,8 @@ The requests that are left out, and what that does to the others, are told on st
 Keys have their numbers by the order of their registrations. Where one of these is left out, the keys after it have
 other numbers, and a request that names one reaches another key than it meant.
 
-The rules are those of replay.py, which stands beside this file, in version 2, since that is what keyreg makes. The
-last line counts. The status is
+The rules are those of register_rules.py in version 2, since that is what keyreg makes; it stands beside this file, and
+so does replay.py. The last line counts. The status is
 
     0  all is written that was not asked to be left out, and each request will be accepted with the reply that is kept
     1  all that can be is written; what standard error tells is refused, answered otherwise, or no request
@@ -35,10 +35,9 @@ import sys
 
 # What is read from beside this file leaves none there.
 sys.dont_write_bytecode = True
-from replay import (LAST, MOMENT_TEXT, Refused, Register, Unreadable, columns_of, moment_of, opened, request_of,
-                    row_place, text_of)
+from register_rules import LAST, MOMENT_TEXT, STATES, Refused, Register, command_text, line, moment_of, text_of
+from replay import Keys, Unreadable, accepted_of, columns_of, opened, row_place
 
-STATES = ("-", "Pre-Active", "Active", "Deactivated", "Compromised", "Destroyed", "Destroyed-Compromised")
 ROW = (str, int, str, int, int, int)
 
 
@@ -73,7 +72,7 @@ class Choice:
         """What is written."""
         for _, request, why in self.rows():
             if why is None:
-                yield f"{request.moment} {request.caller} {request.number} {request.command}\n"
+                yield f"{line(*request)}\n"
 
 
 def read_request(row):
@@ -81,7 +80,7 @@ def read_request(row):
     if tuple(map(type, row)) != ROW:
         return None
     try:
-        return request_of(tuple(row), 2)
+        return accepted_of(tuple(row), 2)
     except ValueError:
         return None
 
@@ -92,11 +91,16 @@ def shown(row):
     return f"{moment} {caller if type(caller) is str and caller.isprintable() else repr(caller)} {number!r} {command!r}"
 
 
+def told_of(request):
+    return shown((request.caller, request.number, command_text(request.command), request.moment))
+
+
 class Foreseen:
     """What keyreg will answer to the requests that are written, beside what it answered first."""
 
     def __init__(self):
-        self.register, self.old = Register(2), {}
+        self.register, self.old = Register(), {}
+        self.register.keys = Keys()
         # What was left out last of a key, by the number that it had, of a type's periods, and of all registrations.
         self.lacking = {}
 
@@ -120,23 +124,21 @@ class Foreseen:
 
     def answer(self, request):
         """A line where the answer is another one than was kept, else None."""
-        register, number = self.register, self.register.newest + 1
-        is_new, register.latest = request.word == "register", request.moment
+        self.register.latest = request.moment
         try:
-            key_no, state = register.reply(request._replace(key_no=number) if is_new else request)
+            key_no, state = self.register.accept(request)
         except Refused as refused:
-            register.newest = number - 1
-            cause = self.cause(request, str(refused))
+            cause = self.cause(request, refused.name)
             self.leave_out(request, cause)
-            return f"refused: {shown(request[:6])}: {refused}" + (f", for want of {shown(cause[:6])}" if cause else "")
-        if is_new:
-            self.old[number] = request.key_no
+            return f"refused: {told_of(request)}: {refused.name}" + (f", for want of {told_of(cause)}" if cause else "")
+        if request.word == "register":
+            self.old[key_no] = request.key_no
         elif key_no and self.old[key_no] != request.named:
-            return f"otherwise: {shown(request[:6])}: it reaches key {key_no}, which was key {self.old[key_no]}"
+            return f"otherwise: {told_of(request)}: it reaches key {key_no}, which was key {self.old[key_no]}"
         if (key_no, state) != (request.key_no, request.state):
             told = " and ".join(f"ok {key} {STATES[code] if code in range(7) else code}{when}" for key, code, when in
                                 ((key_no, state, ","), (request.key_no, request.state, " before")))
-            return f"otherwise: {shown(request[:6])}: {told}"
+            return f"otherwise: {told_of(request)}: {told}"
         return None
 
 
@@ -148,10 +150,10 @@ def told(choice):
         if why is None:
             counts["written"] += 1
             latest = request.moment
-            line = foreseen.answer(request)
-            if line:
-                counts[line.split(":")[0]] += 1
-                yield line
+            answer = foreseen.answer(request)
+            if answer:
+                counts[answer.split(":")[0]] += 1
+                yield answer
             continue
         counts["left out"] += 1
         is_well &= not why
@@ -194,15 +196,15 @@ def read_words():
     return given
 
 
-def say(line):
-    print(line.encode(errors="backslashreplace").decode(), file=sys.stderr)
+def say(text):
+    print(text.encode(errors="backslashreplace").decode(), file=sys.stderr)
 
 
 def write(lines):
     """Writes the lines; the status."""
     try:
-        for line in lines:
-            sys.stdout.buffer.write(line.encode(errors="surrogateescape"))
+        for text in lines:
+            sys.stdout.buffer.write(text.encode(errors="surrogateescape"))
         sys.stdout.buffer.flush()
     except OSError as fault:
         # What is still held is given up, or the end of Python would try it again.
@@ -223,8 +225,8 @@ def main():
                 say(f"{words.copy}: no accepted request of {caller} has the number {number}")
             if missing:
                 return 2
-            for line in lines:
-                say(line)
+            for text in lines:
+                say(text)
             say(f"{words.copy}: {counts['written']} requests up to {text_of(latest)}, {counts['left out']} left out; "
                 f"{counts['refused']} will be refused, {counts['otherwise']} answered otherwise")
             sys.stderr.flush()

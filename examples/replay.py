@@ -5,9 +5,9 @@
 
 COPY is a copy of a register's file, of version 1 or 2, with its log COPY-wal beside it (docs/AUDIT.md takes one).
 Neither is written to. The requests of its table `request` are taken one after the other by the rules of
-docs/SPECIFICATION.md, which stand here anew. Each has to be accepted, with the reply that is kept of it, and each row
-of each table has to be what they give. What differs is printed by table, row and column. The last line is the verdict.
-The status is
+docs/SPECIFICATION.md, which stand anew in register_rules.py beside this file. Each has to be accepted, with the reply
+that is kept of it, and each row of each table has to be what they give. What differs is printed by table, row and
+column. The last line is the verdict. The status is
 
     0  all is as the requests give, in the order of their rows
     1  something differs
@@ -34,7 +34,6 @@ Of the log it is told which part of it counts (log_frames.py). No more than one 
 bytes, are held: a million registrations took 240 MB, and it takes more where another order is looked for.
 """
 import argparse
-import calendar
 import contextlib
 import filecmp
 import itertools
@@ -42,254 +41,15 @@ import marshal
 import operator
 import os
 import pathlib
-import re
 import shutil
 import sqlite3
 import sys
 import tempfile
-from datetime import datetime, timedelta, timezone
-from typing import NamedTuple, Optional
 
 # What is read from beside this file leaves none there.
 sys.dont_write_bytecode = True
-
-# ---- the rules: moments and usage periods
-
-LAST = 253402300799
-UNSET = LAST + 1
-EPOCH = datetime(1970, 1, 1, tzinfo=timezone.utc)
-MOMENT_TEXT = re.compile(r"[0-9]{4}-[0-9]{2}-[0-9]{2}T[0-9]{2}:[0-9]{2}:[0-9]{2}Z")
-# Key types in the order of their codes, from 1, with their months where the office has set none.
-PERIODS = {
-    "data-encryption": (24, 36), "authentication": (24, 36), "key-wrapping": (24, 36), "private-signature": (36, 0),
-    "private-authentication": (24, 0), "private-transport": (24, 0), "master": (12, 0),
-}
-TYPES = list(PERIODS)
-MOST_KEYS, MOST_CUSTODIANS = 1_000_000, {1: 8, 2: 16}
-OFFICE = "office"
-
-
-class Refused(Exception):
-    """A request that the rules do not accept, with the name of its refusal."""
-
-
-def refuse(holds, name):
-    if holds:
-        raise Refused(name)
-
-
-def text_of(moment):
-    return (EPOCH + timedelta(seconds=moment)).strftime("%Y-%m-%dT%H:%M:%SZ")
-
-
-def moment_of(text):
-    """The moment of such a text; ValueError where it has no such day or second."""
-    return (datetime.strptime(text, "%Y-%m-%dT%H:%M:%SZ").replace(tzinfo=timezone.utc) - EPOCH) // timedelta(seconds=1)
-
-
-def plus_months(moment, months):
-    """The same day so many months later, or that month's last; None past the range of moments."""
-    day = EPOCH + timedelta(seconds=moment)
-    year, month = divmod(day.year * 12 + day.month - 1 + months, 12)
-    if year > 9999:
-        return None
-    last = calendar.monthrange(year, month + 1)[1]
-    return (day.replace(year=year, month=month + 1, day=min(day.day, last)) - EPOCH) // timedelta(seconds=1)
-
-
-def fitted(dates, period, trims):
-    """The three dates after Fill, or after Trim, by a usage period."""
-    activation, stop, end = dates
-    originator, recipient = period
-    limit = None if activation is None else plus_months(activation, originator)
-    is_past = False
-    if activation is not None and stop is None:
-        if end is not None and (limit is None or end < limit):
-            stop = end
-        else:
-            stop, is_past = limit, limit is None
-    if trims and limit is not None and stop is not None:
-        stop = min(stop, limit)
-    last = None if stop is None else plus_months(stop, recipient)
-    if activation is not None and end is None and stop is not None:
-        end, is_past = last, is_past or last is None
-    if trims and last is not None and end is not None:
-        end = min(end, last)
-    given = [date for date in (activation, stop, end) if date is not None]
-    refuse(given != sorted(given), "DateOrder")
-    if not trims:
-        refuse(limit is not None and stop is not None and stop > limit, "PeriodTooLong")
-        refuse(last is not None and end is not None and end > last, "PeriodTooLong")
-    refuse(is_past, "DateRange")
-    return {"activation": activation, "stop": stop, "end": end}
-
-
-# ---- the rules: keys and commands
-
-PRE_ACTIVE, ACTIVE, DEACTIVATED, COMPROMISED, DESTROYED, DESTROYED_COMPROMISED = ALL = range(1, 7)
-NOT_DESTROYED, STILL = ALL[:4], (PRE_ACTIVE, DEACTIVATED, COMPROMISED)
-# Who may give a command that names a key, and in which states. A revocation stands in `look_at`.
-WHO = {
-    "activate": ("owner", (PRE_ACTIVE,)), "set": ("owner", (PRE_ACTIVE, ACTIVE)), "assign": ("owner", ALL),
-    "add-custodian": ("owner", ALL), "remove-custodian": ("owner", NOT_DESTROYED), "approve": ("custodian", STILL),
-    "withdraw": ("custodian", NOT_DESTROYED), "destroy": ("owner", STILL), "set-quorum": ("owner", ALL),
-}
-
-
-class Key(NamedTuple):
-    """A key with its custody. A date that is not set is None."""
-    kind: str
-    owner: str
-    purpose: str
-    initial: int
-    activation: Optional[int]
-    stop: Optional[int]
-    end: Optional[int]
-    destroyed: Optional[int] = None
-    compromised: Optional[int] = None
-    occurrence: Optional[int] = None
-    custodians: frozenset = frozenset()
-    approvals: frozenset = frozenset()
-    need: int = 2
-    has_set_need: bool = False
-
-    def state(self, moment):
-        if self.destroyed is not None:
-            return DESTROYED if self.compromised is None else DESTROYED_COMPROMISED
-        if self.compromised is not None:
-            return COMPROMISED
-        if self.activation is None or self.activation > moment:
-            return PRE_ACTIVE
-        return DEACTIVATED if self.end is not None and self.end <= moment else ACTIVE
-
-
-def look_at(key, request):
-    """Refuses a caller who may not give the command, and a state that it is not for."""
-    if request.word == "revoke" and request.values[0] in (2, 3):
-        who, states = "anybody", (PRE_ACTIVE, ACTIVE, DEACTIVATED, DESTROYED)
-    else:
-        who, states = WHO.get(request.word, ("owner", (ACTIVE,)))
-    refuse(who == "owner" and request.caller != key.owner, "NotOwner")
-    refuse(who == "custodian" and request.caller not in key.custodians, "NotCustodian")
-    refuse(key.state(request.moment) not in states, "WrongState")
-
-
-def revoked(key, moment, reason, occurrence):
-    if reason not in (2, 3):
-        return key._replace(end=moment, stop=min(key.stop, moment))
-    refuse(occurrence is not None and occurrence > moment, "OccurrenceLater")
-    return key._replace(compromised=moment, occurrence=key.initial if occurrence is None else occurrence,
-                        approvals=frozenset() if key.destroyed is None else key.approvals)
-
-
-def dated(key, request, period):
-    """After `activate` or `set`."""
-    dates, edits, moment = (key.activation, key.stop, key.end), request.values, request.moment
-    if request.word == "activate":
-        return key._replace(**fitted((moment, *dates[1:]), period, True))
-    refuse(edits[0] != "=" and key.state(moment) != PRE_ACTIVE, "DateFrozen")
-    refuse(edits[1] != "=" and key.stop is not None and key.stop <= moment, "DateFrozen")
-    return key._replace(**fitted([date if edit == "=" else edit for date, edit in zip(dates, edits)], period, False))
-
-
-def after(key, request, period, version):
-    """The key after a request that names it, by its type's period. A `register` has no key before."""
-    word, caller = request.word, request.caller
-    if word == "register":
-        kind, owner, *dates, purpose = request.values
-        return Key(kind, owner, purpose, request.moment, **fitted(dates, period, False))
-    look_at(key, request)
-    if word in ("activate", "set"):
-        return dated(key, request, period)
-    if word == "revoke":
-        return revoked(key, request.moment, *request.values)
-    if word == "destroy":
-        refuse(len(key.approvals) < key.need, "ApprovalsMissing")
-        return key._replace(destroyed=request.moment)
-    if word == "approve":
-        refuse(caller in key.approvals, "AlreadyApproved")
-        return key._replace(approvals=key.approvals | {caller})
-    if word == "withdraw":
-        refuse(caller not in key.approvals, "NoApproval")
-        return key._replace(approvals=key.approvals - {caller})
-    value = request.values[0]
-    if word == "set-quorum":
-        return key._replace(need=value, has_set_need=True)
-    if word == "assign":
-        refuse(value in key.custodians, "OwnerCustodian")
-        return key._replace(owner=value)
-    if word == "add-custodian":
-        refuse(value in key.custodians, "AlreadyCustodian")
-        refuse(len(key.custodians) >= MOST_CUSTODIANS[version], "TooManyCustodians")
-        refuse(value == key.owner, "OwnerCustodian")
-        return key._replace(custodians=key.custodians | {value})
-    refuse(value not in key.custodians, "NoSuchCustodian")
-    return key._replace(custodians=key.custodians - {value}, approvals=key.approvals - {value})
-
-
-# ---- requests and their texts
-
-NUMBER, NAME = re.compile("0|[1-9][0-9]{0,15}"), re.compile("[A-Za-z0-9._@-]{1,64}")
-NO_PURPOSE = re.compile("[\0-\x1f\x7f\ud800-\udfff]")
-FORMS = {
-    "register": ("type", "name", "date", "date", "date", "purpose"), "activate": ("key",),
-    "set": ("key", "edit", "edit", "edit"), "revoke": ("key", "reason", "date"), "assign": ("key", "name"),
-    "add-custodian": ("key", "name"), "remove-custodian": ("key", "name"), "approve": ("key",), "withdraw": ("key",),
-    "destroy": ("key",), "set-quorum": ("key", "need"), "set-period": ("type", "originator", "recipient"),
-    "advance": (),
-}
-RANGES = {"key": (1, 4294967295), "date": (0, LAST), "edit": (0, LAST), "need": (2, 5), "reason": (1, 7),
-          "originator": (1, 1200), "recipient": (0, 1200)}
-OF_VERSION_2 = ("set-period", "set-quorum")
-
-
-class Request(NamedTuple):
-    """A row of the table, with its command's word, the key that it names, if any, and its other values."""
-    caller: str
-    number: int
-    command: str
-    key_no: int
-    state: int
-    moment: int
-    word: str
-    named: Optional[int]
-    values: tuple
-
-    def __str__(self):
-        return f"request {(self.caller, self.number)} {self.command!r}"
-
-
-def field_of(form, text):
-    """The value of a field's text; ValueError where it is none."""
-    if text == "-" and form in ("date", "edit") or text == "=" and form == "edit":
-        return None if text == "-" else text
-    if form in RANGES:
-        if NUMBER.fullmatch(text) and RANGES[form][0] <= int(text) <= RANGES[form][1]:
-            return int(text)
-    elif form == "purpose":
-        size = len(text.encode(errors="surrogateescape"))
-        if 1 <= size <= 200 and text == text.strip(" ") and not NO_PURPOSE.search(text):
-            return text
-    elif text in PERIODS if form == "type" else NAME.fullmatch(text):
-        return text
-    raise ValueError(text)
-
-
-def request_of(row, version):
-    """The request of a row; ValueError where it is none."""
-    caller, number, command, _, _, moment = row
-    word, *rest = command.split(" ", 1)
-    forms = FORMS.get(word, ("none",))
-    fields = rest[0].split(" ", max(len(forms) - 1, 0)) if rest else []
-    values = [field_of(form, field) for form, field in zip(forms, fields)]
-    is_one = (NAME.fullmatch(caller) and 1 <= number <= 9007199254740991 and 0 <= moment <= LAST
-              and len(fields) == len(forms) and (version > 1 or word not in OF_VERSION_2)
-              and (word != "revoke" or values[1] in (2, 3) or values[2] is None))
-    if not is_one:
-        raise ValueError(command)
-    named = values.pop(0) if forms[:1] == ("key",) else None
-    return Request(*row, word, named, tuple(values))
-
+from register_rules import (GREATEST_NUMBER, LAST, NAME, Key, Refused, Register, Request, command_of, key_rows,
+                            other_rows, text_of)
 
 # ---- a file
 
@@ -305,6 +65,14 @@ TABLES = {
     "quorum": (("key_no", "need"), 1),
 }
 OF_TEXT = {"owner", "purpose", "name", "caller", "command"}
+
+
+def accepted_of(row, version):
+    """The request of a row of the table `request`; ValueError where it is none by the rules of the version."""
+    caller, number, command, key_no, state, moment = row
+    if not (NAME.fullmatch(caller) and 1 <= number <= GREATEST_NUMBER and 0 <= moment <= LAST):
+        raise ValueError(command)
+    return Request(moment, caller, number, command_of(command, version), key_no, state)
 
 
 class Unreadable(Exception):
@@ -422,7 +190,7 @@ class File:
             if place in self.twice:
                 came.add(place)
             try:
-                yield request_of(row, self.version)
+                yield accepted_of(row, self.version)
             except (ValueError, TypeError, AttributeError):
                 if faults is not None:
                     faults.append(f"request {row}: it is none by the rules of version {self.version}")
@@ -440,7 +208,7 @@ class Keys:
         packed = self.packed.get(number)
         return None if packed is None else Key(*marshal.loads(packed))
 
-    def put(self, number, key):
+    def __setitem__(self, number, key):
         self.packed[number] = marshal.dumps(tuple(key), 2)
 
     def __contains__(self, number):
@@ -453,64 +221,40 @@ class Keys:
         return sorted(self.packed)
 
 
-class Register:
-    """What requests give that are applied one after the other. What the rules do not give is a fault."""
+class Replay(Register):
+    """What accepted requests give. What the rules do not give is a fault."""
 
     def __init__(self, version):
-        self.version, self.keys, self.latest, self.newest, self.faults = version, Keys(), 0, 0, []
-        self.set_periods = {}
+        super().__init__(version)
+        self.keys, self.faults, self.newest, self.should_be = Keys(), [], 0, 0
 
-    def apply(self, request):
+    def next_number(self, request):
+        """A key is kept under its reply's number, which is the next one, lest one fault make many."""
+        self.should_be = self.newest + 1
+        self.newest = request.key_no if request.key_no not in self.keys else self.should_be
+        return self.newest
+
+    def take(self, request):
         self.latest = request.moment
         try:
-            given = self.reply(request)
+            key_no, state = self.accept(request)
         except Refused as refused:
             self.faults.append(f"{request}: the rules refuse it, {refused}")
             return
-        for column, kept, should_be in zip(("key_no", "state"), (request.key_no, request.state), given):
+        key_no = self.should_be if request.word == "register" else key_no
+        for column, kept, should_be in (("key_no", request.key_no, key_no), ("state", request.state, state)):
             if kept != should_be:
                 self.faults.append(f"{request}: {column} is {kept}, and the rules give {should_be}")
-
-    def reply(self, request):
-        """The key and the state of its reply."""
-        if request.word == "advance":
-            return 0, 0
-        if request.word == "set-period":
-            refuse(request.caller != OFFICE, "NotOffice")
-            self.set_periods[request.values[0]] = request.values[1:]
-            return 0, 0
-        named, key = request.named, self.keys.get(request.named)
-        if request.word == "register":
-            named, kind = self.newest + 1, request.values[0]
-            # A key is kept under its reply's number, which is the next one, lest one fault make many.
-            self.newest = request.key_no if request.key_no not in self.keys else named
-        else:
-            refuse(key is None, "UnknownKey")
-            kind = key.kind
-        key = after(key, request, self.set_periods.get(kind, PERIODS[kind]), self.version)
-        refuse(request.word == "register" and len(self.keys) >= MOST_KEYS, "Full")
-        self.keys.put(named if request.named else self.newest, key)
-        return named, key.state(request.moment)
-
-
-def key_rows(number, key, latest):
-    """The rows of a key, by table."""
-    dates = (key.activation, key.stop, key.end, key.destroyed, key.compromised, key.occurrence)
-    row = (number, TYPES.index(key.kind) + 1, key.owner, key.purpose, key.state(latest), key.initial,
-           *(UNSET if date is None else date for date in dates))
-    return {"keys": [row], "custodian": [(number, name) for name in key.custodians],
-            "approval": [(number, name) for name in key.approvals], "quorum": [(number, key.need)] * key.has_set_need}
 
 
 def replayed(file, requests):
     """What differs in the file from what the requests give."""
-    register, count = Register(file.version), file.count("request") if sys.stderr.isatty() else 0
+    register, count = Replay(file.version), file.count("request") if sys.stderr.isatty() else 0
     for place, request in enumerate(requests):
         if count and place % 5000 == 0:
             print(f"{place} of {count} requests", end="\r", file=sys.stderr, flush=True)
-        register.apply(request)
-    wanted = {"meta": [(1, file.version, register.latest, len(register.keys))],
-              "period": [(TYPES.index(kind) + 1, *months) for kind, months in register.set_periods.items()]}
+        register.take(request)
+    wanted = other_rows(register)
     told = [line for name in wanted if name in file.kept for line in differences(name, file.rows(name), wanted[name])]
     return register.faults + told + list(key_differences(file, register))
 

@@ -1,0 +1,359 @@
+#!/usr/bin/env python3
+"""One theorem with every definition that it stands on, as a page: docs/THEOREM.md.
+
+    checks/theorem.py                writes the page, and counts what it has
+    checks/theorem.py --count        counts: definitions and their lines, by crate; no comments, no imports
+    checks/theorem.py --list         the definitions in the page's order
+    checks/theorem.py --unnamed      those with no words above them and no row in docs/MODEL.md
+    checks/theorem.py --unreached    the definitions of specs/ on which no public contract stands, by crate: no clause
+                                     of a public function or of a trait, and no ghost; of some nothing says the name
+
+The theorem is the contract of ROOT. What a definition says in plain words is the comment above it in the source, or
+else the plain name that docs/MODEL.md has for it. checks/documents.py holds the page to the sources.
+"""
+import functools
+import re
+import sys
+import textwrap
+
+import definitions
+import sources
+from definitions import code_lines
+from sources import read
+
+# The law whose contract is the theorem: its file, and its name.
+ROOT = ("crates/register_program/src/laws.rt", "register_is_found_again")
+PAGE = "docs/THEOREM.md"
+# How a comment begins that goes on from the one above it.
+GOES_ON = re.compile(r"(?:and|or|nor|then|such|the same(?! day)|that of|two (?:that|of)|at the (?:least|most)|any of"
+                     r"|so (?:is|that)|in (?:a|this program's)|one (?:was|more)|none of the later|by the rowid"
+                     r"|these are the first of|to (?:a request|the question)|with another|in the|for this number"
+                     r"|of (?:request lines|the rows of|so many exchanges))\b", re.I)
+
+HEAD = """\
+# The theorem, and all that it stands on
+
+{says}
+
+The theorem below says so, of any runs of the program over one register's files: request lines, imports, exports,
+reports, served exchanges, creations, refusals, and words that are none. That a task leads as the theorem takes it to
+(`LeadsFrom`) is proved of the code in two steps: the contract of `perform_task`, which `act` calls once with the files
+handed over, says what the task came to (`Performs`), and the law `tasks_are_lives` that it leads so. What an opening
+does (`OpensRegister`) is in the contract of `open_file`, which each command calls that needs the register. To be read
+is `act`, of a few lines, and `main`, which hand on the files and the words.
+
+| Of the sentence | In the theorem |
+|---|---|
+| on an honest disk | `Leaves`: the store is clean as each call ends |
+| that nobody else writes | `Follow`: each run finds what the one before left |
+| after any request lines | any words and an input of any bytes (`ProgramRun`), and its items (`AreItemsOf`) |
+| a stop before or within any write | a disk that fails from then on: `LeftBy` has all that may be found |
+| opening the file again finds exactly the register | `opens`; and `holds`, these tables and nothing else |
+| of a prefix of the accepted requests | the first items of each run (`applied`), in a history that is `lawful` |
+| every accepted request whose reply line was written | the `replies` of a life: lines written whole (`Answered`) |
+| and at most one more | `one_more` of a life |
+| every key's state is the one its dates and the latest accepted moment give | so `tables` have it, by `key_of` |
+
+Its premises beside the sentence's own: a run that opened no file leaves the files as they are; what an opening leaves
+that failed before a connection was there stands for what it found (`StandsAs`); and a store that a fault shut while its
+log was copied is numbered still (`LeftIn`, part `numbered`), of which the kit says nothing. What README lists as
+trusted is trusted here too. Of exchanges the theorem has no replies: no contract knows the bytes of a connection.
+
+First stands the theorem, and then each definition on which it stands, once, below the first that names it. The crates
+come from the top down: the large words first, and what they are made of further on. Above each definition stands its
+name, its file in the crate's `specs/`, or its path in `src/`, and what it says in plain words. At the words of the kit,
+Rattle's standard library and the crates of others, the page ends; it lists them [at its end](#words-of-the-kit).
+
+{counts}
+
+`abbrev` and `unfoldable` define a word, case by case. A `record` has fields: it is a value with these parts, or the
+statement that all of them hold. A `data` has cases. A `struct` or an `enum` is one of the code, with its parts or
+cases; where `impl Model` follows, contracts see it as the `Value` that `view` gives, of which the `invariant` holds.
+`Type 0` is what a word gives that is a statement, or a type. Where definitions share parameters, these come before
+their own, and are left out where one of them names another.
+
+| Sign | It says |
+|---|---|
+| `A → B`, `(x : A) → B` | if A then B, or the functions from A to B; for each x of A, B |
+| `A × B`, `(x : A) × B` | both, or the pairs; there is an x of A, with B |
+| `A ⊎ B`, `¬ A` | one of the two; not A |
+| `∥ A ∥₁` | A holds, whatever shows it |
+| `Unit {{0}}`, `⊥` | what always holds; what never does |
+| `x ≡ y`, `x ≢ y` | they are equal; they are not |
+| `f x y`, `λ x. y` | f of x and y; the function that gives y for x |
+| `x.part`, `x.0`, `x.1` | a part of x; the first and the second of a pair |
+| `record t {{ part = x }}` | t with another part |
+| `[]`, `x ∷ more`, `a ++ b` | the empty list; x and then more; one list after another |
+| `{{x : A}}` | x is left out where it is clear |
+"""
+
+
+KIT = """\
+## Words of the kit
+
+Each with its file. `rt lemma HoldsDatabase`, in the folder of a crate that names it, shows the definition of that word.
+
+| Crate | Words |
+|---|---|"""
+
+
+@functools.lru_cache
+def theorem():
+    """The law, the definitions in order, and the kit's words."""
+    root = definitions.law(*ROOT)
+    return (root, *definitions.in_order(root))
+
+
+# ---- plain words
+
+
+@functools.lru_cache
+def model_rows():
+    """The rows of MODEL: the names in each, where they stand, the plain name, and what it says."""
+    rows = []
+    for line in read("docs/MODEL.md").split("\n"):
+        cells = [cell.strip() for cell in line.strip().strip("|").split("|")]
+        if line.startswith("|") and len(cells) > 3:
+            rows.append((set(re.findall(r"`([^`]+)`", cells[1])), cells[2], cells[0], cells[3]))
+    return rows
+
+
+def model_row(key):
+    """The plain name that MODEL has for a definition, and what it says, by its name and its file."""
+    place = key.place.split("/")[-1].removesuffix(".rt")
+    return next(((name, says) for names, where, name, says in model_rows()
+                 if key.name in names and re.search(rf"\b{place}\b", where)), None)
+
+
+def words_of(definition):
+    """A definition's plain words. Those that go on from others begin with its name in MODEL, or with the others."""
+    key, words = definition.key, definition.words
+    row = model_row(key)
+    if not words:
+        return ": ".join(row) if row else ""
+    if not GOES_ON.match(words) or key.place.startswith("src/"):
+        return words
+    if row:
+        return f"{row[0]}: {words}"
+    for above in definitions.words_above(key):
+        words = f"{above.rstrip('.')}; {words}" if above else words
+        if above and not GOES_ON.match(above):
+            break
+    return words
+
+
+def sentence(text):
+    return text[:1].upper() + text[1:] + ("" if text.endswith(".") else ".")
+
+
+# ---- the page
+
+
+def counts(found):
+    """The definitions and their lines, by crate, in the page's order."""
+    by_crate = {}
+    for definition in found:
+        number, lines = by_crate.get(definition.key.crate, (0, 0))
+        by_crate[definition.key.crate] = (number + 1, lines + code_lines(definition))
+    return by_crate
+
+
+def totals():
+    """How many definitions the page has, and how many lines they have."""
+    by_crate = counts(theorem()[1]).values()
+    return sum(number for number, _ in by_crate), sum(lines for _, lines in by_crate)
+
+
+def count_table():
+    """The crates with what the page has of each; the lines are those without comments and blank lines."""
+    number, lines = totals()
+    rows = [f"| [{crate}](#{crate}) | {of_crate:,} | {its_lines:,} |"
+            for crate, (of_crate, its_lines) in counts(theorem()[1]).items()]
+    return "\n".join(["| Crate | Definitions | Their lines, without comments |", "|---|---|---|", *rows,
+                      f"| all | {number:,} | {lines:,} |"])
+
+
+def filled(text):
+    return textwrap.fill(text, 120, break_long_words=False, break_on_hyphens=False)
+
+
+def told_name(definition):
+    """A definition's name; that of what a type has of a trait is made of both."""
+    first = definition.text[0]
+    return first.removeprefix("impl ").removesuffix(" {") if first.startswith("impl ") else definition.key.name
+
+
+def entry(definition, shared):
+    """A definition with its words above it; of the parameters that it shares it names the first that has them."""
+    words, key = sentence(words_of(definition)), definition.key
+    block = (key.crate, key.place, definition.parameters)
+    if definition.parameters:
+        first = shared.setdefault(block, key.name)
+        told = f"`{definition.parameters}`" if first == key.name else f"of `{first}`"
+        words += f" It shares the parameters {told}."
+    told = filled(f"**`{told_name(definition)}`** ({key.place}): {words}")
+    return "\n".join([told, "", "```", *definition.text, "```", ""])
+
+
+def does(crate):
+    """What ARCHITECTURE says that a crate does."""
+    row = re.search(rf"^\| `{crate}` \| ([^|]*) \|", read("docs/ARCHITECTURE.md"), re.M)
+    return sentence(row[1]) if row else ""
+
+
+def kit_place(path):
+    """The file of the kit's specs/ in which a word stands, or the module of a type of its code."""
+    parts = path.removeprefix("declared.").split(".")
+    return ".".join(parts[:-1] if path.startswith("declared.") and parts[-1] != "TheVariants" else
+                    [part for part in parts if part != "TheVariants"])
+
+
+def kit_table(kit):
+    """The kit's words, by crate and file, in order of their names."""
+    by_crate = {}
+    for key in kit:
+        by_crate.setdefault(key.crate, {}).setdefault(kit_place(key.place), set()).add(key.name.replace("|", "\\|"))
+    rows = []
+    for crate, files in sorted(by_crate.items()):
+        told = [f"{place}: " * bool(place) + ", ".join(f"`{name}`" for name in sorted(names))
+                for place, names in sorted(files.items())]
+        rows.append(f"| `{crate}` | {'; '.join(told)} |")
+    return "\n".join([KIT, *rows]) + "\n"
+
+
+def page():
+    root, found, kit = theorem()
+    shared = {}
+    parts = [HEAD.format(says=readme_sentence(), counts=count_table()), "## The theorem\n", entry(root, shared)]
+    for crate, group in grouped(found):
+        parts += [f"## {crate}\n", filled(does(crate)) + "\n"]
+        parts += [entry(definition, shared) for definition in group]
+    return "\n".join(parts + [kit_table(kit)])
+
+
+def grouped(found):
+    by_crate = {}
+    for definition in found:
+        by_crate.setdefault(definition.key.crate, []).append(definition)
+    return by_crate.items()
+
+
+def readme_sentence():
+    """The sentence in which README says what the whole is for."""
+    lines = read("README.md").split("\n")
+    begun = next(at for at, line in enumerate(lines) if line.startswith("> "))
+    end = next(at for at in range(begun, len(lines)) if not lines[at].startswith(">"))
+    return "\n".join(lines[begun:end])
+
+
+# ---- what documents.py holds
+
+ENTRY = re.compile(r"^\*\*`([^`]+)`\*\* \(([^)]+)\):", re.M)
+FIGURE = re.compile(r"\b(\d[\d,]*)\s+(lines|definitions)\b")
+# How far behind a mention of the page a figure is its own, within a paragraph or a row.
+NEAR = 300
+
+
+def entries_of(text):
+    """The entries of a page, by crate, file and name, in their order."""
+    found, crate = {}, ""
+    for part in re.split(r"(?m)^(?=\*\*`|## )", text):
+        heading, entry = re.match(r"## (.*)", part), ENTRY.match(part)
+        crate = heading[1] if heading else crate
+        if entry:
+            found[crate, entry[2], entry[1]] = part.strip()
+    return found
+
+
+def page_faults(have, want):
+    """What a page has otherwise than it is to have."""
+    stand, are = entries_of(have), entries_of(want)
+    faults = [f"no `{key[2]}` ({key[0]}, {key[1]})" for key in are if key not in stand]
+    faults += [f"`{key[2]}` ({key[0]}, {key[1]}) is none of those" for key in stand if key not in are]
+    faults += [f"`{key[2]}` ({key[0]}, {key[1]}) is not as in its source"
+               for key in are if key in stand and are[key] != stand[key]]
+    if not faults and list(stand) != list(are):
+        faults.append("its definitions stand in another order")
+    if not faults:
+        pairs = zip(have.split("\n"), want.split("\n"))
+        at = next(number for number, (line, other) in enumerate(pairs, 1) if line != other)
+        faults.append(f"line {at} is another one")
+    return [f"{PAGE}: {fault}: checks/theorem.py makes it" for fault in faults]
+
+
+def figure_faults():
+    """The figures behind a mention of the page in a document that are not its own."""
+    number, lines = totals()
+    wanted = {"lines": f"{lines:,}", "definitions": f"{number:,}"}
+    for document in ["README.md", "CONTRIBUTING.md"] + sources.listed("docs/*.md"):
+        behind = read(document).split("THEOREM.md")[1:] if document != PAGE else []
+        near = (re.split(r"\n\n|\n\|", text)[0][:NEAR] for text in behind)
+        yield from (f"{document}: THEOREM.md has {wanted[what]} {what}, and not {figure}"
+                    for text in near for figure, what in FIGURE.findall(text) if figure != wanted[what])
+
+
+def unnamed():
+    """The definitions of which neither their source nor MODEL says anything in plain words."""
+    return [definition.key for definition in theorem()[1] if not words_of(definition)]
+
+
+def faults():
+    """For documents.py: what the page and what is said of it have that is not so, and what was looked at."""
+    want = page()
+    have = read(PAGE) if sources.listed(PAGE) else ""
+    if not have:
+        return [f"no {PAGE}: checks/theorem.py makes it"], "no page"
+    found = page_faults(have, want) if have != want else []
+    found += [f"{PAGE}: nothing is found for `{word}` of {place} ({crate})"
+              for crate, place, word in sorted(definitions.unknown)]
+    found += [f"docs/MODEL.md: no plain name for `{key.name}` ({key.crate}, {key.place})" for key in unnamed()]
+    return found + list(figure_faults()), f"{totals()[0]:,} definitions"
+
+
+# ---- what it prints
+
+
+def print_counts():
+    root, found, _ = theorem()
+    for crate, (number, lines) in counts(found).items():
+        print(f"{crate}: {number:,} definitions, {lines:,} lines")
+    print(f"the theorem: {code_lines(root)} lines")
+
+
+def print_list():
+    for definition in theorem()[1]:
+        print(f"{definition.key.crate} {definition.key.place} {definition.key.name}: {code_lines(definition)}")
+
+
+def print_unnamed():
+    for key in unnamed():
+        print(f"{key.crate} {key.place} {key.name}")
+
+
+def print_unreached():
+    for crate, keys, every in definitions.unreached():
+        print(f"{crate}: {len(keys)} of {every}")
+        for key, is_named in keys:
+            print(f"  {key.place} {key.name}" + ", which nothing names" * (not is_named))
+
+
+def write_page():
+    with open(f"{sources.TOP}/{PAGE}", "w", encoding="utf-8") as file:
+        file.write(page())
+
+
+ACTS = {"--count": print_counts, "--list": print_list, "--unnamed": print_unnamed, "--unreached": print_unreached}
+
+
+def main():
+    chosen = sys.argv[1:]
+    if len(chosen) > 1 or not set(chosen) <= set(ACTS):
+        sys.exit(f"the words are none, or one of {', '.join(ACTS)}")
+    ACTS.get("".join(chosen), write_page)()
+    number, lines = totals()
+    print(f"theorem: {ROOT[1]} stands on {number:,} definitions of {lines:,} lines")
+    return 0
+
+
+if __name__ == "__main__":
+    sys.exit(main())
