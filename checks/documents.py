@@ -25,6 +25,8 @@ parts, all but the last where none is named:
                the arrows of crates.txt; what its pictures name is a function or a crate
     theorem    docs/THEOREM.md has the theorem and each definition on which it stands, as the sources have
                them, and each document that says how many there are has that figure (checks/theorem.py)
+    reached    a public contract stands on each definition of a crate's specs/, and on none of those
+               of its folder Within/
     look       README's first look, which `rt try` answers without a proof, in a copy of the sources; it takes
                minutes
 
@@ -39,6 +41,7 @@ import subprocess
 import sys
 
 import commands
+import definitions
 import sources
 import theorem
 from sources import TOP, listed, read
@@ -346,7 +349,7 @@ def names_of_code():
     """The tables, the indexes and the refusals with their numbers, as the code has them."""
     tables = set(re.findall(r"CREATE TABLE (\w+)", read("crates/register_store/src/table.rt")))
     indexes = set(re.findall(r"keys_by_\w+", "".join(
-        read(path) for path in listed("crates/register_store/s*/*"))))
+        read(path) for path in listed("crates/register_store/s*/**/*") if path.endswith((".rt", ".antt")))))
     reply, ends = read("crates/register_core/src/reply.rt"), read("crates/register_desk/src/end.rt")
     pairs = dict(re.findall(r'Refusal::(\w+)(?: \{ \.\. \})? => (\d+)', reply))
     names = set(re.findall(r'"([A-Z]\w+)"', ends + read("crates/register_desk/src/opening.rt")))
@@ -460,6 +463,18 @@ def picture_faults():
     return faults, f"{transitions} transitions, {arrows} arrows between crates, a picture of costs"
 
 
+def reached_faults():
+    """Of specs/ what no public contract reaches, and of specs/Within/ what one does."""
+    unreached = {key for _, keys, _ in definitions.unreached() for key, _ in keys}
+    every = definitions.spec_keys()
+    is_within = {key: key.place.startswith("Within.") for key in every}
+    faults = [f"{key.crate}: no public contract stands on `{key.name}` ({key.place})" for key in every
+              if key in unreached and not is_within[key]]
+    faults += [f"{key.crate}: a public contract stands on `{key.name}` ({key.place})" for key in every
+               if key not in unreached and is_within[key]]
+    return faults, f"{len(every)} definitions, {sum(is_within.values())} of them within"
+
+
 def look_faults():
     faults, seconds = commands.first_look()
     return faults, f"answered in {seconds} seconds"
@@ -467,7 +482,7 @@ def look_faults():
 
 PARTS = {"words": missing_words, "promises": promise_faults, "paths": path_faults,
          "calls": call_faults, "commands": output_faults, "stale": stale_faults,
-         "pictures": picture_faults, "theorem": theorem.faults, "look": look_faults}
+         "pictures": picture_faults, "theorem": theorem.faults, "reached": reached_faults, "look": look_faults}
 # Those that are run where none is named: the others take minutes.
 SHORT = [part for part in PARTS if part != "look"]
 

@@ -2,7 +2,10 @@
 """What ./keyreg says while it builds, what makes it build, and what a failure, an interrupt and a
 second call leave: in a copy of the sources, with an `rt` that proves nothing.
 
-    checks/first_build.py
+    checks/first_build.py [PRESSES]
+
+PRESSES is how often Ctrl-C is pressed at a drawn moment besides, 3 if left out: what is to be seen comes of a few
+milliseconds in each second, so 500 beside other work say more.
 
 That `rt` is this file under another name. It prints what the kit's prints, waits, fails where it is
 told to, and puts a shell script in the place of the program. So no proof is run, and neither cores
@@ -13,6 +16,7 @@ import fcntl
 import os
 import pathlib
 import pty
+import random
 import re
 import select
 import shutil
@@ -138,7 +142,8 @@ def lives(process):
 class Copy:
     """A copy of the sources, in which ./keyreg is called."""
 
-    def __init__(self, folder):
+    def __init__(self, folder, presses):
+        self.presses = presses
         self.top, self.told, self.rest = folder / "top", folder / "told", folder / "rest"
         for made in (self.top, self.told, self.rest, folder / "bin"):
             made.mkdir()
@@ -467,6 +472,24 @@ def interrupted(copy):
     yield from stopped(copy, "keyreg", signal.SIGKILL, True)
 
 
+def pressed(copy):
+    """Wherever an interrupt comes, the status is that of one, nothing goes on and nothing is left."""
+    drawn = random.Random(5)
+    for number in range(copy.presses):
+        copy.tells("wait-streams=20")
+        copy.renew()
+        # Half of them within a twentieth of a second of a line, where processes begin and end.
+        delay, begun = drawn.random() * (0.05, 1)[number % 2], []
+
+        def is_due(delay=delay, begun=begun):
+            begun += [time.monotonic()] if copy.begin("streams") and not begun else []
+            return begun and time.monotonic() - begun[0] >= delay
+
+        status, wrote, _ = copy.on_terminal(80, is_due)
+        if (status, wrote) != (130, "") or copy.left() or copy.goes_on():
+            yield f"Ctrl-C {delay:.3f} s after the first crate began: status {status}, {copy.left()}, {copy.goes_on()}"
+
+
 def together(copy):
     """Two calls at once build once; and a program that goes on keeps no build from beginning."""
     copy.tells("wait-streams=1")
@@ -496,9 +519,9 @@ def main():
     signal.signal(signal.SIGINT, signal.default_int_handler)
     found = []
     with tempfile.TemporaryDirectory() as folder:
-        copy = Copy(pathlib.Path(folder))
+        copy = Copy(pathlib.Path(folder), int(sys.argv[1]) if len(sys.argv) > 1 else 3)
         tests = (silent, time_left, one_core, without_the_kit, terminal, used_at_once, built_again, failed, interrupted,
-                 together)
+                 pressed, together)
         for test in tests:
             try:
                 found += test(copy)

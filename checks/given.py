@@ -23,7 +23,7 @@ GIVEN = {
     "words and the environment": (r"\bstd::env\b|\benv::", {"keyreg"}),
     "processes, threads and the system": (r"\bstd::(?:thread|os|sync)\b|\b(?:Processes|Threads|Abort|Wait)\b", set()),
     "the end of the program": (r"\bstd::process\b", {"keyreg"}),
-    "a clock": (r"\b(?:Clock|Instant|SystemTime)\b", {"register_files", "register_program", "disk_files"}),
+    "a clock": (r"\b(?:Clock|Instant|SystemTime)\b", {"register_program", "disk_files"}),
     "standard streams": (r"\.std(?:in|out|err)\(\)", {"keyreg"}),
 }
 

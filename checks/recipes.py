@@ -96,7 +96,7 @@ KINDS = (
     }),
     Kind("Add a crate", r"\bregister_report\b", {
         "its own": "crates/register_report/*",
-        "what names it": "crates/*_trials/* crates/register_files/*",
+        "what names it": "crates/*_trials/* crates/register_program/*",
         "a law with its crate": "docs/PROMISES.md",
     }),
     Kind("Add a version of the tables",

@@ -39,7 +39,7 @@ def read(path):
 
 def listed(pattern):
     """The files of this form, by their paths from the top."""
-    return sorted(os.path.relpath(path, TOP) for path in glob.glob(os.path.join(TOP, pattern)))
+    return sorted(os.path.relpath(path, TOP) for path in glob.glob(os.path.join(TOP, pattern), recursive=True))
 
 
 def stands_on():
@@ -131,7 +131,7 @@ def functions_of(path):
 
 
 def functions():
-    return [function for path in listed("crates/*/src/**/*.rt") + listed("crates/*/src/*.rt")
+    return [function for path in listed("crates/*/src/**/*.rt")
             for function in functions_of(path)]
 
 
@@ -154,7 +154,7 @@ def uses_of(path):
 def definitions(crates):
     """Each definition of the specs of these crates: crate, file, name; and all names of fields."""
     defined, fields = set(), set()
-    for path in listed("crates/*/specs/*.antt"):
+    for path in listed("crates/*/specs/**/*.antt"):
         crate, module = path.split("/")[1], os.path.basename(path)[:-5]
         for line in read(path).split("\n"):
             part = FIELD.match(line)

@@ -48,7 +48,7 @@ TOLD = {
     "register_desk/src/memory.rt": 1,
     "register_desk/src/opening.rt": 1,
     "register_http/src/exchanging.rt": 1,
-    "register_program/src/acting.rt": 1,
+    "register_program/src/faults.rt": 3,
     "register_report/src/importing.rt": 1,
     "register_report/src/table_writing.rt": 1,
     "register_store/src/error.rt": 3,

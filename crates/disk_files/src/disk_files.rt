@@ -2,10 +2,10 @@
 ghost use Rattle.sqlite.specs.WalFiles.{image_at};
 ghost use Rattle.sqlite.specs.Files.{over_files};
 ghost use Rattle.sqlite_store.specs.FileStore as files;
-ghost use Rattle.register_files.specs.Closing.{ClosesFiles};
+ghost use Rattle.register_program.specs.Closing.{ClosesFiles};
 
 use register_desk::OpenRefusal;
-use register_files::{Closed, Files, LogCopy};
+use register_program::{Closed, Files, LogCopy};
 use sqlite::{Connection, Error, ErrorCode, FileFrom, FileStore, Start};
 use sqlite_disk::Disk;
 use sqlite_trees::store::Store;

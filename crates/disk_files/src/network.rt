@@ -1,5 +1,5 @@
 //! The machine's own network.
-use register_files::{Client, Listener, Network};
+use register_program::{Client, Listener, Network};
 use std::io::{self, Read, Write};
 use std::net::{Ipv4Addr, Shutdown, SocketAddr, TcpListener, TcpStream};
 use std::time::{Clock, Duration};

@@ -16,7 +16,7 @@ use Rattle.http_messages.specs.declared.asked.Asked.TheVariants.{Reject, Apply}
 use Rattle.http_messages.specs.declared.asked.Rejection.TheVariants.{BadRequest}
 use Rattle.http_messages.specs.declared.asking.Post as post
 use Rattle.http_messages.specs.declared.route.Route.TheVariants.{Requests}
-use Rattle.http_messages.specs.Post.{IsFor, Says}
+use Rattle.http_messages.specs.Within.Post.{IsFor, Says}
 use Rattle.http_messages.specs.Asked.{AsksBody, AsksAfter, cut_short, lines_of, no_command, command, sent}
 use Rattle.http_messages.specs.Asked as rule
 

@@ -9,14 +9,15 @@ use Rattle.period_core.specs.declared.key_type.KeyType.{KeyType}
 use Rattle.period_core.specs.KeyType.{key_type_text}
 use Rattle.period_core.specs.Period.{Period, of_months}
 use Rattle.register_requests.specs.CommandRule.{kind_of}
-use Rattle.register_requests.specs.RequestLine.{key_type_at, reason_at}
+use Rattle.register_requests.specs.Within.RequestLine.{key_type_at, reason_at}
 use Rattle.register_requests.specs.declared.command_fields.CommandKind.{CommandKind}
 use Rattle.register_requests.specs.declared.request.Command.{Command}
 use Rattle.register_requests.specs.declared.command_fields.Fields.{Fields}
 use Rattle.register_requests.specs.declared.command_fields.Fields.TheVariants.{Nothing, TypeAndPeriod}
 use Rattle.register_requests.specs.declared.command_fields.Fields.TheVariants.{Registration, DateEdits, Revocation}
 use Rattle.register_requests.specs.CommandKind.{command_shape}
-use Rattle.register_requests.specs.Fields.{fields_of, shape_of}
+use Rattle.register_requests.specs.Fields.{fields_of}
+use Rattle.register_requests.specs.Within.Fields.{shape_of}
 use Rattle.register_requests.specs.declared.request.Edit.{Edit}
 use Rattle.register_requests.specs.declared.request.Edit.TheVariants.{Keep, Clear, Set}
 use Rattle.register_requests.proofs.Commands.{has_shape, same_command}

@@ -12,7 +12,7 @@ use Rattle.http_messages.specs.declared.route.Route.{Route}
 use Rattle.http_messages.specs.Route.{IsRouteOf, method_of}
 use Rattle.http_messages.specs.Asked.{HasHost, lines_of, AsksAfter, no_host, no_path, no_method}
 use Rattle.http_messages.specs.HeaderFields.{Lines}
-use Rattle.http_messages.specs.Post.{IsFor}
+use Rattle.http_messages.specs.Within.Post.{IsFor}
 use Rattle.http_messages.specs.declared.asked.Asked.TheVariants.{Reject}
 use Rattle.http_messages.specs.declared.asked.Rejection.{Rejection}
 use Rattle.http_messages.specs.declared.asked.Rejection.TheVariants.{BadRequest, NoRoute, MethodNotAllowed}

@@ -16,7 +16,8 @@ use Rattle.http_messages.specs.declared.asked.Asked.{Asked}
 use Rattle.http_messages.specs.declared.asked.Asked.TheVariants.{Reject, Apply}
 use Rattle.http_messages.specs.declared.asked.Rejection.TheVariants.{MethodNotAllowed}
 use Rattle.http_messages.specs.HeadLaws.{IsLeftOpen}
-use Rattle.http_messages.specs.Route.{IsRoute, IsRouteOf, route_text, pattern_of, method_of, routes}
+use Rattle.http_messages.specs.Route.{IsRoute, IsRouteOf, route_text, method_of, routes}
+use Rattle.http_messages.specs.Within.Route.{pattern_of}
 use Rattle.http_messages.specs.CommandBody.{IsBodyOf}
 use Rattle.http_messages.specs.HeaderFields.{Lines}
 use Rattle.http_messages.specs.Asked.{Announces, IsFrom, Asks, AsksAfter, AsksPost}

@@ -21,7 +21,8 @@ use Rattle.http_messages.specs.declared.route.RoutePattern.{RoutePattern}
 use Rattle.register_requests.specs.Request.{IsKeyNumber}
 use Rattle.register_requests.specs.RequestLine.{key_number_at}
 use Rattle.register_requests.proofs.Readers.{key_number_reader}
-use Rattle.http_messages.specs.Route.{IsRoute, route_text, pattern_of, routes, key_row, usage_row, requests_row}
+use Rattle.http_messages.specs.Route.{IsRoute, route_text, routes, key_row, usage_row, requests_row}
+use Rattle.http_messages.specs.Within.Route.{pattern_of}
 
 abbrev pub IsDigit : ℕ → Type 0
 IsDigit b = (48 ≤ b) × (b < 58)

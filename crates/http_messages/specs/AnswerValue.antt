@@ -2,7 +2,6 @@
 use Rattle.std.specs.Prelude.{ℕ, List, map, codes, Option, Some, None}
 use Rattle.lifecycle_core.specs.declared.state.State.{State}
 use Rattle.lifecycle_core.specs.declared.usage_types.Usage.{Usage}
-use Rattle.lifecycle_core.specs.declared.dates.Dates.{Dates}
 use Rattle.lifecycle_core.specs.State.{state_text}
 use Rattle.lifecycle_core.specs.Usage.{process_text}
 use Rattle.period_core.specs.KeyType.{key_type_text}
@@ -67,17 +66,6 @@ usage_data usage =
 -- a list of names
 abbrev pub names_data : List (List ℕ) → Data
 names_data names = array (items_of (map (λ name. string name) names))
-
--- the dates of a key
-abbrev pub date_members : Dates → Members
-date_members dates =
-    member (codes "activation") (date_data dates.activation)
-    (member (codes "compromised") (date_data dates.compromise)
-    (member (codes "deactivation") (date_data dates.deactivation)
-    (member (codes "destroyed") (date_data dates.destroy)
-    (member (codes "initial") (number_data dates.initial)
-    (member (codes "occurrence") (date_data dates.compromise_occurrence)
-    (member (codes "protect_stop") (date_data dates.protect_stop) no_members))))))
 
 -- a key, how many approvals its destruction needs, its custodians, and the names whose approvals stand
 abbrev pub key_data : Record → Data

@@ -1,5 +1,5 @@
 -- The JSON value of each command. Which text is read as that value is `serde_json`'s matter.
-use Rattle.std.specs.Prelude.{◌≡◌, ℕ, List, codes, Option, Some, None}
+use Rattle.std.specs.Prelude.{ℕ, List, codes, Option, Some, None}
 use Rattle.lifecycle_core.specs.Reason.{reason_code}
 use Rattle.period_core.specs.KeyType.{key_type_text}
 use Rattle.register_requests.specs.CommandKind.{command_kind_text}
@@ -11,9 +11,7 @@ use Rattle.register_requests.specs.declared.command_fields.Fields.TheVariants.{N
 use Rattle.register_requests.specs.declared.command_fields.Fields.TheVariants.{KeyAndOwner, KeyAndNeed, TypeAndPeriod}
 use Rattle.register_requests.specs.declared.command_fields.Fields.TheVariants.{Registration}
 use Rattle.register_requests.specs.declared.command_fields.Fields.TheVariants.{DateEdits, Revocation}
-use Rattle.register_requests.specs.declared.command_fields.Shape.{Shape}
-use Rattle.register_requests.specs.Fields.{fields_of, shape_of}
-use Rattle.register_requests.specs.Request.{AreFields}
+use Rattle.register_requests.specs.Fields.{fields_of}
 use Rattle.register_requests.specs.declared.request.Edit.{Edit}
 use Rattle.register_requests.specs.declared.request.Edit.TheVariants.{Keep, Clear, Set}
 use Rattle.serde_json.specs.Data.{Data, null, number, unsigned, string, object, Members, member, no_members}
@@ -101,12 +99,3 @@ fields_members kind (Revocation key reason occurrence) =
 -- the JSON value of a command
 abbrev pub command_data : Command → Data
 command_data c = object (fields_members (kind_data (kind_of c)) (fields_of c))
-
--- the members are those of fields, whatever the value of the kind among them
-abbrev pub HasMembers : Members → Fields → Type 0
-HasMembers members fields = (kind : Data) × (members ≡ fields_members kind fields)
-
--- the members are those of fields of this shape, in their ranges
-abbrev pub IsShaped : Shape → Members → Fields → Type 0
-IsShaped shape members fields =
-    AreFields fields × (shape_of fields ≡ shape) × HasMembers members fields

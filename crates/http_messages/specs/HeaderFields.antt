@@ -3,8 +3,7 @@ use Rattle.std.specs.Prelude.{◌≡◌, ℕ, ◌<◌, ◌≤◌, List, [], ◌�
 use Rattle.std.specs.Str.{bytes_eq}
 use Rattle.std.specs.Str.Parse.{digits_value}
 use Rattle.std.specs.Char.{to_ascii_lowercase, is_ascii_digit}
-use Rattle.httparse.specs.Grammar.{RequestHead, AllPass}
-use Rattle.httparse.specs.Spans.{name_and_value}
+use Rattle.httparse.specs.Grammar.{AllPass}
 use Rattle.http_messages.specs.declared.header_fields.HeaderFields.{HeaderFields}
 use Rattle.http_messages.specs.declared.header_fields.Values.{Values}
 use Rattle.http_messages.specs.declared.header_fields.Values.TheVariants as found
@@ -21,10 +20,6 @@ is_named name given = bytes_eq (map to_ascii_lowercase given) name
 abbrev pub values_of : List ℕ → Lines → List (List ℕ)
 values_of name [] = []
 values_of name (line ∷ lines) = if is_named name line.0 then line.1 ∷ values_of name lines else values_of name lines
-
--- the values of a head's header lines of this name, without the spaces and tabs at both ends
-abbrev pub values : List ℕ → RequestHead → List (List ℕ)
-values name h = values_of name (map name_and_value h.fields)
 
 -- how many values there are, and which it is where there is one
 abbrev pub AreFound : List (List ℕ) → Values → Type 0

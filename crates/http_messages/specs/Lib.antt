@@ -7,8 +7,8 @@ pub mod CommandBody
 pub mod HttpReply
 pub mod Asked
 pub mod Rejection
-pub mod Post
 pub mod Content
 pub mod HeadLaws
 pub mod AnswerValue
 pub mod AnswerText
+pub mod Within

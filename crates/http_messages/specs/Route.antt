@@ -30,12 +30,6 @@ method_of Requests = codes "POST"
 method_of (Show key) = codes "GET"
 method_of (Usage key) = codes "GET"
 
--- the pattern that the router keeps for a route
-abbrev pub pattern_of : Route → RoutePattern
-pattern_of Requests = kept.Requests
-pattern_of (Show key) = kept.Key
-pattern_of (Usage key) = kept.Usage
-
 -- the rows of the router
 abbrev pub key_row : RouteOf RoutePattern
 key_row =

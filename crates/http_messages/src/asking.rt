@@ -7,7 +7,8 @@ ghost use Rattle.serde_json.specs.Data.{Data};
 ghost use Rattle.serde_json.specs.Read.{read};
 ghost use Rattle.serde_json.specs.View.{view};
 ghost use Rattle.streams.specs.Watched.{IsFaulted};
-ghost use Rattle.http_messages.specs.Content.{GetsBody, HasRead, TellsFault, ReadsInput};
+ghost use Rattle.http_messages.specs.Content.{HasRead, TellsFault};
+ghost use Rattle.http_messages.specs.Within.Content.{GetsBody, ReadsInput};
 ghost use Rattle.http_messages.specs.declared.head.TheConstants.{MAX_EXCHANGE_READS};
 ghost use Rattle.httparse.specs.Grammar.{RequestHead};
 ghost use Rattle.httparse.specs.Spans.{IsRequestAt, IsRequestWithin, header_bytes};
@@ -15,7 +16,7 @@ ghost use Rattle.http_messages.specs.CommandBody.{IsInRange};
 ghost use Rattle.http_messages.specs.Asked.{AsksFor, AsksBody, AsksAfter, AsksPost, HasHost};
 ghost use Rattle.http_messages.specs.Asked.{IsFrom, max_body_length};
 ghost use Rattle.http_messages.specs.HeaderFields.{AreGathered, IsLength, Lines};
-ghost use Rattle.http_messages.specs.Post.{IsFor, Says};
+ghost use Rattle.http_messages.specs.Within.Post.{IsFor, Says};
 ghost use Rattle.http_messages.specs.declared.asked.Asked.TheVariants.{Reject};
 ghost use Rattle.http_messages.specs.Route.{routes};
 

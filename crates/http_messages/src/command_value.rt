@@ -22,7 +22,7 @@ ghost use Rattle.register_requests.specs.Quorum.{IsQuorum};
 ghost use Rattle.register_requests.specs.Request.{AreFields, IsCommand, IsKeyNumber};
 ghost use Rattle.register_requests.specs.CommandRule.{kind_of};
 ghost use Rattle.http_messages.specs.CommandValue.{number_data, kind_data, command_data};
-ghost use Rattle.http_messages.specs.CommandValue.{HasMembers, IsShaped};
+ghost use Rattle.http_messages.specs.Within.CommandValue.{HasMembers, IsShaped};
 ghost use Rattle.http_messages.specs.CommandValue.{keyed_members, named_members, four_members};
 ghost use Rattle.http_messages.specs.CommandValue.{set_members, register_members};
 

@@ -11,7 +11,8 @@ ghost use Rattle.serde_json.specs.Written.{has_float};
 ghost use Rattle.http_messages.specs.AnswerText.{json_reply, key_reply, outcome_reply};
 ghost use Rattle.http_messages.specs.AnswerText.{refusal_status, usage_reply};
 ghost use Rattle.http_messages.specs.AnswerValue.{state_data, reply_data, refusal_data, usage_data};
-ghost use Rattle.http_messages.specs.AnswerValue.{names_data, date_members, key_data, name_data};
+ghost use Rattle.http_messages.specs.AnswerValue.{names_data, key_data, name_data};
+ghost use Rattle.http_messages.specs.Within.AnswerValue.{date_members};
 ghost use Rattle.http_messages.specs.AnswerValue.{refused_members};
 ghost use Rattle.http_messages.specs.CommandValue.{date_data};
 

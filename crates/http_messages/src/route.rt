@@ -2,7 +2,8 @@
 ghost use Rattle.std.specs.Prelude.{◌≡◌, ◌≢◌, ◌<◌, ◌^◌, ◌++◌, ℕ, List, decimal, IfOk, IfErr};
 ghost use Rattle.std.specs.Prelude.{IfSome, IfNone};
 ghost use Rattle.std.specs.Option.{ForSome};
-ghost use Rattle.http_messages.specs.Route.{routes, route_text, pattern_of, IsRoute, IsRouteOf};
+ghost use Rattle.http_messages.specs.Route.{routes, route_text, IsRoute, IsRouteOf};
+ghost use Rattle.http_messages.specs.Within.Route.{pattern_of};
 ghost use Rattle.register_requests.specs.Request.{IsKeyNumber};
 
 use crate::asked::AskFault;

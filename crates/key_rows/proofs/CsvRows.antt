@@ -7,7 +7,8 @@ use Rattle.std.proofs.lemmas.Bool.Decides.{nat_tests}
 use Rattle.std.proofs.lemmas.List.{append-nil}
 use Rattle.csv.specs.Writing as kit
 use Rattle.csv.specs.Writing.{default_writer, escaped, fields_text, needs_byte}
-use Rattle.key_rows.specs.Export.{comma, quote, line_feed, doubled, field_text, csv_row, IsPrintable}
+use Rattle.key_rows.specs.Export.{comma, quote, line_feed, doubled, field_text, csv_row}
+use Rattle.key_rows.specs.Within.Export.{IsPrintable}
 
 -- ---- a field
 

@@ -11,7 +11,8 @@ use Rattle.std.proofs.lemmas.Fmt.{decimal_by_steps}
 use Rattle.moment_core.specs.MomentText.{moment_text}
 use Rattle.register_requests.specs.Name.{IsName, is_name_byte}
 use Rattle.register_requests.specs.Purpose.{IsPurpose, is_purpose_byte}
-use Rattle.key_rows.specs.Export.{IsPrintable, date_text}
+use Rattle.key_rows.specs.Export.{date_text}
+use Rattle.key_rows.specs.Within.Export.{IsPrintable}
 
 -- ---- all bytes of a text
 

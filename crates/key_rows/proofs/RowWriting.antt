@@ -14,9 +14,10 @@ use Rattle.csv.specs.declared.writer.Writer.{Writer}
 use Rattle.csv.specs.declared.writer.WriterBuilder.{WriterBuilder}
 use Rattle.csv.proofs.WriteFacts.{row-more}
 use Rattle.key_rows.specs.declared.cell.Cell.{Cell}
-use Rattle.key_rows.specs.Cell.{cell_text}
-use Rattle.key_rows.specs.Export.{line_feed, csv_row, IsPrintable}
-use Rattle.key_rows.specs.RowWriter.{HasFields, written}
+use Rattle.key_rows.specs.Within.Cell.{cell_text}
+use Rattle.key_rows.specs.Export.{line_feed, csv_row}
+use Rattle.key_rows.specs.Within.Export.{IsPrintable}
+use Rattle.key_rows.specs.Within.RowWriter.{HasFields, written}
 use Rattle.key_rows.proofs.CsvRows.{same_row}
 
 -- ---- results

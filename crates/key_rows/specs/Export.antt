@@ -1,8 +1,8 @@
 -- The text of an export: a header, and one row for each key. Its form is this register's own;
 -- fields are quoted as RFC 4180 says.
-use Rattle.std.specs.Prelude.{ℕ, ◌==◌, ◌||◌, nat_le, if◌then◌else◌, List, [], ◌∷◌, ◌++◌, map}
-use Rattle.std.specs.Prelude.{flat_map, codes, decimal, Option, None, Some, IsTrue}
-use Rattle.std.specs.List.{list_any, list_all, join_with_byte}
+use Rattle.std.specs.Prelude.{ℕ, ◌==◌, ◌||◌, if◌then◌else◌, List, [], ◌∷◌, ◌++◌, map}
+use Rattle.std.specs.Prelude.{flat_map, codes, decimal, Option, None, Some}
+use Rattle.std.specs.List.{list_any, join_with_byte}
 use Rattle.moment_core.specs.MomentText.{moment_text}
 use Rattle.period_core.specs.KeyType.{key_type_text}
 use Rattle.lifecycle_core.specs.declared.dates.Dates.{Dates}
@@ -33,10 +33,6 @@ field_text field =
 -- a row: its fields with commas between them, and a line feed
 abbrev pub csv_row : List (List ℕ) → List ℕ
 csv_row fields = join_with_byte comma (map field_text fields) ++ line_feed ∷ []
-
--- the bytes have no control character, so that they end no line
-abbrev pub IsPrintable : List ℕ → Type 0
-IsPrintable bytes = IsTrue (list_all (nat_le 32) bytes)
 
 -- ---- keys
 

@@ -1,6 +1,5 @@
 pub mod DueRows
 pub mod Record
 pub mod Export
-pub mod Cell
-pub mod RowWriter
 pub mod Report
+pub mod Within

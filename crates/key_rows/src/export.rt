@@ -1,9 +1,10 @@
 //! The text of an export, a row at a time.
 ghost use Rattle.std.specs.Prelude.{◌≡◌, ◌<◌, ◌+◌, ◌^◌, ◌++◌, ℕ, List, [], ◌∷◌, length, OnOk, IfOk};
 ghost use Rattle.std.specs.Prelude.{Some};
-ghost use Rattle.key_rows.specs.Export.{IsPrintable, export_header, export_row};
-ghost use Rattle.key_rows.specs.RowWriter.{HasFields, written};
-ghost use Rattle.key_rows.specs.Cell.{cell_text};
+ghost use Rattle.key_rows.specs.Export.{export_header, export_row};
+ghost use Rattle.key_rows.specs.Within.Export.{IsPrintable};
+ghost use Rattle.key_rows.specs.Within.RowWriter.{HasFields, written};
+ghost use Rattle.key_rows.specs.Within.Cell.{cell_text};
 
 use crate::cell::Cell;
 use crate::date_text::date_text;

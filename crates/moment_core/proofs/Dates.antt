@@ -12,7 +12,7 @@ use Rattle.jiff_core.proofs.SignedLemmas.{signed_arith}
 use Rattle.jiff_core.proofs.CalendarLemmas.{day_count-epoch, day_count-next_year, day_count-end}
 use Rattle.jiff_core.proofs.CalendarLemmas.{day_count-day_of_year, days_from_civil-day_count}
 use Rattle.jiff_core.proofs.DateLemmas.{epoch_day_injective}
-use Rattle.moment_core.specs.Dates.{HasParts}
+use Rattle.moment_core.specs.Within.Dates.{HasParts}
 use Rattle.moment_core.specs.Calendar.{Civil, IsCivil, in_range, months_after, months_on, month_days, civil}
 use Rattle.moment_core.specs.Calendar.{days_of_years, days_of_months, day_number}
 use Rattle.moment_core.proofs.Civils.{civil_is, days_of_years_more, days_of_years_mono, days_of_years_none}

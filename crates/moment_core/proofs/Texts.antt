@@ -5,7 +5,7 @@ use Rattle.std.specs.Prelude.{Option, None, Some, IsSome, IfSome, ◌↔◌}
 use Rattle.moment_core.specs.Moment.{IsMoment}
 use Rattle.moment_core.specs.Calendar.{Civil, IsCivil, civil, day_number}
 use Rattle.moment_core.specs.MomentText.{two_digits, moment_text}
-use Rattle.moment_core.specs.Parts.{date_text, time_text}
+use Rattle.moment_core.specs.Within.Parts.{date_text, time_text}
 use Rattle.moment_core.proofs.Civils.{civil_is, month_days_bounds}
 use Rattle.moment_core.proofs.Dates.{year_bound}
 

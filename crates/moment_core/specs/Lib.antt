@@ -1,5 +1,4 @@
 pub mod Moment
 pub mod Calendar
-pub mod Dates
 pub mod MomentText
-pub mod Parts
+pub mod Within

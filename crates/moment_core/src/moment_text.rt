@@ -2,7 +2,7 @@
 ghost use Rattle.std.specs.Prelude.{◌≡◌, ◌≢◌, ℕ, ◌+◌, ◌/◌, ◌%◌, ◌<◌, ◌++◌, Some, IfSome, IfNone};
 ghost use Rattle.moment_core.specs.Moment.{IsMoment};
 ghost use Rattle.moment_core.specs.MomentText.{two_digits, moment_text};
-ghost use Rattle.moment_core.specs.Parts.{date_text, time_text};
+ghost use Rattle.moment_core.specs.Within.Parts.{date_text, time_text};
 
 use crate::calendar::{self, DAY_SECONDS};
 use crate::moment::Moment;

@@ -105,11 +105,6 @@ first_that_holds [] = None
 first_that_holds (None ∷ others) = first_that_holds others
 first_that_holds (Some refusal ∷ others) = Some refusal
 
--- a check passes where no refusal holds, and else fails by the one that does
-abbrev pub Checks : {A R : Type 0} → Option R → Result A R → Type 0
-Checks refusal (Ok x) = refusal ≡ None
-Checks refusal (Err told) = refusal ≡ Some told
-
 -- the dates, unless a refusal holds of them
 abbrev pub unless_refused : Option DateRefusal → Dates → Result Dates DateRefusal
 unless_refused None d = Ok d

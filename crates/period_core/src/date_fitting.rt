@@ -9,7 +9,8 @@ ghost use Rattle.period_core.specs.Fitting.{months_on_date};
 ghost use Rattle.period_core.specs.Fitting.{with_default_protect_stop, with_default_deactivation};
 ghost use Rattle.period_core.specs.Fitting.{dates_with_defaults};
 ghost use Rattle.period_core.specs.Fitting.{defaulted_dates_cut_to_limits, order_refusal, length_refusal};
-ghost use Rattle.period_core.specs.Fitting.{range_refusal, fill_of, trim_of, Checks, KeepsGiven};
+ghost use Rattle.period_core.specs.Fitting.{range_refusal, fill_of, trim_of, KeepsGiven};
+ghost use Rattle.period_core.specs.Within.Fitting.{Checks};
 ghost use Rattle.period_core.specs.Fitting.{Gives};
 
 use crate::period::Period;

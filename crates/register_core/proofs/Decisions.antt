@@ -22,7 +22,8 @@ use Rattle.register_core.specs.declared.change.Change.{Change}
 use Rattle.register_core.specs.declared.change.Change.TheVariants as change
 use Rattle.register_core.specs.History.{latest, count, period, type, dates, owner}
 use Rattle.register_requests.specs.Subject.{Registration, Subject, Makes, Names, NoKey, subject, named_by, key_by}
-use Rattle.register_requests.specs.Subject.{count_by, key_of, made_by, named}
+use Rattle.register_requests.specs.Subject.{key_of, named}
+use Rattle.register_requests.specs.Within.Subject.{count_by, made_by}
 use Rattle.register_requests.proofs.Subjects.{is_named}
 use Rattle.register_core.specs.Effect.{given_dates, dates_after, owner_after, row_with_dates_at}
 use Rattle.register_core.specs.Custody.{custodians, approvals, need, held}

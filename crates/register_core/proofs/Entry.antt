@@ -1,12 +1,14 @@
 -- The refusals of who asks, of which key and when, in the order in which the code looks for them.
 use Rattle.std.proofs.Common.{◌≡◌, ℕ, List, [], ◌∷◌, Option, None, Some, Result, Ok, Err, refl, sym, ap, ◌∙◌, subst}
 use Rattle.std.specs.Prelude.{IsErrAnd}
-use Rattle.period_core.specs.Fitting.{first_that_holds, Checks}
+use Rattle.period_core.specs.Fitting.{first_that_holds}
+use Rattle.period_core.specs.Within.Fitting.{Checks}
 use Rattle.register_core.specs.declared.reply.Refusal.{Refusal}
 use Rattle.register_requests.specs.declared.request.Request.{Request}
 use Rattle.register_core.specs.declared.view.Held.{Held}
 use Rattle.register_core.specs.Verdict.{moment_refusal, key_refusal, owner_refusal, custodian_refusal, office_refusal}
-use Rattle.register_core.specs.Verdict.{giver_refusal, state_refusal, entry_refusal}
+use Rattle.register_core.specs.Verdict.{state_refusal, entry_refusal}
+use Rattle.register_core.specs.Within.Verdict.{giver_refusal}
 
 -- of three that come first, the first that holds comes first
 three_first : {R : Type 0} (a b c : Option R) (others : List (Option R))

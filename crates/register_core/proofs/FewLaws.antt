@@ -16,7 +16,7 @@ use Rattle.register_requests.specs.declared.request.Command.TheVariants.{RemoveC
 use Rattle.register_core.specs.KeyName.{KeyName, key_name, is_key_name, is_at, names_at}
 use Rattle.register_core.specs.Names.{with_name, sorted_names}
 use Rattle.register_core.specs.History.{latest, count, period, dates}
-use Rattle.register_requests.specs.Subject.{made_by}
+use Rattle.register_requests.specs.Within.Subject.{made_by}
 use Rattle.register_core.specs.Effect.{custody_change}
 use Rattle.register_core.specs.Custody.{all_custodians, custodians, held}
 use Rattle.register_core.specs.Verdict.{Accepts, max_keys, limit_refusal, named_key, judgement, judgement_in}

@@ -16,7 +16,8 @@ use Rattle.register_requests.specs.declared.request.Command.{Command}
 use Rattle.register_core.specs.History.{latest, registrations, count, Placed, own_from, own, period, type, dates}
 use Rattle.register_core.specs.History.{owner, dated_by}
 use Rattle.register_requests.specs.Subject.{Registration, Subject, Makes, Names, NoKey, subject, registration_by}
-use Rattle.register_requests.specs.Subject.{named_by, key_by, count_by, registration_of, named, key_of, made_by, is_key}
+use Rattle.register_requests.specs.Subject.{named_by, key_by, registration_of, named, key_of, is_key}
+use Rattle.register_requests.specs.Within.Subject.{count_by, made_by}
 use Rattle.register_requests.proofs.Subjects.{is_registration, is_named}
 use Rattle.register_core.specs.Effect.{kind_by, kind_after, unset_dates, given_dates, dates_after, owner_after}
 use Rattle.register_core.specs.Effect.{sets_dates}

@@ -34,7 +34,8 @@ use Rattle.register_core.specs.KeptReply.{reply, kept_with, kept_of, kept_from, 
 use Rattle.register_core.specs.KeptReply.{fits_by, IsKeptReply}
 use Rattle.register_core.specs.Laws.{IsAccepted, IsKeptIn, sent_under}
 use Rattle.register_requests.specs.Request.{IsRequest, IsKeyNumber, max_key_number, command_text}
-use Rattle.register_requests.specs.Subject.{Subject, Makes, Names, NoKey, subject, named, named_by, key_by, count_by}
+use Rattle.register_requests.specs.Subject.{Subject, Makes, Names, NoKey, subject, named, named_by, key_by}
+use Rattle.register_requests.specs.Within.Subject.{count_by}
 use Rattle.register_requests.specs.Version.{current}
 use Rattle.register_core.specs.Verdict.{Accepts, Repeats, Refuses, max_keys, always, judge, judge_view, verdict}
 use Rattle.register_core.specs.Verdict.{is_accepted, is_same_command, repeated}

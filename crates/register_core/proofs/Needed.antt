@@ -22,7 +22,7 @@ use Rattle.register_requests.specs.Subject.{Subject, Makes, Names, NoKey, named_
 use Rattle.register_core.specs.KeptReply.{reply}
 use Rattle.register_requests.specs.Name.{is_among}
 use Rattle.register_requests.specs.CommandRule.{is_same_giver}
-use Rattle.register_core.specs.CustodyRefusal.{custody_refusal}
+use Rattle.register_core.specs.Within.CustodyRefusal.{custody_refusal}
 use Rattle.register_core.specs.Verdict.{refused_dates, dates_refusal, custodian_refusal, always, judge, judge_view}
 use Rattle.register_core.specs.Verdict.{judgement, named_key}
 use Rattle.register_core.specs.Decision.{registered_key, change_of, change_by_request, reply_of_view, IsViewOf, LeadsTo}

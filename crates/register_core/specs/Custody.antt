@@ -109,8 +109,3 @@ held h k =
       approvals = approvals h k;
     })
     else None
-
--- one name, or none, as a list
-abbrev pub listed : Option (List ℕ) → List (List ℕ)
-listed None = []
-listed (Some name) = name ∷ []

@@ -12,7 +12,7 @@ use Rattle.register_core.specs.declared.reply.Refusal.TheVariants.{TooManyCustod
 use Rattle.register_core.specs.declared.reply.Refusal.TheVariants.{NoApproval, ApprovalsMissing}
 use Rattle.register_requests.specs.Name.{is_among}
 use Rattle.register_requests.specs.declared.version.Version.{Version}
-use Rattle.register_requests.specs.Version.{current, custodians_of}
+use Rattle.register_requests.specs.Version.{custodians_of}
 
 -- the name to add is a custodian of the key already
 abbrev pub already_custodian : Option Held → Command → Option Refusal
@@ -69,7 +69,3 @@ custody_refusals version key caller c =
 
 abbrev pub custody_refusal_in : Version → Option Held → List ℕ → Command → Option Refusal
 custody_refusal_in version key caller c = first_that_holds (custody_refusals version key caller c)
-
--- in this program's version
-abbrev pub custody_refusal : Option Held → List ℕ → Command → Option Refusal
-custody_refusal = custody_refusal_in current

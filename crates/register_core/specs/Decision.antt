@@ -1,6 +1,5 @@
 -- What a decision to accept a request makes of the register, where the key that the request names is known.
 use Rattle.std.specs.Prelude.{◌≡◌, ℕ, ◌+◌, not, List, [], ◌∷◌, ◌++◌, filter, Option, None, Some, IfSome}
-use Rattle.lifecycle_core.specs.declared.dates.Dates.{Dates}
 use Rattle.lifecycle_core.specs.declared.row.Row.{Row}
 use Rattle.lifecycle_core.specs.Row.{IsRightAt}
 use Rattle.period_core.specs.declared.key_type.KeyType.{KeyType}
@@ -25,18 +24,9 @@ use Rattle.register_core.specs.declared.key.Key.{Key}
 use Rattle.register_core.specs.Verdict.{named_key, always}
 use Rattle.register_core.specs.Need.{needed_period_type}
 use Rattle.register_requests.specs.Subject.{Registration, Subject, Makes, Names, NoKey, subject}
-use Rattle.register_core.specs.Effect.{unset_dates, given_dates, dates_after, owner_after, row_with_dates_at}
+use Rattle.register_core.specs.Effect.{given_dates, dates_after, owner_after, row_with_dates_at}
 use Rattle.register_core.specs.Effect.{custody_change}
 use Rattle.register_core.specs.KeyName.{is_key_name, is_at, KeyName, key_name}
-
--- the dates of the key as it stands; where there is none, no date is set
-abbrev pub dates_before : Option Held → Dates
-dates_before None = unset_dates
-dates_before (Some held) = held.row.dates
-
--- by this period these are the dates after the request of the key that it makes, or that it names and that stands so
-abbrev pub AreDatesAfter : Period → Option Held → Request → Dates → Type 0
-AreDatesAfter p key q d = d ≡ dates_after p (dates_before key) q.moment q.command
 
 -- what an accepted request makes of the key that it names by this number, by these periods of the types
 abbrev pub change_of_held_key : (KeyType → Period) → ℕ → Held → Request → Change

@@ -1,6 +1,6 @@
 -- What a command does to a key: to its type, its owner, its dates and its custody.
 use Rattle.std.specs.Prelude.{ℕ, min, ◌==◌, Bool, true, false, unwrap_or, ◌&&◌, List, Option, None, Some, is_none}
-use Rattle.std.specs.Prelude.{Result, Ok, if◌then◌else◌}
+use Rattle.std.specs.Prelude.{if◌then◌else◌}
 use Rattle.lifecycle_core.specs.declared.dates.Dates.{Dates}
 use Rattle.lifecycle_core.specs.declared.row.Row.{Row}
 use Rattle.lifecycle_core.specs.State.{state_at}
@@ -8,8 +8,7 @@ use Rattle.lifecycle_core.specs.Reason.{is_compromise}
 use Rattle.period_core.specs.declared.key_type.KeyType.{KeyType}
 use Rattle.period_core.specs.KeyType.{key_type_code}
 use Rattle.period_core.specs.Period.{Period}
-use Rattle.period_core.specs.declared.date_fitting.DateRefusal.{DateRefusal}
-use Rattle.period_core.specs.Fitting.{dates_with_defaults, defaulted_dates_cut_to_limits, fill_of, trim_of}
+use Rattle.period_core.specs.Fitting.{dates_with_defaults, defaulted_dates_cut_to_limits}
 use Rattle.register_requests.specs.declared.request.Command.{Command}
 use Rattle.register_requests.specs.declared.request.Command.TheVariants.{Register, Activate, SetDates, Revoke, Assign}
 use Rattle.register_requests.specs.declared.request.Command.TheVariants.{AddCustodian, RemoveCustodian, Approve}
@@ -92,15 +91,6 @@ dates_after p d t (Revoke key reason occurrence) =
     if is_compromise reason then compromised t occurrence d else deactivated t d
 dates_after p d t (Destroy key) = record d { destroy = Some t }
 dates_after p d t _ = d
-
--- the same, unless Fill, or at an activation Trim, refuses the dates that the command gives
-abbrev pub commanded_dates_or_refusal : Period → Dates → ℕ → Command → Result Dates DateRefusal
-commanded_dates_or_refusal p d t (Register kind owner activation protect_stop deactivation purpose) =
-    fill_of p (given_dates t activation protect_stop deactivation)
-commanded_dates_or_refusal p d t (Activate key) = trim_of p (record d { activation = Some t })
-commanded_dates_or_refusal p d t (SetDates key activation protect_stop deactivation) =
-    fill_of p (edited_dates activation protect_stop deactivation d)
-commanded_dates_or_refusal p d t c = Ok (dates_after p d t c)
 
 -- dates, with the state that they give at t
 abbrev pub row_with_dates_at : Dates → ℕ → Row

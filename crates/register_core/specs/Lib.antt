@@ -13,3 +13,4 @@ pub mod Decision
 pub mod Need
 pub mod Fold
 pub mod Laws
+pub mod Within

@@ -88,11 +88,6 @@ office = codes "office"
 abbrev pub office_refusal : List ℕ → Command → Option Refusal
 office_refusal caller c = if is_offices c && not (bytes_eq caller office) then Some NotOffice else None
 
--- the caller is another than the one who may give the command: the first of these three
-abbrev pub giver_refusal : Option Held → List ℕ → Command → Option Refusal
-giver_refusal key caller c =
-    first_that_holds (owner_refusal key caller c ∷ custodian_refusal key caller c ∷ office_refusal caller c ∷ [])
-
 -- the command is not for the state that the key has at t
 abbrev pub state_refusal : Option Held → ℕ → Command → Option Refusal
 state_refusal None t c = None

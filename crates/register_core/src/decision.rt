@@ -2,15 +2,18 @@
 //! known.
 ghost use Rattle.std.specs.Prelude.{◌≡◌, None, Some, IfOk, IfErr, OnOk, ◌≤◌, List};
 ghost use Rattle.register_requests.specs.declared.request.Command.{Command};
-ghost use Rattle.period_core.specs.Fitting.{Checks};
+ghost use Rattle.period_core.specs.Within.Fitting.{Checks};
 ghost use Rattle.register_requests.specs.CommandRule.{rule};
 ghost use Rattle.register_core.specs.CustodyRefusal.{already_custodian, no_such_custodian};
 ghost use Rattle.register_core.specs.CustodyRefusal.{too_many_custodians, owner_custodian};
 ghost use Rattle.register_core.specs.CustodyRefusal.{already_approved, no_approval};
-ghost use Rattle.register_core.specs.CustodyRefusal.{approvals_missing, custody_refusal};
-ghost use Rattle.register_core.specs.Decision.{AreDatesAfter, IsRightKey, IsViewOf, LeadsTo};
+ghost use Rattle.register_core.specs.CustodyRefusal.{approvals_missing};
+ghost use Rattle.register_core.specs.Within.CustodyRefusal.{custody_refusal};
+ghost use Rattle.register_core.specs.Decision.{IsRightKey, IsViewOf, LeadsTo};
+ghost use Rattle.register_core.specs.Within.Decision.{AreDatesAfter};
 ghost use Rattle.register_core.specs.Decision.{change_by_request, reply_to, reply_of_view};
-ghost use Rattle.register_core.specs.Verdict.{moment_refusal, key_refusal, giver_refusal};
+ghost use Rattle.register_core.specs.Verdict.{moment_refusal, key_refusal};
+ghost use Rattle.register_core.specs.Within.Verdict.{giver_refusal};
 ghost use Rattle.register_core.specs.Verdict.{state_refusal, keeps_date, freeze_refusal};
 ghost use Rattle.register_core.specs.Verdict.{entry_refusal, occurrence_refusal, limit_refusal};
 ghost use Rattle.register_core.specs.Verdict.{judge_view, always, max_keys, judgement};

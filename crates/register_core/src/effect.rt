@@ -6,11 +6,11 @@ ghost use Rattle.period_core.specs.Period.{Period as UsagePeriod};
 ghost use Rattle.register_core.specs.Effect.{owner_after, unset_dates, given_dates};
 ghost use Rattle.register_core.specs.Effect.{date_after_edit};
 ghost use Rattle.register_core.specs.Effect.{edited_dates, cut_date_at, dates_after};
-ghost use Rattle.register_core.specs.Effect.{commanded_dates_or_refusal};
+ghost use Rattle.register_core.specs.Within.Effect.{commanded_dates_or_refusal};
 ghost use Rattle.register_core.specs.Effect.{row_with_dates_at, custody_change};
 ghost use Rattle.register_core.specs.Decision.{change_by_request, change_without_key};
 ghost use Rattle.register_core.specs.Decision.{change_of_held_key};
-ghost use Rattle.register_core.specs.Decision.{AreDatesAfter, dates_before};
+ghost use Rattle.register_core.specs.Within.Decision.{AreDatesAfter, dates_before};
 ghost use Rattle.register_core.specs.Verdict.{always, dates_refusal, key_refusal};
 
 use crate::change::{Change, CustodyChange};

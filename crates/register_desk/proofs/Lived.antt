@@ -27,7 +27,7 @@ use Rattle.register_desk.specs.Lives.{after, applied, AreInRange, IsLife, Leaves
 use Rattle.register_desk.specs.Lives.{MayApplyOneMore}
 use Rattle.register_desk.specs.Register.{StandsFor, tables}
 use Rattle.register_desk.specs.Run.{Answered, LeavesDesk, RunsOver}
-use Rattle.register_desk.specs.RunProgress.{Served, ServedInPart, ServesTo}
+use Rattle.register_desk.specs.Within.RunProgress.{Served, ServedInPart, ServesTo}
 use Rattle.register_desk.proofs.Answering.{prefix_so, stopped_so}
 
 -- ---- items of lines are in range

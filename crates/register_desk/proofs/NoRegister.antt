@@ -12,7 +12,7 @@ use Rattle.register_store.specs.CheckedTables.{ArePassed, Passes}
 use Rattle.register_store.specs.OpeningChecks.{checked}
 use Rattle.register_store.specs.Schema.{no_schema}
 use Rattle.register_store.specs.Stored.{Stored}
-use Rattle.register_desk.specs.DatabaseFiles.{ShowsNothing}
+use Rattle.register_desk.specs.Within.DatabaseFiles.{ShowsNothing}
 
 -- the query that the check of meta makes
 abbrev meta_query : List ℕ

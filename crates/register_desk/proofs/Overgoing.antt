@@ -39,7 +39,8 @@ use Rattle.register_store.specs.TableChanges.{AreRightAt, advanced, held_by, whe
 use Rattle.register_store.specs.TableReads.{seen}
 use Rattle.register_store.specs.Schema.{Holds}
 use Rattle.register_store.specs.Tables.{Tables}
-use Rattle.register_desk.specs.TablesView.{IsViewOver, period_over}
+use Rattle.register_desk.specs.TablesView.{period_over}
+use Rattle.register_desk.specs.Within.TablesView.{IsViewOver}
 use Rattle.register_desk.specs.declared.desk.Desk.{Desk}
 use Rattle.register_desk.specs.Desk.{AcceptsOver, IsOverAfter, IsOverWithRequest}
 use Rattle.register_desk.specs.Register.{IsOver}

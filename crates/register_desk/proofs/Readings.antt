@@ -19,7 +19,7 @@ use Rattle.register_desk.specs.declared.desk.Desk.{Desk}
 use Rattle.register_desk.specs.declared.end.End.{End}
 use Rattle.register_desk.specs.declared.end.End.TheVariants as ends
 use Rattle.register_desk.specs.Desk.{IsWhole, IsBroken, IsClean, EndsBy, ChangesNothing, KeepsCounts}
-use Rattle.register_desk.specs.DeskCalls.{KeepsAll, LooksUp}
+use Rattle.register_desk.specs.Within.DeskCalls.{KeepsAll, LooksUp}
 use Rattle.register_store.specs.TableChanges.{AreRightAt}
 use Rattle.register_desk.specs.Register.{tables, IsOver, StandsFor, Sees, Keeps, Leaves}
 

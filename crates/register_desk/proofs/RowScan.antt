@@ -19,7 +19,8 @@ use Rattle.register_store.specs.TableChanges.{key_at}
 use Rattle.register_store.specs.Tables.{Tables, numbered}
 use Rattle.register_desk.specs.declared.rows.Scan.{Scan}
 use Rattle.register_desk.specs.declared.rows.Scan.TheVariants.{ByNumber, ByStop}
-use Rattle.register_desk.specs.KeyRows.{AreAll, AreSoFar, HasNextRow, IsAfterRows, after_row, due_until, first_cursor}
+use Rattle.register_desk.specs.KeyRows.{AreAll, AreSoFar, IsAfterRows, due_until, first_cursor}
+use Rattle.register_desk.specs.Within.KeyRows.{HasNextRow, after_row}
 use Rattle.register_desk.specs.KeyRows.{last_cursor, cursor_of_row, row_of, rows_of}
 
 -- ---- the first of a list

@@ -1,5 +1,5 @@
 -- What the calls of a desk leave.
-use Rattle.std.specs.Prelude.{◌≡◌, ◌⊎◌, ◌<◌, ◌≤◌, ℕ, true, false, List, length, None, Some, Result, MatchResult}
+use Rattle.std.specs.Prelude.{◌≡◌, ◌⊎◌, ◌<◌, ◌≤◌, ℕ, true, false, List, length, None, Result, MatchResult}
 use Rattle.std.specs.Prelude.{IsTrue}
 use Rattle.sqlite_trees.specs.declared.store.Store.{Ghosts}
 use Rattle.sqlite.specs.State.{HasCleanDisk, Survives}
@@ -8,11 +8,9 @@ use Rattle.register_core.specs.declared.answer.Answer.{Answer}
 use Rattle.register_core.specs.declared.answer.Answer.TheVariants.{Accepted, Repeated, Refused}
 use Rattle.register_core.specs.declared.change.Change.{Change}
 use Rattle.register_core.specs.declared.reply.Reply.{Reply}
-use Rattle.register_requests.specs.declared.request.Command.{Command}
 use Rattle.register_requests.specs.declared.request.Request.{Request}
 use Rattle.register_core.specs.Decision.{change_by_request, reply_to}
 use Rattle.register_core.specs.KeptReply.{kept_with}
-use Rattle.register_requests.specs.Subject.{named}
 use Rattle.register_core.specs.Verdict.{judge}
 use Rattle.register_store.specs.Tables.{Tables}
 use Rattle.register_store.specs.TableReads.{Calls, seen}
@@ -81,10 +79,6 @@ keys_of desk = desk.keys
 -- the desk counts no key with this number
 abbrev pub IsNoKey : ℕ → ℕ → Type 0
 IsNoKey keys number = (number ≡ 0) ⊎ (keys < number)
-
--- nor the one that the command names
-abbrev pub NamesNoKey : ℕ → Command → Type 0
-NamesNoKey keys command = (number : ℕ) → named command ≡ Some number → IsNoKey keys number
 
 -- a reply that is given again is no later than that moment, and of no key beyond
 abbrev pub RepeatsWithin : ℕ → ℕ → Answer → Type 0

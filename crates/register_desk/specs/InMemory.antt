@@ -2,9 +2,7 @@
 use Rattle.std.specs.Prelude.{◌≡◌, ◌≢◌, ℕ, List, [], Option, Some}
 use Rattle.sqlite_trees.specs.declared.store.Store.{Ghosts}
 use Rattle.sqlite_store.specs.declared.store.FileStore.{FileStore}
-use Rattle.sqlite_trees.specs.View.{IsClean as IsCleanStore}
 use Rattle.sqlite.specs.Files.{over_files}
-use Rattle.sqlite.specs.State.{State}
 use Rattle.memory_disk.specs.declared.MemoryDisk.{MemoryDisk}
 use Rattle.memory_disk.specs.contracts.MemoryDiskDisk.TheImpl as disk
 use Rattle.register_requests.specs.declared.request.Request.{Request}
@@ -12,7 +10,6 @@ use Rattle.register_desk.specs.declared.desk.Desk.{Desk}
 use Rattle.register_desk.specs.declared.end.End.TheVariants.{Broken}
 use Rattle.register_desk.specs.declared.runs.Finish.TheVariants.{Ended}
 use Rattle.register_desk.specs.declared.runs.Outcome.{Outcome}
-use Rattle.register_desk.specs.DatabaseFiles.{ShowsNothing}
 use Rattle.register_desk.specs.Input.{HasItems}
 use Rattle.register_desk.specs.Run.{RunsOver}
 
@@ -37,12 +34,6 @@ RunsOverInput g input old new outcome =
     (bytes : List ℕ) (items : List (Option Request)) (rest : List ℕ)
     → input ≡ Some bytes → HasItems bytes items rest → RunsFromNone g items rest old new outcome
 
--- so it is in an empty database, of a store that nothing makes doubtful
-abbrev pub RunsNew : {S : Type 0} → Ghosts S → State → Option (List ℕ) → Option (List ℕ) → Option (List ℕ) → Outcome
-    → Type 0
-RunsNew {S} g s input old new outcome =
-    ShowsNothing s → ((store : S) → IsCleanStore (g.view store)) → RunsOverInput g input old new outcome
-
--- and in memory
+-- so it is over a register in memory
 abbrev pub RunsInMemory : Option (List ℕ) → Option (List ℕ) → Option (List ℕ) → Outcome → Type 0
 RunsInMemory = RunsOverInput over_memory

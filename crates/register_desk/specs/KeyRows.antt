@@ -1,14 +1,11 @@
 -- Keys that are given one at a time: all of them by number, or those that are due for rotation.
-use Rattle.std.specs.Option.{option_map}
-use Rattle.std.specs.Prelude.{◌≡◌, ℕ, ◌+◌, ◌≤◌, List, [], ◌∷◌, ◌++◌, length, map, take, Option, None, Some}
+use Rattle.std.specs.Prelude.{◌≡◌, ℕ, ◌+◌, List, [], ◌∷◌, ◌++◌, length, map, take, Option, None, Some}
 use Rattle.sqlite_trees.specs.declared.store.Store.{Ghosts}
 use Rattle.key_rows.specs.declared.key_row.KeyRow.{KeyRow}
 use Rattle.key_rows.specs.DueRows.{AreDue, AreFirstDue, stop_of}
 use Rattle.register_core.specs.declared.key.Key.{Key}
 use Rattle.register_requests.specs.declared.request.Request.{Request}
 use Rattle.register_store.specs.declared.key_scan.DueCursor.{DueCursor}
-use Rattle.register_store.specs.KeyScan.{HasNextDue, date_run_of_next_key}
-use Rattle.register_store.specs.TableChanges.{key_at}
 use Rattle.register_store.specs.Tables.{Tables, numbered}
 use Rattle.register_desk.specs.declared.rows.KeyRows.{KeyRows}
 use Rattle.register_desk.specs.declared.rows.Progress.TheVariants.{Going, Ended, Broken}
@@ -46,6 +43,11 @@ abbrev pub due_until : Scan → Option ℕ
 due_until (ByNumber last) = None
 due_until (ByStop until last run) = Some until
 
+-- the most steps that the next row takes: for one that is due there may be two searches
+abbrev pub row_steps : Option ℕ → ℕ
+row_steps None = 2
+row_steps (Some until) = 4
+
 -- before the first row that is due
 abbrev pub first_cursor : DueCursor
 first_cursor = record { stop = 0; number = 0 }
@@ -67,23 +69,6 @@ IsAfterRows (ByStop until last run) given = last ≡ last_cursor first_cursor gi
 abbrev pub last_number : Scan → ℕ
 last_number (ByNumber last) = last
 last_number (ByStop until last run) = last.number
-
--- The next row of a scan of all keys, whatever the tables hold: it has the next number, and none comes only after as
--- many as are counted.
-abbrev pub CountsOn : ℕ → Scan → Option KeyRow → Type 0
-CountsOn keys (ByNumber last) None = keys ≤ last
-CountsOn keys (ByNumber last) (Some row) = row.number ≡ last + 1
-CountsOn keys (ByStop until last run) found = Unit {0}
-
-abbrev pub after_row : Scan → KeyRow → Scan
-after_row (ByNumber last) r = ByNumber r.number
-after_row (ByStop until last run) r = ByStop until (cursor_of_row r) (date_run_of_next_key last (stop_of r))
-
--- the row after the scan's last, or none where there is none
-abbrev pub HasNextRow : Scan → Tables → Option KeyRow → Type 0
-HasNextRow (ByNumber last) t found = found ≡ option_map (λ k. row_of (last + 1, k)) (key_at t.keys (last + 1))
-HasNextRow (ByStop until last run) t None = HasNextDue until last t None
-HasNextRow (ByStop until last run) t (Some row) = (x : ℕ × Key) × (row ≡ row_of x) × HasNextDue until last t (Some x)
 
 module _ {S : Type 0} {g : Ghosts S} where
   -- the rows go on, came to their end, or are broken by a call that the database refused

@@ -1,6 +1,6 @@
 -- A key by itself, and what a decision sees over tables, of a key and of the usage periods, whatever history these
 -- are of if any.
-use Rattle.std.specs.Prelude.{◌≡◌, ℕ, nat_lt, [], length, Option, None, IfSome, unwrap_or, if◌then◌else◌}
+use Rattle.std.specs.Prelude.{ℕ, nat_lt, [], Option, None, unwrap_or, if◌then◌else◌}
 use Rattle.std.specs.Option.{option_and_then, option_map}
 use Rattle.period_core.specs.declared.key_type.KeyType.{KeyType}
 use Rattle.period_core.specs.Period.{Period, periods}
@@ -8,11 +8,9 @@ use Rattle.register_core.specs.declared.key.Key.{Key}
 use Rattle.register_requests.specs.declared.request.Command.{Command}
 use Rattle.register_requests.specs.declared.request.Request.{Request}
 use Rattle.register_core.specs.declared.view.Held.{Held}
-use Rattle.register_core.specs.declared.view.View.{View}
 use Rattle.register_requests.specs.CommandRule.{looks_at_custody, looks_at_need}
 use Rattle.register_requests.specs.Quorum.{min_approvals}
 use Rattle.register_core.specs.Settings.{need_at, period_at}
-use Rattle.register_core.specs.Need.{needed_period_type}
 use Rattle.register_requests.specs.Subject.{named}
 use Rattle.register_store.specs.TableChanges.{key_at}
 use Rattle.register_store.specs.TableReads.{loaded}
@@ -61,10 +59,3 @@ key_needed t q =
 -- the usage period of a type: the one that is set, or the table's of this register
 abbrev pub period_over : Tables → KeyType → Period
 period_over t kind = unwrap_or (period_at kind t.periods) (periods kind)
-
--- the view has what a decision on the request sees over these tables
-pub record IsViewOver (t : Tables) (q : Request) (view : View) : Type 0 where
-  pub latest_is : view.latest ≡ t.counts.latest
-  pub keys_are : view.keys ≡ length t.keys
-  pub period_is : IfSome (needed_period_type view.key q.command) (λ kind. view.period ≡ period_over t kind)
-  pub key_is : view.key ≡ key_needed t q

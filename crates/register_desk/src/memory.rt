@@ -2,7 +2,8 @@
 ghost use Rattle.std.specs.Prelude.{◌≡◌, ◌⊎◌, false, IfOk, IfErr};
 ghost use Rattle.register_desk.specs.Run.{LeavesReader, LeavesWriter};
 ghost use Rattle.sqlite.specs.Held.{state};
-ghost use Rattle.register_desk.specs.InMemory.{RunsInMemory, RunsNew};
+ghost use Rattle.register_desk.specs.InMemory.{RunsInMemory};
+ghost use Rattle.register_desk.specs.Within.InMemory.{RunsNew};
 
 use crate::desk::Desk;
 use crate::opening::OpenRefusal;

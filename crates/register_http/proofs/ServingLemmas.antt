@@ -19,7 +19,8 @@ use Rattle.http_messages.specs.declared.asked.AskFault.{AskFault}
 use Rattle.http_messages.specs.declared.asked.AskFault.TheVariants as fault
 use Rattle.http_messages.specs.declared.asked.Asked.{Asked}
 use Rattle.register_http.specs.Action.{Acts}
-use Rattle.register_http.specs.Exchange.{EndsAs, KeepsWriter, Leaves, LeavesReader, LeavesWriter, ServesAsked}
+use Rattle.register_http.specs.Exchange.{EndsAs, Leaves, LeavesReader, LeavesWriter, ServesAsked}
+use Rattle.register_http.specs.Within.Exchange.{KeepsWriter}
 use Rattle.register_http.specs.Exchange.{max_exchange_reads}
 use Rattle.register_http.specs.SentReply.{Sends, reply_text}
 

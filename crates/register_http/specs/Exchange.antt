@@ -74,13 +74,6 @@ pub record LeavesReader {R : Type 0} (remaining : R → Option (List ℕ)) (old 
   pub fault : outcome.end ≡ Ended ReadFault → IsFaulted new.failed max_exchange_reads new.turns
   pub bounded : new.turns ≤ max_exchange_reads
 
--- What it leaves of its writer: a reply that is counted was flushed; where none is, though one was begun, the fault is
--- the writer's own or the bound on its idle turns, and that is never passed.
-pub record KeepsWriter {W : Type 0} (old new : Watched W) (replies : ℕ) : Type 0 where
-  pub flushed : replies ≡ 1 → new.unflushed ≡ false
-  pub fault : replies ≡ 0 → IsFaulted new.failed max_idle_turns new.idle
-  pub bounded : old.idle ≤ max_idle_turns → new.idle ≤ max_idle_turns
-
 -- No reply is left out but where nothing is asked, where the reader failed, or at a fault of the writer.
 pub record LeavesWriter {W : Type 0} (new : Watched W) (outcome : Outcome) : Type 0 where
   pub flushed : outcome.replies ≡ 1 → new.unflushed ≡ false

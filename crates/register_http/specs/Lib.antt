@@ -3,3 +3,4 @@ pub mod Action
 pub mod SentReply
 pub mod Exchange
 pub mod OneItem
+pub mod Within

@@ -5,11 +5,12 @@ ghost use Rattle.register_core.specs.declared.reply.Refusal.TheVariants.{Unknown
 ghost use Rattle.register_requests.specs.declared.request.Request.{Request};
 ghost use Rattle.http_messages.specs.AnswerText.{outcome_reply};
 ghost use Rattle.http_messages.specs.CommandBody.{IsInRange};
-ghost use Rattle.register_desk.specs.Desk.{IsClean, IsWhole};
+ghost use Rattle.register_desk.specs.Desk.{IsClean, IsWhole, TakesSteps};
 ghost use Rattle.register_desk.specs.Register.{StandsFor};
 ghost use Rattle.register_http.specs.Action.{Acts, IsTextOf};
 ghost use Rattle.register_http.specs.ActionReply.{request_at};
-ghost use Rattle.register_http.specs.Exchange.{EndsAs, Exchanges, KeepsWriter, LeavesReader};
+ghost use Rattle.register_http.specs.Exchange.{EndsAs, Exchanges, LeavesReader};
+ghost use Rattle.register_http.specs.Within.Exchange.{KeepsWriter};
 ghost use Rattle.register_http.specs.Exchange.{LeavesWriter};
 ghost use Rattle.register_http.specs.OneItem.{LeavesOne};
 ghost use Rattle.register_http.specs.SentReply.{Sends, end_reply, reply_text};
@@ -64,7 +65,10 @@ fn reply_text_showing_key<S: Alter>(
     desk: &mut Desk<S>,
     key: u32,
 ) -> Result<String, End>
-    ensures { (moment : ℕ) → Acts S.Store moment (Asked.ShowKey key) desk.old desk.new result }
+    ensures acts { (moment : ℕ) →
+        Acts S.Store moment (Asked.ShowKey key) desk.old desk.new result }
+    ensures steps { (h : List Request) → StandsFor S.Store desk.old h → IsClean S.Store desk.new
+        → TakesSteps 38 desk.old desk.new }
 {
     match desk.show(key)? {
         Some(shown) => text_or_end(key_reply_text(alloc, &shown)),
@@ -74,7 +78,10 @@ fn reply_text_showing_key<S: Alter>(
 
 /// Tells what a key may be used for.
 fn usage_reply<S: Alter>(alloc: Global, desk: &mut Desk<S>, key: u32) -> Result<String, End>
-    ensures { (moment : ℕ) → Acts S.Store moment (Asked.ShowUsage key) desk.old desk.new result }
+    ensures acts { (moment : ℕ) →
+        Acts S.Store moment (Asked.ShowUsage key) desk.old desk.new result }
+    ensures steps { (h : List Request) → StandsFor S.Store desk.old h → IsClean S.Store desk.new
+        → TakesSteps 2 desk.old desk.new }
 {
     match desk.usage(key)? {
         Some(usage) => text_or_end(usage_reply_text(alloc, &usage)),
@@ -103,7 +110,9 @@ fn reply_text_after_applying<S: Alter>(
     sent: &Sent,
 ) -> Result<String, End>
     requires { IsInRange (Asked.Apply sent.now) }
-    ensures { Acts S.Store moment (Asked.Apply sent.now) desk.old desk.new result }
+    ensures acts { Acts S.Store moment (Asked.Apply sent.now) desk.old desk.new result }
+    ensures steps { (h : List Request) → StandsFor S.Store desk.old h → IsClean S.Store desk.new
+        → TakesSteps 51 desk.old desk.new }
 {
     let request = request_at(moment, sent);
     let answer = desk.apply(&request)?;
@@ -122,7 +131,9 @@ fn answer_asked<S: Alter>(
     asked: &Asked,
 ) -> Result<String, End>
     requires { IsInRange asked.now }
-    ensures { Acts S.Store moment asked.now desk.old desk.new result }
+    ensures acts { Acts S.Store moment asked.now desk.old desk.new result }
+    ensures steps { (h : List Request) → StandsFor S.Store desk.old h → IsClean S.Store desk.new
+        → TakesSteps 51 desk.old desk.new }
 {
     match asked {
         Asked::Reject(rejection) => text_or_end(rejection_text(alloc, *rejection)),
@@ -202,6 +213,9 @@ pub fn exchange<R: Read, W: Write, S: Alter>(
     ensures leaves { (h : List Request) → StandsFor S.Store desk.old h → IsWhole desk.old
         → IsClean S.Store desk.new → LeavesOne S.Store h desk.new result.end }
     ensures clean { IsClean S.Store desk.new → IsClean S.Store desk.old }
+    // However many keys there are.
+    ensures steps { (h : List Request) → StandsFor S.Store desk.old h → IsClean S.Store desk.new
+        → TakesSteps 51 desk.old desk.new }
     ensures reader { LeavesReader R.remaining reader.old reader.new result }
     ensures writer { LeavesWriter writer.new result }
 {

@@ -28,13 +28,13 @@ use Rattle.register_desk.proofs.Answering.{appends_none}
 use Rattle.register_desk.proofs.Cutting.{items_in}
 use Rattle.register_desk.proofs.Lived.{items_in_range}
 use Rattle.register_desk.proofs.Lives.{empty_lawful, lawful_on}
-use Rattle.register_files.specs.declared.files.Closed.{Closed}
-use Rattle.register_files.specs.declared.register_file.Life.{Life as Lived_}
-use Rattle.register_files.specs.declared.register_file.Refused.{Refused}
-use Rattle.register_files.specs.FileCalls.{Exports, LivesAnyway, MakesRegister, OpensFirst}
-use Rattle.register_files.specs.FileCalls.{Reports, RunsLines, ServesExchanges}
-use Rattle.register_files.specs.Closing.{LeftIn}
-use Rattle.register_files.specs.Life.{LeavesInFiles, LeavesNoRequest, LeavesNothing, LivesOver, SparesRegister}
+use Rattle.register_program.specs.declared.files.Closed.{Closed}
+use Rattle.register_program.specs.declared.register_file.Life.{Life as Lived_}
+use Rattle.register_program.specs.declared.register_file.Refused.{Refused}
+use Rattle.register_program.specs.FileCalls.{Exports, LivesAnyway, MakesRegister, OpensFirst}
+use Rattle.register_program.specs.FileCalls.{Reports, RunsLines, ServesExchanges}
+use Rattle.register_program.specs.Closing.{LeftIn}
+use Rattle.register_program.specs.Life.{LeavesInFiles, LeavesNoRequest, LeavesNothing, LivesOver, SparesRegister}
 use Rattle.register_program.specs.declared.acting.Done.{Done}
 use Rattle.register_program.specs.declared.acting.Done.TheVariants.{BadValue, Lived, Made}
 use Rattle.register_program.specs.Sentence.{Answered, AreItemsOf, Follow, FoundAgain, HoldsHistory, IsLifeOf}

@@ -16,10 +16,10 @@ use Rattle.register_desk.specs.DatabaseFiles.{HoldsNothing, HoldsRegister}
 use Rattle.register_desk.specs.Input.{HasItems}
 use Rattle.register_desk.specs.Lives.{AreInRange, Life, after, after_lives, applied, life_of}
 use Rattle.register_desk.specs.Run.{IsPrefixOf, answer_lines}
-use Rattle.register_files.specs.declared.files.Closed.{Closed}
-use Rattle.register_files.specs.declared.register_file.Refused.{Refused}
-use Rattle.register_files.specs.Closing.{LeftIn}
-use Rattle.register_files.specs.Opening.{OpensAs, OpensRegister}
+use Rattle.register_program.specs.declared.files.Closed.{Closed}
+use Rattle.register_program.specs.declared.register_file.Refused.{Refused}
+use Rattle.register_program.specs.Closing.{LeftIn}
+use Rattle.register_program.specs.Opening.{OpensAs, OpensRegister}
 use Rattle.register_words.specs.declared.words.Task.{Task}
 use Rattle.register_words.specs.declared.words.Task.TheVariants.{Import, Run, Serve}
 use Rattle.register_program.specs.declared.acting.Done.{Done}

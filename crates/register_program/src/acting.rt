@@ -1,79 +1,26 @@
 //! What the program does, over the streams that it is given.
 ghost use Rattle.std.specs.Prelude.{◌≡◌, false, length};
-ghost use Rattle.register_desk.specs.End.{exit_status};
-ghost use Rattle.register_program.specs.Act.{unopened_status, usage_status, status_of};
 ghost use Rattle.register_program.specs.Act.{ActsWithoutWords};
-ghost use Rattle.register_program.specs.Task.{status_after, ActsBy, IsWordsStatus, Performs};
+ghost use Rattle.register_program.specs.Faults.{Tells};
+ghost use Rattle.register_program.specs.Task.{ActsBy, Performs, line_after, status_after};
 
-use clap::error::ErrorKind;
-use register_desk::{End, Finish, OpenRefusal, Outcome, Watched, run_in_memory};
-use register_files::{
-    Closed, Files, Life, Network, Refused, export_file, import_file, init_file, report_file,
-    run_file, serve_file,
+use crate::faults::{report_bad_value, report_finish, report_refusal, report_words_error};
+use crate::files::{Closed, Files};
+use crate::network::Network;
+use crate::register_file::{
+    Life, Refused, export_file, import_file, init_file, report_file, run_file, serve_file,
 };
+use register_desk::{OpenRefusal, Outcome, Watched, run_in_memory};
 use register_words::{Task, read_days, read_words};
 use std::alloc::Global;
 use std::io::{Read, Write};
 use std::time::Clock;
 
-/// The exit status where the words are no command, ask for help, or have a bad value.
-const USAGE: u8 = 1;
-
-/// The exit status where the register cannot be made or opened.
-const UNOPENED: u8 = 2;
-
-/// Names a bad value among the words on `faults`, and gives its exit status.
-pub fn report_bad_value(faults: &mut impl Write) -> u8
-    ensures { result ≡ usage_status }
-{
-    // Nobody is left to hear of a fault in reporting one.
-    let _ = writeln!(faults, "keyreg: BadValue");
-    USAGE
-}
-
-/// Writes `clap`'s account of the words to `faults`, and gives its exit status.
-fn report_words_error(error: &clap::Error, faults: &mut impl Write) -> u8
-    ensures { IsWordsStatus result }
-{
-    if error.kind() == ErrorKind::OutOfMemory {
-        return report_end(End::Memory, faults);
-    }
-    let _ = write!(faults, "{error}");
-    USAGE
-}
-
-/// Names the end on `faults`, and gives its exit status.
-pub fn report_end(end: End, faults: &mut impl Write) -> u8
-    ensures { result ≡ exit_status end }
-{
-    let _ = writeln!(faults, "keyreg: {end}");
-    end.exit_status()
-}
-
-/// Names what ended a run on `faults`, if anything did before the end of its input, and gives its
-/// exit status.
-fn report_finish(finish: Finish, faults: &mut impl Write) -> u8
-    ensures { result ≡ status_of finish }
-{
-    match finish {
-        Finish::AtEnd { .. } => 0,
-        Finish::Ended(end) => report_end(end, faults),
-    }
-}
-
-/// Names the refusal on `faults`, and gives its exit status.
-pub fn report_refusal(refusal: OpenRefusal, faults: &mut impl Write) -> u8
-    ensures { result ≡ unopened_status }
-{
-    let _ = writeln!(faults, "keyreg: {refusal}");
-    UNOPENED
-}
-
 /// What the program writes to: its output, and what it has to say of an end, a refusal or the words.
 #[derive(Drop)]
 pub struct Outputs<W, E> {
     pub writer: Watched<W>,
-    pub faults: E,
+    pub faults: Watched<E>,
 }
 
 /// What a task came to.
@@ -141,8 +88,9 @@ pub fn perform_task<F: Files + Drop, N: Network + Clock + Drop, R: Read + Drop, 
 }
 
 /// Names on `faults` what kept the task from its end, and gives the exit status.
-fn report_done<S: Drop>(done: Done<S>, faults: &mut impl Write) -> u8
-    ensures { result ≡ status_after done }
+fn report_done<S: Drop, E: Write>(done: Done<S>, faults: &mut Watched<E>) -> u8
+    ensures status { result ≡ status_after done }
+    ensures tells { Tells E.contents (line_after done) faults.old faults.new }
 {
     match done {
         Done::RanInMemory(Ok(outcome)) => report_finish(outcome.end, faults),
@@ -170,17 +118,19 @@ pub fn act<F: Files + Drop, N: Network + Clock + Drop, R: Read + Drop, W: Write,
     outputs: &mut Outputs<W, E>,
 ) -> u8
     requires { outputs.old.writer.failed ≡ false }
-    // A task is done as it says, or the words are none and nothing is written.
-    ensures does { ActsBy F.Opened.Store F.may_leave F.start (R.remaining reader)
-        (W.contents outputs.old.writer.inner) (W.contents outputs.new.writer.inner) result }
+    // A task is done as it says, or the words are none and nothing is written; and what kept it
+    // from its end is named on the writer of faults, and nothing else.
+    ensures does { ActsBy F.Opened.Store F.may_leave F.start W.contents E.contents
+        (R.remaining reader) outputs.old outputs.new result }
     // With no words but its name, what is written and the status are those of a run from the empty
     // history.
     ensures acts { ActsWithoutWords (length words.now) (R.remaining reader) result
         (W.contents outputs.old.writer.inner) (W.contents outputs.new.writer.inner) }
 {
     let Outputs { writer, faults } = outputs;
-    match read_words(machine.alloc, words) {
+    let alloc = machine.alloc;
+    match read_words(alloc, words) {
         Ok(task) => report_done(perform_task(machine, &task, reader, writer), faults),
-        Err(error) => report_words_error(&error, faults),
+        Err(error) => report_words_error(alloc, &error, faults),
     }
 }

@@ -1,14 +1,28 @@
-//! Laws about runs of the program. A function's contract is the law; it does nothing.
-ghost use Rattle.std.specs.Prelude.{ℕ, List, Option};
+//! Laws about files that were closed, and about runs of the program. A function's contract is the
+//! law; it does nothing.
+ghost use Rattle.std.specs.Prelude.{◌≡◌, ℕ, List, Option};
 ghost use Rattle.sqlite.specs.Recovery.{Image};
-ghost use Rattle.register_desk.specs.DatabaseFiles.{HoldsNothing};
+ghost use Rattle.register_requests.specs.declared.request.Request.{Request};
+ghost use Rattle.register_desk.specs.DatabaseFiles.{HoldsNothing, HoldsOneOf};
 ghost use Rattle.register_program.specs.declared.acting.Done.{Done};
+ghost use Rattle.register_program.specs.Closing.{LeftIn, alone};
+ghost use Rattle.register_program.specs.Life.{LeavesInFiles};
 ghost use Rattle.register_program.specs.Sentence.{Follow, FoundAgain, LeadsFrom, ProgramRun};
 ghost use Rattle.register_program.specs.Sentence.{left_after};
 ghost use Rattle.register_program.specs.Task.{Performs};
 ghost use Rattle.register_words.specs.declared.words.Task.{Task};
 
-use register_files::Files;
+use crate::files::{Closed, Files, LogCopy};
+
+/// Where the log was copied, what is said of files that were closed is said of the two files, and
+/// of the database file alone.
+pub fn database_file_holds_alone<F: Files>(closed: &Closed<F::Opened>)
+    requires { closed.now.log ≡ LogCopy.Copied }
+    ensures { (h : List Request) (other : List Request) →
+        LeavesInFiles h other (LeftIn F.Opened.Store F.may_leave closed.now) → (whole : Image) →
+        F.may_leave closed.now.store whole →
+        HoldsOneOf h other whole × HoldsOneOf h other (alone whole) }
+{}
 
 /// A task that was done as [`perform_task`](crate::perform_task) does it leads from what the files
 /// held to what they hold after the life that it was.

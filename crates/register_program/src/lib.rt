@@ -1,10 +1,21 @@
-//! What the program does with its words, over the streams that it is given and whatever files there
-//! are.
+//! The register in a file, whoever opens it: its lives, and the serving of connections; and what the
+//! program does with its words, over the streams that it is given and whatever files there are.
 #![tactic(auto)]
 
 mod acting;
+mod faults;
+mod files;
 pub mod laws;
+mod network;
+mod register_file;
+mod serving;
 
-pub use acting::{
-    Done, Machine, Outputs, act, perform_task, report_bad_value, report_end, report_refusal,
+pub use acting::{Done, Machine, Outputs, act, perform_task};
+pub use faults::{report_bad_value, report_end, report_refusal};
+pub use files::{Closed, Files, LogCopy};
+pub use network::{Client, Listener, Network};
+pub use register_file::{
+    Life, Refused, export_file, import_file, init_file, open_file, report_file, run_file,
+    serve_file,
 };
+pub use serving::{Clocks, MachineClock, Now, serve_at, serve_on};

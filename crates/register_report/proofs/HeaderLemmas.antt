@@ -23,7 +23,7 @@ use Rattle.register_desk.proofs.Lived.{lived_alone}
 use Rattle.register_desk.proofs.Answering.{answered_none, prefix_refused, prefix_so}
 use Rattle.register_report.specs.Import.{ImportsBroken}
 use Rattle.register_report.specs.ImportRows.{BeginsWithHeader, HasRows, Item, Row, header}
-use Rattle.register_report.specs.ImportProgress.{ExplainsNoHeader}
+use Rattle.register_report.specs.Within.ImportProgress.{ExplainsNoHeader}
 use Rattle.register_report.proofs.RowsLemmas.{HasLeft, rows_split}
 
 pub same_tail : (a b : Row) (xs ys : List Row) → a ∷ xs ≡ b ∷ ys → xs ≡ ys

@@ -25,7 +25,8 @@ use Rattle.std.specs.Prelude.{IfSome}
 use Rattle.register_desk.proofs.Answering.{prefix_refused, prefix_so, stopped_broken, stopped_so, there}
 use Rattle.register_report.specs.Import.{ImportsBroken}
 use Rattle.register_report.specs.ImportRows.{AreRowItems, AreTexts, IsRowItem, Item, Row}
-use Rattle.register_report.specs.ImportProgress.{ServedAllRows, ServedRowInPart, ServedRows, ServesRowsTo}
+use Rattle.register_report.specs.ImportProgress.{ServedRows}
+use Rattle.register_report.specs.Within.ImportProgress.{ServedAllRows, ServedRowInPart, ServesRowsTo}
 use Rattle.register_report.proofs.RowsLemmas.{HasLeft, ItemsSplit, items_split, next_item, no_items}
 use Rattle.register_report.proofs.RowsLemmas.{RowsSplit, rows_split, same_length}
 

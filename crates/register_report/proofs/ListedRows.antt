@@ -19,7 +19,7 @@ use Rattle.register_desk.specs.KeyRows.{all_rows}
 use Rattle.register_desk.proofs.KeyRowsOf.{listed_if_due, listed_is_due, own_numbers}
 use Rattle.register_report.specs.declared.key_table.KeyTable.{KeyTable}
 use Rattle.register_report.specs.declared.key_table.KeyTable.TheVariants.{Report}
-use Rattle.register_report.specs.KeyTable.{head_text, lines_text, has_line_for, table_text}
+use Rattle.register_report.specs.Within.KeyTable.{head_text, lines_text, has_line_for, table_text}
 
 same_filter : (p q : KeyRow → Bool) → ((r : KeyRow) → p r ≡ q r) → (rows : List KeyRow) → filter p rows ≡ filter q rows
 same_filter p q same [] = refl

@@ -12,7 +12,7 @@ use Rattle.period_core.specs.declared.key_type.KeyType.{KeyType}
 use Rattle.period_core.specs.KeyType.{key_type_text}
 use Rattle.register_requests.specs.declared.request.Request.{Request}
 use Rattle.register_requests.specs.Request.{IsDate, IsRequest}
-use Rattle.register_requests.specs.RequestLine.{key_type_at}
+use Rattle.register_requests.specs.Within.RequestLine.{key_type_at}
 use Rattle.register_requests.proofs.Readers.{key_type_reader}
 use Rattle.register_report.specs.ImportRows.{AreRowItems, IsRowItem, IsRowOf, Item, Row, date_field}
 

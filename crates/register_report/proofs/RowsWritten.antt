@@ -18,8 +18,8 @@ use Rattle.register_desk.specs.Register.{StandsFor}
 use Rattle.register_desk.specs.KeyRows.{AreAll, AreSoFar, GiveNext, HaveGiven, all_rows, until_of}
 use Rattle.register_desk.proofs.Readings.{nothing_done, nothing_then, stands_still}
 use Rattle.register_report.specs.declared.key_table.KeyTable.{KeyTable}
-use Rattle.register_report.specs.KeyTable.{count_in, lines_text, has_line_for, row_text}
-use Rattle.register_report.specs.TextWriter.{Puts, PutsRows, PutsText}
+use Rattle.register_report.specs.Within.KeyTable.{count_in, lines_text, has_line_for, row_text}
+use Rattle.register_report.specs.Within.TextWriter.{Puts, PutsRows, PutsText}
 use Rattle.register_report.proofs.TextLemmas.{prefix_whole, no_fault, passed_on, puts_nothing, puts_well, text_failed}
 use Rattle.register_report.proofs.TextLemmas.{text_same, text_then}
 

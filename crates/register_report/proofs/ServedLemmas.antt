@@ -15,7 +15,8 @@ use Rattle.register_desk.specs.Desk.{GoesOn}
 use Rattle.register_desk.specs.RunProgress.{ServesItem}
 use Rattle.register_desk.proofs.Answering.{answered_more, answered_none}
 use Rattle.register_report.specs.ImportRows.{IsRowItem, Item, Row}
-use Rattle.register_report.specs.ImportProgress.{ExplainsEnd, ReadRows, ServedRowInPart, ServedRows, ServesRowsTo}
+use Rattle.register_report.specs.ImportProgress.{ExplainsEnd, ReadRows, ServedRows}
+use Rattle.register_report.specs.Within.ImportProgress.{ServedRowInPart, ServesRowsTo}
 use Rattle.register_report.proofs.RowsLemmas.{items_more}
 
 read_none : {R : Type 0} (remaining : R → Option (List ℕ)) (reader : Reader R)

@@ -10,7 +10,8 @@ use Rattle.register_desk.specs.declared.desk.Desk.{Desk}
 use Rattle.register_desk.specs.Desk.{GoesOn}
 use Rattle.register_desk.specs.Run.{AreFlushed, LeavesDesk, LeavesWriter, max_idle_turns, Wrote}
 use Rattle.register_desk.proofs.Goings.{leaves_going}
-use Rattle.register_report.specs.ImportProgress.{ExplainsEnd, ExplainsNoHeader}
+use Rattle.register_report.specs.ImportProgress.{ExplainsEnd}
+use Rattle.register_report.specs.Within.ImportProgress.{ExplainsNoHeader}
 use Rattle.streams.specs.declared.watched.Watched.{Watched}
 
 -- no write failed

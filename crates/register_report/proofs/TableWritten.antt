@@ -9,8 +9,8 @@ use Rattle.register_desk.specs.declared.end.End.TheVariants.{WriteFault}
 use Rattle.register_desk.specs.declared.rows.KeyRows.{KeyRows}
 use Rattle.register_desk.specs.KeyRows.{all_rows}
 use Rattle.register_report.specs.declared.key_table.KeyTable.{KeyTable}
-use Rattle.register_report.specs.KeyTable.{foot_text, head_text, lines_text}
-use Rattle.register_report.specs.TextWriter.{PutsRows, PutsTable, PutsText}
+use Rattle.register_report.specs.Within.KeyTable.{foot_text, head_text, lines_text}
+use Rattle.register_report.specs.Within.TextWriter.{PutsRows, PutsTable, PutsText}
 use Rattle.register_report.proofs.TextLemmas.{passed_on, text_failed, text_longer, text_nothing, text_same, text_then}
 
 -- a fault that is not the writer's

@@ -9,7 +9,7 @@ use Rattle.register_desk.specs.declared.end.End.{End}
 use Rattle.register_desk.specs.declared.end.End.TheVariants.{WriteFault}
 use Rattle.register_desk.specs.Run.{AreFlushed, IsPrefixOf}
 use Rattle.register_desk.proofs.Answering.{appends_none, appends_then}
-use Rattle.register_report.specs.TextWriter.{Puts, PutsText}
+use Rattle.register_report.specs.Within.TextWriter.{Puts, PutsText}
 
 -- a prefix of the prefix, and of what it begins
 pub prefix_of_first : (part text more : List ℕ) → IsPrefixOf part text → IsPrefixOf part (text ++ more)

@@ -22,9 +22,10 @@ use Rattle.register_desk.specs.KeyRows.{AreAll, HaveGiven, all_rows, until_of}
 use Rattle.register_desk.specs.Run.{IsPrefixOf}
 use Rattle.register_report.specs.declared.key_table.KeyTable.{KeyTable}
 use Rattle.register_report.specs.declared.key_table.KeyTable.TheVariants.{Export}
-use Rattle.register_report.specs.KeyTable.{count_in, foot_text, head_text, lines_text, row_text, table_text}
-use Rattle.register_report.specs.TextWriter.{AreUpTo, IsExport, Puts, PutsAll, PutsTable, TextOf, WritesText, finish_of}
-use Rattle.register_report.specs.TextWriter.{text_up_to}
+use Rattle.register_report.specs.Within.KeyTable.{count_in, foot_text, head_text, lines_text, row_text, table_text}
+use Rattle.register_report.specs.TextWriter.{WritesText}
+use Rattle.register_report.specs.Within.TextWriter.{AreUpTo, IsExport, Puts, PutsAll, PutsTable, TextOf, finish_of}
+use Rattle.register_report.specs.Within.TextWriter.{text_up_to}
 use Rattle.register_desk.proofs.Readings.{stands_still}
 use Rattle.register_report.proofs.TextLemmas.{prefix_of_first, puts_nothing}
 

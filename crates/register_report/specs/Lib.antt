@@ -1,6 +1,5 @@
 pub mod ImportRows
-pub mod RecordFields
 pub mod ImportProgress
 pub mod Import
-pub mod KeyTable
 pub mod TextWriter
+pub mod Within

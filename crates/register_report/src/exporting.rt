@@ -10,9 +10,11 @@ ghost use Rattle.register_desk.specs.Desk.{IsClean};
 ghost use Rattle.register_desk.specs.Register.{StandsFor};
 ghost use Rattle.register_desk.specs.KeyRows.{all_rows};
 ghost use Rattle.register_desk.specs.Run.{LeavesWriter};
-ghost use Rattle.register_report.specs.TextWriter.{EndsAs, IsExport, IsReport, LeavesAlone};
-ghost use Rattle.register_report.specs.TextWriter.{PutsAll, WritesText};
-ghost use Rattle.register_report.specs.TextWriter.{finish_of};
+ghost use Rattle.register_report.specs.TextWriter.{EndsAs, LeavesAlone};
+ghost use Rattle.register_report.specs.Within.TextWriter.{IsExport, IsReport};
+ghost use Rattle.register_report.specs.TextWriter.{WritesText};
+ghost use Rattle.register_report.specs.Within.TextWriter.{PutsAll};
+ghost use Rattle.register_report.specs.Within.TextWriter.{finish_of};
 
 use crate::key_table::KeyTable;
 use crate::table_writing::put_table;

@@ -4,7 +4,7 @@ ghost use Rattle.std.specs.Prelude.{Option, Some, IfSome, IfNone};
 ghost use Rattle.csv.specs.Records.{fields_of, field_at};
 ghost use Rattle.register_requests.specs.Request.{IsDate, IsRequest};
 ghost use Rattle.register_report.specs.ImportRows.{date_field, header, IsRowItem};
-ghost use Rattle.register_report.specs.RecordFields.{texts};
+ghost use Rattle.register_report.specs.Within.RecordFields.{texts};
 
 use csv::StringRecord;
 use moment_core::Moment;

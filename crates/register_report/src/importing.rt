@@ -16,8 +16,10 @@ ghost use Rattle.register_report.specs.Import.{DoesNothing, EndsWithoutHeader, I
 ghost use Rattle.register_report.specs.ImportRows.{AreTexts, BeginsWithHeader, HasRowItems};
 ghost use Rattle.register_report.specs.ImportRows.{HasRows};
 ghost use Rattle.register_report.specs.ImportRows.{header, max_rows};
-ghost use Rattle.register_report.specs.ImportProgress.{EndsEarly, ExplainsEnd, ExplainsNoHeader};
-ghost use Rattle.register_report.specs.ImportProgress.{ServesRowsTo, StopsReading};
+ghost use Rattle.register_report.specs.ImportProgress.{EndsEarly, ExplainsEnd};
+ghost use Rattle.register_report.specs.Within.ImportProgress.{ExplainsNoHeader};
+ghost use Rattle.register_report.specs.ImportProgress.{StopsReading};
+ghost use Rattle.register_report.specs.Within.ImportProgress.{ServesRowsTo};
 
 use crate::import_row::{is_header, row_item};
 use csv::{ErrorKind, Reader, ReaderBuilder, StringRecord};

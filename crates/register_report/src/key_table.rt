@@ -1,6 +1,7 @@
 //! The texts that a register is written out as, piece by piece.
 ghost use Rattle.std.specs.Prelude.{◌≡◌, IfOk};
-ghost use Rattle.register_report.specs.KeyTable.{foot_text, head_text, line_text, has_line_for};
+ghost use Rattle.register_report.specs.Within.KeyTable.{foot_text, head_text, line_text};
+ghost use Rattle.register_report.specs.Within.KeyTable.{has_line_for};
 
 use key_rows::{
     KeyRow, export_header, export_row, is_listed_in_report, report_head, report_line, report_total,

@@ -1,8 +1,9 @@
 //! Writing out what a desk has, a row at a time.
 ghost use Rattle.std.specs.Prelude.{◌≡◌, ◌≢◌, Ok, IfOk, IfErr};
-ghost use Rattle.register_report.specs.KeyTable.{has_line_for, row_text};
-ghost use Rattle.register_report.specs.TextWriter.{IsEndOfWriting, PassesRows, PutsRows, PutsTable};
-ghost use Rattle.register_report.specs.TextWriter.{PutsText};
+ghost use Rattle.register_report.specs.Within.KeyTable.{has_line_for, row_text};
+ghost use Rattle.register_report.specs.TextWriter.{IsEndOfWriting};
+ghost use Rattle.register_report.specs.Within.TextWriter.{PassesRows, PutsRows, PutsTable};
+ghost use Rattle.register_report.specs.Within.TextWriter.{PutsText};
 
 use crate::key_table::KeyTable;
 use key_rows::KeyRow;

@@ -11,7 +11,8 @@ use Rattle.register_requests.specs.declared.command_fields.Fields.TheVariants.{T
 use Rattle.register_requests.specs.declared.command_fields.Fields.TheVariants.{Revocation}
 use Rattle.register_requests.specs.CommandKind.{command_shape}
 use Rattle.register_requests.specs.CommandRule.{kind_of}
-use Rattle.register_requests.specs.Fields.{fields_of, command_with, shape_of}
+use Rattle.register_requests.specs.Fields.{fields_of, command_with}
+use Rattle.register_requests.specs.Within.Fields.{shape_of}
 use Rattle.register_requests.proofs.FieldReading.{some_is}
 
 -- The last row of each has every other command.

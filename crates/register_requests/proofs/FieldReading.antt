@@ -7,7 +7,7 @@ use Rattle.std.proofs.lemmas.Bool.{and_parts, ltb-true, lt-ltb, eqb-true}
 use Rattle.std.proofs.lemmas.Option.{cond_some}
 use Rattle.std.proofs.lemmas.List.{take_at, length-append}
 use Rattle.std.proofs.lemmas.List.Sums.{split_at_first, passes_at_first}
-use Rattle.register_requests.specs.RequestLine.{◌>>=◌, is_space, field_at, field_as, field_then}
+use Rattle.register_requests.specs.Within.RequestLine.{◌>>=◌, is_space, field_at, field_as, field_then}
 
 -- ---- steps
 

@@ -21,7 +21,8 @@ use Rattle.register_requests.specs.declared.command_fields.Fields.TheVariants.{T
 use Rattle.register_requests.specs.declared.command_fields.Fields.TheVariants.{Revocation}
 use Rattle.register_requests.specs.declared.command_fields.Shape.{Shape}
 use Rattle.register_requests.specs.declared.command_fields.Shape.TheVariants as shapes
-use Rattle.register_requests.specs.Fields.{fields_of, command_with, shape_of}
+use Rattle.register_requests.specs.Fields.{fields_of, command_with}
+use Rattle.register_requests.specs.Within.Fields.{shape_of}
 use Rattle.register_requests.specs.declared.command_fields.CommandKind.{CommandKind}
 use Rattle.register_requests.specs.declared.command_fields.CommandKind.TheVariants as kinds
 use Rattle.register_requests.specs.declared.request.Edit.{Edit}
@@ -42,13 +43,18 @@ use Rattle.register_requests.specs.Request.{IsLineOf, StandsFor, IsItem, date_te
 use Rattle.register_requests.specs.Request.{command_text}
 use Rattle.register_requests.specs.Request.{request_text}
 use Rattle.register_requests.specs.CommandText.{IsCommandText, IsCommandItem}
-use Rattle.register_requests.specs.RequestLine.{◌>>=◌, is_space, field_at, field_then, moment_at, date_at, edit_at}
-use Rattle.register_requests.specs.RequestLine.{key_number_at, reason_at, occurrence_at, request_number_at, name_at}
-use Rattle.register_requests.specs.RequestLine.{key_type_at, purpose_at, registered, register_at, edits, edits_at}
-use Rattle.register_requests.specs.RequestLine.{revoked, revoke_at, key_and_name_at, key_and_need_at, quorum_at}
-use Rattle.register_requests.specs.RequestLine.{type_and_period_at, originator_at, recipient_at, set_period, keyed_at}
-use Rattle.register_requests.specs.RequestLine.{named_at, kind_at, shaped_at, after_at, split_by, word_at, command_at}
-use Rattle.register_requests.specs.RequestLine.{requested, fields_at, request_at}
+use Rattle.register_requests.specs.Within.RequestLine.{◌>>=◌, is_space, field_at, field_then, moment_at, date_at}
+use Rattle.register_requests.specs.Within.RequestLine.{edit_at}
+use Rattle.register_requests.specs.RequestLine.{key_number_at, request_number_at}
+use Rattle.register_requests.specs.Within.RequestLine.{reason_at, occurrence_at, name_at}
+use Rattle.register_requests.specs.Within.RequestLine.{key_type_at, purpose_at, registered, register_at, edits}
+use Rattle.register_requests.specs.Within.RequestLine.{edits_at}
+use Rattle.register_requests.specs.Within.RequestLine.{revoked, revoke_at, key_and_name_at, key_and_need_at, quorum_at}
+use Rattle.register_requests.specs.Within.RequestLine.{type_and_period_at, originator_at, recipient_at, set_period}
+use Rattle.register_requests.specs.Within.RequestLine.{keyed_at}
+use Rattle.register_requests.specs.Within.RequestLine.{named_at, kind_at, shaped_at, after_at, split_by, word_at}
+use Rattle.register_requests.specs.Within.RequestLine.{command_at}
+use Rattle.register_requests.specs.Within.RequestLine.{requested, fields_at, request_at}
 use Rattle.register_requests.proofs.Commands.{made, made_again, has_shape}
 use Rattle.register_requests.proofs.FieldReading.{bind_some, some_is, none_from, IsReader, HasNoSpace, field_takes}
 use Rattle.register_requests.proofs.FieldReading.{field_again, then_reader}

@@ -31,11 +31,13 @@ use Rattle.period_core.specs.KeyType.{key_type_text}
 use Rattle.period_core.proofs.Types.{of_each_type}
 use Rattle.period_core.specs.Period.{max_months}
 use Rattle.register_requests.specs.CommandKind.{command_kind_text}
-use Rattle.register_requests.specs.RequestLine.{◌>>=◌, number_at, moment_at, date_at, edit_at, key_number_at, reasons}
-use Rattle.register_requests.specs.RequestLine.{reason_at, occurrence_at, request_number_at, quorum_at, originator_at}
-use Rattle.register_requests.specs.RequestLine.{recipient_at, name_at, purpose_at, key_types, key_type_at}
-use Rattle.register_requests.specs.RequestLine.{command_kinds}
-use Rattle.register_requests.specs.RequestLine.{kind_at, is_space, is_trimmed}
+use Rattle.register_requests.specs.RequestLine.{number_at, key_number_at}
+use Rattle.register_requests.specs.Within.RequestLine.{◌>>=◌, moment_at, date_at, edit_at, reasons}
+use Rattle.register_requests.specs.RequestLine.{request_number_at}
+use Rattle.register_requests.specs.Within.RequestLine.{reason_at, occurrence_at, quorum_at, originator_at}
+use Rattle.register_requests.specs.Within.RequestLine.{recipient_at, name_at, purpose_at, key_types, key_type_at}
+use Rattle.register_requests.specs.Within.RequestLine.{command_kinds}
+use Rattle.register_requests.specs.Within.RequestLine.{kind_at, is_space, is_trimmed}
 use Rattle.register_requests.specs.Request.{IsDate, IsKeyNumber, IsEdit, date_text, edit_text}
 use Rattle.register_requests.proofs.FieldReading.{IsReader, is_read, bind_some, some_is}
 

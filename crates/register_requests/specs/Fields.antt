@@ -12,8 +12,6 @@ use Rattle.register_requests.specs.declared.command_fields.Fields.TheVariants.{N
 use Rattle.register_requests.specs.declared.command_fields.Fields.TheVariants.{KeyAndNeed}
 use Rattle.register_requests.specs.declared.command_fields.Fields.TheVariants.{TypeAndPeriod, Registration, DateEdits}
 use Rattle.register_requests.specs.declared.command_fields.Fields.TheVariants.{Revocation}
-use Rattle.register_requests.specs.declared.command_fields.Shape.{Shape}
-use Rattle.register_requests.specs.declared.command_fields.Shape.TheVariants as shapes
 
 -- the fields of a command
 abbrev pub fields_of : Command → Fields
@@ -50,15 +48,3 @@ command_with kinds.Advance Nothing = Some Advance
 command_with kinds.SetQuorum (KeyAndNeed key need) = Some (SetQuorum key need)
 command_with kinds.SetPeriod (TypeAndPeriod kind period) = Some (SetPeriod kind period)
 command_with kind fields = None
-
--- the shape of fields
-abbrev pub shape_of : Fields → Shape
-shape_of Nothing = shapes.Nothing
-shape_of (Key key) = shapes.Key
-shape_of (KeyAndName key name) = shapes.KeyAndName
-shape_of (KeyAndOwner key owner) = shapes.KeyAndOwner
-shape_of (KeyAndNeed key need) = shapes.KeyAndNeed
-shape_of (TypeAndPeriod kind period) = shapes.TypeAndPeriod
-shape_of (Registration kind owner activation protect_stop deactivation purpose) = shapes.Registration
-shape_of (DateEdits key activation protect_stop deactivation) = shapes.DateEdits
-shape_of (Revocation key reason occurrence) = shapes.Revocation

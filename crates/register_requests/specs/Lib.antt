@@ -11,3 +11,4 @@ pub mod CommandRule
 pub mod CommandText
 pub mod Subject
 pub mod RequestLine
+pub mod Within

@@ -70,15 +70,6 @@ key_by made NoKey = None
 abbrev pub key_of : ℕ → Command → Option ℕ
 key_of made c = key_by made (subject c)
 
-abbrev pub count_by : Subject → ℕ
-count_by (Makes registration) = 1
-count_by (Names key) = 0
-count_by NoKey = 0
-
--- how many keys a command makes
-abbrev pub made_by : Command → ℕ
-made_by c = count_by (subject c)
-
 abbrev pub is_key : ℕ → Option ℕ → Bool
 is_key k None = false
 is_key k (Some other) = other == k

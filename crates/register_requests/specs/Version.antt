@@ -32,6 +32,3 @@ knows Second = λ _. true
 -- the version of this program
 abbrev pub current : Version
 current = Second
-
-abbrev pub max_custodians : ℕ
-max_custodians = custodians_of current

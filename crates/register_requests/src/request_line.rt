@@ -1,7 +1,7 @@
 //! The line of a request.
 ghost use Rattle.std.specs.Prelude.{◌≡◌};
 ghost use Rattle.register_requests.specs.Request.{IsItem};
-ghost use Rattle.register_requests.specs.RequestLine.{fields_at, request_at};
+ghost use Rattle.register_requests.specs.Within.RequestLine.{fields_at, request_at};
 
 use crate::request::Request;
 use crate::request_reading::{
@@ -12,7 +12,7 @@ use crate::request_reading::{
 pub const MAX_LINE_LENGTH: usize = 1024;
 
 /// The request whose line it is.
-#[tactic(auto, unfolding(crate::specs::RequestLine::request_at))]
+#[tactic(auto, unfolding(crate::specs::Within::RequestLine::request_at))]
 fn request_of(line: &[u8]) -> Option<Request>
     ensures { result ≡ request_at line.now }
 {
@@ -23,7 +23,7 @@ fn request_of(line: &[u8]) -> Option<Request>
 }
 
 /// The request of a line's fields, whatever the line's length.
-#[tactic(auto, unfolding(crate::specs::RequestLine::fields_at))]
+#[tactic(auto, unfolding(crate::specs::Within::RequestLine::fields_at))]
 fn request_of_any_length(line: &[u8]) -> Option<Request>
     ensures { result ≡ fields_at line.now }
 {

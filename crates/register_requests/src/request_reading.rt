@@ -4,17 +4,21 @@ ghost use Rattle.std.specs.Prelude.{◌≡◌, ◌≢◌, ℕ, ◌<◌, ◌≤�
 ghost use Rattle.std.specs.Prelude.{length, position, IsSome, IfSome, IfNone};
 ghost use Rattle.lifecycle_core.specs.Reason.{reason_code};
 ghost use Rattle.register_requests.specs.Request.{IsKeyNumber};
-ghost use Rattle.register_requests.specs.RequestLine.{Gives, is_space, field_at, field_as};
-ghost use Rattle.register_requests.specs.RequestLine.{moment_at};
-ghost use Rattle.register_requests.specs.RequestLine.{date_at, edit_at, key_number_at, reason_at};
-ghost use Rattle.register_requests.specs.RequestLine.{occurrence_at, request_number_at, name_at};
-ghost use Rattle.register_requests.specs.RequestLine.{key_type_at, kind_at, purpose_at, quorum_at};
-ghost use Rattle.register_requests.specs.RequestLine.{originator_at, recipient_at, register_at};
-ghost use Rattle.register_requests.specs.RequestLine.{edits_at, revoke_at, key_and_name_at};
-ghost use Rattle.register_requests.specs.RequestLine.{word_at};
-ghost use Rattle.register_requests.specs.RequestLine.{key_and_need_at, shaped_at, after_at};
-ghost use Rattle.register_requests.specs.RequestLine.{command_at};
-ghost use Rattle.register_requests.specs.RequestLine.{type_and_period_at};
+ghost use Rattle.register_requests.specs.Within.RequestLine.{Gives, is_space, field_at, field_as};
+ghost use Rattle.register_requests.specs.Within.RequestLine.{moment_at};
+ghost use Rattle.register_requests.specs.RequestLine.{key_number_at};
+ghost use Rattle.register_requests.specs.Within.RequestLine.{date_at, edit_at, reason_at};
+ghost use Rattle.register_requests.specs.RequestLine.{request_number_at};
+ghost use Rattle.register_requests.specs.Within.RequestLine.{occurrence_at, name_at};
+ghost use Rattle.register_requests.specs.Within.RequestLine.{key_type_at, kind_at, purpose_at};
+ghost use Rattle.register_requests.specs.Within.RequestLine.{quorum_at};
+ghost use Rattle.register_requests.specs.Within.RequestLine.{originator_at, recipient_at};
+ghost use Rattle.register_requests.specs.Within.RequestLine.{register_at};
+ghost use Rattle.register_requests.specs.Within.RequestLine.{edits_at, revoke_at, key_and_name_at};
+ghost use Rattle.register_requests.specs.Within.RequestLine.{word_at};
+ghost use Rattle.register_requests.specs.Within.RequestLine.{key_and_need_at, shaped_at, after_at};
+ghost use Rattle.register_requests.specs.Within.RequestLine.{command_at};
+ghost use Rattle.register_requests.specs.Within.RequestLine.{type_and_period_at};
 ghost use Rattle.register_requests.specs.CommandText.{IsCommandItem};
 ghost use Rattle.register_requests.specs.Quorum.{IsQuorum};
 ghost use Rattle.period_core.specs.Period.{max_months};
@@ -37,7 +41,7 @@ fn first_space(bytes: &[u8]) -> Option<usize>
 }
 
 /// The field before the first space, and what stands after that space.
-#[tactic(auto, unfolding(crate::specs::RequestLine::field_at))]
+#[tactic(auto, unfolding(crate::specs::Within::RequestLine::field_at))]
 fn split_first_field(bytes: &[u8]) -> Option<(&[u8], &[u8])>
     ensures { Gives (λ x. (x.0.now, x.1.now)) result (field_at bytes.now) }
 {
@@ -90,7 +94,7 @@ pub(crate) fn take_moment_before_space(rest: &mut &[u8]) -> Option<Moment>
 }
 
 /// The date that the field writes, `-` for none.
-#[tactic(auto, unfolding(crate::specs::RequestLine::date_at))]
+#[tactic(auto, unfolding(crate::specs::Within::RequestLine::date_at))]
 fn date_of(field: &[u8]) -> Option<Option<Moment>>
     ensures { result ≡ date_at field.now }
 {
@@ -110,7 +114,7 @@ fn take_date_before_space(rest: &mut &[u8]) -> Option<Option<Moment>>
 
 /// What the field says of a date: `=` that it stays, `-` that it is unset, or the moment to set it
 /// to.
-#[tactic(auto, unfolding(crate::specs::RequestLine::edit_at))]
+#[tactic(auto, unfolding(crate::specs::Within::RequestLine::edit_at))]
 fn edit_of(field: &[u8]) -> Option<Edit>
     ensures { result ≡ edit_at field.now }
 {
@@ -181,7 +185,7 @@ fn take_reason_before_space(rest: &mut &[u8]) -> Option<Reason>
 }
 
 /// The occurrence that the field writes: a date with a compromise, else `-` alone.
-#[tactic(auto, unfolding(crate::specs::RequestLine::occurrence_at))]
+#[tactic(auto, unfolding(crate::specs::Within::RequestLine::occurrence_at))]
 fn occurrence_of(reason: Reason, field: &[u8]) -> Option<Option<Moment>>
     ensures { result ≡ occurrence_at reason field.now }
 {
@@ -300,7 +304,7 @@ fn purpose_of(bytes: &[u8]) -> Option<Purpose>
 }
 
 /// The fields of a registration.
-#[tactic(auto, unfolding(crate::specs::RequestLine::register_at))]
+#[tactic(auto, unfolding(crate::specs::Within::RequestLine::register_at))]
 fn registration_fields_of(bytes: &[u8]) -> Option<Fields>
     ensures { result ≡ register_at bytes.now }
 {
@@ -316,7 +320,7 @@ fn registration_fields_of(bytes: &[u8]) -> Option<Fields>
 }
 
 /// The number of a key, and the name after it.
-#[tactic(auto, unfolding(crate::specs::RequestLine::key_and_name_at))]
+#[tactic(auto, unfolding(crate::specs::Within::RequestLine::key_and_name_at))]
 fn key_and_name_of(bytes: &[u8]) -> Option<(u32, Name)>
     ensures { result ≡ key_and_name_at bytes.now }
 {
@@ -327,7 +331,7 @@ fn key_and_name_of(bytes: &[u8]) -> Option<(u32, Name)>
 }
 
 /// The number of a key, and after it how many approvals its destruction needs.
-#[tactic(auto, unfolding(crate::specs::RequestLine::key_and_need_at))]
+#[tactic(auto, unfolding(crate::specs::Within::RequestLine::key_and_need_at))]
 fn key_and_need_fields_of(bytes: &[u8]) -> Option<Fields>
     ensures { result ≡ key_and_need_at bytes.now }
 {
@@ -338,7 +342,7 @@ fn key_and_need_fields_of(bytes: &[u8]) -> Option<Fields>
 }
 
 /// A type, and after it the months of its period.
-#[tactic(auto, unfolding(crate::specs::RequestLine::type_and_period_at))]
+#[tactic(auto, unfolding(crate::specs::Within::RequestLine::type_and_period_at))]
 fn type_and_period_fields_of(bytes: &[u8]) -> Option<Fields>
     ensures { result ≡ type_and_period_at bytes.now }
 {
@@ -351,7 +355,7 @@ fn type_and_period_fields_of(bytes: &[u8]) -> Option<Fields>
 }
 
 /// The fields of a change of dates.
-#[tactic(auto, unfolding(crate::specs::RequestLine::edits_at))]
+#[tactic(auto, unfolding(crate::specs::Within::RequestLine::edits_at))]
 fn date_edit_fields_of(bytes: &[u8]) -> Option<Fields>
     ensures { result ≡ edits_at bytes.now }
 {
@@ -365,7 +369,7 @@ fn date_edit_fields_of(bytes: &[u8]) -> Option<Fields>
 }
 
 /// The fields of a revocation.
-#[tactic(auto, unfolding(crate::specs::RequestLine::revoke_at))]
+#[tactic(auto, unfolding(crate::specs::Within::RequestLine::revoke_at))]
 fn revocation_fields_of(bytes: &[u8]) -> Option<Fields>
     ensures { result ≡ revoke_at bytes.now }
 {
@@ -381,7 +385,7 @@ fn revocation_fields_of(bytes: &[u8]) -> Option<Fields>
 }
 
 /// The fields of this shape, which stand after the space after a word.
-#[tactic(auto, unfolding(crate::specs::RequestLine::keyed_at, crate::specs::RequestLine::named_at))]
+#[tactic(auto, unfolding(crate::specs::Within::RequestLine::keyed_at, crate::specs::Within::RequestLine::named_at))]
 fn fields_of_shape(shape: Shape, bytes: &[u8]) -> Option<Fields>
     ensures { result ≡ shaped_at shape bytes.now }
 {
@@ -416,7 +420,7 @@ fn fields_after_word(shape: Shape, after: Option<&[u8]>) -> Option<Fields>
 }
 
 /// The word at the start, and what stands after its space where it has one.
-#[tactic(auto, unfolding(crate::specs::RequestLine::word_at))]
+#[tactic(auto, unfolding(crate::specs::Within::RequestLine::word_at))]
 fn split_command_word(bytes: &[u8]) -> (&[u8], Option<&[u8]>)
     ensures word { result.0.now ≡ (word_at bytes.now).0 }
     ensures after { option_map (λ fields. fields.now) result.1 ≡ (word_at bytes.now).1 }
@@ -428,7 +432,7 @@ fn split_command_word(bytes: &[u8]) -> (&[u8], Option<&[u8]>)
 }
 
 /// The command, all of the bytes.
-#[tactic(auto, unfolding(crate::specs::RequestLine::command_at))]
+#[tactic(auto, unfolding(crate::specs::Within::RequestLine::command_at))]
 pub(crate) fn command_of(bytes: &[u8]) -> Option<Command>
     ensures { result ≡ command_at bytes.now }
 {

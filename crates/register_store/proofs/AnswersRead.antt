@@ -10,8 +10,10 @@ use Rattle.register_store.specs.declared.counted.Counted.{Counted}
 use Rattle.register_store.specs.declared.error.StoreError.{StoreError}
 use Rattle.register_store.specs.declared.error.StoreError.TheVariants.{Memory, NoRegister}
 use Rattle.register_store.specs.Tables.{Tables}
-use Rattle.register_store.specs.TableReads.{AnswersBy, FindsOne, IsRowOf, ReadsBy, ShowsNone, given_of}
-use Rattle.register_store.specs.TableReads.{given_without, seen}
+use Rattle.register_store.specs.TableReads.{ReadsBy}
+use Rattle.register_store.specs.Within.TableReads.{AnswersBy, FindsOne, IsRowOf, ShowsNone, given_of}
+use Rattle.register_store.specs.TableReads.{seen}
+use Rattle.register_store.specs.Within.TableReads.{given_without}
 
 -- the result is what the answer's row shows; it is no want of memory, and no register's row is refused
 pub record Tells {A : Type 0} (IsOne : A → Type 0) (ShowsOne : Row → A → Type 0) (answer : Result Row Error)

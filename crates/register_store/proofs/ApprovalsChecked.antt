@@ -9,7 +9,8 @@ use Rattle.register_store.specs.declared.table.TableName.TheVariants.{Approval}
 use Rattle.register_store.specs.CheckedTables.{ShowsName}
 use Rattle.register_store.specs.Stored.{HoldsStored, Stored}
 use Rattle.register_store.specs.Tables.{IsNamed, name_cells}
-use Rattle.register_store.specs.CheckedRows.{IsListed, KnowsCustodians}
+use Rattle.register_store.specs.CheckedRows.{IsListed}
+use Rattle.register_store.specs.Within.CheckedRows.{KnowsCustodians}
 use Rattle.register_store.specs.OpeningChecks.{IsCustodian}
 use Rattle.register_store.proofs.Actions.{shows_all}
 use Rattle.register_store.proofs.Asked.{AnswersTo, ShowsOwn, in_both, shown_of_table}

@@ -3,7 +3,7 @@ use Rattle.std.proofs.Common.{◌≡◌, ◌==◌, ◌<◌, inl, inr, ℕ, Bool,
 use Rattle.std.proofs.Common.{Result, Ok, Err, refl, sym, ap, subst, ◌∙◌, arith}
 use Rattle.std.specs.Prelude.{find, ◌+◌, get_or, ◌∷◌}
 use Rattle.std.proofs.lemmas.Grind.{common_steps}
-use Rattle.register_store.specs.Creation.{MakesIndex, MakesIndexes}
+use Rattle.register_store.specs.Within.Creation.{MakesIndex, MakesIndexes}
 use Rattle.std.proofs.lemmas.Bool.{eqb-true}
 use Rattle.std.proofs.lemmas.Option.{none-some, same_Some}
 use Rattle.std.specs.Option.{option_and_then, option_map}
@@ -31,13 +31,17 @@ use Rattle.sqlite_schema.specs.declared.schema.Keys.{Keys}
 use Rattle.sqlite_schema.specs.declared.schema.Reference.{Reference}
 use Rattle.sqlite_syntax.specs.declared.statement.Parsed.{Parsed}
 use Rattle.sqlite_tied.specs.Compute.{everything}
-use Rattle.sql_steps.specs.Steps.{Change, StepsBy, Then}
+use Rattle.sql_steps.specs.Steps.{Change, StepsBy}
+use Rattle.sql_steps.specs.Within.Steps.{Then}
 use Rattle.sql_steps.proofs.Stepping.{stays, steps_as, steps_then}
-use Rattle.register_store.specs.Beside.{Adds, AddsUncounted, HasMetaApart, InsertsMeta, IsMadeAs}
-use Rattle.register_store.specs.Beside.{IsUncounted, KeepsOthers, LacksMeta}
-use Rattle.register_store.specs.Beside.{UpdatesMeta, WritesMeta, is_meta}
-use Rattle.register_store.specs.Schema.{index_text}
-use Rattle.register_store.specs.Tables.{create_text}
+use Rattle.register_store.specs.Beside.{HasMetaApart}
+use Rattle.register_store.specs.Within.Beside.{Adds, AddsUncounted, InsertsMeta, IsMadeAs}
+use Rattle.register_store.specs.Beside.{KeepsOthers, LacksMeta}
+use Rattle.register_store.specs.Within.Beside.{IsUncounted}
+use Rattle.register_store.specs.Beside.{is_meta}
+use Rattle.register_store.specs.Within.Beside.{UpdatesMeta, WritesMeta}
+use Rattle.register_store.specs.Within.Schema.{index_text}
+use Rattle.register_store.specs.Within.Tables.{create_text}
 use Rattle.register_store.specs.declared.key_index.KeyIndex.{KeyIndex}
 use Rattle.register_store.specs.declared.key_index.KeyIndex.TheVariants.{Activation, Deactivation, ProtectStop}
 use Rattle.register_store.specs.declared.table.TableName.{TableName}

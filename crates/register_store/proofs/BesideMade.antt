@@ -22,7 +22,7 @@ use Rattle.sqlite_resolve.specs.Compile.{first}
 use Rattle.sqlite_syntax.specs.declared.statement.Parsed.{Parsed}
 use Rattle.std.specs.Prelude.{slice_get}
 use Rattle.sql_steps.proofs.Statements.{same_value, went}
-use Rattle.register_store.specs.Beside.{Adds}
+use Rattle.register_store.specs.Within.Beside.{Adds}
 use Rattle.register_store.proofs.BesideShapes.{MakesIndex as Makes, MakesTable, at_place, index_understood, ran_as}
 use Rattle.register_store.proofs.BesideShapes.{table_understood}
 use Rattle.register_store.proofs.NextTexts.{IsText}

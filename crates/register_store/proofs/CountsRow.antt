@@ -14,9 +14,11 @@ use Rattle.sql_steps.proofs.Queries.{compares}
 use Rattle.sql_steps.proofs.Statements.{plain_query, cast_int, cast_null}
 use Rattle.moment_core.specs.Moment.{IsMoment}
 use Rattle.register_store.specs.declared.table.TableName.TheVariants.{Meta}
-use Rattle.register_store.specs.Tables.{Layout, fresh, meta, place_of, Counts, counts_row}
+use Rattle.register_store.specs.Tables.{Layout, fresh, place_of, Counts}
+use Rattle.register_store.specs.Within.Tables.{meta, counts_row}
 use Rattle.register_store.specs.Schema.{schema_with, rows_of}
-use Rattle.register_store.specs.TableChanges.{Makes, Always, with_counts}
+use Rattle.register_store.specs.TableChanges.{Makes}
+use Rattle.register_store.specs.Within.TableChanges.{Always, with_counts}
 use Rattle.register_store.proofs.Actions.{idle, shows_all}
 use Rattle.sqlite_resolve.specs.Compile.{first}
 use Rattle.register_store.proofs.Meanings.{Sets, classes, placed, sets}

@@ -29,10 +29,12 @@ use Rattle.register_requests.specs.Name.{is_among}
 use Rattle.register_store.specs.declared.error.CheckError.{CheckError}
 use Rattle.register_store.specs.declared.error.CheckError.TheVariants.{Memory as Ran_out}
 use Rattle.register_store.specs.declared.table.TableName.TheVariants.{Custodian}
-use Rattle.register_store.specs.CheckedTables.{IsOdd, IsReasonAt, ShowsName, ChecksTable, check_error, check_text}
+use Rattle.register_store.specs.CheckedTables.{IsOdd, IsReasonAt, ShowsName, check_error, check_text}
+use Rattle.register_store.specs.Within.CheckedTables.{ChecksTable}
 use Rattle.register_store.specs.Stored.{HoldsStored, Stored}
 use Rattle.register_store.specs.Tables.{IsNamed, name_cells}
-use Rattle.register_store.specs.CheckedRows.{AreEmpty, AreKept, HasCustodians, IsListed, KnowsCustodians}
+use Rattle.register_store.specs.CheckedRows.{AreKept, HasCustodians, IsListed}
+use Rattle.register_store.specs.Within.CheckedRows.{AreEmpty, KnowsCustodians}
 use Rattle.register_store.specs.CheckedRows.{RefusesCustodians}
 use Rattle.register_store.specs.OpeningChecks.{AreCustodians, IsCustodian, MayBeCustodian, owner_at, owners_of}
 use Rattle.register_store.proofs.Actions.{shows_all}

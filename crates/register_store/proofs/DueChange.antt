@@ -21,8 +21,10 @@ use Rattle.register_store.specs.declared.accepted_request.DueDate.{DueDate}
 use Rattle.register_store.specs.declared.accepted_request.DueDate.TheVariants.{Activation, Deactivation}
 use Rattle.register_store.specs.Tables.{IsKey, key_row, date_cell, unset}
 use Rattle.register_store.specs.Schema.{Holds}
-use Rattle.register_store.specs.TableChanges.{Makes, Always, in_state}
-use Rattle.register_store.specs.Due.{date_of, is_due, moved_on, state_before, state_after, update_text, with_each}
+use Rattle.register_store.specs.TableChanges.{Makes}
+use Rattle.register_store.specs.Within.TableChanges.{Always, in_state}
+use Rattle.register_store.specs.Within.Due.{date_of, is_due, moved_on, state_before, state_after, update_text}
+use Rattle.register_store.specs.Within.Due.{with_each}
 use Rattle.sqlite_resolve.specs.Compile.{first}
 use Rattle.register_store.proofs.ColumnTerms.{key_kept}
 use Rattle.register_store.proofs.KeyChange.{IsUpdate, changed_where, changes_keys, image_of, passes_row}

@@ -36,10 +36,11 @@ use Rattle.register_store.specs.declared.key_scan.DueSearch.{DueSearch}
 use Rattle.register_store.specs.declared.key_scan.DueSearch.TheVariants.{Past, SameStop}
 use Rattle.register_store.specs.Columns.{key_columns, select}
 use Rattle.register_store.specs.KeyScan.{IsAfter}
-use Rattle.register_store.specs.TableReads.{ShowsAt}
+use Rattle.register_store.specs.Within.TableReads.{ShowsAt}
 use Rattle.register_store.specs.Schema.{Holds, schema_with}
-use Rattle.register_store.specs.DueSearch.{HasFirst, IsFirst, IsNumbered, cell_cursor, search_text, stop_cell}
-use Rattle.register_store.specs.Tables.{Layout, Tables, keys, key_row, numbered}
+use Rattle.register_store.specs.Within.DueSearch.{HasFirst, IsFirst, IsNumbered, cell_cursor, search_text, stop_cell}
+use Rattle.register_store.specs.Tables.{Layout, Tables, key_row, numbered}
+use Rattle.register_store.specs.Within.Tables.{keys}
 use Rattle.register_store.proofs.Asked.{shown_of_table}
 use Rattle.register_store.proofs.Decoding.{same_number, one_key}
 use Rattle.register_store.proofs.Actions.{shows_all}

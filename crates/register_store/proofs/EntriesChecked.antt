@@ -9,10 +9,12 @@ use Rattle.row_checks.specs.declared.error.RowsError.TheVariants.{NoMeaning, Ref
 use Rattle.row_checks.specs.ShownRows.{HasNoMeaning, ShowsAll, ShowsFirst}
 use Rattle.register_store.specs.declared.error.CheckError.{CheckError}
 use Rattle.register_store.specs.declared.table.TableName.{TableName}
-use Rattle.register_store.specs.CheckedTables.{AreNewer, IsOdd, IsReasonAt, ShowsRows, ChecksTable, check_error}
+use Rattle.register_store.specs.CheckedTables.{AreNewer, IsOdd, IsReasonAt, ShowsRows, check_error}
+use Rattle.register_store.specs.Within.CheckedTables.{ChecksTable}
 use Rattle.register_store.specs.CheckedTables.{check_text}
 use Rattle.register_store.specs.Stored.{HoldsStored, Part, Stored, with_part}
-use Rattle.register_store.specs.CheckedRows.{HasShown, IsAny, RefusesEach}
+use Rattle.register_store.specs.CheckedRows.{HasShown, RefusesEach}
+use Rattle.register_store.specs.Within.CheckedRows.{IsAny}
 use Rattle.register_store.specs.OpeningChecks.{MeetsCheck}
 use Rattle.register_store.proofs.Asked.{AnswersTo, IsWithin, ShowsOwn, checks_table}
 use Rattle.register_store.proofs.EachChecked.{odd_on}

@@ -7,7 +7,8 @@ use Rattle.sql_steps.proofs.Written.{Kept, Wrote}
 use Rattle.sqlite.specs.Order.{Row as Cells}
 use Rattle.std.specs.Prelude.{List}
 use Rattle.register_store.specs.declared.table.TableName.{TableName}
-use Rattle.register_store.specs.Tables.{Layout, table_of, Tables, Content, content, with_content, IsInRange, Shows}
+use Rattle.register_store.specs.Tables.{Layout, table_of, Tables, Content, content, with_content, IsInRange}
+use Rattle.register_store.specs.Within.Tables.{Shows}
 use Rattle.register_store.specs.Schema.{schema_with, Holds, rows_of}
 use Rattle.register_store.proofs.EachTable.{each, content_with}
 

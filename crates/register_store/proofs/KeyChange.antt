@@ -28,9 +28,11 @@ use Rattle.register_core.specs.declared.key.Key.{Key}
 use Rattle.register_requests.specs.Name.{IsName}
 use Rattle.register_store.specs.declared.table.TableName.TheVariants.{Keys}
 use Rattle.register_store.specs.Columns.{joined}
-use Rattle.register_store.specs.Tables.{Layout, fresh, keys, place_of, AreDates, IsKey, date_cell, key_row, numbered}
+use Rattle.register_store.specs.Tables.{Layout, fresh, place_of, AreDates, IsKey, date_cell, key_row, numbered}
+use Rattle.register_store.specs.Within.Tables.{keys}
 use Rattle.register_store.specs.Schema.{schema_with, Holds, rows_of}
-use Rattle.register_store.specs.TableChanges.{Makes, Always, held_by, where_number, with_key_at}
+use Rattle.register_store.specs.TableChanges.{Makes, held_by, where_number, with_key_at}
+use Rattle.register_store.specs.Within.TableChanges.{Always}
 use Rattle.register_store.proofs.Actions.{idle, shows_all}
 use Rattle.register_store.proofs.ColumnTerms.{key_kept, with_given}
 use Rattle.sqlite_resolve.specs.Compile.{first}

@@ -17,7 +17,8 @@ use Rattle.sqlite_rules.specs.Action.{works}
 use Rattle.sqlite_rules.specs.Lists.{Has}
 use Rattle.sqlite_schema.specs.declared.schema.Keys.TheVariants.{Enforced}
 use Rattle.sqlite_trees.proofs.ListLemmas.{all-filter}
-use Rattle.sql_steps.specs.Steps.{StepsBy, Then}
+use Rattle.sql_steps.specs.Steps.{StepsBy}
+use Rattle.sql_steps.specs.Within.Steps.{Then}
 use Rattle.sql_steps.proofs.Deletes.{ids_shown}
 use Rattle.sql_steps.proofs.Inserting.{edit, puts}
 use Rattle.sql_steps.proofs.Removing.{removes}
@@ -25,7 +26,8 @@ use Rattle.sql_steps.proofs.Statements.{plain_query, is_picked}
 use Rattle.sql_steps.proofs.Stepping.{steps_then, steps_weaker}
 use Rattle.sql_steps.proofs.Written.{Wrote}
 use Rattle.register_core.proofs.Lawful.{all_more}
-use Rattle.register_store.specs.TableChanges.{Makes, Always}
+use Rattle.register_store.specs.TableChanges.{Makes}
+use Rattle.register_store.specs.Within.TableChanges.{Always}
 use Rattle.register_store.specs.Schema.{Holds, schema_with}
 use Rattle.register_store.specs.Tables.{AreApart, Layout, ShowsKeyed, Tables}
 use Rattle.register_store.proofs.Actions.{shows_all}

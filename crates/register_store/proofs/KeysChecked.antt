@@ -23,7 +23,8 @@ use Rattle.register_store.specs.declared.error.CheckError.{CheckError}
 use Rattle.register_store.specs.declared.error.CheckError.TheVariants.{NotARegister}
 use Rattle.register_store.specs.declared.table.TableName.TheVariants.{Keys}
 use Rattle.register_requests.specs.declared.version.Version.{Version}
-use Rattle.register_store.specs.CheckedTables.{IsOdd, IsReasonAt, ShowsNumbered, ShowsRows, ChecksTable, check_error}
+use Rattle.register_store.specs.CheckedTables.{IsOdd, IsReasonAt, ShowsNumbered, ShowsRows, check_error}
+use Rattle.register_store.specs.Within.CheckedTables.{ChecksTable}
 use Rattle.register_store.specs.CheckedTables.{check_text, mark_of}
 use Rattle.register_store.specs.Schema.{rows_of}
 use Rattle.std.specs.Bool.{then_some}
@@ -31,7 +32,8 @@ use Rattle.std.specs.Option.{ok_or}
 use Rattle.std.proofs.Common.{Option}
 use Rattle.register_store.specs.Stored.{HoldsStored, Stored, mark}
 use Rattle.register_store.specs.Tables.{Counts, IsKey, key_row, numbered}
-use Rattle.register_store.specs.CheckedRows.{AreCounted, AreOwners, HasKeys, RefusesKeys, owners_where}
+use Rattle.register_store.specs.CheckedRows.{AreCounted, HasKeys, RefusesKeys}
+use Rattle.register_store.specs.Within.CheckedRows.{AreOwners, owners_where}
 use Rattle.register_store.specs.OpeningChecks.{IsSoundAt, owners_of}
 use Rattle.register_store.proofs.Actions.{shows_all}
 use Rattle.register_store.proofs.Asked.{AnswersTo, IsWithin, ShowsOwn, in_both, shown_of_table, checks_table}

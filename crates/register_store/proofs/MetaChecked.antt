@@ -21,12 +21,14 @@ use Rattle.register_requests.specs.declared.version.Version.{Version}
 use Rattle.register_requests.specs.declared.version.Version.TheVariants.{First, Second}
 use Rattle.register_requests.specs.Version.{version_number}
 use Rattle.register_store.specs.CheckedTables.{HasNewer, IsOdd, IsReasonAt, ShowsCounts, ShowsNewer, ShowsRows}
-use Rattle.register_store.specs.CheckedTables.{ChecksTable, check_error, check_text, mark_of}
+use Rattle.register_store.specs.CheckedTables.{check_error, check_text, mark_of}
+use Rattle.register_store.specs.Within.CheckedTables.{ChecksTable}
 use Rattle.register_store.specs.Schema.{rows_of}
 use Rattle.register_store.specs.Stored.{HoldsStored, Stored, mark, with_part}
 use Rattle.register_store.specs.Tables.{Counts, counts_row_in, version}
 use Rattle.register_store.specs.OpeningChecks.{MeetsCheck}
-use Rattle.register_store.specs.CheckedRows.{HasMeta, IsCounts, RefusesMeta, counts_in}
+use Rattle.register_store.specs.CheckedRows.{HasMeta, RefusesMeta}
+use Rattle.register_store.specs.Within.CheckedRows.{IsCounts, counts_in}
 use Rattle.register_store.proofs.Actions.{shows_all}
 use Rattle.register_store.proofs.Asked.{AnswersTo, IsWithin, ShowsOwn, in_both, shown_of_table, shown_own, checks_table}
 use Rattle.register_store.proofs.Decoding.{same_number}

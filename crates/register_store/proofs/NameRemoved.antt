@@ -30,12 +30,15 @@ use Rattle.register_store.specs.declared.table.TableName.{TableName}
 use Rattle.register_store.specs.declared.table.TableName.TheVariants.{Custodian, Approval}
 use Rattle.register_store.specs.declared.stored_key.RoleChange.{RoleChange}
 use Rattle.register_store.specs.declared.stored_key.RoleChange.TheVariants.{Given, Taken}
-use Rattle.register_store.specs.Roles.{change_text, with_role_changed}
-use Rattle.register_store.specs.Tables.{custodian, approval, to_custodian, place_of, table_of, Layout, Tables}
-use Rattle.register_store.specs.Tables.{ShowsEntries, Shows, IsNamed, IsInRange, content, name_cells}
+use Rattle.register_store.specs.Within.Roles.{change_text, with_role_changed}
+use Rattle.register_store.specs.Tables.{to_custodian, place_of, table_of, Layout, Tables}
+use Rattle.register_store.specs.Within.Tables.{custodian, approval}
+use Rattle.register_store.specs.Tables.{ShowsEntries, IsNamed, IsInRange, content, name_cells}
+use Rattle.register_store.specs.Within.Tables.{Shows}
 use Rattle.register_store.specs.Schema.{schema_with, Holds, rows_of}
-use Rattle.register_store.specs.TableChanges.{Makes, Always, without_custodian, without_approval, without_approvals}
-use Rattle.register_store.specs.TableChanges.{without_name}
+use Rattle.register_store.specs.TableChanges.{Makes}
+use Rattle.register_store.specs.Within.TableChanges.{Always, without_custodian, without_approval, without_approvals}
+use Rattle.register_store.specs.Within.TableChanges.{without_name}
 use Rattle.register_store.proofs.Actions.{idle, custodian_drops, shows_all}
 use Rattle.register_store.proofs.EachTable.{each, content_with}
 use Rattle.sqlite_resolve.specs.Compile.{first}

@@ -28,8 +28,9 @@ use Rattle.register_store.specs.declared.stored_key.Role.{Role}
 use Rattle.register_store.specs.declared.stored_key.Role.TheVariants as role
 use Rattle.register_store.specs.declared.table.TableName.{TableName}
 use Rattle.register_store.specs.declared.table.TableName.TheVariants.{Custodian, Approval}
-use Rattle.register_store.specs.Roles.{names_of, select_text}
-use Rattle.register_store.specs.TableReads.{AreNamesOf, HasNoName, HoldsWhereOpen, IsOpenStill, ReadsBy}
+use Rattle.register_store.specs.Within.Roles.{names_of, select_text}
+use Rattle.register_store.specs.TableReads.{HoldsWhereOpen, IsOpenStill, ReadsBy}
+use Rattle.register_store.specs.Within.TableReads.{AreNamesOf, HasNoName}
 use Rattle.register_store.specs.Tables.{Layout, Tables, table_of, AreNames, IsNamed, ShowsEntries, name_cells}
 use Rattle.register_store.specs.Schema.{schema_with, Holds, rows_of}
 use Rattle.register_store.proofs.Actions.{shows_all}

@@ -12,7 +12,8 @@ use Rattle.sql_steps.proofs.Deletes.{ids_shown}
 use Rattle.sql_steps.proofs.Statements.{plain_query, cast_int, cast_null}
 use Rattle.register_core.specs.Settings.{KeyNeed}
 use Rattle.register_store.specs.declared.table.TableName.TheVariants.{Quorum}
-use Rattle.register_store.specs.Columns.{need_columns, given, listed}
+use Rattle.register_store.specs.Columns.{need_columns, listed}
+use Rattle.register_store.specs.Within.Columns.{given}
 use Rattle.register_store.specs.Tables.{Layout, IsSetNeed, Tables, need_row, place_of, table_of}
 use Rattle.register_store.specs.Schema.{schema_with}
 use Rattle.register_store.proofs.Actions.{idle}

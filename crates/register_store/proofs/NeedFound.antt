@@ -14,7 +14,7 @@ use Rattle.register_store.specs.declared.table.TableName.TheVariants.{Quorum}
 use Rattle.register_store.specs.Columns.{need_columns, select}
 use Rattle.register_store.specs.TableForms.{name_of}
 use Rattle.register_store.specs.Tables.{Layout, Tables, need_row, table_of}
-use Rattle.register_store.specs.TableReads.{ShowsNeed}
+use Rattle.register_store.specs.Within.TableReads.{ShowsNeed}
 use Rattle.register_store.proofs.ColumnTerms.{shown_from}
 use Rattle.register_store.proofs.KeyedFound.{IsKeyed}
 use Rattle.register_store.specs.Schema.{schema_with}

@@ -19,15 +19,16 @@ use Rattle.sqlite_rules.specs.Lists.{Has}
 use Rattle.sqlite_schema.specs.declared.schema.Index.{Index}
 use Rattle.sqlite_schema.specs.Names.{table_named, index_named, view_named}
 use Rattle.sqlite_tied.specs.Compute.{everything}
-use Rattle.sql_steps.specs.CreatedTables.{Created}
+use Rattle.sql_steps.specs.Within.CreatedTables.{Created}
 use Rattle.sql_steps.proofs.Creating.{makes}
 use Rattle.register_store.specs.declared.table.TableName.{TableName}
 use Rattle.register_store.specs.declared.table.TableName.TheVariants.{Meta, Keys, Custodian, Approval, Request}
 use Rattle.register_store.specs.declared.table.TableName.TheVariants.{Period, Quorum}
 use Rattle.register_requests.specs.declared.version.Version.TheVariants.{First}
-use Rattle.register_store.specs.Migration.{MakesNext}
+use Rattle.register_store.specs.Within.Migration.{MakesNext}
 use Rattle.register_store.specs.Schema.{rows_of, schema_below}
-use Rattle.register_store.specs.Tables.{AreApartBelow, Layout, ShowsIn, content, create_text, place_of, table_count}
+use Rattle.register_store.specs.Tables.{AreApartBelow, Layout, ShowsIn, content, place_of, table_count}
+use Rattle.register_store.specs.Within.Tables.{create_text}
 use Rattle.register_store.proofs.EachTable.{unplaced, same_place}
 use Rattle.register_store.proofs.NextTexts.{makes_table, refused}
 use Rattle.register_store.proofs.TableTexts.{def_of, parsed, whole_is}

@@ -13,7 +13,8 @@ use Rattle.sql_steps.proofs.Statements.{plain_query, cast_int, cast_null}
 use Rattle.period_core.specs.KeyType.{key_type_code}
 use Rattle.register_core.specs.Settings.{TypePeriod}
 use Rattle.register_store.specs.declared.table.TableName.TheVariants.{Period}
-use Rattle.register_store.specs.Columns.{period_columns, given, listed}
+use Rattle.register_store.specs.Columns.{period_columns, listed}
+use Rattle.register_store.specs.Within.Columns.{given}
 use Rattle.register_store.specs.Tables.{Layout, IsSetPeriod, Tables, period_row, place_of, table_of}
 use Rattle.register_store.specs.Schema.{schema_with}
 use Rattle.register_store.proofs.Actions.{idle}

@@ -15,7 +15,7 @@ use Rattle.register_store.specs.declared.table.TableName.TheVariants.{Period}
 use Rattle.register_store.specs.Columns.{period_columns, select}
 use Rattle.register_store.specs.TableForms.{name_of}
 use Rattle.register_store.specs.Tables.{Layout, Tables, period_row, table_of}
-use Rattle.register_store.specs.TableReads.{ShowsPeriod}
+use Rattle.register_store.specs.Within.TableReads.{ShowsPeriod}
 use Rattle.register_store.proofs.ColumnTerms.{shown_from}
 use Rattle.register_store.proofs.KeyedFound.{IsKeyed}
 use Rattle.register_store.specs.Schema.{schema_with}

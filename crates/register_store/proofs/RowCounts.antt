@@ -14,7 +14,8 @@ use Rattle.sqlite_resolve.specs.Compile.{first}
 use Rattle.sqlite_resolve.specs.declared.compiled.Compiled.{Compiled}
 use Rattle.sqlite_resolve.specs.declared.error.CompileError.{CompileError}
 use Rattle.sqlite_tied.specs.Compute.{everything}
-use Rattle.sql_steps.specs.Steps.{StepsBy, Then}
+use Rattle.sql_steps.specs.Steps.{StepsBy}
+use Rattle.sql_steps.specs.Within.Steps.{Then}
 use Rattle.sql_steps.proofs.Asking.{asks_meaningless}
 use Rattle.sql_steps.proofs.Stepping.{steps_as, steps_then}
 use Rattle.row_checks.specs.ShownRows.{IsQuery}
@@ -24,7 +25,8 @@ use Rattle.register_requests.specs.declared.version.Version.{Version}
 use Rattle.register_requests.specs.declared.version.Version.TheVariants.{First, Second}
 use Rattle.register_store.specs.declared.table.TableName.{TableName}
 use Rattle.register_store.specs.declared.table.TableName.TheVariants.{Meta}
-use Rattle.register_store.specs.Creation.{Answers, HasMeaning, HasTable, IsThere, LacksFirst}
+use Rattle.register_store.specs.Creation.{HasMeaning, HasTable, IsThere}
+use Rattle.register_store.specs.Within.Creation.{Answers, LacksFirst}
 use Rattle.register_store.specs.Schema.{HoldsIn, schema_in}
 use Rattle.register_store.specs.Tables.{Layout, Tables, all_tables, count_text, place_of, table_count, table_of}
 use Rattle.register_store.proofs.Meanings.{Asks, asks, classes_in, placed_as}

@@ -12,7 +12,7 @@ use Rattle.sqlite_tied.specs.Compute.{everything}
 use Rattle.register_store.specs.declared.table.TableName.{TableName}
 use Rattle.register_store.specs.declared.table.TableName.TheVariants.{Meta, Keys, Custodian, Approval, Request, Period}
 use Rattle.register_store.specs.declared.table.TableName.TheVariants.{Quorum}
-use Rattle.register_store.specs.Tables.{create_text}
+use Rattle.register_store.specs.Within.Tables.{create_text}
 use Rattle.register_store.proofs.EachTable.{unplaced}
 use Rattle.register_store.proofs.NextTexts.{IsText}
 

@@ -3,7 +3,8 @@ use Rattle.std.proofs.Common.{◌≡◌, ℕ, Result}
 use Rattle.sqlite.specs.State.{State}
 use Rattle.sql_steps.specs.Steps.{Change, StepsBy}
 use Rattle.register_store.specs.declared.counted.StepCount.{StepCount}
-use Rattle.register_store.specs.StepCount.{Takes, Writes}
+use Rattle.register_store.specs.StepCount.{Takes}
+use Rattle.register_store.specs.Within.StepCount.{Writes}
 
 pub wrote : {A E : Type 0} {sees : A → State} {name : A
     → ℕ} {most : ℕ} {Made : Change} {old new : A} {before after : StepCount}

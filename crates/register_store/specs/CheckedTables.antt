@@ -226,17 +226,6 @@ IsReasonAt name t old new (NewerVersion found) = HasNewer found old new
 IsReasonAt name t old new Memory = IsUnchanged old new
 IsReasonAt name t old new (Database error) = Unit {0}
 
--- What the check of one table does, where the tables before it are those of t, as the check of all does; `Says` relates
--- what the table shows to what is found of it.
-pub record ChecksTable {T : Type 0} (name : TableName) (t : Stored) (Says : Part name → T → Type 0) (old new : State)
-    (result : Result T CheckError) : Type 0 where
-  pub passed : HasCleanDisk new → IfOk result (λ found. (c : Part name) × ShowsAll (check_text name)
-      (λ rows. ShowsRows name rows c) old new × MeetsCheck name (with_part name c t) × Says c found)
-  pub refused : HasCleanDisk new → IfErr result (IsReasonAt name t old new)
-  pub told : HasCleanDisk new → HoldsStored t old.now → MeetsChecks t → IfOk result (Says (part name t))
-  pub blames_none : HasCleanDisk new → HoldsStored t old.now → MeetsChecks t → IfErr result BlamesNone
-  pub survives : Survives old new (λ _. ⊥)
-
 -- ---- the version alone
 
 -- What a look at the version does: where it succeeds meta passes its check and the version is one that this program

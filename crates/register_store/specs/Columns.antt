@@ -54,11 +54,7 @@ listed columns = joined (codes ", ") (map name_of columns)
 abbrev pub select : List Named → List ℕ → List ℕ
 select columns rest = codes "SELECT " ++ listed columns ++ rest
 
--- the parameters of these names, after one that comes before
-abbrev pub given : List Named → List ℕ
-given columns = after_each (codes ", :") (map name_of columns)
-
--- the same as in the text that makes their table
+-- a column as in the text that makes its table
 abbrev pub definition : Named → List ℕ
 definition (Numbers name) = name ++ codes " INTEGER NOT NULL"
 definition (Texts name) = name ++ codes " TEXT NOT NULL"

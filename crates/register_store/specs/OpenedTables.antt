@@ -6,7 +6,7 @@ use Rattle.sqlite.specs.State.{State, HasCleanDisk, IsUnchanged, Survives}
 use Rattle.sqlite.specs.Tree.{Trees}
 use Rattle.sqlite_trees.specs.declared.store.Store.{Ghosts}
 use Rattle.register_requests.specs.declared.version.Version.{Version}
-use Rattle.register_requests.specs.declared.version.Version.TheVariants.{First, Second}
+use Rattle.register_requests.specs.declared.version.Version.TheVariants.{First}
 use Rattle.register_requests.specs.Version.{current}
 use Rattle.register_store.specs.declared.error.CheckError.{CheckError}
 use Rattle.register_store.specs.declared.error.CheckError.TheVariants.{NotARegister, NewerVersion, Memory}
@@ -28,16 +28,6 @@ pub record HasCommittedIn (version : Version) (t : Tables) (s : State) : Type 0 
   pub is_open : IsTrue s.is_open
   pub holds : HoldsIn version t s.now
   pub committed : s.committed ≡ s.now
-
--- a stop leaves these tables in this version
-abbrev pub LeavesIn : Version → Tables → State → Type 0
-LeavesIn version t s = (trees : Trees) → s.may_leave trees → (db : Database) × HoldsIn version t db × (trees ≡ db.trees)
-
--- or in one of the two
-abbrev pub LeavesEither : Tables → State → Type 0
-LeavesEither t s =
-    (trees : Trees) → s.may_leave trees
-    → (db : Database) × (HoldsIn First t db ⊎ HoldsIn Second t db) × (trees ≡ db.trees)
 
 -- ---- why it is not opened
 

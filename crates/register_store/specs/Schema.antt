@@ -1,8 +1,7 @@
 -- The schema of a register, and when a database holds its tables.
-use Rattle.std.specs.Prelude.{◌≡◌, ℕ, ◌+◌, false, List, [], ◌∷◌, ◌++◌, map, take, fold, codes}
+use Rattle.std.specs.Prelude.{◌≡◌, ℕ, ◌+◌, false, List, [], ◌∷◌, ◌++◌, map, take, codes}
 use Rattle.sqlite.specs.Order.{Row as Cells}
 use Rattle.sqlite.specs.Schema.{Schema}
-use Rattle.sqlite.specs.Change.{created}
 use Rattle.sqlite.specs.Effect.{Database, IsDatabase}
 use Rattle.sqlite_schema.specs.declared.schema.Index.{Index}
 use Rattle.sqlite_value.specs.Keys.{plain}
@@ -20,10 +19,6 @@ use Rattle.register_store.specs.Tables.{table_of, table_count, key_indexes, tree
 -- the schema of an empty database
 abbrev pub no_schema : Schema
 no_schema = record { tables = []; indexes = []; views = [] }
-
--- that of one in which only the first n of the tables are made
-abbrev pub schema_after : ℕ → Schema
-schema_after n = fold (λ schema name. created schema (table_of (fresh []) name)) no_schema (take n all_tables)
 
 -- The schema with the first n of a register's tables, which stand so. Indexes are free, since they change no row: it
 -- may have any beside those of the primary keys.
@@ -46,9 +41,6 @@ pub record IsRegisterIn (version : Version) (schema : Schema) : Type 0 where
   pub layout : Layout
   pub apart : AreApartIn version layout
   pub is : schema ≡ schema_in version layout
-
-abbrev pub IsRegister : Schema → Type 0
-IsRegister = IsRegisterIn current
 
 -- ---- the indexes of keys that a new register has
 
@@ -74,17 +66,6 @@ index_of ProtectStop = state_index (codes "keys_by_protect_stop") 2 (8 ∷ 0 ∷
 -- the indexes in the order in which they are made
 abbrev pub made_indexes : List Index
 made_indexes = index_of Activation ∷ index_of Deactivation ∷ index_of ProtectStop ∷ []
-
--- the place of an index among them
-abbrev pub index_place : KeyIndex → ℕ
-index_place Activation = 0
-index_place Deactivation = 1
-index_place ProtectStop = 2
-
-abbrev pub index_text : KeyIndex → List ℕ
-index_text Activation = codes "CREATE INDEX keys_by_activation ON keys (state, activation)"
-index_text Deactivation = codes "CREATE INDEX keys_by_deactivation ON keys (state, deactivation)"
-index_text ProtectStop = codes "CREATE INDEX keys_by_protect_stop ON keys (state, protect_stop, number)"
 
 -- ---- the rows
 

@@ -84,9 +84,6 @@ abbrev pub counts_row_in : Version → Counts → Cells
 counts_row_in v counts =
     Int (pos 1) ∷ Null ∷ Int (pos (version_number v)) ∷ Int (pos counts.latest) ∷ Int (pos counts.key_count) ∷ []
 
-abbrev pub counts_row : Counts → Cells
-counts_row = counts_row_in current
-
 -- the cells of a key past its number
 abbrev pub key_cells : Key → Cells
 key_cells k =
@@ -307,9 +304,6 @@ abbrev pub table_count : Version → ℕ
 table_count First = 5
 table_count Second = 7
 
-abbrev pub tables_in : Version → List TableName
-tables_in v = take (table_count v) all_tables
-
 -- ---- one table by its name
 
 abbrev pub place_of : TableName → ℕ
@@ -324,14 +318,8 @@ content name = (form name).content
 abbrev pub with_content : (name : TableName) → Content name → Tables → Tables
 with_content name = (form name).with_content
 
-abbrev pub create_text : TableName → List ℕ
-create_text name = (form name).create_text
-
 abbrev pub ShowsIn : Version → (name : TableName) → Content name → List Cells → Type 0
 ShowsIn v name = (form name).Shows v
-
-abbrev pub Shows : (name : TableName) → Content name → List Cells → Type 0
-Shows = ShowsIn current
 
 abbrev pub IsInRange : (name : TableName) → Content name → Type 0
 IsInRange name = (form name).IsInRange
@@ -384,21 +372,6 @@ fresh more = record { tree = fresh_tree; key_tree = λ name. fresh_tree name + 1
 module _ (l : Layout) where
   abbrev pub table_of : TableName → Table
   table_of name = (form name).table (l.tree name)
-
-  abbrev pub meta : Table
-  meta = table_of Meta
-
-  abbrev pub keys : Table
-  keys = table_of Keys
-
-  abbrev pub custodian : Table
-  custodian = table_of Custodian
-
-  abbrev pub approval : Table
-  approval = table_of Approval
-
-  abbrev pub request : Table
-  request = table_of Request
 
   abbrev pub key_index : TableName → Index
   key_index name = automatic (table_of name) 0 (table_of name).primary (l.key_tree name)

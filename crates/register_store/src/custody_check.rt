@@ -4,9 +4,10 @@ ghost use Rattle.std.specs.Prelude.{Some, IsTrue, OnOk, IfOk, IfErr, MatchOption
 ghost use Rattle.sqlite.specs.Held.{state};
 ghost use Rattle.sqlite.specs.State.{HasCleanDisk, Survives};
 ghost use Rattle.register_core.specs.KeyName.{KeyName, key_name};
-ghost use Rattle.register_store.specs.CheckedTables.{ShowsName, ChecksTable};
+ghost use Rattle.register_store.specs.CheckedTables.{ShowsName};
+ghost use Rattle.register_store.specs.Within.CheckedTables.{ChecksTable};
 ghost use Rattle.register_store.specs.Stored.{Stored};
-ghost use Rattle.register_store.specs.CheckedRows.{AreEmpty, IsAny, KnowsCustodians};
+ghost use Rattle.register_store.specs.Within.CheckedRows.{AreEmpty, IsAny, KnowsCustodians};
 ghost use Rattle.register_store.specs.OpeningChecks.{owners_of};
 ghost use Rattle.register_store.specs.declared.table.TableName.TheVariants.{Approval, Custodian};
 

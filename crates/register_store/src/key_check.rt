@@ -6,8 +6,9 @@ ghost use Rattle.sqlite.specs.State.{Survives};
 ghost use Rattle.register_store.specs.declared.table.TableName.TheVariants.{Keys};
 ghost use Rattle.register_store.specs.Stored.{Stored, mark};
 ghost use Rattle.register_store.specs.OpeningChecks.{ArePast, DatesFit, IsSoundAt};
-ghost use Rattle.register_store.specs.CheckedTables.{ShowsNumbered, ChecksTable, mark_of};
-ghost use Rattle.register_store.specs.CheckedRows.{AreOwners};
+ghost use Rattle.register_store.specs.CheckedTables.{ShowsNumbered, mark_of};
+ghost use Rattle.register_store.specs.Within.CheckedTables.{ChecksTable};
+ghost use Rattle.register_store.specs.Within.CheckedRows.{AreOwners};
 
 use crate::columns::{KeyCell, columns};
 use crate::error::CheckError;

@@ -4,9 +4,10 @@ ghost use Rattle.moment_core.specs.Moment.{IsMoment};
 ghost use Rattle.register_core.specs.declared.key.Key.{Key};
 ghost use Rattle.register_core.specs.Verdict.{max_keys};
 ghost use Rattle.register_store.specs.KeyScan.{HasNextDue, date_run_of_next_key};
-ghost use Rattle.register_store.specs.TableReads.{seen, Calls, HasRow, KeepsSight, Reads, ShowsAt};
-ghost use Rattle.register_store.specs.DueSearch.{HasFirst, IsNumbered, is_found, is_later};
-ghost use Rattle.register_store.specs.DueSearch.{search_text};
+ghost use Rattle.register_store.specs.TableReads.{seen, Calls, HasRow, KeepsSight, Reads};
+ghost use Rattle.register_store.specs.Within.TableReads.{ShowsAt};
+ghost use Rattle.register_store.specs.Within.DueSearch.{HasFirst, IsNumbered, is_found, is_later};
+ghost use Rattle.register_store.specs.Within.DueSearch.{search_text};
 ghost use Rattle.register_store.specs.declared.key_scan.DateRun.{DateRun};
 
 use crate::columns::{KeyCell, columns};

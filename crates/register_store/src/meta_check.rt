@@ -4,8 +4,9 @@ ghost use Rattle.sqlite.specs.Held.{state};
 ghost use Rattle.sqlite.specs.State.{Survives};
 ghost use Rattle.register_store.specs.declared.table.TableName.TheVariants.{Meta};
 ghost use Rattle.register_store.specs.Stored.{Stored};
-ghost use Rattle.register_store.specs.CheckedTables.{ChecksTable};
-ghost use Rattle.register_store.specs.CheckedRows.{IsCounts, RefusesMeta, TellsMeta};
+ghost use Rattle.register_store.specs.Within.CheckedTables.{ChecksTable};
+ghost use Rattle.register_store.specs.CheckedRows.{RefusesMeta, TellsMeta};
+ghost use Rattle.register_store.specs.Within.CheckedRows.{IsCounts};
 
 use crate::columns::{MetaCell, columns};
 use crate::error::CheckError;
@@ -26,7 +27,7 @@ enum MetaRow {
 }
 
 impl MetaRow {
-    ghost use Rattle.register_store.specs.CheckedRows.{counts_in};
+    ghost use Rattle.register_store.specs.Within.CheckedRows.{counts_in};
 
     /// What the row counts, or why it is refused.
     fn counts_or_refusal(&self) -> Result<Found, CheckError>

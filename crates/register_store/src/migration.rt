@@ -1,9 +1,11 @@
 //! Taking a register of the first version to the second.
 ghost use Rattle.std.specs.Prelude.{◌≡◌, false, Err};
-ghost use Rattle.sql_steps.specs.Steps.{Steps, Transacts};
-ghost use Rattle.register_store.specs.Beside.{UpdatesMeta};
+ghost use Rattle.sql_steps.specs.Steps.{Transacts};
+ghost use Rattle.sql_steps.specs.Within.Steps.{Steps};
+ghost use Rattle.register_store.specs.Within.Beside.{UpdatesMeta};
 ghost use Rattle.register_store.specs.Migration.{FindsNew};
-ghost use Rattle.register_store.specs.Migration.{Migrates, SetsVersion};
+ghost use Rattle.register_store.specs.Migration.{Migrates};
+ghost use Rattle.register_store.specs.Within.Migration.{SetsVersion};
 
 use crate::error::CreateError;
 use crate::schema_change::{SchemaChange, change_schema, is_table_there, make_table};

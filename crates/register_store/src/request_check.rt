@@ -6,8 +6,9 @@ ghost use Rattle.register_core.specs.declared.kept_reply.KeptReply.{KeptReply};
 ghost use Rattle.register_store.specs.declared.table.TableName.TheVariants.{Request};
 ghost use Rattle.register_store.specs.Stored.{Stored, mark};
 ghost use Rattle.register_store.specs.OpeningChecks.{IsReplyOf};
-ghost use Rattle.register_store.specs.CheckedTables.{ShowsKept, ChecksTable, mark_of};
-ghost use Rattle.register_store.specs.CheckedRows.{IsAny};
+ghost use Rattle.register_store.specs.CheckedTables.{ShowsKept, mark_of};
+ghost use Rattle.register_store.specs.Within.CheckedTables.{ChecksTable};
+ghost use Rattle.register_store.specs.Within.CheckedRows.{IsAny};
 
 use crate::accepted_request::{kept_reply_in, request_number_in};
 use crate::columns::{RequestCell, columns};

@@ -2,12 +2,15 @@
 //! single tables.
 ghost use Rattle.std.specs.Prelude.{◌≡◌, ◌≤◌, false, Err};
 ghost use Rattle.sqlite.specs.Held.{state};
-ghost use Rattle.sql_steps.specs.Steps.{Steps, Transacts};
+ghost use Rattle.sql_steps.specs.Steps.{Transacts};
+ghost use Rattle.sql_steps.specs.Within.Steps.{Steps};
 ghost use Rattle.register_requests.specs.declared.version.Version.TheVariants.{First};
-ghost use Rattle.register_store.specs.Beside.{Adds, IsMadeAs};
-ghost use Rattle.register_store.specs.Creation.{Answers, FindsIn, FindsInside, IsThere};
-ghost use Rattle.register_store.specs.Creation.{MakesTable, WhereNone};
-ghost use Rattle.register_store.specs.Migration.{MakesNext};
+ghost use Rattle.register_store.specs.Within.Beside.{Adds, IsMadeAs};
+ghost use Rattle.register_store.specs.Creation.{FindsIn, IsThere};
+ghost use Rattle.register_store.specs.Within.Creation.{Answers, FindsInside};
+ghost use Rattle.register_store.specs.Creation.{WhereNone};
+ghost use Rattle.register_store.specs.Within.Creation.{MakesTable};
+ghost use Rattle.register_store.specs.Within.Migration.{MakesNext};
 ghost use Rattle.register_store.specs.Tables.{place_of, table_count};
 
 use crate::error::CreateError;
@@ -19,8 +22,9 @@ use sqlite::{Alter, Connection, Error, Transaction};
 pub(crate) trait SchemaChange {
     ghost use Rattle.std.specs.Prelude.{◌≡◌};
     ghost use Rattle.sqlite.specs.Schema.{Schema};
-    ghost use Rattle.sql_steps.specs.Steps.{Change, Steps};
-    ghost use Rattle.register_store.specs.Creation.{Answers};
+    ghost use Rattle.sql_steps.specs.Steps.{Change};
+    ghost use Rattle.sql_steps.specs.Within.Steps.{Steps};
+    ghost use Rattle.register_store.specs.Within.Creation.{Answers};
 
     /// That one of the tables that it makes is there.
     ghost has_one: { Schema → Type 0 };

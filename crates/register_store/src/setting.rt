@@ -2,13 +2,16 @@
 //! destruction of a key needs.
 ghost use Rattle.std.specs.Prelude.{MatchOption};
 ghost use Rattle.period_core.specs.Period.{Period as UsagePeriod};
-ghost use Rattle.register_store.specs.StepCount.{Writes};
-ghost use Rattle.register_store.specs.TableChanges.{Makes, Always, HasNoNeed};
-ghost use Rattle.register_store.specs.TableChanges.{more_need, with_need_set, without_need};
-ghost use Rattle.register_store.specs.TableChanges.{HasNoPeriod, more_period, with_period_set};
-ghost use Rattle.register_store.specs.TableChanges.{without_period};
+ghost use Rattle.register_store.specs.Within.StepCount.{Writes};
+ghost use Rattle.register_store.specs.TableChanges.{Makes};
+ghost use Rattle.register_store.specs.Within.TableChanges.{Always, HasNoNeed};
+ghost use Rattle.register_store.specs.Within.TableChanges.{more_need, with_need_set, without_need};
+ghost use Rattle.register_store.specs.TableChanges.{with_period_set};
+ghost use Rattle.register_store.specs.Within.TableChanges.{HasNoPeriod, more_period};
+ghost use Rattle.register_store.specs.Within.TableChanges.{without_period};
 ghost use Rattle.register_store.specs.TableReads.{Calls, HasNeed, HasPeriod, KeepsSight, Reads};
-ghost use Rattle.register_store.specs.TableReads.{ShowsPeriod, seen};
+ghost use Rattle.register_store.specs.TableReads.{seen};
+ghost use Rattle.register_store.specs.Within.TableReads.{ShowsPeriod};
 
 use crate::columns::columns;
 use crate::counted::{Counted, Inside, StepCount};

@@ -4,10 +4,11 @@ ghost use Rattle.sqlite.specs.Held.{state};
 ghost use Rattle.sqlite.specs.State.{Survives};
 ghost use Rattle.register_core.specs.Settings.{KeyNeed, TypePeriod};
 ghost use Rattle.register_requests.specs.declared.version.Version.TheVariants.{Second};
-ghost use Rattle.register_store.specs.CheckedTables.{ShowsKeyNeed, ShowsTypePeriod, ChecksTable};
+ghost use Rattle.register_store.specs.CheckedTables.{ShowsKeyNeed, ShowsTypePeriod};
+ghost use Rattle.register_store.specs.Within.CheckedTables.{ChecksTable};
 ghost use Rattle.register_store.specs.CheckedTables.{counts_of, mark_of};
 ghost use Rattle.register_store.specs.Stored.{Stored, mark};
-ghost use Rattle.register_store.specs.CheckedRows.{IsAny, key_need, type_period};
+ghost use Rattle.register_store.specs.Within.CheckedRows.{IsAny, key_need, type_period};
 ghost use Rattle.register_store.specs.OpeningChecks.{IsNeedOf};
 ghost use Rattle.register_store.specs.declared.table.TableName.TheVariants as table;
 

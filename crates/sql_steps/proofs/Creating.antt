@@ -11,7 +11,7 @@ use Rattle.sqlite.specs.State.{State, mode_of, Writes, Executes}
 use Rattle.sqlite.specs.Table.{Table}
 use Rattle.sqlite.proofs.Callers.{IsPlain, command_of, statement_of, runs_as}
 use Rattle.sqlite_schema.specs.declared.schema.Index.{Index}
-use Rattle.sql_steps.specs.CreatedTables.{Creates, Indexes}
+use Rattle.sql_steps.specs.Within.CreatedTables.{Creates, Indexes}
 use Rattle.sql_steps.proofs.Statements.{went, same_value}
 
 -- a CREATE that is understood makes its table; the tree that its text leaves open is the next one

@@ -12,7 +12,8 @@ use Rattle.sqlite.proofs.InsideLemmas.{inside_keeps, keeps_then}
 use Rattle.sqlite.proofs.StateLemmas.{survives_then, survives_weaker}
 use Rattle.sqlite_trees.specs.declared.store.Store as store
 use Rattle.sqlite.specs.Held.{Held, state}
-use Rattle.sql_steps.specs.Steps.{Change, StepsBy, TransactsBy, Then, GoesOn}
+use Rattle.sql_steps.specs.Steps.{Change, StepsBy, TransactsBy, GoesOn}
+use Rattle.sql_steps.specs.Within.Steps.{Then}
 
 -- ---- one statement
 

@@ -9,10 +9,6 @@ use Rattle.sqlite_trees.specs.declared.store.Store.{Ghosts}
 abbrev pub Change : Type 1
 Change = Database → Database → Type 0
 
--- one change and then another
-abbrev pub Then : Change → Change → Change
-Then First Next old new = (mid : Database) × First old mid × Next mid new
-
 -- the transaction goes on, and nothing was committed
 pub record GoesOn (old new : State) : Type 0 where
   pub is_open : IsTrue old.is_open → IsTrue new.is_open
@@ -35,10 +31,6 @@ pub record TransactsBy {T E : Type 0} (Made : Change) (old new : State) (result 
   pub failed : HasCleanDisk new → IsTrue new.is_open
       → OnErr result ((new.now ≡ old.committed) × (new.committed ≡ old.committed))
   pub stop : Survives old new (λ trees. (db : Database) × Made old.now db × (trees ≡ db.trees))
-
--- the same of what a connection shows before and after
-abbrev pub Steps : {S T E : Type 0} → (g : Ghosts S) → (T → Change) → Held S → Held S → Result T E → Type 0
-Steps g Changes old new result = StepsBy Changes (state g old) (state g new) result
 
 abbrev pub Transacts : {S T E : Type 0} → (g : Ghosts S) → Change → Held S → Held S → Result T E → Type 0
 Transacts g Made old new result = TransactsBy Made (state g old) (state g new) result

@@ -14,7 +14,8 @@ use Rattle.std.proofs.Math.Seq.{take-append-add}
 use Rattle.std.proofs.KnownBytes.{Consumes-nil, Consumes-trans}
 use Rattle.std.specs.Io.KnownBytes.{Consumes, prepend_known}
 use borrow.Rule.Slice.PartMut.{put_mid}
-use Rattle.streams.specs.Lines.{line_feed, Cut, CutsLine, CutsRest, Extends, HasNoLineFeed, Takes, work_left}
+use Rattle.streams.specs.Lines.{line_feed, Cut, CutsLine, CutsRest, HasNoLineFeed, Takes, work_left}
+use Rattle.streams.specs.Within.Lines.{Extends}
 use Rattle.streams.specs.declared.lines.TheConstants.{MAX_PIECE_LENGTH}
 use Rattle.streams.specs.declared.watched.TheConstants.{MAX_READS}
 

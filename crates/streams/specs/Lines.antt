@@ -1,5 +1,5 @@
 -- What a cutter of lines holds, and what it makes of the bytes that are to come.
-use Rattle.std.specs.Prelude.{◌≡◌, ◌≢◌, ℕ, ◌+◌, ◌-◌, ◌*◌, ◌≤◌, List, [], ◌∷◌, ◌++◌, length, take, Option}
+use Rattle.std.specs.Prelude.{◌≡◌, ◌≢◌, ℕ, ◌+◌, ◌-◌, ◌*◌, ◌≤◌, List, [], ◌∷◌, ◌++◌, length, Option}
 use Rattle.std.specs.List.{AllByRecursion}
 use Rattle.std.specs.Io.KnownBytes.{Consumes}
 use Rattle.streams.specs.declared.lines.TheConstants.{MAX_PIECE_LENGTH}
@@ -20,12 +20,6 @@ line_feed = 10
 -- no line ends here
 abbrev pub HasNoLineFeed : List ℕ → Type 0
 HasNoLineFeed bytes = AllByRecursion (λ byte. byte ≢ line_feed) bytes
-
--- the line so far grew by this part
-pub record Extends (max_length : ℕ) (old new : Cut) (part : List ℕ) : Type 0 where
-  pub counted : new.line_length ≡ old.line_length + length part
-  pub kept : new.line ≡ take max_length (old.line ++ part)
-  pub taken : new.taken ≡ old.taken
 
 -- the bytes that were to come begin with this line and a line feed, and lose both
 pub record CutsLine (max_length : ℕ) (before after : Option (List ℕ)) (new : Cut)

@@ -1,10 +1,5 @@
 -- What a turn at a reader or a writer leaves of its counts.
-use Rattle.std.specs.Prelude.{◌≡◌, ◌⊎◌, ℕ, ◌+◌, ◌-◌, ◌≤◌, ◌^◌, max, min, Bool, true, List, length, take, Option, ⊤}
-use Rattle.std.specs.Io.KnownBytes.{Appends}
-use Rattle.streams.specs.declared.watched.turns.Turn.{Turn}
-use Rattle.streams.specs.declared.watched.turns.Turn.TheVariants.{Done, Interrupted, Failed}
-use Rattle.streams.specs.declared.watched.Watched.{Watched}
-use Rattle.streams.specs.declared.watched.WriteFault.{WriteFault}
+use Rattle.std.specs.Prelude.{◌≡◌, ◌⊎◌, ℕ, ◌+◌, ◌-◌, ◌≤◌, ◌^◌, max, min, Bool, true}
 
 -- one more, but none past the last of a `u64`
 abbrev pub one_more : ℕ → ℕ
@@ -13,35 +8,3 @@ one_more count = max count (min (count + 1) (2 ^ 64 - 1))
 -- why a call gave up: a turn failed, or the bound on turns was met
 abbrev pub IsFaulted : Bool → ℕ → ℕ → Type 0
 IsFaulted failed max_turns turns = (failed ≡ true) ⊎ (max_turns ≤ turns)
-
--- a writing gave up: these of the bytes were taken and no others, and a failure or too many interruptions are the cause
-pub record StopsWithin {W : Type 0} (contents : W
-    → Option (List ℕ)) (old new : Watched W) (max_idle : ℕ) (bytes : List ℕ)
-    (fault : WriteFault) : Type 0 where
-  pub bound : fault.written ≤ length bytes
-  pub part : Appends (contents old.inner) (contents new.inner) (take fault.written bytes)
-  pub err : IsFaulted new.failed max_idle new.idle
-
--- a fact of what a turn that was done gave
-abbrev pub OnDone : {V : Type 0} → Turn V → (V → Type 0) → Type 0
-OnDone (Done value) P = P value
-OnDone Interrupted P = ⊤
-OnDone Failed P = ⊤
-
--- a fact where a turn was not done
-abbrev pub OnUndone : {V : Type 0} → Turn V → Type 0 → Type 0
-OnUndone (Done value) P = ⊤
-OnUndone Interrupted P = P
-OnUndone Failed P = P
-
--- how many turns in a row were interrupted, after this one
-abbrev pub idle_after : {V : Type 0} → Turn V → ℕ → ℕ
-idle_after (Done value) idle = 0
-idle_after Interrupted idle = one_more idle
-idle_after Failed idle = 0
-
--- whether a turn has failed, after this one
-abbrev pub failed_after : {V : Type 0} → Turn V → Bool → Bool
-failed_after (Done value) failed = failed
-failed_after Interrupted failed = failed
-failed_after Failed failed = true

@@ -3,7 +3,8 @@ ghost use Rattle.std.specs.Prelude.{◌≡◌, ◌<◌, ◌≤◌, length, take,
 ghost use Rattle.std.specs.Prelude.{IfErr, OnErr};
 ghost use Rattle.std.specs.Bool.{OnFalse, OnTrue};
 ghost use Rattle.std.specs.Io.KnownBytes.{Appends, Consumes, IsAtEnd, Keeps};
-ghost use Rattle.streams.specs.Watched.{one_more, IsFaulted, StopsWithin};
+ghost use Rattle.streams.specs.Watched.{one_more, IsFaulted};
+ghost use Rattle.streams.specs.Within.Watched.{StopsWithin};
 
 mod turns;
 

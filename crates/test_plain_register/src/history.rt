@@ -3,7 +3,8 @@
 ghost use Rattle.std.specs.Prelude.{◌≡◌, ◌+◌, ◌^◌, ◌<◌, ◌≤◌, [], length};
 ghost use Rattle.std.specs.Prelude.{unwrap_or, IsSome, if◌then◌else◌};
 ghost use Rattle.register_core.specs.History.{latest, count, period, type, owner, dates};
-ghost use Rattle.register_requests.specs.Subject.{key_of, made_by, is_key};
+ghost use Rattle.register_requests.specs.Subject.{key_of, is_key};
+ghost use Rattle.register_requests.specs.Within.Subject.{made_by};
 ghost use Rattle.register_core.specs.Effect.{kind_after, owner_after, dates_after, period_after};
 ghost use Rattle.register_core.specs.Effect.{unset_dates};
 

@@ -19,7 +19,8 @@ impl<S: Alter> Desk<S> {
     ghost use Rattle.register_desk.specs.Desk.{ChangesNothing, Ends, IsOpen, IsOverAfter};
     ghost use Rattle.register_desk.specs.Desk.{KeepsCounts, LeavesEither, LeavesWithRequest};
     ghost use Rattle.register_desk.specs.Desk.{RepeatsWithin, TakesSteps};
-    ghost use Rattle.register_desk.specs.DeskCalls.{AppliesOver, IsKeptUnder, IsNew, LooksUp};
+    ghost use Rattle.register_desk.specs.Within.DeskCalls.{AppliesOver, IsKeptUnder, IsNew};
+    ghost use Rattle.register_desk.specs.Within.DeskCalls.{LooksUp};
     ghost use Rattle.register_desk.specs.Register.{IsOver, StandsFor, tables};
     ghost use Rattle.sql_steps.specs.Steps.{TransactsBy};
     ghost use Rattle.register_core.specs.Answer.{UnlessAccepted};
@@ -160,10 +161,7 @@ impl<S: Alter> Desk<S> {
                 self.latest = kept.reply.moment;
                 Ok(())
             }
-            Err(_) => {
-                self.is_broken = true;
-                Err(End::Store)
-            }
+            Err(_) => Err(self.break_desk()),
         }
     }
 

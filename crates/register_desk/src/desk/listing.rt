@@ -11,12 +11,13 @@ use sqlite::Alter;
 impl<S: Alter> Desk<S> {
     ghost use Rattle.std.specs.Prelude.{◌≡◌, List, [], IfOk, IfErr, Some, None};
     ghost use Rattle.register_requests.specs.declared.request.Request.{Request};
-    ghost use Rattle.register_desk.specs.Desk.{IsBroken, IsClean, IsWhole, ChangesNothing};
+    ghost use Rattle.register_desk.specs.Desk.{ChangesNothing, IsBroken, IsClean, IsWhole, TakesSteps};
     ghost use Rattle.register_desk.specs.Register.{StandsFor, tables};
     ghost use Rattle.std.specs.Borrow.{sem};
     ghost use Rattle.key_rows.specs.declared.key_row.KeyRow.{KeyRow};
     ghost use Rattle.register_desk.specs.LentDesk.{LendsRows};
-    ghost use Rattle.register_desk.specs.KeyRows.{CountsOn, GoOn, HasNextRow, HaveGiven, last_of};
+    ghost use Rattle.register_desk.specs.KeyRows.{GoOn, HaveGiven, due_until, last_of, row_steps};
+    ghost use Rattle.register_desk.specs.Within.KeyRows.{CountsOn, HasNextRow};
     ghost use Rattle.register_desk.specs.KeyRows.{until_of};
 
     /// The keys as of the latest accepted moment, by number, one row at a time.
@@ -86,6 +87,7 @@ impl<S: Alter> Desk<S> {
         ensures next { (h : List Request) → StandsFor S.Store self.old h → IsWhole self.old
             → IsClean S.Store self.new → IfOk result (HasNextRow scan (tables h)) }
         ensures counts_on { IfOk result (CountsOn self.old.keys scan) }
+        ensures steps { TakesSteps (row_steps (due_until scan)) self.old self.new }
     {
         match scan {
             Scan::ByNumber(last) => self.next_row_by_number(last),
@@ -101,6 +103,7 @@ impl<S: Alter> Desk<S> {
         ensures next { (h : List Request) → StandsFor S.Store self.old h → IsWhole self.old
             → IsClean S.Store self.new → IfOk result (HasNextRow (Scan.ByNumber last) (tables h)) }
         ensures counts_on { IfOk result (CountsOn self.old.keys (Scan.ByNumber last)) }
+        ensures steps { TakesSteps 2 self.old self.new }
     {
         if last >= self.keys {
             return Ok(None);
@@ -123,6 +126,7 @@ impl<S: Alter> Desk<S> {
         ensures next { (h : List Request) → StandsFor S.Store self.old h → IsWhole self.old
             → IsClean S.Store self.new
             → IfOk result (HasNextRow (Scan.ByStop until last run) (tables h)) }
+        ensures steps { TakesSteps 4 self.old self.new }
     {
         match each_due(&mut self.connection, until, last, run)? {
             Some((number, key)) => match u32::try_from(number) {

@@ -23,12 +23,13 @@ impl<S: Alter> Desk<S> {
     ghost use Rattle.register_store.specs.Tables.{Tables};
     ghost use Rattle.register_requests.specs.CommandRule.{looks_at_custody};
     ghost use Rattle.register_desk.specs.Desk.{IsBroken, IsClean, IsNoKey, IsOpen, IsWhole};
-    ghost use Rattle.register_desk.specs.Desk.{NamesNoKey};
-    ghost use Rattle.register_desk.specs.DeskCalls.{KeepsAll, LooksUp};
+    ghost use Rattle.register_desk.specs.Within.Desk.{NamesNoKey};
+    ghost use Rattle.register_desk.specs.Within.DeskCalls.{KeepsAll, LooksUp};
     ghost use Rattle.register_desk.specs.Register.{Sees};
     ghost use Rattle.register_core.specs.Decision.{IsRightKey};
     ghost use Rattle.register_core.specs.Need.{needed_period_type};
-    ghost use Rattle.register_desk.specs.TablesView.{IsViewOver, key_for, key_needed, need_over};
+    ghost use Rattle.register_desk.specs.TablesView.{key_for, key_needed, need_over};
+    ghost use Rattle.register_desk.specs.Within.TablesView.{IsViewOver};
     ghost use Rattle.register_desk.specs.TablesView.{key_with_custody, key_without_custody};
     ghost use Rattle.register_desk.specs.TablesView.{period_over};
 
@@ -130,7 +131,7 @@ impl<S: Alter> Desk<S> {
         ensures broken { IfErr result (λ end. (end ≡ End.Store) × IsBroken self.new) }
     {
         match found {
-            Some(held) if !held.row.has_right_state_at(self.latest) => { Err(self.break_desk()) }
+            Some(held) if !held.row.has_right_state_at(self.latest) => Err(self.break_desk()),
             found => Ok(found),
         }
     }

@@ -14,7 +14,7 @@ impl<S: Alter> Desk<S> {
     ghost use Rattle.register_requests.specs.declared.request.Request.{Request};
     ghost use Rattle.register_store.specs.Tables.{Tables};
     ghost use Rattle.register_desk.specs.Desk.{IsBroken, IsClean, IsWhole, ChangesNothing, Ends};
-    ghost use Rattle.register_desk.specs.Desk.{IsNoKey, keys_of};
+    ghost use Rattle.register_desk.specs.Desk.{IsNoKey, TakesSteps, keys_of};
     ghost use Rattle.register_desk.specs.Register.{StandsFor, Sees};
     ghost use Rattle.period_core.specs.declared.key_type.KeyType.{KeyType};
     ghost use Rattle.register_desk.specs.Shown.{usage, shown};
@@ -33,6 +33,8 @@ impl<S: Alter> Desk<S> {
         ensures reads { ChangesNothing S.Store self.old self.new }
         ensures shown { (h : List Request) → StandsFor S.Store self.old h → IsClean S.Store self.new
             → IfOk result (λ found. found ≡ shown h number) }
+        ensures steps { (h : List Request) → StandsFor S.Store self.old h → IsClean S.Store self.new
+            → TakesSteps 38 self.old self.new }
         // None only of a key that is not counted, whatever the tables hold.
         ensures there { IfOk result (λ found. found ≡ None → IsNoKey (keys_of self.old) number) }
     {
@@ -57,6 +59,8 @@ impl<S: Alter> Desk<S> {
         ensures reads { ChangesNothing S.Store self.old self.new }
         ensures found { (h : List Request) → StandsFor S.Store self.old h → IsClean S.Store self.new
             → IfOk result (λ found. found ≡ period h kind) }
+        ensures steps { (h : List Request) → StandsFor S.Store self.old h → IsClean S.Store self.new
+            → TakesSteps 2 self.old self.new }
     {
         if self.is_broken {
             return Err(End::Broken);
@@ -76,6 +80,7 @@ impl<S: Alter> Desk<S> {
         ensures broken { IsBroken self.old → (result ≡ Err End.Broken) × (self.new ≡ self.old) }
         ensures found { (h : List Request) → StandsFor S.Store self.old h → IsClean S.Store self.new
             → IfOk result (λ set. (kind : KeyType) → set_in set kind ≡ set_period h kind) }
+        ensures steps { TakesSteps 14 self.old self.new }
     {
         if self.is_broken {
             return Err(End::Broken);
@@ -93,6 +98,7 @@ impl<S: Alter> Desk<S> {
         ensures found { (t : Tables) → Sees S.Store t self.old → IsWhole self.old
             → IsClean S.Store self.new
             → IfOk result (λ set. (kind : KeyType) → set_in set kind ≡ period_at kind t.periods) }
+        ensures steps { TakesSteps 14 self.old self.new }
     {
         let mut periods = OfficePeriods::NONE;
         'kinds: for kind in KeyType::ALL {
@@ -107,6 +113,7 @@ impl<S: Alter> Desk<S> {
         ensures mark { self.new.is_broken ≡ self.old.is_broken }
         ensures found { (t : Tables) → Sees S.Store t self.old → IsWhole self.old
             → IsClean S.Store self.new → IfOk result (λ set. set ≡ period_at kind t.periods) }
+        ensures steps { TakesSteps 2 self.old self.new }
     {
         find_office_period(&mut self.connection, kind)
     }
@@ -122,6 +129,8 @@ impl<S: Alter> Desk<S> {
         ensures no_memory { result ≢ Err End.Memory }
         ensures used { (h : List Request) → StandsFor S.Store self.old h → IsClean S.Store self.new
             → IfOk result (λ found. found ≡ usage h number) }
+        ensures steps { (h : List Request) → StandsFor S.Store self.old h → IsClean S.Store self.new
+            → TakesSteps 2 self.old self.new }
         ensures there { IfOk result (λ found. found ≡ None → IsNoKey (keys_of self.old) number) }
     {
         if self.is_broken {

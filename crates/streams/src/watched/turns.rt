@@ -3,7 +3,8 @@
 ghost use Rattle.std.specs.Prelude.{◌≡◌, ◌<◌, ◌≤◌, ◌↔◌, length, take, true, false};
 ghost use Rattle.std.specs.IoError.{error_kind};
 ghost use Rattle.std.specs.Io.KnownBytes.{Appends, Consumes, IsAtEnd, Keeps};
-ghost use Rattle.streams.specs.Watched.{one_more, OnDone, OnUndone, idle_after, failed_after};
+ghost use Rattle.streams.specs.Watched.{one_more};
+ghost use Rattle.streams.specs.Within.Watched.{OnDone, OnUndone, idle_after, failed_after};
 
 use crate::watched::Watched;
 use std::io::{Error, ErrorKind, Read, Write};

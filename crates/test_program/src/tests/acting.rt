@@ -3,8 +3,7 @@
 
 use disk_files::{DiskFiles, MachineNetwork};
 use register_desk::Watched;
-use register_files::Files;
-use register_program::{Machine, Outputs, act};
+use register_program::{Files, Machine, Outputs, act};
 use sqlite::{Start, Wary};
 use std::alloc::Global;
 use std::io::{Read, Write};
@@ -32,7 +31,7 @@ pub fn act_on<S: Start, R: Read + Drop, W: Write + Drop, E: Write + Drop>(
     let words = words_of(rt.alloc(), given)?;
     let mut outputs = Outputs {
         writer: Watched::new(output),
-        faults,
+        faults: Watched::new(faults),
     };
     let machine = Machine {
         alloc: rt.alloc(),

@@ -1,6 +1,6 @@
 //! The program's exit statuses, and what it names on standard error.
 use super::acting::{act_on, acted, does};
-use register_desk::{End, MAX_IDLE_TURNS, MAX_READS, OpenRefusal};
+use register_desk::{End, MAX_IDLE_TURNS, MAX_READS, OpenRefusal, Watched};
 use register_program::{report_bad_value, report_end, report_refusal};
 use sqlite::Wary;
 use std::alloc::Global;
@@ -29,13 +29,13 @@ static REFUSALS: [(OpenRefusal, &str); 4] = [
 ];
 
 fn is_end_named(alloc: Global, end: End, status: u8, line: &str) -> bool {
-    let mut faults = Vec::new(alloc);
-    report_end(end, &mut faults) == status && faults.as_slice() == line.as_bytes()
+    let mut faults = Watched::new(Vec::new(alloc));
+    report_end(end, &mut faults) == status && faults.into_inner().as_slice() == line.as_bytes()
 }
 
 fn is_refusal_named(alloc: Global, refusal: OpenRefusal, line: &str) -> bool {
-    let mut faults = Vec::new(alloc);
-    report_refusal(refusal, &mut faults) == 2 && faults.as_slice() == line.as_bytes()
+    let mut faults = Watched::new(Vec::new(alloc));
+    report_refusal(refusal, &mut faults) == 2 && faults.into_inner().as_slice() == line.as_bytes()
 }
 
 /// The line of an end that is not named, or has another status, if there is one.
@@ -167,9 +167,9 @@ fn status_1_where_no_command_is_given(rt: HostRuntime) -> Result<(), Fail> {
 
 #[test]
 fn a_bad_value_is_named(rt: HostRuntime) {
-    let mut faults = Vec::new(rt.alloc());
+    let mut faults = Watched::new(Vec::new(rt.alloc()));
     assert_eq!(rt; report_bad_value(&mut faults), 1);
-    assert!(rt; faults.as_slice() == b"keyreg: BadValue\n".as_slice());
+    assert!(rt; faults.into_inner().as_slice() == b"keyreg: BadValue\n".as_slice());
 }
 
 /// Whether a failed read ends the program with status 4, after the lines before it.

@@ -1,7 +1,7 @@
 //! Serving over a network of tests, of which a call fails: listening, accepting, reading, writing,
 //! or a look at a clock.
 use register_desk::{Desk, End, Finish};
-use register_files::{Client, Listener, Network, serve_at};
+use register_program::{Client, Listener, Network, serve_at};
 use sqlite::MemStore;
 use std::alloc::{AllocError, Global};
 use std::cell::Cell;

@@ -2,7 +2,7 @@
 use super::acting::does;
 use super::files::{is_made, remove};
 use disk_files::MachineNetwork;
-use register_files::Network;
+use register_program::Network;
 use std::test::Fail;
 use test_desk_trials::first_wrong;
 

@@ -2,7 +2,7 @@
 use disk_files::{MachineListener, MachineNetwork};
 use moment_core::Moment;
 use register_desk::{Desk, End, Finish};
-use register_files::{Clocks, MachineClock, Network, Now, serve_on};
+use register_program::{Clocks, MachineClock, Network, Now, serve_on};
 use sqlite::MemStore;
 use std::cell::Cell;
 use std::io::{self, ErrorKind, Write};

@@ -10,9 +10,9 @@ use Rattle.sqlite_store.specs.declared.store.FileStore.{FileStore}
 use Rattle.sqlite_store.specs.FileStore.{recovers, state, view}
 use Rattle.sqlite_store.specs.Laws.{not_broken, stays_at}
 use Rattle.sqlite_trees.specs.View.{IsClean, View}
-use Rattle.register_files.specs.declared.files.LogCopy.{LogCopy}
-use Rattle.register_files.specs.declared.files.LogCopy.TheVariants.{Broken, Copied, Kept}
-use Rattle.register_files.specs.Closing.{ClosesFiles, alone}
+use Rattle.register_program.specs.declared.files.LogCopy.{LogCopy}
+use Rattle.register_program.specs.declared.files.LogCopy.TheVariants.{Broken, Copied, Kept}
+use Rattle.register_program.specs.Closing.{ClosesFiles, alone}
 use Rattle.disk_files.proofs.disk_files.checkpoint_store.Goals as goal
 
 -- nothing is new in what a stop leaves, and where the log was copied the database file alone holds it too

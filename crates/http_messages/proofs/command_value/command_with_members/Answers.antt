@@ -10,7 +10,7 @@ use Rattle.register_requests.specs.CommandRule.{kind_of}
 use Rattle.register_requests.specs.Fields.{fields_of, command_with}
 use Rattle.register_requests.specs.Request.{IsCommand, AreFields}
 use Rattle.register_requests.proofs.Commands.{made, has_shape, some_made}
-use Rattle.http_messages.specs.CommandValue.{HasMembers, IsShaped}
+use Rattle.http_messages.specs.Within.CommandValue.{HasMembers, IsShaped}
 use Rattle.http_messages.proofs.command_value.command_with_members.Goals as goal
 
 -- a command of the kind has these members

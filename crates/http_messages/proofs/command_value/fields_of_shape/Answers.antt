@@ -10,7 +10,7 @@ use Rattle.register_requests.specs.declared.command_fields.Shape.{Shape}
 use Rattle.register_requests.specs.declared.command_fields.Shape.TheVariants as shapes
 use Rattle.register_requests.specs.declared.request.Edit.{Edit}
 use Rattle.register_requests.specs.Request.{AreFields}
-use Rattle.http_messages.specs.CommandValue.{HasMembers, IsShaped}
+use Rattle.http_messages.specs.Within.CommandValue.{HasMembers, IsShaped}
 use Rattle.http_messages.proofs.InOrder.{none_then}
 use Rattle.http_messages.proofs.command_value.fields_of_shape.Goals as goal
 

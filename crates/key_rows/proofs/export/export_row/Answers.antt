@@ -2,7 +2,7 @@ use Rattle.std.proofs.Common.{[], subst, refl, ◌∙◌}
 use Rattle.std.specs.Prelude.{Some}
 use Rattle.std.specs.Io.KnownBytes.{Keeps}
 use Rattle.std.proofs.lemmas.Result.{IfOk-weaker}
-use Rattle.key_rows.specs.RowWriter.{HasFields}
+use Rattle.key_rows.specs.Within.RowWriter.{HasFields}
 use Rattle.key_rows.proofs.RowWriting.{if_ok_mapped}
 use Rattle.key_rows.proofs.export.export_row.Goals as goal
 

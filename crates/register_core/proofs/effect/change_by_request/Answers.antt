@@ -1,6 +1,6 @@
 use Rattle.std.proofs.Common.{Option, subst, rules}
 use Rattle.register_core.specs.declared.view.Held.{Held}
-use Rattle.register_core.specs.Decision.{AreDatesAfter}
+use Rattle.register_core.specs.Within.Decision.{AreDatesAfter}
 use Rattle.register_core.proofs.effect.change_by_request.Goals as goal
 
 pub returns-in-Some-Some : goal.returns-in-Some-Some

@@ -1,6 +1,6 @@
 use Rattle.std.proofs.Common.{rules, sym, ap, ◌∙◌}
 use Rattle.register_requests.specs.declared.request.Command.{Command}
-use Rattle.register_core.specs.Effect.{commanded_dates_or_refusal}
+use Rattle.register_core.specs.Within.Effect.{commanded_dates_or_refusal}
 use Rattle.register_core.proofs.effect.commanded_dates_or_refusal.Goals as goal
 
 pub returns-in-Activate : goal.returns-in-Activate

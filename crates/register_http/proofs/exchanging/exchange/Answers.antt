@@ -118,7 +118,7 @@ returns-clause-exchanges g c = record {
       (elim c.match-asking.branch [
         | in-Ok-Some w ↦ sent_answer g.S.Store c.args.moment c.args.desk.now c.match-asking.desk
             c.read_asked-asking.result.asked _ _ _ c.send_reply.result c.match-asking.answered _ _ w.desk-is w.answered-is
-            w.answer_asked-answered.ensures c.send_reply.ensures.sends c.send_reply.ensures.ends (search rules)
+            w.answer_asked-answered.ensures.acts c.send_reply.ensures.sends c.send_reply.ensures.ends (search rules)
         | in-Err-Memory w ↦ sent_memory g.S.Store c.args.moment c.args.desk.now c.match-asking.desk
             c.read_asked-asking.result.asked _ _ c.send_reply.result c.match-asking.answered
             (search rules) w.desk-is w.answered-is c.send_reply.ensures.sends

@@ -7,8 +7,8 @@ use Rattle.register_core.specs.Verdict.{answer}
 use Rattle.register_http.proofs.ActingLemmas.{changes_answered, went_applied, acts_text, applied_ends, outcome_told}
 use Rattle.register_http.proofs.exchanging.reply_text_after_applying.Goals as goal
 
-pub returns : goal.returns
-returns g c =
+pub returns-clause-acts : goal.returns-clause-acts
+returns-clause-acts g c =
     let request = c.request_at-request.result in
     let is = c.request_at-request.ensures.is in
     let in_range = subst IsRequest (sym is) (c.request_at-request.ensures.in_range c.requires) in
@@ -24,8 +24,8 @@ returns g c =
     c.answer_reply_text.ensures)
     c.text_or_end.ensures.ok c.text_or_end.ensures.err
 
-pub returns-in_err-answer : goal.returns-in_err-answer
-returns-in_err-answer g c =
+pub returns-in_err-answer-clause-acts : goal.returns-in_err-answer-clause-acts
+returns-in_err-answer-clause-acts g c =
     let request = c.request_at-request.result in
     let is = c.request_at-request.ensures.is in
     let in_range = subst IsRequest (sym is) (c.request_at-request.ensures.in_range c.requires) in

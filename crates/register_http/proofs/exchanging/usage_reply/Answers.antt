@@ -4,8 +4,8 @@ use Rattle.http_messages.specs.AnswerText.{usage_reply}
 use Rattle.register_http.proofs.ActingLemmas.{went_reading, acts_text, question_ends, found_text}
 use Rattle.register_http.proofs.exchanging.usage_reply.Goals as goal
 
-pub returns-in-Some : goal.returns-in-Some
-returns-in-Some g c = λ moment.
+pub returns-in-Some-clause-acts : goal.returns-in-Some-clause-acts
+returns-in-Some-clause-acts g c = λ moment.
     acts_text _ moment _ _ _ c.usage_reply_text.result c.text_or_end.result
     (went_reading _ moment _ _ _ (record { same = λ h. refl; uses = refl; asks = λ rejection is. absurd (cc) })
     c.in_ok-usage.ensures.ends c.in_ok-usage.ensures.reads)
@@ -15,8 +15,8 @@ returns-in-Some g c = λ moment.
     ∙ c.in_ok-usage.ensures.used h stands clean) c.usage_reply_text.ensures)
     c.text_or_end.ensures.ok c.text_or_end.ensures.err
 
-pub returns-in-None : goal.returns-in-None
-returns-in-None g c = λ moment.
+pub returns-in-None-clause-acts : goal.returns-in-None-clause-acts
+returns-in-None-clause-acts g c = λ moment.
     acts_text _ moment _ _ _ c.unknown_key_text.result c.text_or_end-in-None.result
     (went_reading _ moment _ _ _ (record { same = λ h. refl; uses = refl; asks = λ rejection is. absurd (cc) })
     c.in_ok-usage.ensures.ends c.in_ok-usage.ensures.reads)
@@ -26,8 +26,8 @@ returns-in-None g c = λ moment.
     ∙ c.in_ok-usage.ensures.used h stands clean) c.unknown_key_text.ensures)
     c.text_or_end-in-None.ensures.ok c.text_or_end-in-None.ensures.err
 
-pub returns-in_err-usage : goal.returns-in_err-usage
-returns-in_err-usage g c = λ moment.
+pub returns-in_err-usage-clause-acts : goal.returns-in_err-usage-clause-acts
+returns-in_err-usage-clause-acts g c = λ moment.
     let ended = err_from_is_err_and c.from_residual.result c.from_residual.ensures.1 in
     question_ends _ moment _ _ _ c.in_err-usage.field-0.0 _
     (record { same = λ h. refl; uses = refl; asks = λ rejection is. absurd (cc) }) c.in_err-usage.ensures.ends

@@ -6,7 +6,8 @@ use Rattle.register_desk.specs.Run.{RunsOver}
 use Rattle.register_desk.specs.Lives.{LivesSome}
 use Rattle.register_desk.proofs.Found.{leaves_next}
 use Rattle.register_report.specs.Import.{ImportsBroken}
-use Rattle.register_report.specs.ImportProgress.{EndsEarly, ExplainsNoHeader}
+use Rattle.register_report.specs.ImportProgress.{EndsEarly}
+use Rattle.register_report.specs.Within.ImportProgress.{ExplainsNoHeader}
 use Rattle.register_report.proofs.HeaderLemmas.{begins_so, no_header_lives, no_header_over, no_header_refused}
 use Rattle.register_report.proofs.HeaderLemmas.{reads_input, rows_after}
 use Rattle.register_report.proofs.ImportLemmas.{broken_so, clean_so, lives_so, over_so, texts_so, uses_so}

@@ -1,6 +1,6 @@
 use Rattle.std.proofs.Common.{arith}
 use Rattle.std.proofs.lemmas.Grind.{common_steps}
-use Rattle.register_requests.specs.RequestLine.{field_at}
+use Rattle.register_requests.specs.Within.RequestLine.{field_at}
 use Rattle.register_requests.proofs.request_reading.split_first_field.Goals as goal
 
 pub returns : goal.returns

@@ -2,7 +2,8 @@ use Rattle.std.proofs.Common.{rules}
 use Rattle.sql_steps.proofs.Stepping.{runs}
 use Rattle.register_core.specs.KeptReply.{IsKeptReply}
 use Rattle.register_store.specs.Tables.{request_cells}
-use Rattle.register_store.specs.TableChanges.{Makes, with_kept}
+use Rattle.register_store.specs.TableChanges.{Makes}
+use Rattle.register_store.specs.Within.TableChanges.{with_kept}
 use Rattle.register_store.proofs.RequestAdded.{insert_text, adds_request}
 use Rattle.register_store.proofs.Wrote.{wrote}
 use Rattle.register_store.proofs.accepted_request.add_request.Goals as goal

@@ -1,10 +1,11 @@
 use Rattle.std.proofs.Common.{◌≡◌, rules, subst, sym}
 use Rattle.sqlite.specs.State.{Survives}
-use Rattle.sql_steps.specs.Steps.{Then}
+use Rattle.sql_steps.specs.Within.Steps.{Then}
 use Rattle.sql_steps.proofs.Stepping.{stays, steps_then, steps_weaker}
 use Rattle.register_store.specs.declared.accepted_request.DueDate.TheVariants.{Activation, Deactivation}
-use Rattle.register_store.specs.TableChanges.{Makes, Always, AreRightAt, with_keys_advanced}
-use Rattle.register_store.specs.Due.{moved_on, with_each}
+use Rattle.register_store.specs.TableChanges.{Makes, AreRightAt, with_keys_advanced}
+use Rattle.register_store.specs.Within.TableChanges.{Always}
+use Rattle.register_store.specs.Within.Due.{moved_on, with_each}
 use Rattle.register_store.proofs.DueStates.{moves_all, none_moves}
 use Rattle.register_store.proofs.Wrote.{wrote}
 use Rattle.register_store.proofs.accepted_request.advance_due.Goals as goal

@@ -1,7 +1,8 @@
 use Rattle.std.proofs.Common.{rules}
 use Rattle.sql_steps.proofs.Stepping.{runs}
-use Rattle.register_store.specs.TableChanges.{Makes, Always}
-use Rattle.register_store.specs.Due.{moved_on, update_text, with_each}
+use Rattle.register_store.specs.TableChanges.{Makes}
+use Rattle.register_store.specs.Within.TableChanges.{Always}
+use Rattle.register_store.specs.Within.Due.{moved_on, update_text, with_each}
 use Rattle.register_store.proofs.DueChange.{params, moves}
 use Rattle.register_store.proofs.Wrote.{wrote}
 use Rattle.register_store.proofs.accepted_request.advance_keys_by_date.Goals as goal

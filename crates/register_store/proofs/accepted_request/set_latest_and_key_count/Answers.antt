@@ -1,6 +1,7 @@
 use Rattle.std.proofs.Common.{rules}
 use Rattle.sql_steps.proofs.Stepping.{runs}
-use Rattle.register_store.specs.TableChanges.{Makes, Always, with_counts}
+use Rattle.register_store.specs.TableChanges.{Makes}
+use Rattle.register_store.specs.Within.TableChanges.{Always, with_counts}
 use Rattle.register_store.proofs.CountsRow.{counts_text, params, records}
 use Rattle.register_store.proofs.Wrote.{wrote}
 use Rattle.register_store.proofs.accepted_request.set_latest_and_key_count.Goals as goal

@@ -1,10 +1,12 @@
 use Rattle.std.proofs.Common.{◌≡◌, ◌+◌, length, sym, subst, arith, rules}
-use Rattle.sql_steps.specs.Steps.{StepsBy, Then}
+use Rattle.sql_steps.specs.Steps.{StepsBy}
+use Rattle.sql_steps.specs.Within.Steps.{Then}
 use Rattle.sql_steps.proofs.Stepping.{steps_then, steps_weaker}
 use Rattle.register_core.specs.declared.change.Change.{Change}
 use Rattle.register_core.specs.declared.change.Change.TheVariants.{Held, Made, PeriodSet}
 use Rattle.register_store.specs.Change.{with_change, with_custody}
-use Rattle.register_store.specs.TableChanges.{Makes, Always, HasKeys, held_by, with_key, with_key_at, with_period_set}
+use Rattle.register_store.specs.TableChanges.{Makes, HasKeys, held_by, with_key, with_key_at, with_period_set}
+use Rattle.register_store.specs.Within.TableChanges.{Always}
 use Rattle.register_store.proofs.Wrote.{wrote}
 use Rattle.register_store.proofs.accepted_request.write_change.Goals as goal
 

@@ -6,8 +6,9 @@ use Rattle.sql_steps.proofs.Stepping.{stays}
 use Rattle.register_core.specs.declared.change.CustodyChange.TheVariants.{Kept}
 use Rattle.register_store.specs.Change.{with_custody}
 use Rattle.register_store.specs.declared.counted.StepCount.{StepCount}
-use Rattle.register_store.specs.StepCount.{Writes}
-use Rattle.register_store.specs.TableChanges.{Makes, Always}
+use Rattle.register_store.specs.Within.StepCount.{Writes}
+use Rattle.register_store.specs.TableChanges.{Makes}
+use Rattle.register_store.specs.Within.TableChanges.{Always}
 use Rattle.register_store.proofs.Readings.{survives_none}
 use Rattle.register_store.proofs.accepted_request.write_custody.Goals as goal
 

@@ -4,8 +4,8 @@ use Rattle.sqlite.specs.Held.{state}
 use Rattle.sqlite.specs.State.{State, Survives}
 use Rattle.register_store.specs.declared.found.Found.{Found}
 use Rattle.register_store.specs.declared.table.TableName.TheVariants.{Approval, Custodian, Meta, Request}
-use Rattle.register_store.specs.CheckedRows.{Chain, IsCounts, KnowsCounts, KnowsCustodians}
-use Rattle.register_store.specs.CheckedTables.{ChecksTable}
+use Rattle.register_store.specs.Within.CheckedRows.{Chain, IsCounts, KnowsCounts, KnowsCustodians}
+use Rattle.register_store.specs.Within.CheckedTables.{ChecksTable}
 use Rattle.register_store.specs.Stored.{Stored}
 use Rattle.register_store.specs.OpeningChecks.{before}
 use Rattle.register_store.proofs.Asked.{in_both}

@@ -1,5 +1,5 @@
 use Rattle.std.proofs.Common.{◌≡◌, length}
-use Rattle.register_store.specs.CheckedRows.{AreEmpty}
+use Rattle.register_store.specs.Within.CheckedRows.{AreEmpty}
 use Rattle.register_store.proofs.custody_check.empty_name_lists.Given as goal
 
 -- the lists so far

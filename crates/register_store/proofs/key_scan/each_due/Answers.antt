@@ -1,6 +1,6 @@
 use Rattle.register_store.specs.KeyScan.{HasNextDue}
 use Rattle.register_store.specs.TableReads.{seen}
-use Rattle.register_store.specs.DueSearch.{HasFirst, is_past}
+use Rattle.register_store.specs.Within.DueSearch.{HasFirst, is_past}
 use Rattle.register_store.proofs.NextDue.{past_next}
 use Rattle.register_store.proofs.Readings.{reads_weaker}
 use Rattle.register_store.proofs.key_scan.each_due.Goals as goal

@@ -1,7 +1,7 @@
 use Rattle.std.proofs.Common.{sym, ◌∙◌}
 use Rattle.register_store.specs.KeyScan.{HasNextDue}
 use Rattle.register_store.specs.TableReads.{seen}
-use Rattle.register_store.specs.DueSearch.{HasFirst, is_later, is_same}
+use Rattle.register_store.specs.Within.DueSearch.{HasFirst, is_later, is_same}
 use Rattle.register_store.proofs.NextDue.{found_later, found_same}
 use Rattle.register_store.proofs.Readings.{reads_as, reads_fail, reads_then, reads_weaker, sight_then}
 use Rattle.register_store.proofs.key_scan.find_due_in_two_searches.Goals as goal

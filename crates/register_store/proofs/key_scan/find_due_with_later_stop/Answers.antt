@@ -1,6 +1,6 @@
 use Rattle.std.proofs.Common.{rules}
 use Rattle.register_store.specs.TableReads.{seen}
-use Rattle.register_store.specs.DueSearch.{is_later}
+use Rattle.register_store.specs.Within.DueSearch.{is_later}
 use Rattle.register_store.proofs.AnswersRead.{reads_one}
 use Rattle.register_store.proofs.DueFound.{due_read, later_is, later_query, later_text, passes_later}
 use Rattle.register_store.proofs.NextDue.{later_params, later_check}

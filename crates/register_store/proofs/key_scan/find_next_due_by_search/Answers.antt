@@ -1,6 +1,6 @@
 use Rattle.std.proofs.Common.{rules}
 use Rattle.register_store.specs.TableReads.{seen}
-use Rattle.register_store.specs.DueSearch.{is_found, search_text}
+use Rattle.register_store.specs.Within.DueSearch.{is_found, search_text}
 use Rattle.register_store.proofs.AnswersRead.{reads_one}
 use Rattle.register_store.proofs.DueFound.{due_read, passes_of, query_of, search_is}
 use Rattle.register_store.proofs.NextDue.{same_params, check_is}

@@ -1,7 +1,7 @@
 use Rattle.sqlite.specs.Held.{state}
 use Rattle.sql_steps.proofs.Stepping.{writes}
-use Rattle.register_store.specs.Beside.{UpdatesMeta}
-use Rattle.register_store.specs.Migration.{SetsVersion}
+use Rattle.register_store.specs.Within.Beside.{UpdatesMeta}
+use Rattle.register_store.specs.Within.Migration.{SetsVersion}
 use Rattle.register_store.proofs.Beside.{updates_meta}
 use Rattle.register_store.proofs.VersionSet.{sets_second, version_params, version_text}
 use Rattle.register_store.proofs.migration.set_version.Goals as goal

@@ -3,7 +3,8 @@ use Rattle.sqlite.specs.Held.{state}
 use Rattle.sql_steps.specs.Steps.{StepsBy}
 use Rattle.sql_steps.proofs.Asking.{asks_row, asks_fails, has_meaning}
 use Rattle.sqlite.specs.declared.error.Error.{Error}
-use Rattle.register_store.specs.Creation.{Answers, IsThere}
+use Rattle.register_store.specs.Creation.{IsThere}
+use Rattle.register_store.specs.Within.Creation.{Answers}
 use Rattle.register_store.specs.Tables.{count_text}
 use Rattle.register_store.proofs.RowCounts.{answers_no}
 use Rattle.register_store.proofs.schema_change.is_table_there.Goals as goal

@@ -1,10 +1,10 @@
 use Rattle.std.proofs.Common.{[]}
 use Rattle.sqlite.specs.Held.{state}
 use Rattle.sql_steps.proofs.Stepping.{runs}
-use Rattle.register_store.specs.Beside.{Adds, IsMadeAs}
-use Rattle.register_store.specs.Creation.{MakesTable}
-use Rattle.register_store.specs.Migration.{MakesNext}
-use Rattle.register_store.specs.Tables.{create_text}
+use Rattle.register_store.specs.Within.Beside.{Adds, IsMadeAs}
+use Rattle.register_store.specs.Within.Creation.{MakesTable}
+use Rattle.register_store.specs.Within.Migration.{MakesNext}
+use Rattle.register_store.specs.Within.Tables.{create_text}
 use Rattle.register_store.proofs.Beside.{table_adds}
 use Rattle.register_store.proofs.Creating.{makes_table}
 use Rattle.register_store.proofs.NewTables.{makes_next}

@@ -2,7 +2,8 @@ use Rattle.std.proofs.Common.{Ok, Err, refl}
 use Rattle.sqlite.specs.Held.{state}
 use Rattle.sql_steps.proofs.Stepping.{fails}
 use Rattle.register_store.specs.declared.error.CreateError.TheVariants.{HasTables}
-use Rattle.register_store.specs.Creation.{Answers, WhereNone}
+use Rattle.register_store.specs.Creation.{WhereNone}
+use Rattle.register_store.specs.Within.Creation.{Answers}
 use Rattle.register_store.proofs.WhereNone.{made_where_none}
 use Rattle.register_store.proofs.schema_change.make_where_no_table_is.Goals as goal
 

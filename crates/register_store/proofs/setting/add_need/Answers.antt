@@ -1,7 +1,8 @@
 use Rattle.std.proofs.Common.{rules}
 use Rattle.sql_steps.proofs.Stepping.{runs}
 use Rattle.register_core.specs.Settings.{KeyNeed}
-use Rattle.register_store.specs.TableChanges.{Makes, HasNoNeed, more_need}
+use Rattle.register_store.specs.TableChanges.{Makes}
+use Rattle.register_store.specs.Within.TableChanges.{HasNoNeed, more_need}
 use Rattle.register_store.proofs.KeyedChange.{puts_in}
 use Rattle.register_store.proofs.NeedChange.{need_text, need_params, needs_table}
 use Rattle.register_store.proofs.Wrote.{wrote}

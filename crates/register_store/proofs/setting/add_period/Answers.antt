@@ -1,7 +1,8 @@
 use Rattle.std.proofs.Common.{rules}
 use Rattle.sql_steps.proofs.Stepping.{runs}
 use Rattle.register_core.specs.Settings.{TypePeriod}
-use Rattle.register_store.specs.TableChanges.{Makes, HasNoPeriod, more_period}
+use Rattle.register_store.specs.TableChanges.{Makes}
+use Rattle.register_store.specs.Within.TableChanges.{HasNoPeriod, more_period}
 use Rattle.register_store.proofs.KeyedChange.{puts_in}
 use Rattle.register_store.proofs.PeriodChange.{period_text, period_params, periods_table}
 use Rattle.register_store.proofs.Wrote.{wrote}

@@ -1,6 +1,7 @@
 use Rattle.std.proofs.Common.{rules}
 use Rattle.sql_steps.proofs.Stepping.{runs}
-use Rattle.register_store.specs.TableChanges.{Makes, Always, without_need}
+use Rattle.register_store.specs.TableChanges.{Makes}
+use Rattle.register_store.specs.Within.TableChanges.{Always, without_need}
 use Rattle.register_store.proofs.KeyedChange.{takes_out}
 use Rattle.register_store.proofs.KeyedFound.{number_params}
 use Rattle.register_store.proofs.NeedChange.{clear_need_text, needs_table}

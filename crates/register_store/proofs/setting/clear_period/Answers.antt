@@ -1,7 +1,8 @@
 use Rattle.std.proofs.Common.{rules}
 use Rattle.period_core.specs.KeyType.{key_type_code}
 use Rattle.sql_steps.proofs.Stepping.{runs}
-use Rattle.register_store.specs.TableChanges.{Makes, Always, without_period}
+use Rattle.register_store.specs.TableChanges.{Makes}
+use Rattle.register_store.specs.Within.TableChanges.{Always, without_period}
 use Rattle.register_store.proofs.KeyedChange.{takes_out}
 use Rattle.register_store.proofs.KeyedFound.{number_params}
 use Rattle.register_store.proofs.PeriodChange.{clear_period_text, periods_table}

@@ -1,7 +1,8 @@
 use Rattle.std.proofs.Common.{pos, [], ◌∷◌, rules}
 use Rattle.sqlite.specs.declared.types.Value.TheVariants.{Int}
 use Rattle.sql_steps.proofs.Stepping.{runs}
-use Rattle.register_store.specs.TableChanges.{Makes, Always, without_approvals}
+use Rattle.register_store.specs.TableChanges.{Makes}
+use Rattle.register_store.specs.Within.TableChanges.{Always, without_approvals}
 use Rattle.register_store.proofs.NameRemoved.{approvals_text, removes_approvals}
 use Rattle.register_store.proofs.Wrote.{wrote}
 use Rattle.register_store.proofs.stored_key.end_approvals.Goals as goal

@@ -1,9 +1,10 @@
 use Rattle.std.proofs.Common.{rules}
 use Rattle.sql_steps.proofs.Stepping.{runs}
 use Rattle.register_core.specs.KeyName.{key_name}
-use Rattle.register_store.specs.Roles.{change_text, with_role_changed}
+use Rattle.register_store.specs.Within.Roles.{change_text, with_role_changed}
 use Rattle.register_store.specs.Tables.{name_cells}
-use Rattle.register_store.specs.TableChanges.{Makes, Always}
+use Rattle.register_store.specs.TableChanges.{Makes}
+use Rattle.register_store.specs.Within.TableChanges.{Always}
 use Rattle.register_store.proofs.NameRemoved.{changes_role}
 use Rattle.register_store.proofs.Wrote.{wrote}
 use Rattle.register_store.proofs.stored_key.give_or_take_role.Goals as goal

@@ -1,6 +1,7 @@
 use Rattle.std.proofs.Common.{rules}
 use Rattle.sql_steps.proofs.Stepping.{runs}
-use Rattle.register_store.specs.TableChanges.{Makes, Always, held_by, with_key_at}
+use Rattle.register_store.specs.TableChanges.{Makes, held_by, with_key_at}
+use Rattle.register_store.specs.Within.TableChanges.{Always}
 use Rattle.register_store.proofs.KeyChange.{AreLaterDates, key_params, key_text, updates_key}
 use Rattle.register_store.proofs.Wrote.{wrote}
 use Rattle.register_store.proofs.stored_key.set_owner_state_and_dates.Goals as goal

@@ -1,5 +1,5 @@
 use Rattle.std.proofs.Common.{rules}
-use Rattle.register_desk.specs.DeskCalls.{IsKeptUnder}
+use Rattle.register_desk.specs.Within.DeskCalls.{IsKeptUnder}
 use Rattle.register_desk.specs.Register.{tables}
 use Rattle.register_desk.proofs.Keeping.{kept_is}
 use Rattle.register_desk.proofs.Readings.{found_in, looks_well}

@@ -1,13 +1,22 @@
-use Rattle.std.proofs.Common.{◌+◌, sym, subst, ◌∙◌, rules}
+use Rattle.std.proofs.Common.{◌+◌, ◌*◌, ◌≤◌, ℕ, arith, sym, subst, ◌∙◌, rules}
+use Rattle.register_store.specs.StepCount.{Rises}
 use Rattle.register_desk.proofs.Readings.{nothing_then}
 use Rattle.register_desk.proofs.Sets.{AreSet, one_more_set}
 use Rattle.register_desk.proofs.desk.Desk.look_up_office_periods.Goals as goal
+
+steps_then : {start mid end : ℕ} (first next most : ℕ) → Rises first start mid → Rises next mid end
+    → first + next ≤ most → Rises most start end
+steps_then first next most before after few = record {
+  risen = omega (arith, before.risen, after.risen);
+  within = omega (arith, before.within, after.within, few);
+}
 
 pub kinds-preserved : goal.kinds-preserved
 kinds-preserved g c =
     let before = c.kinds.invariant in
     record {
       mark = c.in_ok-look_up_office_period.ensures.mark ∙ before.mark;
+      steps = steps_then (2 * c.kinds.kind-index) 2 _ before.steps c.in_ok-look_up_office_period.ensures.steps (omega arith);
       reads = nothing_then g.S.Store _ _ _ before.reads c.in_ok-look_up_office_period.ensures.reads;
       found = λ t sees whole clean.
           subst (AreSet t (c.kinds.kind-index + 1)) (sym c.set.ensures)
@@ -15,3 +24,10 @@ kinds-preserved g c =
           (c.in_ok-look_up_office_period.ensures.found t (before.reads.rows t sees) (before.mark ∙ whole) clean)
           (before.found t sees whole (c.in_ok-look_up_office_period.ensures.reads.clean clean)));
     }
+
+pub returns-in_err-look_up_office_period-clause-steps : goal.returns-in_err-look_up_office_period-clause-steps
+returns-in_err-look_up_office_period-clause-steps g c =
+    steps_then (2 * c.kinds.kind-index) 2 14 c.kinds.invariant.steps c.look_up_office_period.ensures.steps (search rules)
+
+pub returns-clause-steps : goal.returns-clause-steps
+returns-clause-steps g c = search rules

@@ -2,7 +2,7 @@ use Rattle.std.proofs.Common.{◌≢◌}
 use Rattle.std.specs.Prelude.{All, IfNone, Option, Some, None}
 use Rattle.register_requests.specs.declared.command_fields.CommandKind.{CommandKind}
 use Rattle.register_requests.specs.CommandKind.{command_kind_text}
-use Rattle.register_requests.specs.RequestLine.{command_kinds}
+use Rattle.register_requests.specs.Within.RequestLine.{command_kinds}
 use Rattle.register_requests.proofs.Readers.{each_kind}
 use Rattle.register_requests.proofs.command_fields.CommandKind.from_text.Goals as goal
 

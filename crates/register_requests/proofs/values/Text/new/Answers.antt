@@ -1,4 +1,4 @@
-use Rattle.register_requests.specs.Text.{filled_length, filled_rest}
+use Rattle.register_requests.specs.Within.Text.{filled_length, filled_rest}
 use Rattle.register_requests.proofs.values.Text.new.Goals as goal
 
 pub invariant_of-result : goal.invariant_of-result

@@ -1,9 +1,11 @@
 use Rattle.std.proofs.Common.{Bool, true, false, Ok, subst, rules, arith}
 use Rattle.sqlite.specs.Effect.{Database}
 use Rattle.sqlite.specs.Held.{state}
-use Rattle.sql_steps.specs.Steps.{StepsBy, Then}
+use Rattle.sql_steps.specs.Steps.{StepsBy}
+use Rattle.sql_steps.specs.Within.Steps.{Then}
 use Rattle.sql_steps.proofs.Stepping.{steps_as, steps_then}
-use Rattle.register_store.specs.Creation.{Answers, HasTable, IsThere, LacksFirst}
+use Rattle.register_store.specs.Creation.{HasTable, IsThere}
+use Rattle.register_store.specs.Within.Creation.{Answers, LacksFirst}
 use Rattle.register_store.proofs.EachTable.{placed_low}
 use Rattle.register_store.proofs.RowCounts.{lacks_next, table_at}
 use Rattle.register_store.proofs.creation.CreationSchemaChange.finds_table_it_would_make.Goals as goal

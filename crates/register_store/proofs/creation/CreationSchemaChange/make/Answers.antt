@@ -1,11 +1,12 @@
 use Rattle.std.proofs.Common.{length, Ok}
 use Rattle.sqlite.specs.Held.{state}
-use Rattle.sql_steps.specs.Steps.{Then}
+use Rattle.sql_steps.specs.Within.Steps.{Then}
 use Rattle.sql_steps.proofs.Stepping.{steps_then}
 use Rattle.register_store.specs.Tables.{all_tables}
 use Rattle.register_store.specs.Schema.{made_indexes}
-use Rattle.register_store.specs.Beside.{AddsUncounted, InsertsMeta}
-use Rattle.register_store.specs.Creation.{MakesAll, MakesFirst, MakesIndexes, AddsMeta}
+use Rattle.register_store.specs.Within.Beside.{AddsUncounted, InsertsMeta}
+use Rattle.register_store.specs.Creation.{MakesAll}
+use Rattle.register_store.specs.Within.Creation.{MakesFirst, MakesIndexes, AddsMeta}
 use Rattle.register_store.proofs.Beside.{makes_beside, steps_both}
 use Rattle.register_store.proofs.creation.CreationSchemaChange.make.Goals as goal
 

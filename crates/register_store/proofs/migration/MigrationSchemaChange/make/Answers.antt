@@ -1,10 +1,11 @@
 use Rattle.std.proofs.Common.{Ok, arith}
 use Rattle.sqlite.specs.Held.{state}
-use Rattle.sql_steps.specs.Steps.{Then}
+use Rattle.sql_steps.specs.Within.Steps.{Then}
 use Rattle.sql_steps.proofs.Stepping.{steps_then}
 use Rattle.register_store.specs.declared.table.TableName.TheVariants.{Period, Quorum}
-use Rattle.register_store.specs.Beside.{Adds, IsMadeAs, UpdatesMeta}
-use Rattle.register_store.specs.Migration.{MakesNext, SetsVersion, TakesToSecond}
+use Rattle.register_store.specs.Within.Beside.{Adds, IsMadeAs, UpdatesMeta}
+use Rattle.register_store.specs.Migration.{TakesToSecond}
+use Rattle.register_store.specs.Within.Migration.{MakesNext, SetsVersion}
 use Rattle.register_store.proofs.Beside.{IsOther, adds_other, migrates_beside, steps_both}
 use Rattle.register_store.proofs.BesideMade.{adds_then}
 use Rattle.register_store.proofs.VersionSet.{begins}

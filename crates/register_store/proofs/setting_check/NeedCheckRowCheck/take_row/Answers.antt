@@ -1,7 +1,7 @@
 use Rattle.std.proofs.Common.{◌≡◌, true, false, sym, subst}
 use Rattle.register_store.specs.declared.found.Found.{Found}
 use Rattle.register_store.specs.CheckedTables.{ShowsKeyNeed, counts_of}
-use Rattle.register_store.specs.CheckedRows.{key_need}
+use Rattle.register_store.specs.Within.CheckedRows.{key_need}
 use Rattle.register_store.specs.OpeningChecks.{IsNeedOf}
 use Rattle.register_store.proofs.EachChecked.{one_more, one_odd}
 use Rattle.register_store.proofs.SettingsChecked.{one_need}

@@ -1,0 +1,4 @@
+-- What functions within the crate say of one another: no public contract stands on it.
+pub mod Export
+pub mod Cell
+pub mod RowWriter

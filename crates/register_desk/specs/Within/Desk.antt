@@ -1,0 +1,11 @@
+-- What functions within the crate say of one another, beside `specs/Desk.antt`.
+use Rattle.std.specs.Prelude.{◌≡◌, ℕ, Some}
+use Rattle.register_requests.specs.declared.request.Command.{Command}
+use Rattle.register_requests.specs.Subject.{named}
+use Rattle.register_desk.specs.Desk.{IsNoKey}
+
+-- ---- ends
+
+-- the command names none of so many keys
+abbrev pub NamesNoKey : ℕ → Command → Type 0
+NamesNoKey keys command = (number : ℕ) → named command ≡ Some number → IsNoKey keys number

@@ -1,4 +1,0 @@
-mod OfDesk
-mod Living
-mod Refusing
-mod Served

@@ -1,0 +1,283 @@
+-- Files that were refused are left as they were found.
+use Rattle.std.proofs.Common.{◌≡◌, ◌⊎◌, List, [], Option, None, Some, Result, Ok, Err, IsTrue, inl, inr, refl}
+use Rattle.std.proofs.Common.{sym, subst, ◌∙◌}
+use Rattle.std.specs.Prelude.{IfErr, IfSome, IsErrAnd}
+use Rattle.std.proofs.Math.Logic.{∥∥₁_map}
+use Rattle.sqlite_trees.specs.declared.store.Store.{Ghosts}
+use Rattle.sqlite_trees.specs.View.{IsClean as IsCleanStore}
+use Rattle.sqlite.specs.Files.{AreFoundIn, HoldsDatabase, IsEmpty}
+use Rattle.sqlite.specs.Held.{Held, AreDatabases, state}
+use Rattle.sqlite.specs.Recovery.{Image}
+use Rattle.sqlite.specs.State.{State, HasCleanDisk}
+use Rattle.sqlite.specs.Tree.{Trees}
+use Rattle.register_requests.specs.declared.request.Request.{Request}
+use Rattle.register_requests.specs.declared.version.Version.{Version}
+use Rattle.register_core.specs.Fold.{IsLawful, IsLawfulIn}
+use Rattle.register_desk.specs.declared.opening.OpenRefusal.{OpenRefusal}
+use Rattle.register_desk.specs.declared.opening.OpenRefusal.TheVariants.{Memory, NewerVersion, NotARegister, Store}
+use Rattle.register_desk.specs.declared.opening.Unopened.{Unopened}
+use Rattle.register_desk.specs.declared.desk.Desk.{Desk}
+use Rattle.register_desk.specs.DatabaseFiles.{HoldsNothing, HoldsRegister, ShowsFiles}
+use Rattle.register_desk.specs.OpenRefusal.{IsMadeIn, IsReasonOf, IsTakenIn, LeavesBehind, LeavesCommitted, LeavesMade}
+use Rattle.register_desk.specs.OpenRefusal.{LeavesStored, RefusesNoTable, ShowsTable}
+use Rattle.register_desk.specs.Within.Register.{HasHistoryIn}
+use Rattle.register_desk.proofs.Found.{finds_empty, finds_nothing, finds_register, holds_now, lawful_there}
+use Rattle.register_desk.proofs.Found.{registered_left}
+use Rattle.register_desk.proofs.NoRegister.{passes_nothing}
+use Rattle.register_desk.proofs.Opened.{stored_in}
+use Rattle.register_program.specs.declared.files.Closed.{Closed}
+use Rattle.register_program.specs.declared.register_file.Refused.{Refused}
+use Rattle.register_program.specs.FileCalls.{MakesRegister, OpensFile}
+use Rattle.register_program.specs.Life.{ClosesAs, GivesBack, IsCommittedOrMade, IsFoundIn, LeavesBehindIn, LeavesFound}
+use Rattle.register_program.specs.Life.{LeavesInFiles, LeavesNoRequest, LeavesNothing}
+use Rattle.register_program.specs.Life.{RefusesFiles, Refuses, RefusesMaking, RefusesToMake, SparesRegister}
+
+-- what is said of a value that may be there, of the one that is there
+of_some : {X : Type 0} (P : X → Type 0) (o : Option X) (x : X) → o ≡ Some x → P x → IfSome o P
+of_some P o x is said = subst (λ o. IfSome o P) (sym is) said
+
+not_none : {X A : Type 0} (o : Option X) (x : X) → o ≡ Some x → o ≡ None → A
+not_none o x is none = let both = sym is ∙ none in absurd (cc)
+
+-- what is found in files that hold nothing is nothing
+left_empty : (found : Image) (db : Trees) → HoldsNothing found → IsFoundIn found db → IsEmpty db
+left_empty found db nothing is = finds_empty found db nothing is.reads is.holds
+
+nothing_found : (found left : Image) (db : Trees) → HoldsNothing found → IsFoundIn found db → HoldsDatabase left db
+    → HoldsNothing left
+nothing_found found left db nothing is held = inr (db, held, left_empty found db nothing is)
+
+nothing_left : (refusal : OpenRefusal) (found : Image) (s : State) (may : Image → Type 0) → ShowsFiles found s
+    → HoldsNothing found → LeavesBehindIn refusal found s may → LeavesNothing may
+nothing_left Store found s may shows nothing leaves left is = ∥∥₁_map (leaves left is) (λ one. elim one.1 [
+  | inl same ↦ nothing_found found left one.0 nothing same one.2
+  | inr taken ↦ absurd (passes_nothing taken.t s (finds_nothing found s nothing shows) taken.passes)
+])
+nothing_left NotARegister found s may shows nothing leaves left is =
+    ∥∥₁_map (leaves left is) (λ one. nothing_found found left one.0 nothing one.1 one.2)
+nothing_left (NewerVersion later) found s may shows nothing leaves left is =
+    ∥∥₁_map (leaves left is) (λ one. nothing_found found left one.0 nothing one.1 one.2)
+nothing_left Memory found s may shows nothing leaves left is =
+    ∥∥₁_map (leaves left is) (λ one. nothing_found found left one.0 nothing one.1 one.2)
+
+-- or the empty register that was made in it
+none_or_made : (found : Image) (s : State) (may : Image → Type 0) → ShowsFiles found s → HoldsNothing found
+    → ((left : Image) → may left → ∥ ((db : Trees) × HoldsDatabase left db × IsCommittedOrMade s db) ∥₁)
+    → LeavesNoRequest may
+none_or_made found s may shows nothing leaves left is = ∥∥₁_map (leaves left is) (λ one. elim one.2 [
+  | inl same ↦
+      let empty = finds_empty found s.committed.trees nothing shows.finds.reads shows.finds.holds in
+      inl (inr (one.0, one.1, subst IsEmpty (sym same) empty))
+  | inr made ↦
+      let holds = (made.1.1.register (finds_nothing found s nothing shows)).holds in
+      inr (holds_now [] left made.0 holds (subst (HoldsDatabase left) made.2 one.1))
+])
+
+module _ {S : Type 0} (g : Ghosts S) (may_leave : S → Image → Type 0) (found : Image) where
+  -- no register was opened
+  no_table : (Spares : S → Type 0) (store : Option S) (refusal : OpenRefusal)
+      → IfSome store (λ it. IsCleanStore (g.view it) → RefusesNoTable refusal × Spares it)
+      → (store ≡ None → RefusesNoTable refusal) → IfSome store (λ it. IsCleanStore (g.view it))
+      → RefusesNoTable refusal
+  no_table Spares None refusal spares unopened clean = unopened refl
+  no_table Spares (Some it) refusal spares unopened clean = (spares clean).0
+
+  pub opens_refused : (refused : Refused S) → Refuses g may_leave found refused
+      → OpensFile g may_leave found (Err refused)
+  opens_refused refused refuses = record {
+    stands = λ h lawful holds. no_table (λ it. LeavesInFiles h h (may_leave it)) refused.store refused.refusal
+        (refuses.spares h lawful holds) refuses.unopened;
+    whole = tt;
+    nothing = λ nothing. tt;
+    refuses = refuses;
+  }
+
+  pub opens_none : (P : Refused S → Type 0) (result : Result (Desk S g) (Refused S)) → IsErrAnd result P
+      → IfErr result (Refuses g may_leave found) → OpensFile g may_leave found result
+  opens_none P (Ok desk) is refuses = absurd is
+  opens_none P (Err refused) is refuses = opens_refused refused refuses
+
+  -- no register was made
+  pub made_none : (P : Refused S → Type 0) (result : Result (Closed S) (Refused S)) → IsErrAnd result P
+      → IfErr result (RefusesMaking g may_leave found) → MakesRegister g may_leave found result
+  made_none P (Ok files) is refuses = absurd is
+  made_none P (Err refused) is refuses = record {
+    leaves = λ none. tt;
+    made = tt;
+    spares = λ h holds. tt;
+    refuses = refuses;
+  }
+
+  -- files that were not opened at all
+  pub refuses_closed : (refusal : OpenRefusal) (refused : Refused S)
+      → refused ≡ record { refusal = refusal; store = None } → RefusesNoTable refusal
+      → Refuses g may_leave found refused
+  refuses_closed refusal refused is none = subst (Refuses g may_leave found) (sym is)
+      (record { cause = tt; spares = λ h lawful holds. tt; nothing = λ nothing. tt; unopened = λ same. none })
+
+  pub refuses_unopened : {X : Type 0} (refusal : OpenRefusal) (result : Result X (Refused S))
+      → IsErrAnd result (λ refused. refused ≡ record { refusal = refusal; store = None }) → RefusesNoTable refusal
+      → IfErr result (Refuses g may_leave found)
+  refuses_unopened refusal (Ok x) is none = absurd is
+  refuses_unopened refusal (Err refused) is none = refuses_closed refusal refused is none
+
+  pub refuses_unmade : {X : Type 0} (refusal : OpenRefusal) (result : Result X (Refused S))
+      → IsErrAnd result (λ refused. refused ≡ record { refusal = refusal; store = None }) → RefusesNoTable refusal
+      → IfErr result (RefusesMaking g may_leave found)
+  refuses_unmade refusal (Ok x) is none = absurd is
+  refuses_unmade refusal (Err refused) is none = subst (RefusesMaking g may_leave found) (sym is)
+      (record { cause = tt; spares = λ h holds. tt; nothing = λ nothing. tt; unopened = λ same. none })
+
+  module _ (opens_again : (it : S) → IsTrue (g.view it).is_numbered → AreDatabases (g.recovers it) → (left : Image)
+      → may_leave it left → ∥ ((db : Trees) × (g.recovers it db) × HoldsDatabase left db) ∥₁)
+      (old new : Held S) (shows : HasCleanDisk (state g old) → ShowsFiles found (state g old))
+      (earlier : HasCleanDisk (state g new) → HasCleanDisk (state g old)) where
+    module _ (it : S) (closes : ClosesAs g new it) (clean : IsCleanStore (g.view it)) where
+      shown : ShowsFiles found (state g old)
+      shown = shows (earlier (closes.clean clean))
+
+      reopens : (left : Image) → may_leave it left → ∥ ((db : Trees) × (g.recovers it db) × HoldsDatabase left db) ∥₁
+      reopens = opens_again it (closes.numbered clean) (closes.sound clean)
+
+      -- what was committed was found
+      found_so : (db : Trees) → db ≡ (state g old).committed.trees → IsFoundIn found db
+      found_so db same = record {
+        reads = subst (AreFoundIn found) (sym same) shown.finds.reads;
+        holds = λ other holds. same ∙ shown.finds.holds other holds;
+      }
+
+      left_as_found : LeavesCommitted (state g old) (state g new) → LeavesFound found (may_leave it)
+      left_as_found committed left may = ∥∥₁_map (reopens left may) (λ one.
+          let same = committed shown.opens.is_open (closes.clean clean) one.0 (closes.outcomes one.0 one.1) in
+          (one.0, found_so one.0 same, one.2))
+
+      left_as_made : LeavesMade (state g old) (state g new)
+          → (left : Image) → may_leave it left → ∥ ((db : Trees) × HoldsDatabase left db
+          × ((db ≡ (state g old).committed.trees) ⊎ IsMadeIn (state g old) db)) ∥₁
+      left_as_made made left may = ∥∥₁_map (reopens left may)
+          (λ one. (one.0, one.2, made shown.opens.is_open (closes.clean clean) one.0 (closes.outcomes one.0 one.1)))
+
+    -- an opening that was refused
+    module _ (refusal : OpenRefusal) (reason : HasCleanDisk (state g new)
+        → IsReasonOf (state g old) (state g new) refusal)
+        (spared : (version : Version) (h : List Request) → IsLawfulIn version h
+        → HasHistoryIn version h (state g old) → HasCleanDisk (state g new) → RefusesNoTable refusal)
+        (after : LeavesBehind refusal (state g old) (state g new))
+        (stored : (version : Version) (h : List Request) → IsLawfulIn version h → HasHistoryIn version h (state g old)
+        → LeavesStored (stored_in version h) (state g old) (state g new)) where
+      module _ (it : S) (closes : ClosesAs g new it) (clean : IsCleanStore (g.view it)) where
+        left_behind : (r : OpenRefusal) → LeavesBehind r (state g old) (state g new)
+            → LeavesBehindIn r found (state g old) (may_leave it)
+        left_behind Store leaves = λ left may. ∥∥₁_map (reopens it closes clean left may) (λ one.
+            let left_so = leaves (shown it closes clean).opens.is_open (closes.clean clean) one.0
+            (closes.outcomes one.0 one.1) in
+            (one.0, taken one.0 left_so, one.2))
+          where
+            taken : (db : Trees) → (db ≡ (state g old).committed.trees) ⊎ IsTakenIn (state g old) db
+                → IsFoundIn found db ⊎ IsTakenIn (state g old) db
+            taken db (inl same) = inl (found_so it closes clean db same)
+            taken db (inr made) = inr made
+        left_behind NotARegister leaves = left_as_found it closes clean leaves
+        left_behind (NewerVersion later) leaves = left_as_found it closes clean leaves
+        left_behind Memory leaves = left_as_found it closes clean leaves
+
+        -- the register of a history is left, in its version or in this program's
+        left_as_registered : (h : List Request) → IsLawful h → HoldsRegister h found → LeavesInFiles h h (may_leave it)
+        left_as_registered h lawful holds left may = ∥∥₁_map (reopens it closes clean left may) (λ one.
+            let shows = shown it closes clean in
+            let had = finds_register h found (state g old) holds shows in
+            let leaves = stored holds.version h (lawful_there h found holds lawful) had in
+            inl (registered_left h found holds (state g old) (state g new) leaves shows.opens.is_open
+            (closes.clean clean) shows left one.0 (closes.outcomes one.0 one.1) one.2))
+
+      refuses_files : (it : S) → ClosesAs g new it → (given : OpenRefusal) → given ≡ refusal
+          → IsCleanStore (g.view it) → RefusesFiles g found given (may_leave it)
+      refuses_files it closes given same clean = record {
+        old = old;
+        new = new;
+        shows = shown it closes clean;
+        reason = subst (λ (r : OpenRefusal). IsReasonOf (state g old) (state g new) r) (sym same)
+            (reason (closes.clean clean));
+        leaves = subst (λ (r : OpenRefusal). LeavesBehindIn r found (state g old) (may_leave it)) (sym same)
+            (left_behind it closes clean refusal after);
+      }
+
+      spares_register : (it : S) → ClosesAs g new it → (given : OpenRefusal) → given ≡ refusal → (h : List Request)
+          → IsLawful h → HoldsRegister h found → IsCleanStore (g.view it) → SparesRegister h given (may_leave it)
+      spares_register it closes given same h lawful holds clean = (
+        subst RefusesNoTable (sym same) (spared holds.version h (lawful_there h found holds lawful)
+            (finds_register h found (state g old) holds (shown it closes clean)) (closes.clean clean)),
+        left_as_registered it closes clean h lawful holds,
+      )
+
+      pub refuses_opened : {X : Type 0} (unopened : Unopened S) (result : Result X (Refused S))
+          → IsErrAnd result (GivesBack g unopened) → unopened.refusal ≡ refusal → unopened.connection ≡ new
+          → IfErr result (Refuses g may_leave found)
+      refuses_opened unopened (Ok x) gives was is = absurd gives
+      refuses_opened unopened (Err refused) gives was is =
+          let closes = subst (λ (k : Held S). ClosesAs g k gives.store) is gives.closes in
+          let same = gives.same ∙ was in
+          record {
+            cause = of_some (λ it. IsCleanStore (g.view it) → RefusesFiles g found refused.refusal (may_leave it))
+                refused.store gives.store gives.back (refuses_files gives.store closes refused.refusal same);
+            spares = λ h lawful holds. of_some (λ it. IsCleanStore (g.view it)
+                → SparesRegister h refused.refusal (may_leave it)) refused.store gives.store gives.back
+                (spares_register gives.store closes refused.refusal same h lawful holds);
+            nothing = λ none. of_some (λ it. IsCleanStore (g.view it) → LeavesNothing (may_leave it))
+                refused.store gives.store gives.back (λ clean. nothing_left refusal found (state g old)
+                (may_leave gives.store) (shown gives.store closes clean) none
+                (left_behind gives.store closes clean refusal after));
+            unopened = λ none. not_none refused.store gives.store gives.back none;
+          }
+
+    -- a making that was refused
+    module _ (refusal : OpenRefusal) (no_version : (refusal ≡ Store) ⊎ (refusal ≡ NotARegister))
+        (there : refusal ≡ NotARegister → HasCleanDisk (state g new) → ShowsTable (state g old))
+        (committed : refusal ≡ NotARegister → LeavesCommitted (state g old) (state g new))
+        (made : LeavesMade (state g old) (state g new))
+        (shown_there : ShowsTable (state g old) → LeavesCommitted (state g old) (state g new))
+        (registered : (version : Version) (h : List Request) → HasHistoryIn version h (state g old)
+        → LeavesCommitted (state g old) (state g new)) where
+      -- the register that the files hold is left
+      left_as_held : (it : S) → ClosesAs g new it → (h : List Request) → HoldsRegister h found
+          → IsCleanStore (g.view it) → LeavesInFiles h h (may_leave it)
+      left_as_held it closes h holds clean left may =
+          let had = finds_register h found (state g old) holds (shown it closes clean) in
+          ∥∥₁_map (left_as_found it closes clean (registered holds.version h had) left may) (λ one. inl (record {
+            version = holds.version;
+            lawful = holds.lawful;
+            db = holds.db;
+            tables_are = holds.tables_are;
+            found = subst (HoldsDatabase left) (one.1.holds holds.db.trees holds.found) one.2;
+          }))
+
+      refuses_to_make : (it : S) → ClosesAs g new it → (given : OpenRefusal) → given ≡ refusal
+          → IsCleanStore (g.view it) → RefusesToMake g found given (may_leave it)
+      refuses_to_make it closes given same clean = record {
+        old = old;
+        shows = shown it closes clean;
+        no_version = subst (λ (r : OpenRefusal). (r ≡ Store) ⊎ (r ≡ NotARegister)) (sym same) no_version;
+        there = λ is. let blamed = sym same ∙ is in
+            (there blamed (closes.clean clean), left_as_found it closes clean (committed blamed));
+        spares = λ there. left_as_found it closes clean (shown_there there);
+        leaves = left_as_made it closes clean made;
+      }
+
+      pub refuses_making : {X : Type 0} (unopened : Unopened S) (result : Result X (Refused S))
+          → IsErrAnd result (GivesBack g unopened) → unopened.refusal ≡ refusal → unopened.connection ≡ new
+          → IfErr result (RefusesMaking g may_leave found)
+      refuses_making unopened (Ok x) gives was is = absurd gives
+      refuses_making unopened (Err refused) gives was is =
+          let closes = subst (λ (k : Held S). ClosesAs g k gives.store) is gives.closes in
+          record {
+            cause = of_some (λ it. IsCleanStore (g.view it) → RefusesToMake g found refused.refusal (may_leave it))
+                refused.store gives.store gives.back
+                (refuses_to_make gives.store closes refused.refusal (gives.same ∙ was));
+            spares = λ h holds. of_some (λ it. IsCleanStore (g.view it) → LeavesInFiles h h (may_leave it))
+                refused.store gives.store gives.back (left_as_held gives.store closes h holds);
+            nothing = λ none. of_some (λ it. IsCleanStore (g.view it) → LeavesNoRequest (may_leave it))
+                refused.store gives.store gives.back (λ clean. none_or_made found (state g old)
+                (may_leave gives.store) (shown gives.store closes clean) none
+                (left_as_made gives.store closes clean made));
+            unopened = λ none. not_none refused.store gives.store gives.back none;
+          }

@@ -1,0 +1,25 @@
+use Rattle.register_desk.proofs.Found.{leaves_still}
+use Rattle.register_program.proofs.OfDesk.{of_desk}
+use Rattle.register_program.proofs.register_file.export_file.Goals as goal
+
+pub returns-clause-exports : goal.returns-clause-exports
+returns-clause-exports g c = record {
+  lives = λ h lawful holds clean.
+      let after = c.close_desk.ensures.clean clean in
+      let alone = c.export-outcome.ensures.alone.reads in
+      let stands = c.in_ok-desk.ensures.stands h lawful holds (alone.clean after) in
+      of_desk (c.close_desk.ensures.closes clean) (λ may leaves. record {
+        writes = c.export-outcome.ensures.agrees h stands after;
+        leaves = leaves.one_of h h (leaves_still g.F.Opened.Store h c.in_ok-desk.desk
+            c.export-outcome.new.desk alone stands c.in_ok-desk.ensures.whole after);
+      });
+  opens = record {
+    nothing = λ none clean.
+        c.in_ok-desk.ensures.nothing none
+        (c.export-outcome.ensures.alone.reads.clean (c.close_desk.ensures.clean clean));
+    refuses = tt;
+  };
+}
+
+pub export-outcome-requires : goal.export-outcome-requires
+export-outcome-requires g c = c.requires

@@ -1,0 +1,48 @@
+use Rattle.std.proofs.Common.{arith, refl}
+use Rattle.register_desk.specs.declared.opening.OpenRefusal.TheVariants.{Store}
+use Rattle.register_desk.proofs.Found.{finds_nothing, finds_register, lawful_there}
+use Rattle.register_desk.proofs.NoRegister.{passes_nothing}
+use Rattle.register_desk.proofs.Opened.{meet_checks, stored_in}
+use Rattle.register_program.proofs.Refusing.{opens_none, opens_refused, refuses_closed, refuses_opened}
+use Rattle.register_program.proofs.Refusing.{refuses_unopened}
+use Rattle.register_program.proofs.register_file.open_file.Goals as goal
+
+pub returns : goal.returns
+returns g c =
+    let desk = c.in_ok-desk.ensures in
+    let shows = c.in_ok-connection.ensures.shows in
+    record {
+      stands = λ h lawful holds clean.
+          desk.stands holds.version h (lawful_there h _ holds lawful)
+          (finds_register h _ _ holds (shows (omega (arith, desk.stop.clean, clean)))) clean;
+      whole = desk.whole;
+      nothing = λ none clean.
+          let passed = desk.passed clean in
+          passes_nothing passed.stored _ (finds_nothing _ _ none (shows (omega (arith, desk.stop.clean, clean))))
+          passed.passes;
+      refuses = tt;
+    }
+
+pub returns-in_err-connection : goal.returns-in_err-connection
+returns-in_err-connection g c =
+    opens_none g.F.Opened.Store g.F.Files.may_leave g.F.Files.start _ c.from_residual.result c.from_residual.ensures.1
+    (refuses_unopened g.F.Opened.Store g.F.Files.may_leave g.F.Files.start c.in_err-connection.field-0.0
+    c.from_residual.result c.from_residual.ensures.1 c.in_err-connection.ensures.blames_none)
+
+pub returns-in_err-desk : goal.returns-in_err-desk
+returns-in_err-desk g c =
+    let it = c.in_err-desk.ensures in
+    let unopened = c.in_err-desk.field-0.0 in
+    opens_none g.F.Opened.Store g.F.Files.may_leave g.F.Files.start _ c.from_residual-in_err-desk.result
+    c.from_residual-in_err-desk.ensures.1
+    (refuses_opened g.F.Opened.Store g.F.Files.may_leave g.F.Files.start g.met.F.Files.opens_again
+    c.in_ok-connection.connection unopened.connection c.in_ok-connection.ensures.shows
+    (λ clean. omega (arith, it.stop_refused.clean, clean)) unopened.refusal it.refused it.blames_none
+    it.leaves_refused
+    (λ version h lawful had. it.leaves_stored (stored_in version h) had (meet_checks version h lawful)) unopened
+    c.from_residual-in_err-desk.result c.from_residual-in_err-desk.ensures.1 refl refl)
+
+pub returns-then-not-may_be_there : goal.returns-then-not-may_be_there
+returns-then-not-may_be_there g c =
+    opens_refused g.F.Opened.Store g.F.Files.may_leave g.F.Files.start c.from.result
+    (refuses_closed g.F.Opened.Store g.F.Files.may_leave g.F.Files.start Store c.from.result c.from.ensures tt)

@@ -1,0 +1,35 @@
+use Rattle.register_desk.proofs.Found.{leaves_still}
+use Rattle.register_program.proofs.Living.{reports_none}
+use Rattle.register_program.proofs.OfDesk.{of_desk}
+use Rattle.register_program.proofs.register_file.report_file.Goals as goal
+
+pub returns-clause-reports : goal.returns-clause-reports
+returns-clause-reports g c = record {
+  keeps = λ h lawful holds clean.
+      let after = c.close_desk.ensures.clean clean in
+      let alone = c.rotation-outcome.ensures.alone.reads in
+      let stands = c.in_ok-desk.ensures.stands h lawful holds (alone.clean after) in
+      of_desk (c.close_desk.ensures.closes clean) (λ may leaves.
+      leaves.one_of h h (leaves_still g.F.Opened.Store h c.in_ok-desk.desk
+      c.rotation-outcome.new.desk alone stands c.in_ok-desk.ensures.whole after));
+  lives = λ h rows lawful holds are clean.
+      let after = c.close_desk.ensures.clean clean in
+      let alone = c.rotation-outcome.ensures.alone.reads in
+      let stands = c.in_ok-desk.ensures.stands h lawful holds (alone.clean after) in
+      of_desk (c.close_desk.ensures.closes clean) (λ may leaves. record {
+        writes = c.rotation-outcome.ensures.agrees h rows stands after are;
+        leaves = leaves.one_of h h (leaves_still g.F.Opened.Store h c.in_ok-desk.desk
+            c.rotation-outcome.new.desk alone stands c.in_ok-desk.ensures.whole after);
+      });
+  opens = record {
+    nothing = λ none clean.
+        c.in_ok-desk.ensures.nothing none
+        (c.rotation-outcome.ensures.alone.reads.clean (c.close_desk.ensures.clean clean));
+    refuses = tt;
+  };
+}
+
+pub returns-in_err-desk-clause-reports : goal.returns-in_err-desk-clause-reports
+returns-in_err-desk-clause-reports g c =
+    reports_none g.F.Opened.Store g.F.Files.may_leave g.F.Files.start c.in_err-desk.field-0.0
+    c.in_err-desk.ensures.refuses c.args.days _ _ c.from_residual.result c.from_residual.ensures.1

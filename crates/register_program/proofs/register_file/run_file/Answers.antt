@@ -1,0 +1,29 @@
+use Rattle.register_program.proofs.OfDesk.{of_desk}
+use Rattle.register_program.proofs.Living.{fault_leaves, lives_anyway, runs_none}
+use Rattle.register_program.proofs.register_file.run_file.Goals as goal
+
+pub returns-clause-runs : goal.returns-clause-runs
+returns-clause-runs g c =
+    let run = c.run-outcome in
+    record {
+      lives = λ h bytes items rest lawful holds known has clean.
+          let after = c.close_desk.ensures.clean clean in
+          let stands = c.in_ok-desk.ensures.stands h lawful holds (run.ensures.clean after) in
+          let next = run.ensures.leaves h bytes items rest stands c.in_ok-desk.ensures.whole after known has in
+          let over = run.ensures.agrees h bytes items rest stands after known has in
+          of_desk (c.close_desk.ensures.closes clean) (λ may leaves. record {
+            over = over;
+            leaves = leaves.one_of _ _ next;
+            in_part = λ is. leaves.one_of _ _ (fault_leaves g.F.Opened.Store h items rest run.result _ _
+                c.in_ok-desk.desk run.new.desk c.in_ok-desk.ensures.whole run.ensures.desk after over is);
+          });
+      anyway = lives_anyway g.F.Opened.Store g.F.Files.may_leave g.F.Files.start run.result c.close_desk.result _ _
+          c.in_ok-desk.desk run.new.desk c.in_ok-desk.ensures.whole c.close_desk.ensures.closes
+          c.close_desk.ensures.clean run.ensures.clean c.in_ok-desk.ensures.stands c.in_ok-desk.ensures.nothing
+          (λ is. absurd (run.ensures.no_header is)) run.ensures.lives;
+    }
+
+pub returns-in_err-desk-clause-runs : goal.returns-in_err-desk-clause-runs
+returns-in_err-desk-clause-runs g c =
+    runs_none g.F.Opened.Store g.F.Files.may_leave g.F.Files.start c.in_err-desk.field-0.0
+    c.in_err-desk.ensures.refuses _ _ _ c.from_residual.result c.from_residual.ensures.1

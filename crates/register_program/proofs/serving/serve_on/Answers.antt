@@ -1,0 +1,48 @@
+use Rattle.std.proofs.Common.{◌+◌, ◌≤◌, ◌∙◌, sym, arith}
+use Rattle.register_program.proofs.Served.{ends_serving, not_store, served_none, served_next, served_all, served_last}
+use Rattle.register_program.proofs.serving.serve_on.Goals as goal
+
+pub exchanges-init : goal.exchanges-init
+exchanges-init g c = record {
+  so_far = λ h stands whole clean. served_none g.S.Store h _ stands whole;
+  clean = λ clean. clean;
+  within = omega arith;
+}
+
+pub exchanges-preserved : goal.exchanges-preserved
+exchanges-preserved g c = record {
+  so_far = λ h stands whole clean. served_next g.S.Store h c.exchanges.served c.exchanges.desk
+      c.serve_connection-finish.new.desk c.serve_connection-finish.result
+      (c.exchanges.invariant.so_far h stands whole (c.serve_connection-finish.ensures.clean clean))
+      c.serve_connection-finish.ensures.leaves clean
+      (not_store c.serve_connection-finish.result (sym c.may_serve_on.ensures ∙ c.if-not-may_serve_on.false));
+  clean = λ clean. c.exchanges.invariant.clean (c.serve_connection-finish.ensures.clean clean);
+  within = omega (arith, c.exchanges-test.true);
+}
+
+pub returns-in_default-clause-leaves : goal.returns-in_default-clause-leaves
+returns-in_default-clause-leaves g c = λ h stands whole clean.
+    served_all g.S.Store h c.exchanges.served c.args.exchanges c.exchanges.desk
+    (c.exchanges.invariant.so_far h stands whole clean) c.exchanges.invariant.within clean
+
+pub returns-in_default-now-clause-leaves : goal.returns-in_default-now-clause-leaves
+returns-in_default-now-clause-leaves g c = λ h stands whole clean.
+    served_all g.S.Store h c.exchanges.served c.args.exchanges c.exchanges.desk
+    (c.exchanges.invariant.so_far h stands whole clean) c.exchanges.invariant.within clean
+
+pub returns-then-not-may_serve_on-clause-leaves : goal.returns-then-not-may_serve_on-clause-leaves
+returns-then-not-may_serve_on-clause-leaves g c = λ h stands whole clean.
+    let within : c.exchanges.served + 1 ≤ c.args.exchanges = omega (arith, c.exchanges-test.true) in
+    served_last g.S.Store h c.exchanges.served c.args.exchanges c.exchanges.desk c.serve_connection-finish.new.desk
+    c.serve_connection-finish.result
+    (c.exchanges.invariant.so_far h stands whole (c.serve_connection-finish.ensures.clean clean))
+    c.serve_connection-finish.ensures.leaves within clean
+
+pub returns-clause-leaves : goal.returns-clause-leaves
+returns-clause-leaves g c = λ h stands whole clean.
+    served_all g.S.Store h c.exchanges.served c.args.exchanges c.exchanges.desk
+    (c.exchanges.invariant.so_far h stands whole clean) c.exchanges.invariant.within clean
+
+pub returns-then-not-may_serve_on-clause-ends : goal.returns-then-not-may_serve_on-clause-ends
+returns-then-not-may_serve_on-clause-ends g c =
+    ends_serving c.serve_connection-finish.result (sym c.may_serve_on.ensures ∙ c.if-not-may_serve_on.true)

@@ -1,0 +1,18 @@
+-- After each exchange the desk is whole and of some items more.
+use Rattle.std.proofs.Common.{◌-◌, ◌≤◌, List}
+use Rattle.register_requests.specs.declared.request.Request.{Request}
+use Rattle.register_desk.specs.Desk.{IsClean, IsWhole}
+use Rattle.register_desk.specs.Register.{StandsFor}
+use Rattle.register_program.specs.Within.ServedExchanges.{StandsForSome}
+use Rattle.register_program.proofs.serving.serve_on.Given as goal
+
+abbrev pub invariant-exchanges : goal.invariant-exchanges
+invariant-exchanges g l = record {
+  so_far : (h : List Request) → StandsFor g.S.Store l.fn.desk h → IsWhole l.fn.desk → IsClean g.S.Store l.desk
+      → StandsForSome g.S.Store h l.served l.desk;
+  clean : IsClean g.S.Store l.desk → IsClean g.S.Store l.fn.desk;
+  within : l.served ≤ l.exchanges;
+}
+
+abbrev pub decreases-exchanges : goal.decreases-exchanges
+decreases-exchanges g l = l.exchanges - l.served

@@ -1,0 +1,200 @@
+-- A life of a register in files: it is opened, something is done over it, and it may be stopped.
+use Rattle.std.specs.Prelude.{◌≡◌, ◌≢◌, ◌⊎◌, ◌+◌, ◌≤◌, ◌++◌, ℕ, List, [], length, take, Option, None, Some}
+use Rattle.std.specs.Prelude.{IfSome, IsTrue}
+use Rattle.sqlite_trees.specs.declared.store.Store.{Ghosts}
+use Rattle.sqlite_trees.specs.View.{IsClean as IsCleanStore}
+use Rattle.sqlite.specs.Files.{AreFoundIn, HoldsDatabase}
+use Rattle.sqlite.specs.Held.{Held, AreDatabases, state}
+use Rattle.sqlite.specs.Recovery.{Image}
+use Rattle.sqlite.specs.State.{State, HasCleanDisk}
+use Rattle.sqlite.specs.Tree.{Trees}
+use Rattle.register_requests.specs.declared.request.Request.{Request}
+use Rattle.register_core.specs.Fold.{IsLawful, history}
+use Rattle.register_desk.specs.declared.desk.Desk.{Desk}
+use Rattle.register_desk.specs.declared.end.End.TheVariants.{BadHeader, WriteFault}
+use Rattle.register_desk.specs.declared.opening.OpenRefusal.{OpenRefusal}
+use Rattle.register_desk.specs.declared.opening.OpenRefusal.TheVariants.{NotARegister, Store}
+use Rattle.register_desk.specs.declared.opening.Unopened.{Unopened}
+use Rattle.register_desk.specs.declared.runs.Finish.{Finish}
+use Rattle.register_desk.specs.declared.runs.Finish.TheVariants.{Ended}
+use Rattle.register_desk.specs.declared.runs.Outcome.{Outcome}
+use Rattle.register_desk.specs.DatabaseFiles.{HoldsLife, HoldsNothing, HoldsOneOf, HoldsRegister, LeadsOn, ShowsFiles}
+use Rattle.register_desk.specs.OpenRefusal.{IsMadeIn, IsTakenIn, IsReasonOf, RefusesNoTable, ShowsTable}
+use Rattle.register_desk.specs.Lives.{AreInRange}
+use Rattle.register_desk.specs.Run.{RunsOver}
+use Rattle.register_program.specs.declared.register_file.Refused.{Refused}
+use Rattle.register_report.specs.Import.{EndsWithoutHeader}
+use Rattle.register_report.specs.TextWriter.{WritesText}
+
+-- ---- what a stop leaves
+
+-- whatever a stop leaves in the files holds the register of one of these histories
+abbrev pub LeavesInFiles : List Request → List Request → (Image → Type 0) → Type 0
+LeavesInFiles h other may_leave = (left : Image) → may_leave left → HoldsOneOf h other left
+
+-- whatever a stop leaves in the files holds the register after a life over these items
+abbrev pub LeavesLifeInFiles : List Request → List (Option Request) → Finish → ℕ → (Image → Type 0) → Type 0
+LeavesLifeInFiles h items end replies may_leave = (left : Image) → may_leave left → HoldsLife h items end replies left
+
+-- whatever a stop leaves in the files holds that database with an empty register made in it
+abbrev pub LeavesMadeIn : State → (Image → Type 0) → Type 0
+LeavesMadeIn s may_leave =
+    (left : Image) → may_leave left → ∥ ((db : Trees) × HoldsDatabase left db × IsMadeIn s db) ∥₁
+
+-- whatever a stop leaves in the files holds nothing
+abbrev pub LeavesNothing : (Image → Type 0) → Type 0
+LeavesNothing may_leave = (left : Image) → may_leave left → ∥ HoldsNothing left ∥₁
+
+-- the same, or the register of no request
+abbrev pub LeavesNoRequest : (Image → Type 0) → Type 0
+LeavesNoRequest may_leave = (left : Image) → may_leave left → ∥ (HoldsNothing left ⊎ HoldsRegister [] left) ∥₁
+
+-- the database is one that an opening of the files finds: the one that they hold, if they hold one
+pub record IsFoundIn (found : Image) (db : Trees) : Type 0 where
+  pub reads : AreFoundIn found db
+  pub holds : (other : Trees) → HoldsDatabase found other → db ≡ other
+
+-- whatever a stop leaves in the files holds a database that was found in them
+abbrev pub LeavesFound : Image → (Image → Type 0) → Type 0
+LeavesFound found may_leave =
+    (left : Image) → may_leave left → ∥ ((db : Trees) × IsFoundIn found db × HoldsDatabase left db) ∥₁
+
+-- the same, or what that was taken to: tables of the first version in this program's
+abbrev pub LeavesTaken : Image → State → (Image → Type 0) → Type 0
+LeavesTaken found s may_leave =
+    (left : Image) → may_leave left
+    → ∥ ((db : Trees) × (IsFoundIn found db ⊎ IsTakenIn s db) × HoldsDatabase left db) ∥₁
+
+-- what a stop leaves behind a refusal: what was taken to this program's version only where the database refused
+abbrev pub LeavesBehindIn : OpenRefusal → Image → State → (Image → Type 0) → Type 0
+LeavesBehindIn Store found s may_leave = LeavesTaken found s may_leave
+LeavesBehindIn refusal found s may_leave = LeavesFound found may_leave
+
+-- A connection was closed: its files are sound, and what a stop leaves of them it left of the connection.
+pub record ClosesAs {S : Type 0} (g : Ghosts S) (connection : Held S) (store : S) : Type 0 where
+  pub clean : IsCleanStore (g.view store) → HasCleanDisk (state g connection)
+  pub numbered : IsCleanStore (g.view store) → IsTrue (g.view store).is_numbered
+  pub sound : IsCleanStore (g.view store) → AreDatabases (g.recovers store)
+  pub outcomes : (db : Trees) → g.recovers store db → (state g connection).may_leave db
+
+-- ---- refusals
+
+-- what is given back of a connection that did not become a desk
+pub record GivesBack {S : Type 0} (g : Ghosts S) (unopened : Unopened S) (refused : Refused S) : Type 0 where
+  pub same : refused.refusal ≡ unopened.refusal
+  pub store : S
+  pub back : refused.store ≡ Some store
+  pub closes : ClosesAs g unopened.connection store
+
+-- no table is to blame, and a stop leaves the register as it was
+abbrev pub SparesRegister : List Request → OpenRefusal → (Image → Type 0) → Type 0
+SparesRegister h refusal may_leave = RefusesNoTable refusal × LeavesInFiles h h may_leave
+
+-- a database as it was committed, or that with an empty register made in it
+abbrev pub IsCommittedOrMade : State → Trees → Type 0
+IsCommittedOrMade s db = (db ≡ s.committed.trees) ⊎ IsMadeIn s db
+
+module _ {S : Type 0} (g : Ghosts S) (found : Image) where
+  -- The files were no register of this program, or the database refused: the refusal has its reason in what an opened
+  -- connection to them shows, and a stop leaves what was found; where the database refused perhaps what that was taken to.
+  pub record RefusesFiles (refusal : OpenRefusal) (may_leave : Image → Type 0) : Type 0 where
+    pub old : Held S
+    pub new : Held S
+    pub shows : ShowsFiles found (state g old)
+    pub reason : IsReasonOf (state g old) (state g new) refusal
+    pub leaves : LeavesBehindIn refusal found (state g old) may_leave
+
+  -- Files in which no register was made. Where a table of one is to blame it is there; where one is there, a stop leaves
+  -- what was found; else it leaves what was committed, or that with an empty register made in it.
+  pub record RefusesToMake (refusal : OpenRefusal) (may_leave : Image → Type 0) : Type 0 where
+    pub old : Held S
+    pub shows : ShowsFiles found (state g old)
+    pub no_version : (refusal ≡ Store) ⊎ (refusal ≡ NotARegister)
+    pub there : refusal ≡ NotARegister → ShowsTable (state g old) × LeavesFound found may_leave
+    pub spares : ShowsTable (state g old) → LeavesFound found may_leave
+    pub leaves : (left : Image) → may_leave left
+        → ∥ ((db : Trees) × HoldsDatabase left db × IsCommittedOrMade (state g old) db) ∥₁
+
+module _ {S : Type 0} (g : Ghosts S) (may_leave : S → Image → Type 0) (found : Image) where
+  -- this is said of the files that were left, if any were and they are sound
+  abbrev pub OfSound : Option S → ((Image → Type 0) → Type 0) → Type 0
+  OfSound left Says = IfSome left (λ store. IsCleanStore (g.view store) → Says (may_leave store))
+
+  -- A call that did not open a register. Its refusal has its cause in what the files held, and a stop leaves that, so
+  -- nothing where they held nothing. The register of a history is not refused for its tables; nor are files that could
+  -- not be opened at all.
+  pub record Refuses (refused : Refused S) : Type 0 where
+    pub cause : OfSound refused.store (RefusesFiles g found refused.refusal)
+    pub spares : (h : List Request) → IsLawful h → HoldsRegister h found
+        → OfSound refused.store (SparesRegister h refused.refusal)
+    pub nothing : HoldsNothing found → OfSound refused.store LeavesNothing
+    pub unopened : refused.store ≡ None → RefusesNoTable refused.refusal
+
+  -- A call that did not make a register. The one that the files hold is left; where they held nothing, nothing is, or
+  -- the register of no request.
+  pub record RefusesMaking (refused : Refused S) : Type 0 where
+    pub cause : OfSound refused.store (RefusesToMake g found refused.refusal)
+    pub spares : (h : List Request) → HoldsRegister h found → OfSound refused.store (LeavesInFiles h h)
+    pub nothing : HoldsNothing found → OfSound refused.store LeavesNoRequest
+    pub unopened : refused.store ≡ None → RefusesNoTable refused.refusal
+
+-- ---- lives
+
+-- A run over these items from the history h wrote what it has to, and whatever a stop leaves in the files holds the
+-- register of the history of the items that were answered, or of one item more.
+pub record LivesOver {S : Type 0} (g : Ghosts S) (h : List Request) (items : List (Option Request)) (rest : List ℕ)
+    (outcome : Outcome) (old new : Option (List ℕ)) (desk : Desk S g) (may_leave : Image → Type 0) : Type 0 where
+  pub over : RunsOver g h items rest outcome.end outcome.replies old new desk
+  pub leaves :
+      LeavesInFiles (history h (take outcome.replies items))
+      (history h (take (outcome.replies + 1) items)) may_leave
+  -- of one item more alone, where its answer was written in part
+  pub in_part : outcome.end ≡ Ended WriteFault
+      → LeavesInFiles (history h (take (outcome.replies + 1) items))
+      (history h (take (outcome.replies + 1) items)) may_leave
+
+-- Whatever its reader told, it ran over some items from the history h and wrote what it has to, and whatever a stop
+-- leaves in the files holds the register after the life that it was: of the items that were answered, and perhaps of
+-- one more. An import without its header row has no items.
+pub record LivesSome {S : Type 0} (g : Ghosts S) (h : List Request) (outcome : Outcome) (old new : Option (List ℕ))
+    (desk : Desk S g) (may_leave : Image → Type 0) : Type 0 where
+  pub items : List (Option Request)
+  pub rest : List ℕ
+  pub over : outcome.end ≢ Ended BadHeader → RunsOver g h items rest outcome.end outcome.replies old new desk
+  pub leaves : LeavesLifeInFiles h items outcome.end outcome.replies may_leave
+
+-- so that lives go on one from the other
+abbrev pub LeadsOnTo : Image → Outcome → (Image → Type 0) → Type 0
+LeadsOnTo found outcome may_leave =
+    (left : Image) → may_leave left
+    → LeadsOn found (record { end = outcome.end; replies = Some outcome.replies; left = left })
+
+-- the same of a life that counts no replies
+abbrev pub LeadsOnServed : Image → Outcome → (Image → Type 0) → Type 0
+LeadsOnServed found outcome may_leave =
+    (left : Image) → may_leave left
+    → LeadsOn found (record { end = outcome.end; replies = None; left = left })
+
+-- An import without its header row wrote nothing, and whatever a stop leaves in the files holds the register as it was.
+pub record EndsUnbegun (h : List Request) (outcome : Outcome) (old new : Option (List ℕ))
+    (may_leave : Image → Type 0) : Type 0 where
+  pub ends : EndsWithoutHeader outcome.end
+  pub same : new ≡ old
+  pub leaves : LeavesInFiles h h may_leave
+
+-- The text was written, or a prefix of it where the call ended before, and whatever a stop leaves in the files holds the
+-- register as it was.
+pub record WritesOut (h : List Request) (text : List ℕ) (outcome : Outcome) (old new : Option (List ℕ))
+    (may_leave : Image → Type 0) : Type 0 where
+  pub writes : WritesText text outcome.end old new
+  pub leaves : LeavesInFiles h h may_leave
+
+-- Exchanges were served, and whatever a stop leaves in the files holds the register with some items after its history,
+-- or with one more of them: as many as there were exchanges at most.
+pub record ServesInFiles (h : List Request) (most : ℕ) (may_leave : Image → Type 0) : Type 0 where
+  pub items : List (Option Request)
+  pub next : List (Option Request)
+  pub one : length next ≤ 1
+  pub few : length (items ++ next) ≤ most
+  pub in_range : AreInRange (items ++ next)
+  pub leaves : LeavesInFiles (history h items) (history h (items ++ next)) may_leave

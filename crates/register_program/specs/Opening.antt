@@ -1,0 +1,24 @@
+-- What an opening of files finds that hold a register.
+use Rattle.std.specs.Prelude.{List, Result, Ok, Err, IfSome}
+use Rattle.sqlite_trees.specs.declared.store.Store.{Ghosts}
+use Rattle.sqlite_trees.specs.View.{IsClean as IsCleanStore}
+use Rattle.sqlite.specs.Recovery.{Image}
+use Rattle.register_requests.specs.declared.request.Request.{Request}
+use Rattle.register_core.specs.Fold.{IsLawful}
+use Rattle.register_desk.specs.declared.desk.Desk.{Desk}
+use Rattle.register_desk.specs.DatabaseFiles.{HoldsRegister}
+use Rattle.register_desk.specs.Desk.{IsClean}
+use Rattle.register_desk.specs.OpenRefusal.{RefusesNoTable}
+use Rattle.register_desk.specs.Register.{StandsFor}
+use Rattle.register_program.specs.declared.register_file.Refused.{Refused}
+
+module _ {S : Type 0} (g : Ghosts S) where
+  -- Where the disk gave back what was written, an opening that succeeds stands for the history, and one that does not
+  -- blames no table.
+  abbrev pub OpensAs : List Request → Result (Desk S g) (Refused S) → Type 0
+  OpensAs h (Ok desk) = IsClean g desk → StandsFor g desk h
+  OpensAs h (Err refused) = IfSome refused.store (λ store. IsCleanStore (g.view store)) → RefusesNoTable refused.refusal
+
+  -- it is so of the history whose register the files hold
+  abbrev pub OpensRegister : Image → Result (Desk S g) (Refused S) → Type 0
+  OpensRegister found result = (h : List Request) → IsLawful h → HoldsRegister h found → OpensAs h result

@@ -1,0 +1,32 @@
+-- What serving exchanges one after the other leaves, whatever the clients sent.
+use Rattle.std.specs.Prelude.{◌≡◌, ℕ, ◌≤◌, List, ◌++◌, length, Option}
+use Rattle.sqlite_trees.specs.declared.store.Store.{Ghosts}
+use Rattle.register_requests.specs.declared.request.Request.{Request}
+use Rattle.register_core.specs.Fold.{history}
+use Rattle.register_desk.specs.declared.desk.Desk.{Desk}
+use Rattle.register_desk.specs.declared.end.End.TheVariants.{Memory, Store, Broken, ReadFault, WriteFault, BadHeader}
+use Rattle.register_desk.specs.declared.runs.Finish.{Finish}
+use Rattle.register_desk.specs.declared.runs.Finish.TheVariants.{AtEnd, Ended}
+use Rattle.register_desk.specs.Desk.{LeavesEither}
+use Rattle.register_desk.specs.Lives.{AreInRange}
+
+-- how serving ends: as many exchanges as were asked for came and went, or none may follow, or no connection was
+-- accepted or no moment told
+abbrev pub EndsServing : Finish → Type 0
+EndsServing (AtEnd rest) = rest ≡ 0
+EndsServing (Ended Memory) = ⊥
+EndsServing (Ended Store) = Unit {0}
+EndsServing (Ended Broken) = Unit {0}
+EndsServing (Ended ReadFault) = Unit {0}
+EndsServing (Ended WriteFault) = ⊥
+EndsServing (Ended BadHeader) = ⊥
+
+-- A stop leaves the register of h with some items after it, or with one more of them: as many as there were exchanges
+-- at most.
+pub record LeavesSome {S : Type 0} (g : Ghosts S) (h : List Request) (most : ℕ) (desk : Desk S g) : Type 0 where
+  pub items : List (Option Request)
+  pub next : List (Option Request)
+  pub one : length next ≤ 1
+  pub few : length (items ++ next) ≤ most
+  pub in_range : AreInRange (items ++ next)
+  pub leaves : LeavesEither g (history h items) (history h (items ++ next)) desk

@@ -1,0 +1,254 @@
+//! The register in a file: the database file, and its log beside it.
+ghost use Rattle.std.specs.Prelude.{◌≡◌, None, false, IfErr};
+ghost use Rattle.sqlite_trees.specs.View.{IsClean as IsCleanStore};
+ghost use Rattle.register_desk.specs.Desk.{IsClean};
+ghost use Rattle.register_program.specs.Closing.{ClosesDesk};
+ghost use Rattle.register_program.specs.Within.Closing.{LeavesAsDesk};
+ghost use Rattle.register_program.specs.FileCalls.{Exports, ImportsRows, MakesRegister, OpensFile};
+ghost use Rattle.register_program.specs.FileCalls.{Reports, RunsLines, ServesExchanges};
+ghost use Rattle.register_program.specs.Life.{ClosesAs};
+
+use crate::files::{Closed, Files};
+use crate::network::Network;
+use crate::serving::serve_at;
+use register_desk::{Desk, OpenRefusal, Outcome, Unopened, Watched, run};
+use register_report::{export, import, rotation};
+use register_words::{Bounds, Terms};
+use sqlite::{Alter, Connection};
+use std::alloc::Global;
+use std::io::{Read, Write};
+use std::time::Clock;
+
+/// What one life of a register in a file came to.
+#[derive(Drop)]
+pub struct Life<S> {
+    /// What was done.
+    pub outcome: Outcome,
+    /// The files as it left them.
+    pub files: Closed<S>,
+}
+
+/// Why a register was not made or opened.
+#[derive(Drop)]
+pub struct Refused<L> {
+    pub refusal: OpenRefusal,
+    /// The files as they were left; `None` where they could not be opened at all.
+    pub store: Option<L>,
+}
+
+/// The refusal of files that could not be opened.
+impl<L> From<OpenRefusal> for Refused<L> {
+    ghost from_gives = { λ refusal refused. refused ≡ record { refusal = refusal; store = None } };
+
+    fn from(refusal: OpenRefusal) -> Self {
+        Refused {
+            refusal,
+            store: None,
+        }
+    }
+}
+
+/// The refusal of files that were opened.
+impl<S: Alter + Drop> From<Unopened<S>> for Refused<S> {
+    ghost use Rattle.register_program.specs.Life.{GivesBack};
+
+    ghost from_gives = { λ unopened refused. GivesBack S.Store unopened refused };
+
+    fn from(unopened: Unopened<S>) -> Self {
+        let Unopened {
+            refusal,
+            connection,
+        } = unopened;
+        Refused {
+            refusal,
+            store: Some(close_connection_into_store(connection)),
+        }
+    }
+}
+
+/// The files of a connection that nobody uses any more.
+fn close_connection_into_store<S: Alter + Drop>(connection: Connection<S>) -> S
+    ensures { ClosesAs S.Store connection result }
+{
+    connection.into_store()
+}
+
+/// The files of a register that nobody uses any more, with the log copied into the database file.
+fn close_desk<F: Files>(desk: Desk<F::Opened>) -> Closed<F::Opened>
+    ensures clean { IsCleanStore (F.Opened.Store.view result.store)
+        → IsClean F.Opened.Store desk }
+    // What a stop leaves of the register is what is found in the files, up to their closing and from
+    // then on.
+    ensures closes { IsCleanStore (F.Opened.Store.view result.store)
+        → ClosesDesk F.Opened.Store F.may_leave desk result
+        (LeavesAsDesk F.Opened.Store desk) }
+{
+    F::close(close_connection_into_store(desk.into_connection()))
+}
+
+/// Makes an empty register in the file, which is made where there is none. Gives the files as it
+/// left them.
+///
+/// # Errors
+/// [`OpenRefusal::NotARegister`] where the file has a table of a register; [`OpenRefusal::Store`]
+/// where the file cannot be opened, or the database refused; [`OpenRefusal::Memory`] where memory
+/// gave out.
+pub fn init_file<F: Files>(
+    alloc: Global,
+    file: &str,
+    files: F,
+) -> Result<Closed<F::Opened>, Refused<F::Opened>>
+    ensures { MakesRegister F.Opened.Store F.may_leave F.start result }
+{
+    let connection = files.connect(file)?;
+    let desk = Desk::create(alloc, connection)?;
+    Ok(close_desk::<F>(desk))
+}
+
+/// Opens the register in the file. Where there is no file none is made.
+///
+/// # Errors
+/// As [`Desk::open`]; [`OpenRefusal::Store`] also where there is no file, or it cannot be opened,
+/// or is no database.
+pub fn open_file<F: Files + Drop>(
+    alloc: Global,
+    file: &str,
+    files: F,
+) -> Result<Desk<F::Opened>, Refused<F::Opened>>
+    ensures { OpensFile F.Opened.Store F.may_leave F.start result }
+{
+    if !files.may_be_there(file) {
+        return Err(Refused::from(OpenRefusal::Store));
+    }
+    let connection = files.connect(file)?;
+    let desk = Desk::open(alloc, connection)?;
+    Ok(desk)
+}
+
+/// Opens the register in the file and runs over the request lines of `reader`.
+///
+/// # Errors
+/// As [`open_file`]; nothing was read or written then.
+pub fn run_file<F: Files + Drop, R: Read, W: Write>(
+    alloc: Global,
+    file: &str,
+    files: F,
+    reader: &mut Watched<R>,
+    writer: &mut Watched<W>,
+) -> Result<Life<F::Opened>, Refused<F::Opened>>
+    requires reader { reader.old.failed ≡ false }
+    requires writer { writer.old.failed ≡ false }
+    ensures runs { RunsLines F.Opened.Store F.may_leave F.start (R.remaining reader.old.inner)
+        (W.contents writer.old.inner) (W.contents writer.new.inner) result }
+    ensures untouched { IfErr result (λ _. writer.new ≡ writer.old) }
+{
+    let mut desk = open_file(alloc, file, files)?;
+    let outcome = run(reader, writer, &mut desk);
+    Ok(Life {
+        outcome,
+        files: close_desk::<F>(desk),
+    })
+}
+
+/// Opens the register in the file, and registers a key for each row of the table that `reader`
+/// gives, as [`import`](register_report::import).
+///
+/// # Errors
+/// As [`open_file`]; nothing was read or written then.
+pub fn import_file<F: Files + Drop, R: Read + Drop, W: Write>(
+    alloc: Global,
+    file: &str,
+    files: F,
+    terms: &Terms,
+    reader: R,
+    writer: &mut Watched<W>,
+) -> Result<Life<F::Opened>, Refused<F::Opened>>
+    requires { writer.old.failed ≡ false }
+    ensures imports { ImportsRows F.Opened.Store F.may_leave F.start terms.now (R.remaining reader)
+        (W.contents writer.old.inner) (W.contents writer.new.inner) result }
+    ensures untouched { IfErr result (λ _. writer.new ≡ writer.old) }
+{
+    let mut desk = open_file(alloc, file, files)?;
+    let outcome = import(
+        alloc,
+        &mut desk,
+        terms.moment,
+        &terms.caller,
+        terms.first.get(),
+        reader,
+        writer,
+    );
+    Ok(Life {
+        outcome,
+        files: close_desk::<F>(desk),
+    })
+}
+
+/// Opens the register in the file, and writes all its keys, as [`export`](register_report::export).
+///
+/// # Errors
+/// As [`open_file`]; nothing was written then.
+pub fn export_file<F: Files + Drop, W: Write>(
+    alloc: Global,
+    file: &str,
+    files: F,
+    writer: &mut Watched<W>,
+) -> Result<Life<F::Opened>, Refused<F::Opened>>
+    requires { writer.old.failed ≡ false }
+    ensures exports { Exports F.Opened.Store F.may_leave F.start
+        (W.contents writer.old.inner) (W.contents writer.new.inner) result }
+    ensures untouched { IfErr result (λ _. writer.new ≡ writer.old) }
+{
+    let mut desk = open_file(alloc, file, files)?;
+    let outcome = export(alloc, &mut desk, writer);
+    Ok(Life {
+        outcome,
+        files: close_desk::<F>(desk),
+    })
+}
+
+/// Opens the register in the file, and writes which keys are due for rotation in this number of
+/// days, as [`rotation`](register_report::rotation).
+///
+/// # Errors
+/// As [`open_file`]; nothing was written then.
+pub fn report_file<F: Files + Drop, W: Write>(
+    alloc: Global,
+    file: &str,
+    files: F,
+    days: u32,
+    writer: &mut Watched<W>,
+) -> Result<Life<F::Opened>, Refused<F::Opened>>
+    requires { writer.old.failed ≡ false }
+    ensures reports { Reports F.Opened.Store F.may_leave F.start days
+        (W.contents writer.old.inner) (W.contents writer.new.inner) result }
+    ensures untouched { IfErr result (λ _. writer.new ≡ writer.old) }
+{
+    let mut desk = open_file(alloc, file, files)?;
+    let outcome = rotation(alloc, &mut desk, days, writer);
+    Ok(Life {
+        outcome,
+        files: close_desk::<F>(desk),
+    })
+}
+
+/// Opens the register in the file, and serves exchanges, as [`serve_at`].
+///
+/// # Errors
+/// As [`open_file`]; no connection was accepted then.
+pub fn serve_file<F: Files + Drop, N: Network + Clock>(
+    alloc: Global,
+    file: &str,
+    files: F,
+    network: &N,
+    bounds: &Bounds,
+) -> Result<Life<F::Opened>, Refused<F::Opened>>
+    ensures { ServesExchanges F.Opened.Store F.may_leave F.start bounds.now.exchanges result }
+{
+    let mut desk = open_file(alloc, file, files)?;
+    let end = serve_at(alloc, &mut desk, network, bounds.port, bounds.exchanges);
+    Ok(Life {
+        outcome: Outcome::ended_without_bytes(end),
+        files: close_desk::<F>(desk),
+    })
+}

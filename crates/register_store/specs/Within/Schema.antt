@@ -1,0 +1,28 @@
+-- What functions within the crate say of one another, beside `specs/Schema.antt`.
+use Rattle.std.specs.Prelude.{ℕ, List, [], take, fold, codes}
+use Rattle.sqlite.specs.Schema.{Schema}
+use Rattle.sqlite.specs.Change.{created}
+use Rattle.register_store.specs.declared.key_index.KeyIndex.{KeyIndex}
+use Rattle.register_store.specs.declared.key_index.KeyIndex.TheVariants.{Activation, Deactivation, ProtectStop}
+use Rattle.register_store.specs.Tables.{fresh, all_tables}
+use Rattle.register_store.specs.Tables.{table_of}
+use Rattle.register_store.specs.Schema.{no_schema}
+
+-- ---- schemas
+
+-- the schema of a file in which only the first n of the tables are made
+abbrev pub schema_after : ℕ → Schema
+schema_after n = fold (λ schema name. created schema (table_of (fresh []) name)) no_schema (take n all_tables)
+
+-- ---- the indexes of keys that a new register has
+
+-- the place of an index among those of keys
+abbrev pub index_place : KeyIndex → ℕ
+index_place Activation = 0
+index_place Deactivation = 1
+index_place ProtectStop = 2
+
+abbrev pub index_text : KeyIndex → List ℕ
+index_text Activation = codes "CREATE INDEX keys_by_activation ON keys (state, activation)"
+index_text Deactivation = codes "CREATE INDEX keys_by_deactivation ON keys (state, deactivation)"
+index_text ProtectStop = codes "CREATE INDEX keys_by_protect_stop ON keys (state, protect_stop, number)"
