@@ -341,7 +341,7 @@ def counts_of_code():
     tables = re.search(r"TABLES: \[TableName; (\d+)\]", read("crates/register_store/src/table.rt"))
     kind = read("crates/register_requests/src/command_fields.rt")
     kinds = re.search(r"ALL: \[CommandKind; (\d+)\]", kind)
-    steps = re.search(r"StandsFor[^}]*TakesSteps (\d+)", read("crates/register_desk/src/desk/applying.rt"))
+    steps = re.search(r"AppliesTo S\.Store request\.now (\d+)", read("crates/register_desk/src/desk/applying.rt"))
     return int(tables.group(1)), int(kinds.group(1)), int(steps.group(1))
 
 

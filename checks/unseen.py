@@ -5,7 +5,8 @@
 
 - What a read, a write or a flush answered: the marks that a stream failed or has something
   unflushed are named in the lines of MARKED alone, in a pattern or as a field, and so are the calls
-  that set one. These are the turns of crates/streams, each a function of a few lines.
+  that set one. These are the turns of crates/streams, each a function of a few lines. What came of
+  listening, accepting and asking for the moment is marked in the lines of ATTENDED.
 - Whether memory gave out: the end 30, and the error that becomes it, is told in the places of TOLD,
   behind a call that asks for memory, or where a count of bytes would pass 2^64.
 - How often a connection was called: each function of `Counted` makes the calls of CALLS, once.
@@ -31,6 +32,15 @@ MARKED = {
     "read_turn": ["Err(error) => self.count_error(&error),"],
     "write_turn": ["self.count_failed();", "self.unflushed = true;", "Err(error) => self.count_error(&error),"],
 }
+ATTENDANCE = CRATES / "register_program" / "src" / "attendance.rt"
+ATTENDED = {
+    "accept": ["self.accepted += 1;", "self.failed = true;"],
+    "accepted": ["self.accepted"],
+    "has_failed": ["self.failed"],
+    "listen": ["self.failed = true;"],
+    "new": ["accepted: 0,", "failed: false,"],
+    "tell_moment": ["self.failed = self.failed || moment.is_none();"],
+}
 # The most lines of the body of a turn, and of what it calls.
 MOST_LINES = 14
 
@@ -49,7 +59,7 @@ TOLD = {
     "register_desk/src/opening.rt": 1,
     "register_http/src/exchanging.rt": 1,
     "register_program/src/faults.rt": 3,
-    "register_report/src/importing.rt": 1,
+    "register_report/src/importing.rt": 2,
     "register_report/src/table_writing.rt": 1,
     "register_store/src/error.rt": 3,
     "row_checks/src/reading.rt": 1,
@@ -110,6 +120,14 @@ def mark_faults() -> list[str]:
     return faults + [f"no function {name} of a stream" for name in MARKED if name not in have]
 
 
+def attended_faults() -> list[str]:
+    """Where what came of the network or the clock is marked otherwise."""
+    found = {name: [line.strip() for line in body if re.search(r"\b(?:failed|accepted)\b", line)]
+             for name, body in bodies(ATTENDANCE).items()}
+    return [f"attendance.rt: {name} names marks in {found.get(name)}"
+            for name in sorted(found.keys() | ATTENDED.keys()) if found.get(name) != ATTENDED.get(name)]
+
+
 def told_faults() -> list[str]:
     """Where want of memory is told in more places than it should be, or in fewer."""
     told = {}
@@ -136,7 +154,7 @@ def call_faults() -> list[str]:
 
 
 def main() -> int:
-    faults = mark_faults() + told_faults() + call_faults()
+    faults = mark_faults() + attended_faults() + told_faults() + call_faults()
     print(*faults, sep="\n", end="\n" if faults else "")
     print(f"marks of streams, {sum(TOLD.values())} places that tell want of memory, "
           f"{len(CALLS)} functions that call a connection: {len(faults)} faults")

@@ -1,17 +1,14 @@
 -- The life that a call over items was, whatever its reader told.
-use Rattle.std.proofs.Common.{◌≡◌, ℕ, ◌+◌, Bool, true, false, List, [], ◌∷◌, ◌++◌, take, Option, None, Some}
+use Rattle.std.proofs.Common.{◌≡◌, ℕ, ◌+◌, Bool, true, false, List, [], ◌∷◌, take, Option, None, Some}
 use Rattle.std.proofs.Common.{inl, inr, refl, sym, subst, ◌∙◌, arith}
-use Rattle.std.proofs.lemmas.List.{append-nil}
 use Rattle.std.proofs.lemmas.Option.{slice_get_within}
 use Rattle.register_store.specs.Schema.{Holds}
 use Rattle.sqlite_trees.specs.declared.store.Store.{Ghosts}
 use Rattle.register_requests.specs.declared.request.Request.{Request}
 use Rattle.register_core.specs.Fold.{history}
 use Rattle.register_requests.specs.Request.{IsItem}
-use Rattle.register_core.proofs.Lawful.{all_more}
 use Rattle.std.specs.Prelude.{IfSome}
 use Rattle.register_requests.specs.Request.{IsRequest}
-use Rattle.register_desk.specs.declared.end.End.{End}
 use Rattle.register_desk.specs.declared.end.End.TheVariants.{Memory, Store, Broken, ReadFault, WriteFault, BadHeader}
 use Rattle.register_desk.specs.declared.runs.Finish.{Finish}
 use Rattle.register_desk.specs.declared.runs.Finish.TheVariants.{AtEnd, Ended}
@@ -27,8 +24,6 @@ use Rattle.register_desk.specs.Lives.{after, applied, AreInRange, IsLife, Leaves
 use Rattle.register_desk.specs.Lives.{MayApplyOneMore}
 use Rattle.register_desk.specs.Register.{StandsFor, tables}
 use Rattle.register_desk.specs.Run.{Answered, LeavesDesk, RunsOver}
-use Rattle.register_desk.specs.Within.RunProgress.{Served, ServedInPart, ServesTo}
-use Rattle.register_desk.proofs.Answering.{prefix_so, stopped_so}
 
 -- ---- items of lines are in range
 
@@ -133,49 +128,6 @@ module _ {S : Type 0} (g : Ghosts S) (h : List Request) (items : List (Option Re
       → LivesSome g h end replies old new kept now
   lived_alone rest end old new kept may whole answered over =
       record { items = items; rest = rest; over = over; leaves = λ was. none_more end old new may (whole was) answered }
-
--- ---- a run over lines
-
-module _ {S : Type 0} (g : Ghosts S) (h : List Request) (before old new : Option (List ℕ)) (kept now : Desk S g)
-    (replies : ℕ) (stands : StandsFor g kept h) (clean : IsClean g now) where
-  -- the items so far, and no more
-  answered : (middle : Option (List ℕ)) (served : Served g before middle old new kept now replies)
-      → Answered g h served.items replies old new now
-  answered middle served =
-      prefix_so g served.items served.items replies served.counted [] (sym (append-nil served.items)) h old new kept
-      now served.so_far stands clean
-
-  in_range_so_far : (middle w : Option (List ℕ)) (mid : Desk S g)
-      (served : Served g before middle old w kept mid replies) → AreInRange served.items
-  in_range_so_far middle w mid served = items_in_range served.lines served.items served.took.each
-
-  -- the item in hand after them
-  lives_in_hand : (end : End) → LeavesDesk kept now (Ended end) → ServedInPart g before old new kept now replies end
-      → LivesSome g h (Ended end) replies old new kept now
-  lives_in_hand end leaves serves =
-      let served = serves.served in
-      lived g h (served.items ++ serves.item ∷ [])
-      (all_more (λ item. IfSome item IsRequest) served.items serves.item
-      (in_range_so_far serves.middle serves.so_far serves.mid served)
-      (item_in_range serves.line serves.item serves.next.stands_for))
-      replies now clean [] (Ended end) old new kept leaves
-      (stopped_so g (served.items ++ serves.item ∷ []) served.items replies served.counted serves.item [] refl old
-      serves.so_far new kept serves.mid now served.so_far h stands clean end serves.part [] serves.leaves)
-
-  pub lives_so : (end : Finish) → LeavesDesk kept now end → ServesTo g before old new kept now replies end
-      → LivesSome g h end replies old new kept now
-  lives_so (AtEnd left) leaves serves =
-      let served = serves.served in
-      lived g h served.items (in_range_so_far serves.middle new now served) replies now clean serves.rest (AtEnd left)
-      old new kept leaves (answered serves.middle served, sym served.counted, serves.counted)
-  lives_so (Ended ReadFault) leaves serves =
-      lived g h serves.served.items (in_range_so_far serves.middle new now serves.served) replies now clean []
-      (Ended ReadFault) old new kept leaves (answered serves.middle serves.served)
-  lives_so (Ended Memory) leaves serves = lives_in_hand Memory leaves serves
-  lives_so (Ended Store) leaves serves = lives_in_hand Store leaves serves
-  lives_so (Ended Broken) leaves serves = lives_in_hand Broken leaves serves
-  lives_so (Ended WriteFault) leaves serves = lives_in_hand WriteFault leaves serves
-  lives_so (Ended BadHeader) leaves serves = absurd serves
 
 -- ---- one life after the other, in files
 

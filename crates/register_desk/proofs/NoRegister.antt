@@ -1,5 +1,5 @@
 -- An empty database shows no register.
-use Rattle.std.proofs.Common.{◌≡◌, ◌++◌, List, ℕ, Err, Ok, codes, refl, sym, ap, ◌∙◌}
+use Rattle.std.proofs.Common.{◌≡◌, List, ℕ, Err, Ok, codes, refl, sym, ap, ◌∙◌}
 use Rattle.sqlite.specs.Listing.{understood, listing_schema}
 use Rattle.sqlite.specs.State.{State, Shown}
 use Rattle.sqlite.specs.Schema.{Schema}

@@ -1,6 +1,6 @@
 -- What the calls of a desk leave.
-use Rattle.std.specs.Prelude.{◌≡◌, ◌⊎◌, ◌<◌, ◌≤◌, ℕ, true, false, List, length, None, Result, MatchResult}
-use Rattle.std.specs.Prelude.{IsTrue}
+use Rattle.std.specs.Prelude.{◌≡◌, ◌⊎◌, ◌<◌, ◌≤◌, ℕ, true, false, List, [], ◌∷◌, length, None, Some, Result, MatchResult}
+use Rattle.std.specs.Prelude.{IfErr, IfOk, IsTrue, OnErr, OnOk}
 use Rattle.sqlite_trees.specs.declared.store.Store.{Ghosts}
 use Rattle.sqlite.specs.State.{HasCleanDisk, Survives}
 use Rattle.sqlite.specs.Held.{Held as Connection}
@@ -11,14 +11,16 @@ use Rattle.register_core.specs.declared.reply.Reply.{Reply}
 use Rattle.register_requests.specs.declared.request.Request.{Request}
 use Rattle.register_core.specs.Decision.{change_by_request, reply_to}
 use Rattle.register_core.specs.KeptReply.{kept_with}
-use Rattle.register_core.specs.Verdict.{judge}
+use Rattle.register_core.specs.Fold.{history}
+use Rattle.register_core.specs.Verdict.{answer, judge}
+use Rattle.register_requests.specs.Request.{IsRequest}
 use Rattle.register_store.specs.Tables.{Tables}
 use Rattle.register_store.specs.TableReads.{Calls, seen}
 use Rattle.register_desk.specs.TablesView.{key_needed, period_over}
 use Rattle.register_desk.specs.declared.desk.Desk.{Desk}
 use Rattle.register_desk.specs.declared.end.End.{End}
 use Rattle.register_desk.specs.declared.end.End.TheVariants.{Memory, Store, Broken, ReadFault, WriteFault, BadHeader}
-use Rattle.register_desk.specs.Register.{IsOver, Sees, Leaves, LeavesOneOf, LeavesEitherOf}
+use Rattle.register_desk.specs.Register.{IsOver, Sees, Leaves, LeavesOneOf, LeavesEitherOf, StandsFor}
 use Rattle.register_store.specs.AcceptedRequest.{with_request}
 
 module _ {S : Type 0} {g : Ghosts S} where
@@ -135,3 +137,28 @@ pub record ChangesNothing {S : Type 0} (g : Ghosts S) (old new : Desk S g) : Typ
   pub counts : KeepsCounts old new
   pub rows : (t : Tables) → Sees g t old → Sees g t new
   pub survives : Survives (seen g old.connection) (seen g new.connection) (λ _. ⊥)
+
+-- What applying a request does over tables, whatever history these are of if any: an accepted request makes one change
+-- of them, nothing else does, and after the end 31 a stop leaves them, or them with the request.
+pub record AppliesOver {S : Type 0} (g : Ghosts S) (q : Request) (old new : Desk S g) (result : Result Answer End)
+    : Type 0 where
+  pub over : (t : Tables) → IsOver g old t → IsRequest q → IsClean g new
+      → IfOk result (λ given. IsOverAfter g t q given new)
+  pub over_still : (t : Tables) → IsOver g old t → OnErr result (IsOver g new t)
+  pub tables : (t : Tables) → IsOver g old t → IsRequest q → IsClean g new
+      → IfErr result (λ end. end ≡ Store → LeavesWithRequest g t q new)
+
+-- What applying a request does to a desk that stands for a history. The answer is the verdict over that; the desk then
+-- stands for the history with the request at its end, if that was accepted, and at any end still for the history. After
+-- the end 31 a stop leaves the register without the request, or with it where it is to be accepted. It takes so many
+-- steps at most, however many keys there are.
+pub record AppliesTo {S : Type 0} (g : Ghosts S) (q : Request) (most : ℕ) (old new : Desk S g)
+    (result : Result Answer End) : Type 0 where
+  pub answer : (h : List Request) → StandsFor g old h → IsRequest q → IsClean g new
+      → IfOk result (λ given. given ≡ answer h q)
+  pub stands : (h : List Request) → StandsFor g old h → IsRequest q → IsClean g new
+      → OnOk result (StandsFor g new (history h (Some q ∷ [])))
+  pub still : (h : List Request) → StandsFor g old h → OnErr result (StandsFor g new h)
+  pub leaves : (h : List Request) → StandsFor g old h → IsRequest q → IsClean g new
+      → IfErr result (λ end. end ≡ Store → LeavesEither g h (history h (Some q ∷ [])) new)
+  pub steps : (h : List Request) → StandsFor g old h → IsClean g new → TakesSteps most old new

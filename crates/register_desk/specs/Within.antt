@@ -4,6 +4,6 @@ pub mod Register
 pub mod Desk
 pub mod DeskCalls
 pub mod DatabaseFiles
-pub mod RunProgress
+pub mod Items
 pub mod KeyRows
 pub mod InMemory

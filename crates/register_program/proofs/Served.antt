@@ -20,7 +20,8 @@ use Rattle.register_desk.specs.Lives.{AreInRange, IsLife, Life, MayApplyOneMore,
 use Rattle.register_desk.specs.Register.{StandsFor}
 use Rattle.register_desk.proofs.Found.{leaves_alone}
 use Rattle.register_http.specs.OneItem.{LeavesOne}
-use Rattle.register_program.specs.ServedExchanges.{EndsServing, LeavesSome}
+use Rattle.register_program.specs.ServedExchanges.{EndsServing, ExplainsEnd, LeavesSome}
+use Rattle.register_program.specs.declared.attendance.Attendance.{Attendance}
 use Rattle.register_program.specs.Within.ServedExchanges.{StandsForSome, may_serve_on}
 
 -- the register may be asked again
@@ -114,6 +115,17 @@ module _ {S : Type 0} (g : Ghosts S) (h : List Request) where
       served_all 0 most desk (served_none desk stands whole) (omega arith) clean
 
 -- ---- the life that was served
+
+-- why an exchange ended it
+pub explains_end : (end : Finish) (exchanges : ℕ) (attendance : Attendance) → may_serve_on end ≡ false
+    → 1 ≤ attendance.accepted → ExplainsEnd exchanges attendance end
+explains_end (Ended Store) exchanges attendance ends some = some
+explains_end (Ended Broken) exchanges attendance ends some = some
+explains_end (AtEnd rest) exchanges attendance ends some = absurd (cc)
+explains_end (Ended Memory) exchanges attendance ends some = absurd (cc)
+explains_end (Ended ReadFault) exchanges attendance ends some = absurd (cc)
+explains_end (Ended WriteFault) exchanges attendance ends some = absurd (cc)
+explains_end (Ended BadHeader) exchanges attendance ends some = absurd (cc)
 
 -- of the items that were applied no more were
 may_apply_none : (end : Finish) → EndsServing end → MayApplyOneMore end false

@@ -1,5 +1,5 @@
 -- What was told on the writer of faults.
-use Rattle.std.proofs.Common.{◌≡◌, ◌≢◌, ℕ, List, [], ◌++◌, Option, None, Some, Result, Ok, Err, OnErr, take, drop, refl, sym}
+use Rattle.std.proofs.Common.{ℕ, List, [], Option, None, Some, Result, Ok, Err, OnErr, take, drop, refl, sym}
 use Rattle.std.specs.Prelude.{IfErr, OnOk}
 use Rattle.std.proofs.lemmas.List.{append-nil, take-append-drop}
 use Rattle.std.specs.Io.KnownBytes.{Appends}

@@ -1,9 +1,10 @@
 -- What serving exchanges one after the other leaves, whatever the clients sent.
-use Rattle.std.specs.Prelude.{◌≡◌, ℕ, ◌≤◌, List, ◌++◌, length, Option}
+use Rattle.std.specs.Prelude.{◌≡◌, ℕ, ◌≤◌, true, false, List, ◌++◌, length, Option}
 use Rattle.sqlite_trees.specs.declared.store.Store.{Ghosts}
 use Rattle.register_requests.specs.declared.request.Request.{Request}
 use Rattle.register_core.specs.Fold.{history}
 use Rattle.register_desk.specs.declared.desk.Desk.{Desk}
+use Rattle.register_program.specs.declared.attendance.Attendance.{Attendance}
 use Rattle.register_desk.specs.declared.end.End.TheVariants.{Memory, Store, Broken, ReadFault, WriteFault, BadHeader}
 use Rattle.register_desk.specs.declared.runs.Finish.{Finish}
 use Rattle.register_desk.specs.declared.runs.Finish.TheVariants.{AtEnd, Ended}
@@ -20,6 +21,21 @@ EndsServing (Ended Broken) = Unit {0}
 EndsServing (Ended ReadFault) = Unit {0}
 EndsServing (Ended WriteFault) = ⊥
 EndsServing (Ended BadHeader) = ⊥
+
+-- nobody was accepted yet, and nothing failed
+abbrev pub nobody : Attendance
+nobody = record { accepted = 0; failed = false }
+
+-- Why serving so many exchanges ended so: as many clients came, or one of them had the exchange that none may follow,
+-- or the network or the clock failed, as is marked.
+abbrev pub ExplainsEnd : ℕ → Attendance → Finish → Type 0
+ExplainsEnd exchanges attendance (AtEnd rest) = (attendance.accepted ≡ exchanges) × (attendance.failed ≡ false)
+ExplainsEnd exchanges attendance (Ended Memory) = ⊥
+ExplainsEnd exchanges attendance (Ended Store) = 1 ≤ attendance.accepted
+ExplainsEnd exchanges attendance (Ended Broken) = 1 ≤ attendance.accepted
+ExplainsEnd exchanges attendance (Ended ReadFault) = attendance.failed ≡ true
+ExplainsEnd exchanges attendance (Ended WriteFault) = ⊥
+ExplainsEnd exchanges attendance (Ended BadHeader) = ⊥
 
 -- A stop leaves the register of h with some items after it, or with one more of them: as many as there were exchanges
 -- at most.

@@ -72,7 +72,10 @@ pub fn perform_task<F: Files + Drop, N: Network + Clock + Drop, R: Read + Drop, 
             Done::Lived(run_file(alloc, file, files, &mut reader, writer))
         }
         Task::Import { file, terms } => match terms.read() {
-            Some(terms) => Done::Lived(import_file(alloc, file, files, &terms, reader, writer)),
+            Some(terms) => {
+                let mut reader = Watched::new(reader);
+                Done::Lived(import_file(alloc, file, files, &terms, &mut reader, writer))
+            }
             None => Done::BadValue,
         },
         Task::Export { file } => Done::Lived(export_file(alloc, file, files, writer)),

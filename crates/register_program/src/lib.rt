@@ -3,6 +3,7 @@
 #![tactic(auto)]
 
 mod acting;
+mod attendance;
 mod faults;
 mod files;
 pub mod laws;
@@ -11,6 +12,7 @@ mod register_file;
 mod serving;
 
 pub use acting::{Done, Machine, Outputs, act, perform_task};
+pub use attendance::Attendance;
 pub use faults::{report_bad_value, report_end, report_refusal};
 pub use files::{Closed, Files, LogCopy};
 pub use network::{Client, Listener, Network};

@@ -8,6 +8,7 @@ ghost use Rattle.register_program.specs.FileCalls.{Exports, ImportsRows, MakesRe
 ghost use Rattle.register_program.specs.FileCalls.{Reports, RunsLines, ServesExchanges};
 ghost use Rattle.register_program.specs.Life.{ClosesAs};
 
+use crate::attendance::Attendance;
 use crate::files::{Closed, Files};
 use crate::network::Network;
 use crate::serving::serve_at;
@@ -155,17 +156,19 @@ pub fn run_file<F: Files + Drop, R: Read, W: Write>(
 ///
 /// # Errors
 /// As [`open_file`]; nothing was read or written then.
-pub fn import_file<F: Files + Drop, R: Read + Drop, W: Write>(
+pub fn import_file<F: Files + Drop, R: Read, W: Write>(
     alloc: Global,
     file: &str,
     files: F,
     terms: &Terms,
-    reader: R,
+    reader: &mut Watched<R>,
     writer: &mut Watched<W>,
 ) -> Result<Life<F::Opened>, Refused<F::Opened>>
-    requires { writer.old.failed ≡ false }
-    ensures imports { ImportsRows F.Opened.Store F.may_leave F.start terms.now (R.remaining reader)
-        (W.contents writer.old.inner) (W.contents writer.new.inner) result }
+    requires reader { reader.old.failed ≡ false }
+    requires writer { writer.old.failed ≡ false }
+    ensures imports { ImportsRows F.Opened.Store F.may_leave F.start terms.now
+        (R.remaining reader.old.inner) (W.contents writer.old.inner) (W.contents writer.new.inner)
+        result }
     ensures untouched { IfErr result (λ _. writer.new ≡ writer.old) }
 {
     let mut desk = open_file(alloc, file, files)?;
@@ -246,7 +249,15 @@ pub fn serve_file<F: Files + Drop, N: Network + Clock>(
     ensures { ServesExchanges F.Opened.Store F.may_leave F.start bounds.now.exchanges result }
 {
     let mut desk = open_file(alloc, file, files)?;
-    let end = serve_at(alloc, &mut desk, network, bounds.port, bounds.exchanges);
+    let mut attendance = Attendance::new();
+    let end = serve_at(
+        alloc,
+        &mut desk,
+        network,
+        bounds.port,
+        bounds.exchanges,
+        &mut attendance,
+    );
     Ok(Life {
         outcome: Outcome::ended_without_bytes(end),
         files: close_desk::<F>(desk),

@@ -4,9 +4,11 @@ ghost use Rattle.register_requests.specs.declared.request.Request.{Request};
 ghost use Rattle.register_desk.specs.Desk.{IsClean, IsWhole};
 ghost use Rattle.register_desk.specs.Register.{StandsFor};
 ghost use Rattle.register_http.specs.OneItem.{LeavesOne};
-ghost use Rattle.register_program.specs.ServedExchanges.{EndsServing, LeavesSome};
+ghost use Rattle.register_program.specs.ServedExchanges.{EndsServing, ExplainsEnd, LeavesSome};
+ghost use Rattle.register_program.specs.ServedExchanges.{nobody};
 ghost use Rattle.register_program.specs.Within.ServedExchanges.{may_serve_on};
 
+use crate::attendance::Attendance;
 use crate::network::{Client, Listener, Network};
 use moment_core::Moment;
 use register_desk::{Desk, End, Finish, Watched};
@@ -148,26 +150,29 @@ fn may_serve_on(finish: Finish) -> bool
 ///
 /// Gives the end of what there is to do after that many, or [`End::Store`] or [`End::Broken`] of
 /// an exchange, or [`End::ReadFault`] where a connection could not be accepted or no moment was
-/// told.
+/// told, as the attendance marks it.
 pub fn serve_on<S: Alter, L: Listener, C: Clock, N: Now>(
     alloc: Global,
     desk: &mut Desk<S>,
     listener: &L,
     clocks: &Clocks<'_, C, N>,
     exchanges: u32,
+    attendance: &mut Attendance,
 ) -> Finish
+    requires { attendance.old ≡ nobody }
     ensures leaves { (h : List Request) → StandsFor S.Store desk.old h → IsWhole desk.old
         → IsClean S.Store desk.new → LeavesSome S.Store h exchanges desk.new }
     ensures clean { IsClean S.Store desk.new → IsClean S.Store desk.old }
     ensures ends { EndsServing result }
+    ensures cause { ExplainsEnd exchanges attendance.new result }
 {
     let mut routes = Routes::new();
     let mut served = 0;
     'exchanges: while served < exchanges {
-        let Ok(client) = listener.accept_client() else {
+        let Some(client) = attendance.accept(listener) else {
             return Finish::Ended(End::ReadFault);
         };
-        let Some(moment) = clocks.moments.now() else {
+        let Some(moment) = attendance.tell_moment(clocks.moments) else {
             return Finish::Ended(End::ReadFault);
         };
         let connection = Connection {
@@ -191,13 +196,16 @@ pub fn serve_at<S: Alter, N: Network + Clock>(
     network: &N,
     port: u16,
     exchanges: u32,
+    attendance: &mut Attendance,
 ) -> Finish
+    requires { attendance.old ≡ nobody }
     ensures leaves { (h : List Request) → StandsFor S.Store desk.old h → IsWhole desk.old
         → IsClean S.Store desk.new → LeavesSome S.Store h exchanges desk.new }
     ensures clean { IsClean S.Store desk.new → IsClean S.Store desk.old }
     ensures ends { EndsServing result }
+    ensures cause { ExplainsEnd exchanges attendance.new result }
 {
-    let Ok(listener) = network.listen_at_localhost(port) else {
+    let Some(listener) = attendance.listen(network, port) else {
         return Finish::Ended(End::ReadFault);
     };
     let moments = MachineClock::new(network);
@@ -205,5 +213,5 @@ pub fn serve_at<S: Alter, N: Network + Clock>(
         timer: network,
         moments: &moments,
     };
-    serve_on(alloc, desk, &listener, &clocks, exchanges)
+    serve_on(alloc, desk, &listener, &clocks, exchanges, attendance)
 }

@@ -2,9 +2,8 @@ pub mod RowLemmas
 pub mod RowsLemmas
 pub mod HeaderLemmas
 pub mod TableRead
-pub mod ServedLemmas
-pub mod ImportLemmas
-pub mod StreamLemmas
+pub mod RowsCut
+pub mod Retold
 pub mod TextLemmas
 pub mod RowsWritten
 pub mod TableWritten

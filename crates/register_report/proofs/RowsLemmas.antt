@@ -58,7 +58,7 @@ pub record RowsSplit (cfg : Config) (all rows : List Row) (s : State) (left : Li
   pub parts : all ≡ rows ++ more
   pub after : AreRecords cfg s left more
 
-some_same : {A : Type 0} (a b : A) → Some a ≡ Some b → a ≡ b
+pub some_same : {A : Type 0} (a b : A) → Some a ≡ Some b → a ≡ b
 some_same a b e = cc
 
 pub rows_split : (cfg : Config) (s s2 : State) (xs left : List ℕ) (rows all : List Row)
@@ -82,6 +82,14 @@ rows_split cfg s s2 xs left (r ∷ rows) (t ∷ all) reached are =
     let prefix = ap (λ (f : Row). f ∷ all) head in
     let after = ap (λ (l : List Row). r ∷ l) split.parts in
     record { more = split.more; parts = prefix ∙ after; after = split.after }
+
+-- no record after the last
+pub none_after : (s : State) (bytes : List ℕ) (rows : List Row)
+    → next_record default_config s [] [] bytes ≡ None → AreRecords default_config s bytes rows
+    → rows ≡ []
+unfolding Reached
+none_after s bytes [] none are = refl
+none_after s bytes (row ∷ rows) none are = absurd (let both = sym none ∙ are.2.1 in cc)
 
 -- the rows that are left to a reader, where its bytes are known
 pub record HasLeft {R : Type 0} (remaining : R → Option (List ℕ)) (reader : Reader R)
@@ -142,15 +150,6 @@ pub no_items : (moment : ℕ) (caller : List ℕ) (number : ℕ) (items : List I
     → AreRowItems moment caller number [] items → items ≡ []
 no_items moment caller number [] a = refl
 no_items moment caller number (i ∷ items) a = absurd a
-
--- the next row's item comes first
-pub next_item : (moment : ℕ) (caller : List ℕ) (number : ℕ) (row : Row) (rows : List Row)
-    → (item : Item) (items : List Item)
-    → AreRowItems moment caller number (row ∷ rows) items → IsRowItem moment caller number row item
-    → (more : List Item) × (items ≡ item ∷ more)
-next_item moment caller number row rows item [] a is = absurd a
-next_item moment caller number row rows item (i ∷ items) a is =
-    (items, ap (λ (k : Item). k ∷ items) (one_item moment caller number row i item a.0 is))
 
 -- as many items as rows
 pub same_length : (moment : ℕ) (caller : List ℕ) (number : ℕ) (rows : List Row) (items : List Item)

@@ -27,7 +27,7 @@ use Rattle.register_requests.proofs.Readers.{key_type_reader, name_reader, purpo
 use Rattle.register_report.specs.ImportRows.{AreRowItems, BeginsWithHeader, HasRowItems, HasRows}
 use Rattle.register_report.specs.ImportRows.{IsRowItem, IsRowOf, Item, Row, date_field, header}
 use Rattle.register_report.proofs.HeaderLemmas.{same_tail}
-use Rattle.register_report.proofs.RowsLemmas.{one_item, rows_split}
+use Rattle.register_report.proofs.RowsLemmas.{none_after, one_item, rows_split}
 
 -- ---- what is so, or is not
 
@@ -334,9 +334,9 @@ records_of (suc most) s bytes le =
 rows_in : (bytes : List ℕ) → BeginsWithHeader bytes → (rows : List Row) × HasRows bytes rows
 unfolding Reached
 rows_in bytes begins =
-    let more = records_of (length begins.left) begins.state begins.left (omega arith) in
-    let read : Read = (header, begins.state, begins.left) in
-    (more.0, (more.1.0, more.1.1, (read, begins.first, refl, more.1.2), more.1.3))
+    let p = begins.reached in
+    let more = records_of (length p.0.2) p.0.1 p.0.2 (omega arith) in
+    (more.0, (more.1.0, more.1.1, (p.0, p.1, p.2, more.1.2), more.1.3))
 
 pub table_in : (moment : ℕ) (caller : List ℕ) (first : ℕ) (bytes : List ℕ)
     → BeginsWithHeader bytes
@@ -345,14 +345,6 @@ table_in moment caller first bytes begins =
     let rows = rows_in bytes begins in
     let items = items_of moment caller first rows.0 in
     (items.0, record { rows = rows.0; has = rows.1; each = items.1 })
-
--- no record after the last
-none_after : (s : State) (bytes : List ℕ) (rows : List Row)
-    → next_record default_config s [] [] bytes ≡ None → AreRecords default_config s bytes rows
-    → rows ≡ []
-unfolding Reached
-none_after s bytes [] none are = refl
-none_after s bytes (row ∷ rows) none are = absurd (let both = sym none ∙ are.2.1 in cc)
 
 pub same_rows : (bytes : List ℕ) (rows others : List Row) → HasRows bytes rows
     → HasRows bytes others → rows ≡ others

@@ -1,14 +1,16 @@
 -- What an import leaves, beside what a run over the items of its rows does.
-use Rattle.std.specs.Prelude.{◌≡◌, ℕ, List, [], Option}
+use Rattle.std.specs.Prelude.{◌≡◌, ◌⊎◌, ◌≤◌, ℕ, List, [], ◌∷◌, ◌++◌, length, take, Option}
 use Rattle.sqlite_trees.specs.declared.store.Store.{Ghosts}
+use Rattle.csv.specs.Records.{AllText}
+use Rattle.streams.specs.declared.watched.Watched.{Watched}
 use Rattle.register_desk.specs.declared.end.End.TheVariants.{Memory, Store, Broken, ReadFault, WriteFault, BadHeader}
 use Rattle.register_desk.specs.declared.runs.Finish.{Finish}
 use Rattle.register_desk.specs.declared.runs.Finish.TheVariants.{AtEnd, Ended}
 use Rattle.register_desk.specs.declared.runs.Outcome.{Outcome}
 use Rattle.register_desk.specs.declared.desk.Desk.{Desk}
-use Rattle.register_desk.specs.Run.{Refused, RunsBroken}
-use Rattle.register_report.specs.ImportRows.{Item}
-use Rattle.streams.specs.declared.watched.Watched.{Watched}
+use Rattle.register_desk.specs.Run.{RunsItems}
+use Rattle.register_report.specs.ImportRows.{AreTexts, BeginsWith, BeginsWithHeader, HasRowItems, HasRows, Item, Row}
+use Rattle.register_report.specs.ImportRows.{header, max_rows}
 
 -- nothing was registered and nothing written
 pub record DoesNothing {S W : Type 0} {g : Ghosts S} (old new : Desk S g)
@@ -29,18 +31,31 @@ EndsWithoutHeader (Ended ReadFault) = Unit {0}
 EndsWithoutHeader (Ended WriteFault) = ⊥
 EndsWithoutHeader (Ended BadHeader) = Unit {0}
 
--- How a broken desk imports rows that stand for these items: as a run over them, up to the first
--- one that is a request. The reading of rows may want memory.
-abbrev pub ImportsBroken : List Item → Finish → ℕ → Option (List ℕ) → Option (List ℕ) → Type 0
-ImportsBroken items (AtEnd left) replies old new = RunsBroken items [] (AtEnd left) replies old new
-ImportsBroken items (Ended Memory) replies old new = Refused items replies old new
-ImportsBroken items (Ended Store) replies old new =
-    RunsBroken items [] (Ended Store) replies old new
-ImportsBroken items (Ended Broken) replies old new =
-    RunsBroken items [] (Ended Broken) replies old new
-ImportsBroken items (Ended ReadFault) replies old new =
-    RunsBroken items [] (Ended ReadFault) replies old new
-ImportsBroken items (Ended WriteFault) replies old new =
-    RunsBroken items [] (Ended WriteFault) replies old new
-ImportsBroken items (Ended BadHeader) replies old new =
-    RunsBroken items [] (Ended BadHeader) replies old new
+-- A row is answered by no more than its reply line: no byte is counted as read, and none is left.
+pub record CountsRows (outcome : Outcome) : Type 0 where
+  pub limit : outcome.replies ≤ max_rows
+  pub uncounted : outcome.read ≡ 0
+  pub no_rest : (rest : ℕ) → outcome.end ≡ AtEnd rest → rest ≡ 0
+
+-- What an import of these bytes does. After the header row it is a run over the items of the rows, and a row that was
+-- answered is text. Without the header row nothing is done.
+pub record ImportsTable {S W : Type 0} (g : Ghosts S) (contents : W → Option (List ℕ)) (moment : ℕ) (caller : List ℕ)
+    (first : ℕ) (bytes : List ℕ) (outcome : Outcome) (old new : Watched W) (kept now : Desk S g) : Type 0 where
+  pub runs : (items : List Item) → HasRowItems moment caller first bytes items
+      → RunsItems g items [] outcome.end outcome.replies (contents old.inner) (contents new.inner) kept now
+  pub texts : (rows : List Row) → HasRows bytes rows → AreTexts (take outcome.replies rows)
+  pub without : (BeginsWithHeader bytes → ⊥) → DoesNothing kept now old new outcome × EndsWithoutHeader outcome.end
+  pub bad_header : outcome.end ≡ Ended BadHeader → BeginsWithHeader bytes → ⊥
+
+-- these records stand before the next one, where so many rows were answered: the header row and the rows, or none
+abbrev pub AreBefore : List Row → ℕ → Type 0
+AreBefore [] replies = replies ≡ 0
+AreBefore (first ∷ rows) replies = (first ≡ header) × (length rows ≡ replies)
+
+-- Why an import of these bytes ended by 35 whose reader did not: the next record is no text, or a row too many.
+pub record StopsAtRecord (bytes : List ℕ) (replies : ℕ) : Type 0 where
+  pub before : List Row
+  pub next : Row
+  pub answered : AreBefore before replies
+  pub begins : BeginsWith bytes (before ++ next ∷ [])
+  pub why : ¬ (AllText next) ⊎ (replies ≡ max_rows)

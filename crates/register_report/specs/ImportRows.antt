@@ -4,8 +4,7 @@
 -- quotes, records ended by LF, CR or CR LF, blank lines skipped.
 use Rattle.std.specs.Prelude.{◌≡◌, ℕ, ◌+◌, List, [], ◌∷◌, codes, Option, None, Some}
 use Rattle.std.specs.List.{AllByRecursion}
-use Rattle.csv.specs.Machine.{next_record}
-use Rattle.csv.specs.Reading.{AreRecords, default_config, strip_bom}
+use Rattle.csv.specs.Reading.{AreRecords, Reached, default_config, strip_bom}
 use Rattle.csv.specs.Records.{AllText}
 use Rattle.csv.specs.declared.parser.State.{State}
 use Rattle.csv.specs.declared.parser.State.TheVariants as states
@@ -81,13 +80,15 @@ AreTexts rows = AllByRecursion AllText rows
 
 -- ---- the input
 
--- the input's first record is the header row
-pub record BeginsWithHeader (bytes : List ℕ) : Type 0 where
+-- the input's first records are these
+pub record BeginsWith (bytes : List ℕ) (records : List Row) : Type 0 where
   pub state : State
   pub left : List ℕ
-  pub first :
-      next_record default_config states.StartRecord [] [] (strip_bom bytes)
-      ≡ Some (header, state, left)
+  pub reached : Reached default_config states.StartRecord (strip_bom bytes) records state left
+
+-- the input's first record is the header row
+abbrev pub BeginsWithHeader : List ℕ → Type 0
+BeginsWithHeader bytes = BeginsWith bytes (header ∷ [])
 
 -- the input's records are the header row and these rows
 abbrev pub HasRows : List ℕ → List Row → Type 0

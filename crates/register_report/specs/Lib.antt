@@ -1,5 +1,5 @@
 pub mod ImportRows
-pub mod ImportProgress
 pub mod Import
+pub mod TableRows
 pub mod TextWriter
 pub mod Within

@@ -1,5 +1,5 @@
 -- What functions within the crate say of one another: no public contract stands on it.
 pub mod RecordFields
-pub mod ImportProgress
+pub mod TableRows
 pub mod KeyTable
 pub mod TextWriter

@@ -8,6 +8,7 @@ ghost use Rattle.streams.specs.Within.Watched.{StopsWithin};
 
 mod turns;
 
+use std::io;
 use std::io::{Read, Write};
 use turns::Turn;
 
@@ -132,6 +133,19 @@ impl<R: Read> Watched<R> {
             }
         }
         Err(ReadFault)
+    }
+}
+
+/// A reader as it is watched, for who knows no bound on turns: each read is as
+/// [`read_piece`](Watched::read_piece) with [`MAX_READS`].
+impl<R: Read> Read for Watched<R> {
+    ghost remaining = { λ watched. R.remaining watched.inner };
+
+    fn read(&mut self, buf: &mut [u8]) -> io::Result<usize> {
+        match self.read_piece(MAX_READS, buf) {
+            Ok(filled) => Ok(filled),
+            Err(ReadFault) => Err(io::ErrorKind::Other.into()),
+        }
     }
 }
 

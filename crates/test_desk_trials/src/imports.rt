@@ -43,7 +43,8 @@ fn run_import<R: Read + Drop, W: Write>(
     }
     let moment = Moment::new(moment)?;
     let caller = Name::new(b"ann")?;
-    Some(import(alloc, desk, moment, &caller, first, table, writer))
+    let mut table = Watched::new(table);
+    Some(import(alloc, desk, moment, &caller, first, &mut table, writer))
 }
 
 /// Whether an import at the moment, from this number on, ends so and writes these lines, each
@@ -180,7 +181,8 @@ pub fn is_import_ended_by_no_text(alloc: Global) -> Result<bool, Fail> {
     )
 }
 
-/// Whether a reader that fails ends the import, and the same table is taken up again later.
+/// Whether a reader that fails ends the import, and the same table is taken up again later, from one
+/// that is interrupted.
 pub fn is_import_ended_by_reader(alloc: Global) -> Result<bool, Fail> {
     let table = TWO_ROWS.as_bytes();
     let mut desk = make_desk(alloc)?;
@@ -191,9 +193,8 @@ pub fn is_import_ended_by_reader(alloc: Global) -> Result<bool, Fail> {
         "ok 1 Pre-Active 100\nok 2 Pre-Active 200\n",
     );
     Ok(
-        replies_to(alloc, &mut desk, (100, 1), interrupted, "", READ_FAULT)
-            && replies_to(alloc, &mut desk, (100, 1), broken, one, READ_FAULT)
-            && replies_to(alloc, &mut desk, (200, 1), OneByte(table), both, AT_END)
+        replies_to(alloc, &mut desk, (100, 1), broken, one, READ_FAULT)
+            && replies_to(alloc, &mut desk, (200, 1), interrupted, both, AT_END)
             && desk.count() == 2,
     )
 }

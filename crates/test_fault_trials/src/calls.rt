@@ -39,7 +39,10 @@ pub fn call_over<R: Read + Drop, W: Write, S: Alter>(
             let mut reader = Watched::new(reader);
             Ok(run(&mut reader, writer, desk))
         }
-        Call::Import => Ok(import(alloc, desk, moment, &caller, 1, reader, writer)),
+        Call::Import => {
+            let mut reader = Watched::new(reader);
+            Ok(import(alloc, desk, moment, &caller, 1, &mut reader, writer))
+        }
         Call::Export => Ok(export(alloc, desk, writer)),
         Call::Rotation => Ok(rotation(alloc, desk, 1, writer)),
         Call::Exchange => {

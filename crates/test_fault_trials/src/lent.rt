@@ -83,19 +83,19 @@ impl Case {
         }
     }
 
-    /// Whether the call ends in this case within reasonable time: the reads of a run have a bound
-    /// of 2000000000.
+    /// Whether the call ends in this case within reasonable time: the reads of a run and of an
+    /// import have a bound of 2000000000.
     fn is_for(self, call: Call) -> bool {
-        !(self.stays && self.stream == Stream::Reader && call == Call::Run)
+        let stays = self.stays && self.stream == Stream::Reader;
+        !(stays && (call == Call::Run || call == Call::Import))
     }
 
     /// After how many turns the call gives up a stream that is always interrupted after so many
-    /// good ones. An import does so at the first interrupted read.
-    fn turns_at_end(self, call: Call, good: usize) -> usize {
-        match (self.stream, call) {
-            (Stream::Writer, _) => good.saturating_add(MAX_IDLE),
-            (Stream::Reader, Call::Exchange) => MAX_EXCHANGE_READS,
-            (Stream::Reader, _) => good.saturating_add(1),
+    /// good ones: a reader that is so is lent to an exchange alone.
+    fn turns_at_end(self, good: usize) -> usize {
+        match self.stream {
+            Stream::Writer => good.saturating_add(MAX_IDLE),
+            Stream::Reader => MAX_EXCHANGE_READS,
         }
     }
 
@@ -113,11 +113,9 @@ impl Case {
         self.trouble != Trouble::Fails && !self.stays
     }
 
-    /// Whether it may end by the trouble: csv need not read again where a read was interrupted.
-    fn may_end(self, call: Call) -> bool {
-        self.trouble != Trouble::IsInterrupted
-            || self.stays
-            || (call == Call::Import && self.stream == Stream::Reader)
+    /// Whether it may end by the trouble.
+    fn may_end(self) -> bool {
+        self.trouble != Trouble::IsInterrupted || self.stays
     }
 }
 
@@ -216,13 +214,13 @@ impl Given {
 
     /// How many requests have acted, if the call ended as it may after so many good turns.
     fn steps_of(&self, case: Case, done: &Done, good: usize) -> Option<usize> {
-        if case.stays && done.turns != case.turns_at_end(self.call, good) as u64 {
+        if case.stays && done.turns != case.turns_at_end(good) as u64 {
             return None;
         }
         let replies = done.outcome.replies as usize;
         if case.may_be_whole() && self.is_whole(done) {
             Some(self.steps)
-        } else if case.may_end(self.call) && self.is_prefix(done, case.end()) {
+        } else if case.may_end() && self.is_prefix(done, case.end()) {
             match case.stream {
                 Stream::Reader => Some(replies),
                 Stream::Writer => Some(replies.saturating_add(1).min(self.steps)),

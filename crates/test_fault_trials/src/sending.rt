@@ -108,16 +108,9 @@ fn send_rows<S: Alter>(
         return Ok(Came::Wrong);
     };
     let table = join(alloc, &[IMPORT_HEAD, rows])?;
+    let mut reader = Watched::new(table.as_bytes());
     let mut writer = Watched::new(Vec::new(alloc));
-    let outcome = import(
-        alloc,
-        desk,
-        moment,
-        &caller,
-        1,
-        table.as_bytes(),
-        &mut writer,
-    );
+    let outcome = import(alloc, desk, moment, &caller, 1, &mut reader, &mut writer);
     of_items(alloc, sent, outcome, writer.into_inner().as_slice())
 }
 

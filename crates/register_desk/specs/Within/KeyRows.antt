@@ -9,7 +9,6 @@ use Rattle.register_store.specs.TableChanges.{key_at}
 use Rattle.register_store.specs.Tables.{Tables}
 use Rattle.register_desk.specs.declared.rows.Scan.{Scan}
 use Rattle.register_desk.specs.declared.rows.Scan.TheVariants.{ByNumber, ByStop}
-use Rattle.register_desk.specs.Register.{tables}
 use Rattle.register_desk.specs.KeyRows.{cursor_of_row, row_of}
 
 -- ---- how far they are

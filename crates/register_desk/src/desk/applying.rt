@@ -19,8 +19,8 @@ impl<S: Alter> Desk<S> {
     ghost use Rattle.register_desk.specs.Desk.{ChangesNothing, Ends, IsOpen, IsOverAfter};
     ghost use Rattle.register_desk.specs.Desk.{KeepsCounts, LeavesEither, LeavesWithRequest};
     ghost use Rattle.register_desk.specs.Desk.{RepeatsWithin, TakesSteps};
-    ghost use Rattle.register_desk.specs.Within.DeskCalls.{AppliesOver, IsKeptUnder, IsNew};
-    ghost use Rattle.register_desk.specs.Within.DeskCalls.{LooksUp};
+    ghost use Rattle.register_desk.specs.Desk.{AppliesOver, AppliesTo};
+    ghost use Rattle.register_desk.specs.Within.DeskCalls.{IsKeptUnder, IsNew, LooksUp};
     ghost use Rattle.register_desk.specs.Register.{IsOver, StandsFor, tables};
     ghost use Rattle.sql_steps.specs.Steps.{TransactsBy};
     ghost use Rattle.register_core.specs.Answer.{UnlessAccepted};
@@ -43,17 +43,13 @@ impl<S: Alter> Desk<S> {
     pub fn apply(&mut self, request: &Request) -> Result<Answer, End>
         ensures ends { Ends self.old self.new result }
         ensures clean { IsClean S.Store self.new → IsClean S.Store self.old }
-        // The answer is the verdict over the history that the desk stands for.
-        ensures answer { (h : List Request) → StandsFor S.Store self.old h → IsRequest request.now
-            → IsClean S.Store self.new → IfOk result (λ given. given ≡ answer h request.now) }
+        // Over a history: the answer is the verdict, and the desk stands for what comes of it.
+        ensures to { AppliesTo S.Store request.now 51 self.old self.new result }
+        // Over tables of no history too, an accepted request makes one change of them, and nothing
+        // else does.
+        ensures over { AppliesOver S.Store request.now self.old self.new result }
         ensures no_request { is_in_range request.now.command ≡ false → IsWhole self.old
             → result ≡ Ok (Answer.Refused Refusal.BadLine) }
-        // The desk then stands for the history with the request at its end, if that was accepted.
-        ensures stands { (h : List Request) → StandsFor S.Store self.old h → IsRequest request.now
-            → IsClean S.Store self.new
-            → OnOk result (StandsFor S.Store self.new (history h (Some request.now ∷ []))) }
-        ensures err { (h : List Request) → StandsFor S.Store self.old h
-            → OnErr result (StandsFor S.Store self.new h) }
         // The connection is open, so that what stands is seen in full.
         ensures opened { is_in_range request.now.command ≡ true
             → OnOk result (IsOpen S.Store self.new) }
@@ -67,24 +63,6 @@ impl<S: Alter> Desk<S> {
             UnlessAccepted given (ChangesNothing S.Store self.old self.new)) }
         ensures unchanged { IfErr result (λ end. end ≢ End.Store
             → ChangesNothing S.Store self.old self.new) }
-        // After the end 31 a stop leaves the register without the request, or with it where it is
-        // to be accepted.
-        ensures store { (h : List Request) → StandsFor S.Store self.old h → IsRequest request.now
-            → IsClean S.Store self.new → IfErr result (λ end. end ≡ End.Store
-            → LeavesEither S.Store h (history h (Some request.now ∷ [])) self.new) }
-        // Over tables of no history too, an accepted request makes one change of them, and nothing
-        // else does.
-        ensures over { (t : Tables) → IsOver S.Store self.old t → IsRequest request.now
-            → IsClean S.Store self.new
-            → IfOk result (λ given. IsOverAfter S.Store t request.now given self.new) }
-        ensures over_still { (t : Tables) → IsOver S.Store self.old t
-            → OnErr result (IsOver S.Store self.new t) }
-        ensures tables { (t : Tables) → IsOver S.Store self.old t → IsRequest request.now
-            → IsClean S.Store self.new → IfErr result (λ end. end ≡ End.Store
-            → LeavesWithRequest S.Store t request.now self.new) }
-        // However many keys there are.
-        ensures steps { (h : List Request) → StandsFor S.Store self.old h
-            → IsClean S.Store self.new → TakesSteps 51 self.old self.new }
     {
         if self.is_broken {
             return Err(End::Broken);

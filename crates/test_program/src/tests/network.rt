@@ -1,7 +1,7 @@
 //! Serving over a network of tests, of which a call fails: listening, accepting, reading, writing,
 //! or a look at a clock.
 use register_desk::{Desk, End, Finish};
-use register_program::{Client, Listener, Network, serve_at};
+use register_program::{Attendance, Client, Listener, Network, serve_at};
 use sqlite::MemStore;
 use std::alloc::{AllocError, Global};
 use std::cell::Cell;
@@ -135,7 +135,8 @@ fn served(alloc: Global, call: Call, before: u64) -> Result<(Finish, u64, u64), 
             made: made.clone()?,
         },
     };
-    let finish = serve_at(alloc, &mut desk, &network, 8420, 2);
+    let mut attendance = Attendance::new();
+    let finish = serve_at(alloc, &mut desk, &network, 8420, 2, &mut attendance);
     Ok((finish, desk.latest().seconds(), made.get()))
 }
 

@@ -2,7 +2,7 @@
 use disk_files::{MachineListener, MachineNetwork};
 use moment_core::Moment;
 use register_desk::{Desk, End, Finish};
-use register_program::{Clocks, MachineClock, Network, Now, serve_on};
+use register_program::{Attendance, Clocks, MachineClock, Network, Now, serve_on};
 use sqlite::MemStore;
 use std::cell::Cell;
 use std::io::{self, ErrorKind, Write};
@@ -55,7 +55,15 @@ fn serve_one(
         timer: rt,
         moments: &moments,
     };
-    serve_on(rt.alloc(), desk, listener, &clocks, exchanges)
+    let mut attendance = Attendance::new();
+    serve_on(
+        rt.alloc(),
+        desk,
+        listener,
+        &clocks,
+        exchanges,
+        &mut attendance,
+    )
 }
 
 const AT_END: Finish = Finish::AtEnd { rest: 0 };
@@ -145,7 +153,15 @@ fn latest_after_two(rt: &HostRuntime) -> Result<u64, Fail> {
         timer: rt,
         moments: &moments,
     };
-    let _ = serve_on(rt.alloc(), &mut desk, &listener, &clocks, 2);
+    let mut attendance = Attendance::new();
+    let _ = serve_on(
+        rt.alloc(),
+        &mut desk,
+        &listener,
+        &clocks,
+        2,
+        &mut attendance,
+    );
     drop(first);
     drop(second);
     Ok(desk.latest().seconds())

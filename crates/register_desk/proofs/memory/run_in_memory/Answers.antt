@@ -1,5 +1,5 @@
-use Rattle.std.proofs.Common.{true, refl, inl, inr}
-use Rattle.std.proofs.lemmas.Result.{IfOk-weaker, IfErr-weaker}
+use Rattle.std.proofs.Common.{true, refl, inl}
+use Rattle.std.proofs.lemmas.Result.{IfOk-weaker}
 use Rattle.sqlite_trees.proofs.Doubt.{no_doubt}
 use Rattle.sqlite_pool.specs.Pool.{state}
 use Rattle.register_desk.proofs.Found.{finds_nothing}

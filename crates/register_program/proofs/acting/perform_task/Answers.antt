@@ -40,7 +40,7 @@ returns-in-Some g c =
       c.import_file.result,
       refl,
       (
-        c.import_file.ensures.imports,
+        (rw (c.new-reader-in-Some.ensures) at c.import_file.ensures.imports),
         untouched (λ w. g.W.Write.contents w.inner) _ _ _ c.import_file.ensures.untouched,
       ),
     ))

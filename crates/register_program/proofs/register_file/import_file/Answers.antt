@@ -15,8 +15,9 @@ returns-clause-imports g c =
           rw c.get.ensures.value has in
           let after = c.close_desk.ensures.clean clean in
           let stands = c.in_ok-desk.ensures.stands h lawful holds (run.ensures.clean after) in
-          let next = run.ensures.leaves h bytes items stands c.in_ok-desk.ensures.whole after known under in
-          let over = run.ensures.agrees h bytes items stands after known under in
+          let runs = (run.ensures.table bytes known).runs items under in
+          let next = runs.leaves h stands c.in_ok-desk.ensures.whole after in
+          let over = runs.agrees h stands after in
           of_desk (c.close_desk.ensures.closes clean) (λ may leaves. record {
             over = over;
             leaves = leaves.one_of _ _ next;
@@ -24,7 +25,7 @@ returns-clause-imports g c =
                 run.new.desk c.in_ok-desk.ensures.whole run.ensures.desk after over is);
           });
       without = λ h bytes lawful holds known none clean.
-          let without = run.ensures.without bytes known none in
+          let without = (run.ensures.table bytes known).without none in
           let before = run.ensures.clean (c.close_desk.ensures.clean clean) in
           let alone = leaves_alone g.F.Opened.Store h c.in_ok-desk.desk
           (c.in_ok-desk.ensures.stands h lawful holds before) c.in_ok-desk.ensures.whole before in
@@ -37,7 +38,7 @@ returns-clause-imports g c =
       anyway = lives_anyway g.F.Opened.Store g.F.Files.may_leave g.F.Files.start run.result c.close_desk.result _ _
           c.in_ok-desk.desk run.new.desk c.in_ok-desk.ensures.whole c.close_desk.ensures.closes
           c.close_desk.ensures.clean run.ensures.clean c.in_ok-desk.ensures.stands c.in_ok-desk.ensures.nothing
-          (λ is. let none = (run.ensures.bad_header is).0 in (ap g.W.Write.contents none.writer, none.replies))
+          (λ is. let none = run.ensures.bad_header is in (ap g.W.Write.contents none.writer, none.replies))
           run.ensures.lives;
     }
 

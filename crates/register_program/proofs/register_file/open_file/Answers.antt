@@ -37,7 +37,7 @@ returns-in_err-desk g c =
     c.from_residual-in_err-desk.ensures.1
     (refuses_opened g.F.Opened.Store g.F.Files.may_leave g.F.Files.start g.met.F.Files.opens_again
     c.in_ok-connection.connection unopened.connection c.in_ok-connection.ensures.shows
-    (λ clean. omega (arith, it.stop_refused.clean, clean)) unopened.refusal it.refused it.blames_none
+    (λ clean. omega (arith, it.stop.clean, clean)) unopened.refusal it.refused it.blames_none
     it.leaves_refused
     (λ version h lawful had. it.leaves_stored (stored_in version h) had (meet_checks version h lawful)) unopened
     c.from_residual-in_err-desk.result c.from_residual-in_err-desk.ensures.1 refl refl)

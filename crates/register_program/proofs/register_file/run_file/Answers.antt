@@ -9,8 +9,9 @@ returns-clause-runs g c =
       lives = λ h bytes items rest lawful holds known has clean.
           let after = c.close_desk.ensures.clean clean in
           let stands = c.in_ok-desk.ensures.stands h lawful holds (run.ensures.clean after) in
-          let next = run.ensures.leaves h bytes items rest stands c.in_ok-desk.ensures.whole after known has in
-          let over = run.ensures.agrees h bytes items rest stands after known has in
+          let runs = run.ensures.runs bytes items rest known has in
+          let next = runs.leaves h stands c.in_ok-desk.ensures.whole after in
+          let over = runs.agrees h stands after in
           of_desk (c.close_desk.ensures.closes clean) (λ may leaves. record {
             over = over;
             leaves = leaves.one_of _ _ next;

@@ -1,5 +1,6 @@
-use Rattle.std.proofs.Common.{◌+◌, ◌≤◌, ◌∙◌, sym, arith}
-use Rattle.register_program.proofs.Served.{ends_serving, not_store, served_none, served_next, served_all, served_last}
+use Rattle.std.proofs.Common.{ℕ, ◌+◌, ◌≤◌, ◌∙◌, ap, arith, sym}
+use Rattle.register_program.specs.declared.attendance.Attendance.{Attendance}
+use Rattle.register_program.proofs.Served.{ends_serving, explains_end, not_store, served_none, served_next, served_all, served_last}
 use Rattle.register_program.proofs.serving.serve_on.Goals as goal
 
 pub exchanges-init : goal.exchanges-init
@@ -7,6 +8,8 @@ exchanges-init g c = record {
   so_far = λ h stands whole clean. served_none g.S.Store h _ stands whole;
   clean = λ clean. clean;
   within = omega arith;
+  accepted = ap (λ (a : Attendance). a.accepted) c.requires;
+  sound = ap (λ (a : Attendance). a.failed) c.requires;
 }
 
 pub exchanges-preserved : goal.exchanges-preserved
@@ -18,6 +21,10 @@ exchanges-preserved g c = record {
       (not_store c.serve_connection-finish.result (sym c.may_serve_on.ensures ∙ c.if-not-may_serve_on.false));
   clean = λ clean. c.exchanges.invariant.clean (c.serve_connection-finish.ensures.clean clean);
   within = omega (arith, c.exchanges-test.true);
+  accepted = ap (λ (a : Attendance). a.accepted) (c.in-Some-tell_moment.ensures.tells ∙ c.in-Some.ensures.counts)
+      ∙ ap (λ (n : ℕ). n + 1) c.exchanges.invariant.accepted;
+  sound = ap (λ (a : Attendance). a.failed) (c.in-Some-tell_moment.ensures.tells ∙ c.in-Some.ensures.counts)
+      ∙ c.exchanges.invariant.sound;
 }
 
 pub returns-in_default-clause-leaves : goal.returns-in_default-clause-leaves
@@ -25,8 +32,8 @@ returns-in_default-clause-leaves g c = λ h stands whole clean.
     served_all g.S.Store h c.exchanges.served c.args.exchanges c.exchanges.desk
     (c.exchanges.invariant.so_far h stands whole clean) c.exchanges.invariant.within clean
 
-pub returns-in_default-now-clause-leaves : goal.returns-in_default-now-clause-leaves
-returns-in_default-now-clause-leaves g c = λ h stands whole clean.
+pub returns-in_default-tell_moment-clause-leaves : goal.returns-in_default-tell_moment-clause-leaves
+returns-in_default-tell_moment-clause-leaves g c = λ h stands whole clean.
     served_all g.S.Store h c.exchanges.served c.args.exchanges c.exchanges.desk
     (c.exchanges.invariant.so_far h stands whole clean) c.exchanges.invariant.within clean
 
@@ -46,3 +53,9 @@ returns-clause-leaves g c = λ h stands whole clean.
 pub returns-then-not-may_serve_on-clause-ends : goal.returns-then-not-may_serve_on-clause-ends
 returns-then-not-may_serve_on-clause-ends g c =
     ends_serving c.serve_connection-finish.result (sym c.may_serve_on.ensures ∙ c.if-not-may_serve_on.true)
+
+pub returns-then-not-may_serve_on-clause-cause : goal.returns-then-not-may_serve_on-clause-cause
+returns-then-not-may_serve_on-clause-cause g c =
+    let counted = ap (λ (a : Attendance). a.accepted) (c.in-Some-tell_moment.ensures.tells ∙ c.in-Some.ensures.counts) in
+    explains_end c.serve_connection-finish.result c.args.exchanges c.tell_moment.new.self
+    (sym c.may_serve_on.ensures ∙ c.if-not-may_serve_on.true) (omega (arith, counted))

@@ -1,5 +1,5 @@
 -- After each exchange the desk is whole and of some items more.
-use Rattle.std.proofs.Common.{◌-◌, ◌≤◌, List}
+use Rattle.std.proofs.Common.{◌≡◌, ◌-◌, ◌≤◌, List, false}
 use Rattle.register_requests.specs.declared.request.Request.{Request}
 use Rattle.register_desk.specs.Desk.{IsClean, IsWhole}
 use Rattle.register_desk.specs.Register.{StandsFor}
@@ -12,6 +12,8 @@ invariant-exchanges g l = record {
       → StandsForSome g.S.Store h l.served l.desk;
   clean : IsClean g.S.Store l.desk → IsClean g.S.Store l.fn.desk;
   within : l.served ≤ l.exchanges;
+  accepted : l.attendance.accepted ≡ l.served;
+  sound : l.attendance.failed ≡ false;
 }
 
 abbrev pub decreases-exchanges : goal.decreases-exchanges
