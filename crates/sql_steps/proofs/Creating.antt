@@ -1,6 +1,6 @@
 -- What a CREATE TABLE and a CREATE INDEX make, whatever the table and the index are.
-use Rattle.std.proofs.Common.{◌≡◌, ℕ, List, [], slice_get, None, Some, Ok, false, sym, ap, subst, ◌∙◌}
-use Rattle.sqlite.specs.Change.{created, indexed, next_tree, KeepsRows}
+use Rattle.std.proofs.Common.{◌≡◌, ℕ, List, [], slice_get, None, Some, Ok, false, sym, ap, subst, ◌∙◌, arith}
+use Rattle.sqlite.specs.Change.{created, indexed}
 use Rattle.sqlite.specs.Command.TheVariants.{CreateTable, CreateIndex}
 use Rattle.sqlite.specs.Compile.{table_defined_by, index_defined_by}
 use Rattle.sqlite.specs.Does.{Tally, AtPlace, Defines, MakesIndex, lacks_sequence}
@@ -33,14 +33,7 @@ module _ (before : Schema) (table : Table) (sql : List ℕ) (is : command_of (un
       ∙ ap (created before) table_is ∙ same in
       let uncounted' : lacks_sequence first.0.schema ≡ false = ap lacks_sequence schema ∙ uncounted in
       let now : new.now ≡ first.0 = ap (λ (p : Tally × Database). p.1) (same_value all.2)
-      ∙ same_value (rw uncounted' at first.2) in
-      record {
-        schema = ap (λ (d : Database). d.schema) now ∙ schema;
-        empty = ap (λ (d : Database). d.trees (next_tree before)) now
-            ∙ subst (λ (s : Schema). first.0.trees (next_tree s) ≡ []) has made.empty;
-        others = subst (λ (d : Database). KeepsRows before.tables old.now.trees d.trees) (sym now)
-            (subst (λ (s : Schema). KeepsRows s.tables old.now.trees first.0.trees) has made.others);
-      }
+      ∙ same_value (rw uncounted' at first.2) in search arith
 
 -- the same of a CREATE INDEX
 module _ (before : Schema) (at : ℕ) (table : Table) (there : slice_get before.tables at ≡ Some table)
@@ -64,9 +57,4 @@ module _ (before : Schema) (at : ℕ) (table : Table) (there : slice_get before.
       let index_is : made.index ≡ written = cc in
       let schema : all.0.schema ≡ indexed before table index = made.is
       ∙ ap (λ s. indexed s table made.index) has ∙ ap (indexed before table) index_is ∙ same in
-      let now : new.now ≡ all.0 = ap (λ (p : Tally × Database). p.1) (same_value all.2) in
-      record {
-        schema = ap (λ (d : Database). d.schema) now ∙ schema;
-        tables = subst (λ (d : Database). KeepsRows before.tables old.now.trees d.trees) (sym now)
-            (subst (λ (s : Schema). KeepsRows s.tables old.now.trees all.0.trees) has made.rows);
-      }
+      let now : new.now ≡ all.0 = ap (λ (p : Tally × Database). p.1) (same_value all.2) in search arith

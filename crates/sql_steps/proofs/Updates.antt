@@ -1,5 +1,5 @@
 -- What an UPDATE of some rows leaves, where the rows stand for values of a type.
-use Rattle.std.proofs.Common.{◌≡◌, ℤ, List, [], ◌∷◌, map, drop, Bool, true, false, cond, refl, sym, ap, subst, ◌∙◌}
+use Rattle.std.proofs.Common.{◌≡◌, ℤ, List, [], ◌∷◌, map, drop, Bool, true, cond, refl, sym, ap, subst, ◌∙◌, arith}
 use Rattle.std.specs.List.Sorted.{IsPermutation}
 use Rattle.std.proofs.lemmas.List.Sorted.{Contains-permutation, IsPermutation-sym}
 use Rattle.sqlite.specs.declared.types.Value.TheVariants.{Int}
@@ -71,38 +71,27 @@ module _ {A : Type 0} (enc : A → Row) (number : A → ℤ) (rowid_is : (a : A)
     news_are = numbered_given _ _
 
     keeps : (r : Row) → Has rows r → rowid (g r) ≡ rowid r
-    keeps r h =
-        let it = item_of r h in ap (λ x. rowid (g x)) it.1 ∙ ap rowid (image it.0) ∙ rowid_is (f it.0)
-        ∙ ap Int (same it.0) ∙ sym (rowid_is it.0) ∙ ap rowid (sym it.1)
+    keeps r h = search (arith, item_of)
 
     ids_from : (id : ℤ) → Has (ids_of answer) id → (x : Row) × Has rows x × (p x ≡ true) × (rowid x ≡ Int id)
-    ids_from id h =
-        let s = map_has (λ r. id_in (rowid r)) answer id h in
-        let x = from_answer s.0 s.1 in
-        (x.0, x.1, x.2, id_of x.0 x.1 ∙ ap (λ r. Int (id_in (rowid r))) (sym x.3) ∙ ap Int (sym s.2))
+    ids_from id h = search (arith, map_has, from_answer, id_of)
 
     ids_all : (x : Row) → Has rows x → p x ≡ true → (id : ℤ) × Has (ids_of answer) id × (rowid x ≡ Int id)
     ids_all x h is = (id_in (rowid x), has_map (λ r. id_in (rowid r)) answer _ (in_answer x h is), id_of x h)
 
     news_from : (y : Row) → Has (map (λ s. cast_row table (drop 1 s)) answer) y
         → (x : Row) × Has rows x × (p x ≡ true) × (y ≡ g x)
-    news_from y h =
-        let s = map_has (λ s. cast_row table (drop 1 s)) answer y h in
-        let x = from_answer s.0 s.1 in
-        (x.0, x.1, x.2, s.2 ∙ ap (λ s. cast_row table (drop 1 s)) x.3)
+    news_from y h = search (arith, map_has, from_answer)
 
     news_all : (x : Row) → Has rows x → p x ≡ true → Has (map (λ s. cast_row table (drop 1 s)) answer) (g x)
     news_all x h is = has_map (λ s. cast_row table (drop 1 s)) answer _ (in_answer x h is)
 
     each : (a : A) (b : Bool) → cond b (g (enc a)) (enc a) ≡ enc (cond b (f a) a)
-    each a true = image a
-    each a false = refl
+    each a b = search arith
 
     all_each : (xs : List A) → map (changed_by p g) (map enc xs) ≡ map enc (map updated xs)
     all_each [] = refl
-    all_each (a ∷ xs) =
-        ap (λ r. r ∷ map (changed_by p g) (map enc xs)) (each a (check a))
-        ∙ ap (λ rs. enc (updated a) ∷ rs) (all_each xs)
+    all_each (a ∷ xs) = search (arith, changed_by, each, all_each xs)
 
     abbrev news : List Row
     news = map (λ s. cast_row table (drop 1 s)) answer
