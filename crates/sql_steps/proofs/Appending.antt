@@ -30,9 +30,6 @@ put_last (x ∷ xs) r low = search (arith, put_last xs r low.1)
 abbrev pub AreCounted : List Row → Type 0
 AreCounted rows = AllByRecursion (λ row. IsTrue (is_int (rowid row))) rows
 
-one_more : (a : ℤ) → int_cmp a (a +ℤ pos 1) ≡ Less
-one_more a = search (arith, int_ranked, ints)
-
 -- one above the last rowid, or this where there is none
 abbrev top : ℤ → List Row → ℤ
 top start [] = start
@@ -41,7 +38,7 @@ top start (r ∷ rs) = top (id_in (rowid r) +ℤ pos 1) rs
 below_top : (x : Row) (xs : List Row) (cells : Row) → IsTable (x ∷ xs)
     → AllByRecursion (λ row. rowid row ≡ Int (id_in (rowid row))) (x ∷ xs)
     → AllByRecursion (λ y. Below y (Int (top (id_in (rowid x) +ℤ pos 1) xs) ∷ cells)) (x ∷ xs)
-below_top x [] cells t i = search (arith, value_cmp-Int, one_more)
+below_top x [] cells t i = search (arith, value_cmp-Int)
 below_top x (y ∷ ys) cells t i =
     let rest = below_top y ys cells t.1 i.1 in (value_cmp_total.trans _ _ _ t.0.0 rest.0, rest)
 

@@ -29,12 +29,6 @@ module _ (old new : State) where
   abbrev Stays : Type 0
   Stays = Shows old new new.now old.committed true
 
-  on : Stays → GoesOn old new
-  on stays = record { is_open = λ _. stays.is_open; committed_is = stays.committed_is; mode = stays.mode }
-
-  keeps : Stays → KeepsCommit old new
-  keeps stays = record { was_open = λ _. stays.was_open; committed = λ _. stays.committed_is }
-
   same_stays : IsTrue old.in_transaction → IsUnchanged old new → Stays
   same_stays inside same = search arith
 
@@ -60,19 +54,15 @@ module _ (old new : State) where
   unfolding IsNotRun
   not_run_whole sql params e it = search arith
 
-  not_shown_whole : (sql : List ℕ) (c : _) (params : Row) (e : Error) (returning : Option Returning)
-      → FailsToShow old new sql c params e returning → IsUnchanged old new ⊎ IsRolledBack old new
-  not_shown_whole sql c params e returning shows = search arith
-
   pub fails_whole : (sql : List ℕ) (params : Row) (e : Error) → FailsToQuery sql params old new e
       → IsUnchanged old new ⊎ IsRolledBack old new
   unfolding FailsToQuery
-  fails_whole sql params e it = search (arith, not_run_whole, not_shown_whole)
+  fails_whole sql params e it = search (arith, not_run_whole)
 
   query_keeps : IsTrue old.in_transaction → (sql : List ℕ) (params : Row) (e : Error)
       → QueriesRow sql params old new (Err e) → KeepsCommit old new
   unfolding QueriesRow
-  query_keeps inside sql params e it = search (arith, unchanged_keeps, fails_whole, keeps, rows_stay)
+  query_keeps inside sql params e it = search (arith, unchanged_keeps, fails_whole, rows_stay)
 
   -- ---- a failure that is not the store's leaves all as it was
 
@@ -84,14 +74,10 @@ module _ (old new : State) where
   unfolding IsNotRun
   refused_not_run sql params e other it = search arith
 
-  refused_to_show : (sql : List ℕ) (c : _) (params : Row) (e : Error) (returning : Option Returning) → NotOfStore e
-      → FailsToShow old new sql c params e returning → IsUnchanged old new
-  refused_to_show sql c params e returning other shows = search arith
-
   refused : (sql : List ℕ) (params : Row) (e : Error) → NotOfStore e → FailsToQuery sql params old new e
       → IsUnchanged old new
   unfolding FailsToQuery
-  refused sql params e other it = search (arith, refused_not_run, refused_to_show)
+  refused sql params e other it = search (arith, refused_not_run)
 
   -- the text has no meaning
   meaningless_same : (sql : List ℕ) (params : Row) (e : Error) (fault : _) → e ≡ SqlInputError fault
@@ -103,14 +89,14 @@ module _ (old new : State) where
 
   inside_keeps : IsTrue old.in_transaction → (sql : List ℕ) (params : Row) (r : Result Row Error)
       → QueriesRowInside sql params old new r → KeepsCommit old new
-  inside_keeps inside sql params r h = search (arith, keeps, row_stays, query_keeps, unchanged_keeps)
+  inside_keeps inside sql params r h = search (arith, row_stays, query_keeps, unchanged_keeps)
 
   -- a query that gave a row, and what is made of that
   pub asks_row : {T E : Type 0} (Changes : T → Change) (value : T) (sql : List ℕ) (params row : Row)
       → (QueriesRow sql params old new (Ok row) → Changes value old.now new.now)
       → (HasCleanDisk new → QueriesRowInside sql params old new (Ok row)) → Survives old new (λ _. ⊥)
       → StepsBy {E = E} Changes old new (Ok value)
-  asks_row Changes value sql params row found asked survives = search (arith, on, row_stays, inside_keeps)
+  asks_row Changes value sql params row found asked survives = search (arith, row_stays, inside_keeps)
 
   -- a query whose text has no meaning
   pub asks_meaningless : {T E : Type 0} (Changes : T → Change) (value : T) (sql : List ℕ) (params : Row) (e : Error)
@@ -119,7 +105,7 @@ module _ (old new : State) where
       → (HasCleanDisk new → QueriesRowInside sql params old new (Err e)) → Survives old new (λ _. ⊥)
       → StepsBy {E = E} Changes old new (Ok value)
   asks_meaningless Changes value sql params e fault is same asked survives =
-      search (arith, meaningless_same, on, same_stays, inside_keeps)
+      search (arith, meaningless_same, same_stays, inside_keeps)
 
   -- a query whose answer, or the lack of one, is a failure
   pub asks_fails : {T E : Type 0} (Changes : T → Change) (sql : List ℕ) (params : Row) (r : Result Row Error)

@@ -20,9 +20,6 @@ single : {A : Type 0} (below : List A) (w x : A) → below ++ w ∷ [] ≡ x ∷
 single [] w x e = (refl, cc)
 single (b ∷ bs) w x e = absurd (omega (arith, ap length e, length-append bs (w ∷ [])))
 
-left_part : (a b : Bool) → (a && b) ≡ true → a ≡ true
-left_part a b e = search arith
-
 module _ (schema : Schema) (parent child : Table) (ref : Reference) (places : List ℕ) (order : Order) where
   -- the rows of the child that refer to these, to be deleted
   abbrev pub orphans : List Row → Work
@@ -55,7 +52,7 @@ module _ (schema : Schema) (parent child : Table) (ref : Reference) (places : Li
 
     -- where no row loses its key there is none
     no_orphan : (olds : List Row) (next : Trees) → some_lose olds ≡ false → AreChildren next (orphans olds) []
-    no_orphan olds next none = search (arith, some_has, some_from, left_part)
+    no_orphan olds next none = search (arith, some_has, some_from)
 
     acts : (n : ℕ) (next after : Trees) (olds : List Row) (ids : List ℤ) → AreChildren next (orphans olds) ids
         → ActsOn schema Enforced (Leads schema Enforced n) next (orphans olds) [] (Ok after) ids → Drops olds next after

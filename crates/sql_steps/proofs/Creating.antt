@@ -29,8 +29,7 @@ module _ (before : Schema) (table : Table) (sql : List ℕ) (is : command_of (un
       let made = first.1 in
       let both : Ok made.table ≡ Ok written = sym made.defined ∙ defined in
       let table_is : made.table ≡ written = cc in
-      let schema : first.0.schema ≡ created before table = made.is ∙ ap (λ s. created s made.table) has
-      ∙ ap (created before) table_is ∙ same in
+      let schema : first.0.schema ≡ created before table = cc in
       let uncounted' : lacks_sequence first.0.schema ≡ false = ap lacks_sequence schema ∙ uncounted in
       let now : new.now ≡ first.0 = ap (λ (p : Tally × Database). p.1) (same_value all.2)
       ∙ same_value (rw uncounted' at first.2) in search arith
@@ -55,6 +54,5 @@ module _ (before : Schema) (at : ℕ) (table : Table) (there : slice_get before.
       let made = all.1 in
       let both : Ok made.index ≡ Ok written = sym made.defined ∙ defined in
       let index_is : made.index ≡ written = cc in
-      let schema : all.0.schema ≡ indexed before table index = made.is
-      ∙ ap (λ s. indexed s table made.index) has ∙ ap (indexed before table) index_is ∙ same in
+      let schema : all.0.schema ≡ indexed before table index = cc in
       let now : new.now ≡ all.0 = ap (λ (p : Tally × Database). p.1) (same_value all.2) in search arith

@@ -40,12 +40,6 @@ pairs_has [] old h = absurd h
 pairs_has (first ∷ olds) old (inl same) = inl (ap (λ (row : Row). (row, [])) same)
 pairs_has (first ∷ olds) old (inr later) = inr (pairs_has olds old later)
 
-right_part : (a b : Bool) → (a && b) ≡ true → b ≡ true
-right_part a b e = search arith
-
-both_parts : (a b : Bool) → a ≡ true → b ≡ true → (a && b) ≡ true
-both_parts a b p q = search arith
-
 module _ (schema : Schema) (base child : Table) (ref : Reference) (places : List ℕ) (order : Order) (params : Row)
     (passes : List Term) where
   -- a table with no AUTOINCREMENT
@@ -66,11 +60,11 @@ module _ (schema : Schema) (base child : Table) (ref : Reference) (places : List
       (are : AreChildren next (orphans schema parent child ref places order olds) ids) where
     orphan_passes : (r : Row) → Has children r → is_orphan schema parent child ref places order olds r ≡ true
         → c r ≡ true
-    orphan_passes r h is = search (arith, some_has, orphans, pairs_from, right_part)
+    orphan_passes r h is = search (arith, some_has, orphans, pairs_from)
 
     passing_orphan : (r : Row) → Has children r → c r ≡ true
         → is_orphan schema parent child ref places order olds r ≡ true
-    passing_orphan r h is = search (arith, some_from, orphans, pairs_has, both_parts)
+    passing_orphan r h is = search (arith, some_from, orphans, pairs_has)
 
     -- the children that pass are those that go
     children_left : without_all children ids ≡ filter (λ r. not (c r)) children
@@ -117,8 +111,7 @@ module _ (schema : Schema) (base child : Table) (ref : Reference) (places : List
       (ids_of did.1) did.3 in
       let olds = taken_by old.now.trees
       (deleted old.step_limit (mode_of old) params old.now schema has at base did.1) in
-      let same : fell.0 child.tree ≡ children = all_has (λ (t : Table). t.tree ≢ parent.tree
-      → fell.0 t.tree ≡ old.now.trees t.tree) schema.tables child fell.1.tables child_listed apart in
+      let same : fell.0 child.tree ≡ children = grind (arith, all_has) in
       let stays = all_has (λ (t : Table). t.tree ≢ child.tree
       → new.now.trees t.tree ≡ fell.0 t.tree) schema.tables parent fell.2.others listed (λ e. apart (sym e)) in
       record {

@@ -30,22 +30,15 @@ pub compares : (op : CompareOp) (a b : ℤ) → is_true (binary (Compare op Bina
 unfolding binary
 compares op a b = search (arith, value_cmp-Int)
 
-never_read : (limit : Option ℕ) (command : Command) (db : Database) (params : Row)
-    → ¬ RefusesToRead limit command db params QueryReturnedNoRows
-never_read limit command db params = search arith
-
-pub never_store : (cause : StoreError) → ¬ ◌≡◌ {A = Error} QueryReturnedNoRows (store_error cause)
-never_store cause = search arith
-
 pub never_not_run : (old new : State) (sql : List ℕ) (params : Row) → ¬ IsNotRun old new sql params QueryReturnedNoRows
 unfolding IsNotRun
-never_not_run old new sql params = search (arith, never_store)
+never_not_run old new sql params = search arith
 
 -- no failure has this name
 pub never_fails : (sql : List ℕ) (params : Row) (old new : State) → IsPlain (understood old.now.schema sql)
     → ¬ FailsToQuery sql params old new QueryReturnedNoRows
 unfolding FailsToQuery
-never_fails sql params old new plain = search (arith, never_not_run, never_read)
+never_fails sql params old new plain = search (arith, never_not_run)
 
 module _ (sql : List ℕ) (params : Row) (old new : State) (schema : Schema) (has : old.now.schema ≡ schema) (t : ℕ)
     (passes shown : List Term) (names : List (List ℕ))
@@ -80,11 +73,3 @@ module _ (sql : List ℕ) (params : Row) (old new : State) (schema : Schema) (ha
   pub only_reads : (rows : List Row) → Shown sql params old new rows → IsUnchanged old new
   unfolding Shown
   only_reads rows h = search arith
-
-  pub one_only_reads : (row : Row) → QueriesRow sql params old new (Ok row) → IsUnchanged old new
-  unfolding QueriesRow
-  one_only_reads row it = search (arith, only_reads)
-
-  pub none_only_reads : QueriesRow sql params old new (Err QueryReturnedNoRows) → IsUnchanged old new
-  unfolding QueriesRow
-  none_only_reads it = search (arith, never_fails, only_reads)

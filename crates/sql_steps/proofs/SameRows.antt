@@ -105,9 +105,6 @@ table_map f (r ∷ rows) keeps t =
 has_its_rowid : (x : Row) (id : ℤ) → rowid x ≡ Int id → has_rowid id x ≡ true
 has_its_rowid x id e = ap (λ v. is_eq (value_cmp v (Int id))) e ∙ ap is_eq (tied_itself value_cmp_total (Int id))
 
-tied : (o : Ordering) → is_eq o ≡ true → o ≡ Equal
-tied o e = search arith
-
 -- a DELETE of the rows that pass leaves the others, in their order
 module _ (rows : List Row) (ids : List ℤ) (p : Row → Bool) (table : IsTable rows)
     (ids_from : (id : ℤ) → Has ids id → (x : Row) × Has rows x × (p x ≡ true) × (rowid x ≡ Int id))
@@ -116,7 +113,7 @@ module _ (rows : List Row) (ids : List ℤ) (p : Row → Bool) (table : IsTable 
   left_fails y h = search (arith, cases_Bool, without_all_has, without_all_drops, has_its_rowid)
 
   fails_left : (x : Row) → Has rows x → p x ≡ false → Has (without_all rows ids) x
-  fails_left x h fails = search (arith, without_all_keeps, cases_Bool, same_row, tied)
+  fails_left x h fails = search (arith, without_all_keeps, cases_Bool, same_row)
 
   stays : (y : Row) → Has (without_all rows ids) y → Has (filter (λ r. not (p r)) rows) y
   stays y h = has_kept (λ r. not (p r)) rows y (without_all_has ids rows y h) (ap not (left_fails y h))
@@ -141,9 +138,6 @@ module _ (rows news : List Row) (ids : List ℤ) (p : Row → Bool) (g : Row
   abbrev changed : Row → Row
   changed = changed_by p g
 
-  changed_keeps : (r : Row) → Has rows r → rowid (changed r) ≡ rowid r
-  changed_keeps r h = elim (p r) as (λ b. rowid (cond b (g r) r) ≡ rowid r) [ true ↦ keeps r h | false ↦ refl ]
-
   on : (y : Row) → Has (put_all (without_all rows ids) news) y → Has (map changed rows) y
   on y h = elim (put_all_has news (without_all rows ids) y h) [
     | inl new ↦ let it = news_from y new in subst (Has (map changed rows)) (cc) (has_map changed rows it.0 it.1)
@@ -164,4 +158,4 @@ module _ (rows news : List Row) (ids : List ℤ) (p : Row → Bool) (g : Row
       ]
 
   pub updates_each : put_all (without_all rows ids) news ≡ map (changed_by p g) rows
-  updates_each = search (arith, same_tables, table_put_all, table_without_all, table_map, changed_keeps, on, off)
+  updates_each = search (arith, same_tables, table_put_all, table_without_all, table_map, on, off)

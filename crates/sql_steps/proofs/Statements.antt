@@ -116,10 +116,6 @@ module _ (limit : Option ℕ) (mode : Mode) (params : Row) (db : Database) (sche
       (after.schema ≡ schema) × (rows : List Row) × IsSureAnswer q (overlay db.trees []) params rows
       × Writes schema mode.keys db.trees (edit rows) (Ok after.trees)
 
-  rewritten : (q : Query) (edit : List Row → Edit) (wrote : List Row → List Row) (tally : Tally) (after : Database)
-      → Then (Rewrites q edit wrote) (Concludes task mode None) (Ok (tally, after)) → Leaves q edit after
-  rewritten q edit wrote tally after h = search (arith, went, same_value)
-
   abbrev pub updated : List Row → Edit
   updated rows = edit_of db.trees table (ids_of rows) Given 1 rows
 
@@ -127,7 +123,7 @@ module _ (limit : Option ℕ) (mode : Mode) (params : Row) (db : Database) (sche
   pub updates : slice_get schema.tables at ≡ Some table → (q : Query) (text : List ℕ) (tally : Tally) (after : Database)
       → Does limit mode params db text None (Update at (record { lets = []; body = q })) (Ok (tally, after))
       → Leaves q updated after
-  updates there q text tally after h = search (arith, rewritten, on_table)
+  updates there q text tally after h = search (arith, on_table)
 
   abbrev pub deleted : List Row → Edit
   deleted rows = edit_of db.trees table (ids_of rows) Given 0 []
@@ -135,7 +131,7 @@ module _ (limit : Option ℕ) (mode : Mode) (params : Row) (db : Database) (sche
   pub deletes : slice_get schema.tables at ≡ Some table → (q : Query) (text : List ℕ) (tally : Tally) (after : Database)
       → Does limit mode params db text None (Delete at (record { lets = []; body = q })) (Ok (tally, after))
       → Leaves q deleted after
-  deletes there q text tally after h = search (arith, rewritten, on_table)
+  deletes there q text tally after h = search (arith, on_table)
 
 -- ---- the queries
 
@@ -163,12 +159,9 @@ module _ (params : Row) (t : ℕ) (passes shown : List Term) where
   abbrev pub picked : List Row → List Row
   picked rows = map (λ r. eval_all shown (env_of r)) (filter is_picked rows)
 
-  one_or_none : (b : Bool) (r : Row) → map env_of (cond b (r ∷ []) []) ≡ cond b (env_of r ∷ []) []
-  one_or_none b r = search arith
-
   pub matched : (lost : Value) (db : Trees)
       → map env_of (filter is_picked (db t)) ≡ matches_as lost db passes (inner t end) (params ∷ [])
-  matched lost db = search (arith, filter_as_flat_map, map-flat_map, flat_map_same_on, one_or_none)
+  matched lost db = search (arith, filter_as_flat_map, map-flat_map, flat_map_same_on)
 
   pub answers : (db : Trees) (rows : List Row) → IsSureAnswer (plain_query t passes shown) db params rows
       → IsPermutation (picked (db t)) rows

@@ -17,15 +17,12 @@ use Rattle.sql_steps.specs.Within.Steps.{Then}
 
 -- ---- one statement
 
-goes_on : (old new : State) → Shows old new new.now old.committed true → GoesOn old new
-goes_on old new shows = record { is_open = λ _. shows.is_open; committed_is = shows.committed_is; mode = shows.mode }
-
 -- a write
 pub writes : (Made : Change) (sql : List ℕ) (params : Row) (old new : State) (r : Result ℕ Error)
     → ((count : ℕ) → Executes sql params old new (Ok count) → Made old.now new.now)
     → (HasCleanDisk new → IsTrue old.in_transaction → ExecutesInside 0 sql params old new r)
     → Survives old new (λ _. ⊥) → StepsBy (λ (_ : ℕ). Made) old new r
-writes Made sql params old new r does ran survives = search (arith, goes_on, inside_keeps)
+writes Made sql params old new r does ran survives = search (arith, inside_keeps)
 
 -- ---- steps
 
@@ -50,11 +47,6 @@ pub steps_weaker : {A E : Type 0} (First Next : A → Change) (a b : State) (r :
     → ((x : A) (old new : Database) → First x old new → Next x old new) → StepsBy First a b r → StepsBy Next a b r
 steps_weaker First Next a b r weaker one = search (arith, steps_as, fails)
 
-join : {B E : Type 0} (First : Change) (Next : B → Change) (a b c : State) (r : Result B E)
-    → First a.now b.now × GoesOn a b → IfOk r (λ y. Next y b.now c.now × GoesOn b c)
-    → IfOk r (λ y. Then First (Next y) a.now c.now × GoesOn a c)
-join First Next a b c r one two = search arith
-
 -- a write whose count nobody asks for
 pub runs : {E : Type 0} (Made : Change) (sql : List ℕ) (params : Row) (old new : State) (count : ℕ)
     → ((count : ℕ) → Executes sql params old new (Ok count) → Made old.now new.now)
@@ -65,25 +57,7 @@ runs Made sql params old new count does ran survives = search (arith, steps_as, 
 -- a step that went on, and then another
 pub steps_then : {A B E F : Type 0} (First : A → Change) (Next : B → Change) (a b c : State) (x : A) (r : Result B F)
     → StepsBy {E = E} First a b (Ok x) → StepsBy Next b c r → StepsBy (λ y. Then (First x) (Next y)) a c r
-steps_then First Next a b c x r one two =
-    let early = λ (clean : HasCleanDisk c). let it : HasCleanDisk b = omega (arith, two.survives.clean) in it in
-    let mid =
-    λ (clean : HasCleanDisk c) (inside : IsTrue a.in_transaction). (one.changed (early clean) inside).1.mode in
-    record {
-      changed =
-          λ clean inside. join (First x) Next a b c r (one.changed (early clean) inside)
-          (two.changed clean (mid clean inside));
-      kept = λ clean inside. keeps_then a b c (one.kept (early clean) inside) (two.kept clean (mid clean inside));
-      survives =
-          survives_then a b c (λ _. ⊥) (λ _. ⊥) (λ _. ⊥) (λ _ _ none. none)
-          (λ _ _ none. none) one.survives two.survives;
-    }
-
--- the same where the second failed
-pub then_fails : {A B C E F G : Type 0} (First : A → Change) (Next : B → Change) (All : C → Change)
-    (a b c : State) (x : A) (r : Result B F) (q : Result C G) → IsErr q → StepsBy {E = E} First a b (Ok x)
-    → StepsBy Next b c r → StepsBy All a c q
-then_fails First Next All a b c x r q failed one two = search (arith, fails, steps_then)
+steps_then First Next a b c x r one two = search (arith, keeps_then, survives_then)
 
 -- ---- one transaction
 
@@ -92,9 +66,6 @@ module _ (Made : Change) (old : State) where
   abbrev Inner : State
   Inner = record old { in_transaction = true }
 
-  outer : (new : State) (P : Trees → Type 0) → Survives Inner new P → Survives old new P
-  outer new P s = record { clean = s.clean; shield = s.shield; counts = s.counts; limit = s.limit; closes = s.closes; crash = s.crash }
-
   abbrev Left : Trees → Type 0
   Left trees = (db : Database) × Made old.now db × (trees ≡ db.trees)
 
@@ -102,12 +73,12 @@ module _ (Made : Change) (old : State) where
   pub rolls_back : {A B E F : Type 0} (Tried : A → Change) (mid new : State) (r : Result A E) (q : Result B F)
       → IsErr q → StepsBy Tried Inner mid r → (HasCleanDisk new → IsRolledBack mid new) → Survives mid new (λ _. ⊥)
       → TransactsBy Made old new q
-  rolls_back Tried mid new r q failed step undone dropped = search (arith, outer, survives_then)
+  rolls_back Tried mid new r q failed step undone dropped = search (arith, survives_then)
 
   stops : {A E : Type 0} (Tried : A → Change) (mid new : State) (x : A)
       → ((db : Database) → Tried x old.now db → Made old.now db) → StepsBy {E = E} Tried Inner mid (Ok x)
       → Survives mid new (λ trees. trees ≡ mid.now.trees) → Survives old new Left
-  stops Tried mid new x is step kept = search (arith, outer, survives_then)
+  stops Tried mid new x is step kept = search (arith, survives_then)
 
   -- the steps, and then the commit
   pub commits : {A E : Type 0} (Tried : A → Change) (mid new : State) (x : A) (r : Result (Unit {0}) Error)
@@ -127,19 +98,6 @@ module _ {A E : Type 0} (Tried : A → Change) (old mid new : State) (r : Result
     (dropped : Survives mid new (λ _. ⊥)) where
   gives_up : TransactsBy {T = Unit {0}} {E = Unit {0}} (λ _ _. ⊥) old new (Err tt)
   gives_up = rolls_back (λ _ _. ⊥) old Tried mid new r (Err tt) refl step undone dropped
-
-  found : (r : Result A E) → IfOk r (λ x. Tried x old.now mid.now × GoesOn (record old { in_transaction = true }) mid)
-      → IfOk r (λ x. Tried x old.now mid.now)
-  found r it = search arith
-
-  -- what they found was so
-  pub given_up_found : HasCleanDisk new → IfOk r (λ x. Tried x old.now mid.now)
-  given_up_found clean = search (arith, found)
-
-  -- and nothing is committed
-  pub given_up_kept : HasCleanDisk new → IsTrue new.is_open → (new.now ≡ old.committed)
-      × (new.committed ≡ old.committed)
-  given_up_kept clean shown = gives_up.failed clean shown
 
   pub given_up_survives : Survives old new (λ _. ⊥)
   given_up_survives = survives_weaker old new _ (λ _. ⊥) (λ clean trees left. left.1) gives_up.stop

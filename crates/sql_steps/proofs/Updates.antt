@@ -99,7 +99,4 @@ module _ {A : Type 0} (enc : A → Row) (number : A → ℤ) (rowid_is : (a : A)
     -- each row is changed exactly where the check holds
     pub changes_each : edited db (edit_of db table (ids_of answer) Given 1 answer) ≡ map enc (map updated items)
     changes_each =
-        ap (put_all (without_all rows (ids_of answer))) news_are
-        ∙ updates_each rows news (ids_of answer) p g ordered keeps ids_from ids_all news_from news_all
-        (sym (ap (are_fresh (without_all rows (ids_of answer))) news_are) ∙ fresh)
-        ∙ ap (map (changed_by p g)) rows_are ∙ all_each items
+        grind (arith, news_are, updates_each, keeps, ids_from, ids_all, news_from, news_all, changed_by, all_each)
