@@ -60,11 +60,6 @@ more_trees tree [] (y ∷ ys) n m low = more_trees tree [] ys n (max m (tree y +
 more_trees tree (x ∷ xs) ys n m low =
     more_trees tree xs ys (max n (tree x + 1)) (max m (tree x + 1)) (omega (arith, low))
 
-as_many : {X : Type 0} (tree : X → ℕ) (xs : List X) (n m : ℕ) → n ≤ m
-    → fold (λ k x. max k (tree x + 1)) n xs ≤ fold (λ k x. max k (tree x + 1)) m xs
-as_many tree [] n m low = low
-as_many tree (x ∷ xs) n m low = as_many tree xs (max n (tree x + 1)) (max m (tree x + 1)) (omega (arith, low))
-
 table_higher : (s : Schema) (x : Table) → next_tree s ≤ next_tree (created s x)
 table_higher s x =
     more_trees (λ (i : Index). i.tree) s.indexes _ _ _ (more_trees (λ (t : Table). t.tree) s.tables _ _ _ (omega arith))

@@ -73,10 +73,6 @@ named s name at table found there = by (table_named s name) refl
 
 -- ---- no action is set off
 
-no_loss : (test : Row × Row → Bool) (a : Bool) → cond a (list_any test []) false ≡ false
-no_loss test true = refl
-no_loss test false = refl
-
 pub flat_none : {X Y : Type 0} (f : X → List Y) (xs : List X) → ((x : X) → Has xs x → f x ≡ []) → flat_map f xs ≡ []
 flat_none f [] each = refl
 flat_none f (x ∷ xs) each = rw (each x (inl refl), flat_none f xs (λ y h. each y (inr h))) refl

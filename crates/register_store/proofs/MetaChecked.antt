@@ -108,15 +108,6 @@ two_refused (Some one) rows row some taken =
       no_newer = λ tail newer. let one_row = newer.2 in absurd cc;
     })
 
--- one row, which counts no keys and is of no later version
-pub one_refused : (row : Row) → ((told : Version × Counts) → told.1.key_count ≤ max_keys → ¬ ShowsCounts row told)
-    → ((found : ℕ) → ¬ ShowsNewer row found) → RefusesMeta (row ∷ [])
-one_refused row none own = record {
-  uncounted = λ tail told shows few. none told few shows.0;
-  no_newer = λ tail newer. let same : row ≡ newer.0 = cc in
-      own newer.1 (subst (λ r. ShowsNewer r newer.1) (sym same) newer.3);
-}
-
 module _ (t : Stored) (old new : State) (survives : Survives old new (λ _. ⊥)) where
   abbrev Checked : Result Found CheckError → Type 0
   Checked q = ChecksTable Meta t IsCounts old new q

@@ -157,16 +157,6 @@ pub met_from : {E G : Type 0} (r : Result (Unit {0}) E) (sql : List ℕ) (P : Li
 met_from (Ok x) sql P a b c query start all = all_from sql P a b c query start.1 (all start.0)
 met_from (Err e) sql P a b c query start all = tt
 
-pub shows_weaker : {E : Type 0} (r : Result (Unit {0}) E) (sql : List ℕ) (P Q : List Row → Type 0) (a b : State)
-    → ((rows : List Row) → P rows → Q rows) → OnOk r (ShowsAll sql P a b) → OnOk r (ShowsAll sql Q a b)
-shows_weaker (Ok x) sql P Q a b weaker all = record {
-  rows = all.rows;
-  shown = all.shown;
-  holds = weaker all.rows all.holds;
-  same = all.same;
-}
-shows_weaker (Err e) sql P Q a b weaker all = tt
-
 -- and to where nothing has changed
 pub shown_to : (sql : List ℕ) (params : Row) (a b c : State) (rows : List Row) → IsQuery sql
     → Shown sql params a b rows → IsUnchanged b c → Shown sql params a c rows
