@@ -24,9 +24,8 @@ use Rattle.register_store.specs.declared.table.TableName.TheVariants.{Quorum}
 use Rattle.sqlite_resolve.specs.Compile.{first}
 use Rattle.register_requests.specs.declared.version.Version.{Version}
 use Rattle.register_requests.specs.declared.version.Version.TheVariants.{First, Second}
-use Rattle.register_store.specs.CheckedTables.{BlamesNone, FailsCheck, HasNewer, IsReasonAt, ShowsRows}
+use Rattle.register_store.specs.CheckedTables.{BlamesNone, FailsCheck, HasNewer, IsReasonAt, ShowsRows, check_text}
 use Rattle.register_store.specs.Within.CheckedTables.{ChecksTable}
-use Rattle.register_store.specs.CheckedTables.{check_text}
 use Rattle.register_store.specs.Columns.{meta_columns, name_columns, request_columns, period_columns, need_columns}
 use Rattle.register_store.specs.Schema.{schema_in}
 use Rattle.register_store.specs.Stored.{HoldsStored, Part, Stored, part, with_part}

@@ -34,20 +34,16 @@ use Rattle.sqlite_tied.specs.Compute.{everything}
 use Rattle.sql_steps.specs.Steps.{Change, StepsBy}
 use Rattle.sql_steps.specs.Within.Steps.{Then}
 use Rattle.sql_steps.proofs.Stepping.{stays, steps_as, steps_then}
-use Rattle.register_store.specs.Beside.{HasMetaApart}
-use Rattle.register_store.specs.Within.Beside.{Adds, AddsUncounted, InsertsMeta, IsMadeAs}
-use Rattle.register_store.specs.Beside.{KeepsOthers, LacksMeta}
-use Rattle.register_store.specs.Within.Beside.{IsUncounted}
-use Rattle.register_store.specs.Beside.{is_meta}
-use Rattle.register_store.specs.Within.Beside.{UpdatesMeta, WritesMeta}
+use Rattle.register_store.specs.Beside.{HasMetaApart, KeepsOthers, LacksMeta, is_meta}
+use Rattle.register_store.specs.Within.Beside.{Adds, AddsUncounted, InsertsMeta, IsMadeAs, IsUncounted, UpdatesMeta}
+use Rattle.register_store.specs.Within.Beside.{WritesMeta}
 use Rattle.register_store.specs.Within.Schema.{index_text}
 use Rattle.register_store.specs.Within.Tables.{create_text}
 use Rattle.register_store.specs.declared.key_index.KeyIndex.{KeyIndex}
 use Rattle.register_store.specs.declared.key_index.KeyIndex.TheVariants.{Activation, Deactivation, ProtectStop}
 use Rattle.register_store.specs.declared.table.TableName.{TableName}
-use Rattle.register_store.specs.declared.table.TableName.TheVariants.{Approval, Custodian}
-use Rattle.register_store.specs.declared.table.TableName.TheVariants.{Keys as KeysTable, Meta, Period}
-use Rattle.register_store.specs.declared.table.TableName.TheVariants.{Quorum, Request}
+use Rattle.register_store.specs.declared.table.TableName.TheVariants.{Approval, Custodian, Keys as KeysTable, Meta}
+use Rattle.register_store.specs.declared.table.TableName.TheVariants.{Period, Quorum, Request}
 use Rattle.register_store.proofs.BesideMade.{adds_by_index, adds_by_table, adds_none, adds_then}
 use Rattle.register_store.proofs.BesideMeta.{WritesOne, filter_none, flat_none, inserts_one, updates_one}
 use Rattle.register_store.proofs.Creating.{row_params, row_text}

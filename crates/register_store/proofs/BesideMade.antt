@@ -1,7 +1,7 @@
 -- What a CREATE TABLE and a CREATE INDEX leave beside what they make, whatever the schema is.
-use Rattle.std.proofs.Common.{◌≡◌, ◌≤◌, inl, inr, ℕ, ◌+◌, Bool, true, false, List, [], ◌∷◌, ◌++◌}
-use Rattle.std.proofs.Common.{None, Ok, refl, sym, ap, subst, ◌∙◌, arith}
-use Rattle.std.specs.Prelude.{fold, max, slice_range}
+use Rattle.std.proofs.Common.{◌≡◌, ◌≤◌, inl, inr, ℕ, ◌+◌, Bool, true, false, List, [], ◌∷◌, ◌++◌, None, Ok, refl, sym}
+use Rattle.std.proofs.Common.{ap, subst, ◌∙◌, arith}
+use Rattle.std.specs.Prelude.{fold, max, slice_range, slice_get}
 use Rattle.sqlite.specs.Change.{created, indexed, next_tree}
 use Rattle.sqlite.specs.Command.TheVariants.{CreateTable as MakeTable, CreateIndex as MakeIndex}
 use Rattle.sqlite.specs.Compile.{table_defined_by}
@@ -20,7 +20,6 @@ use Rattle.sqlite_ast.specs.declared.Statement.TheVariants as written
 use Rattle.sqlite_catalog.specs.Calls.{CreatesIndex, CreatesTable}
 use Rattle.sqlite_resolve.specs.Compile.{first}
 use Rattle.sqlite_syntax.specs.declared.statement.Parsed.{Parsed}
-use Rattle.std.specs.Prelude.{slice_get}
 use Rattle.sql_steps.proofs.Statements.{same_value, went}
 use Rattle.register_store.specs.Within.Beside.{Adds}
 use Rattle.register_store.proofs.BesideShapes.{MakesIndex as Makes, MakesTable, at_place, index_understood, ran_as}

@@ -1,10 +1,10 @@
 -- What a text comes to in a schema of which nothing is known: it is a command of its statement's kind, or is refused.
-use Rattle.std.proofs.Common.{◌≡◌, ◌⊎◌, inl, inr, ℕ, Bool, true, false, cond, List, [], Option, None, Some, Ok}
-use Rattle.std.proofs.Common.{Err, refl, sym, ap, subst, ◌∙◌}
-use Rattle.std.specs.Prelude.{◌+◌}
+use Rattle.std.proofs.Common.{◌≡◌, ◌⊎◌, inl, inr, ℕ, Bool, true, false, cond, List, [], Option, None, Some, Ok, Err}
+use Rattle.std.proofs.Common.{refl, sym, ap, subst, ◌∙◌, subst₂}
+use Rattle.std.specs.Prelude.{◌+◌, slice_range, length, not, ◌&&◌, nat_eq, ◌++◌}
 use Rattle.sqlite.specs.Command.{Command}
-use Rattle.sqlite.specs.Command.TheVariants.{CreateTable as MakeTable, CreateIndex as MakeIndex, Insert}
-use Rattle.sqlite.specs.Command.TheVariants.{Update, Nothing}
+use Rattle.sqlite.specs.Command.TheVariants.{CreateTable as MakeTable, CreateIndex as MakeIndex, Insert, Update}
+use Rattle.sqlite.specs.Command.TheVariants.{Nothing}
 use Rattle.sqlite.specs.Listing.{understood, listing_schema, misses_table, if_select, is_select}
 use Rattle.sqlite.specs.Clock.{timed as timed_params}
 use Rattle.sqlite.specs.Does.{AtPlace}
@@ -12,10 +12,8 @@ use Rattle.sqlite.specs.Order.{Row}
 use Rattle.sqlite.specs.Rows.{Part}
 use Rattle.sqlite.specs.State.{State, Executes, ExecutesIn, Runs, shows_rows, text_of}
 use Rattle.sqlite.specs.declared.error.Error.TheVariants.{InvalidQuery}
-use Rattle.std.proofs.Common.{subst₂}
 use Rattle.std.proofs.lemmas.Bool.{cases_Bool}
-use Rattle.sqlite_resolve.specs.declared.error.CompileError.TheVariants.{Misuse, Unsupported}
-use Rattle.std.specs.Prelude.{slice_range, length, not, ◌&&◌, nat_eq}
+use Rattle.sqlite_resolve.specs.declared.error.CompileError.TheVariants.{Misuse, Unsupported, NoSuchTable}
 use Rattle.sqlite.specs.Schema.{Schema}
 use Rattle.sqlite.specs.Table.{Table}
 use Rattle.sqlite_ast.specs.declared.CreateTable.{CreateTable}
@@ -27,12 +25,10 @@ use Rattle.sqlite_ast.specs.declared.Statement.TheVariants as written
 use Rattle.sqlite_resolve.specs.Lowering.{Checked, and_then}
 use Rattle.sqlite_resolve.specs.Compile.{first, compiled, planned, meaning, returning, timed, command, create_table}
 use Rattle.sqlite_resolve.specs.Compile.{create_index, creates, insert, update, insert_or_abort, target, shows, small}
-use Rattle.sqlite_resolve.specs.Compile.{is_attached, is_reserved, formats_of, with_command}
+use Rattle.sqlite_resolve.specs.Compile.{is_attached, is_reserved, formats_of, with_command, new_rows}
 use Rattle.sqlite_resolve.specs.Body.{table_at}
 use Rattle.sqlite_resolve.specs.declared.compiled.Compiled.{Compiled}
 use Rattle.sqlite_resolve.specs.declared.error.CompileError.{CompileError}
-use Rattle.sqlite_resolve.specs.declared.error.CompileError.TheVariants.{NoSuchTable}
-use Rattle.sqlite_resolve.specs.Compile.{new_rows}
 use Rattle.sqlite_resolve.specs.Define as define
 use Rattle.sqlite_resolve.specs.Program.{program}
 use Rattle.sqlite_resolve.specs.Write.{updated}
@@ -41,7 +37,6 @@ use Rattle.sqlite.specs.Source.{Source}
 use Rattle.sqlite_schema.specs.declared.program.Program.{Program}
 use Rattle.sqlite_schema.specs.Names.{table_named, index_named, view_named}
 use Rattle.std.specs.Option.{option_or}
-use Rattle.std.specs.Prelude.{◌++◌}
 use Rattle.sql_steps.proofs.Statements.{same_value}
 use Rattle.register_store.proofs.NextTexts.{IsText, planned_as}
 use Rattle.sqlite_syntax.specs.declared.statement.Parsed.{Parsed}

@@ -1,7 +1,7 @@
 -- The check of the table of custodians.
-use Rattle.std.proofs.Common.{◌≡◌, ◌≢◌, ◌⊎◌, ◌↔◌, ◌==◌, ◌≤◌, ◌<◌, ◌+◌, inl, inr, ℕ, zero, suc, Bool, true, false}
-use Rattle.std.proofs.Common.{cond, List, [], ◌∷◌, ◌++◌, length, map, filter, slice_get, get_or, Option, None, Some}
-use Rattle.std.proofs.Common.{Result, Ok, Err, IsTrue, refl, sym, ap, subst, ◌∙◌, arith, bytes_eq}
+use Rattle.std.proofs.Common.{◌≡◌, ◌≢◌, ◌⊎◌, ◌↔◌, ◌==◌, ◌≤◌, ◌<◌, ◌+◌, inl, inr, ℕ, zero, suc, Bool, true, false, cond}
+use Rattle.std.proofs.Common.{List, [], ◌∷◌, ◌++◌, length, map, filter, slice_get, get_or, Option, None, Some, Result}
+use Rattle.std.proofs.Common.{Ok, Err, IsTrue, refl, sym, ap, subst, ◌∙◌, arith, bytes_eq}
 use Rattle.std.proofs.lemmas.Bool.{eq-eqb, eqb-true}
 use Rattle.std.proofs.lemmas.Bool.Decides.{eqb_tells}
 use Rattle.std.proofs.lemmas.List.{append-nil, length-append}
@@ -33,9 +33,8 @@ use Rattle.register_store.specs.CheckedTables.{IsOdd, IsReasonAt, ShowsName, che
 use Rattle.register_store.specs.Within.CheckedTables.{ChecksTable}
 use Rattle.register_store.specs.Stored.{HoldsStored, Stored}
 use Rattle.register_store.specs.Tables.{IsNamed, name_cells}
-use Rattle.register_store.specs.CheckedRows.{AreKept, HasCustodians, IsListed}
+use Rattle.register_store.specs.CheckedRows.{AreKept, HasCustodians, IsListed, RefusesCustodians}
 use Rattle.register_store.specs.Within.CheckedRows.{AreEmpty, KnowsCustodians}
-use Rattle.register_store.specs.CheckedRows.{RefusesCustodians}
 use Rattle.register_store.specs.OpeningChecks.{AreCustodians, IsCustodian, MayBeCustodian, owner_at, owners_of}
 use Rattle.register_store.proofs.Actions.{shows_all}
 use Rattle.register_store.proofs.Asked.{AnswersTo, IsWithin, ShowsOwn, in_both, shown_of_table, checks_table}

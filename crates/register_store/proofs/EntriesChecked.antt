@@ -9,9 +9,8 @@ use Rattle.row_checks.specs.declared.error.RowsError.TheVariants.{NoMeaning, Ref
 use Rattle.row_checks.specs.ShownRows.{HasNoMeaning, ShowsAll, ShowsFirst}
 use Rattle.register_store.specs.declared.error.CheckError.{CheckError}
 use Rattle.register_store.specs.declared.table.TableName.{TableName}
-use Rattle.register_store.specs.CheckedTables.{AreNewer, IsOdd, IsReasonAt, ShowsRows, check_error}
+use Rattle.register_store.specs.CheckedTables.{AreNewer, IsOdd, IsReasonAt, ShowsRows, check_error, check_text}
 use Rattle.register_store.specs.Within.CheckedTables.{ChecksTable}
-use Rattle.register_store.specs.CheckedTables.{check_text}
 use Rattle.register_store.specs.Stored.{HoldsStored, Part, Stored, with_part}
 use Rattle.register_store.specs.CheckedRows.{HasShown, RefusesEach}
 use Rattle.register_store.specs.Within.CheckedRows.{IsAny}

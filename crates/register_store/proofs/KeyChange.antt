@@ -1,7 +1,6 @@
 -- What an UPDATE of keys does: of the one with a number, or of any others.
 use Rattle.std.proofs.Common.{◌≡◌, ◌==◌, ℕ, ◌+◌, pos, List, [], ◌∷◌, ◌++◌, codes, map, Bool, cond, Ok, Option, Some}
-use Rattle.std.proofs.Common.{not}
-use Rattle.std.proofs.Common.{◌&&◌, true, false, refl, sym, ap, ap₂, subst, ◌∙◌}
+use Rattle.std.proofs.Common.{not, ◌&&◌, true, false, refl, sym, ap, ap₂, subst, ◌∙◌}
 use Rattle.std.proofs.Math.Bool.{and-true}
 use Rattle.std.specs.List.{AllByRecursion, enumerate_from}
 use Rattle.sqlite.specs.declared.types.Value.{Value}

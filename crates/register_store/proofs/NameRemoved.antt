@@ -31,10 +31,9 @@ use Rattle.register_store.specs.declared.table.TableName.TheVariants.{Custodian,
 use Rattle.register_store.specs.declared.stored_key.RoleChange.{RoleChange}
 use Rattle.register_store.specs.declared.stored_key.RoleChange.TheVariants.{Given, Taken}
 use Rattle.register_store.specs.Within.Roles.{change_text, with_role_changed}
-use Rattle.register_store.specs.Tables.{to_custodian, place_of, table_of, Layout, Tables}
-use Rattle.register_store.specs.Within.Tables.{custodian, approval}
-use Rattle.register_store.specs.Tables.{ShowsEntries, IsNamed, IsInRange, content, name_cells}
-use Rattle.register_store.specs.Within.Tables.{Shows}
+use Rattle.register_store.specs.Tables.{to_custodian, place_of, table_of, Layout, Tables, ShowsEntries, IsNamed}
+use Rattle.register_store.specs.Tables.{IsInRange, content, name_cells}
+use Rattle.register_store.specs.Within.Tables.{custodian, approval, Shows}
 use Rattle.register_store.specs.Schema.{schema_with, Holds, rows_of}
 use Rattle.register_store.specs.TableChanges.{Makes}
 use Rattle.register_store.specs.Within.TableChanges.{Always, without_custodian, without_approval, without_approvals}
@@ -46,8 +45,8 @@ use Rattle.register_store.proofs.Meanings.{Takes, classes, placed, takes}
 use Rattle.register_store.proofs.Frame.{holds_with, rows_kept}
 use Rattle.register_store.proofs.NameAdded.{adds_name}
 use Rattle.register_store.proofs.EntryRows.{entry_of, shows_filtered}
-use Rattle.register_store.proofs.NameChecks.{at_key, at_name, places, key_past, key_is, name_past, name_is}
-use Rattle.register_store.proofs.NameChecks.{same_cells, agree_same, loses_name}
+use Rattle.register_store.proofs.NameChecks.{at_key, at_name, places, key_past, key_is, name_past, name_is, same_cells}
+use Rattle.register_store.proofs.NameChecks.{agree_same, loses_name}
 
 -- the text takes rows that pass out of the table at this place
 abbrev IsDelete : List ℕ → TableName → List Term → Type 0

@@ -1,6 +1,6 @@
 -- What the searches for the names of a key's custodians and approvals find.
-use Rattle.std.proofs.Common.{◌≡◌, ◌≢◌, ℕ, pos, List, [], ◌∷◌, length, map, filter, drop, codes, Result, Ok, Err}
-use Rattle.std.proofs.Common.{IfOk, IfErr, OnOk, refl, sym, ap, subst, ◌∙◌}
+use Rattle.std.proofs.Common.{◌≡◌, ◌≢◌, ℕ, pos, List, [], ◌∷◌, length, map, filter, drop, codes, Result, Ok, Err, IfOk}
+use Rattle.std.proofs.Common.{IfErr, OnOk, refl, sym, ap, subst, ◌∙◌}
 use Rattle.std.proofs.lemmas.List.Sorted.{IsPermutation-map, IsPermutation-sym, IsPermutation-trans, length_permutation}
 use Rattle.std.proofs.lemmas.List.{length-map}
 use Rattle.std.specs.List.Sorted.{IsPermutation}

@@ -22,8 +22,8 @@ use Rattle.sqlite_tied.specs.Compute.{everything}
 use Rattle.sql_steps.specs.Within.CreatedTables.{Created}
 use Rattle.sql_steps.proofs.Creating.{makes}
 use Rattle.register_store.specs.declared.table.TableName.{TableName}
-use Rattle.register_store.specs.declared.table.TableName.TheVariants.{Meta, Keys, Custodian, Approval, Request}
-use Rattle.register_store.specs.declared.table.TableName.TheVariants.{Period, Quorum}
+use Rattle.register_store.specs.declared.table.TableName.TheVariants.{Meta, Keys, Custodian, Approval, Request, Period}
+use Rattle.register_store.specs.declared.table.TableName.TheVariants.{Quorum}
 use Rattle.register_requests.specs.declared.version.Version.TheVariants.{First}
 use Rattle.register_store.specs.Within.Migration.{MakesNext}
 use Rattle.register_store.specs.Schema.{rows_of, schema_below}

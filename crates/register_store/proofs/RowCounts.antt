@@ -1,6 +1,6 @@
 -- What a count of a table's rows tells of the table.
-use Rattle.std.proofs.Common.{◌≡◌, ◌<◌, inl, inr, ℕ, List, [], Bool, false, Ok, Err, Result, refl, sym}
-use Rattle.std.proofs.Common.{ap, subst, subst₂, ◌∙◌, ◌+◌, ◌≤◌, get_or, arith}
+use Rattle.std.proofs.Common.{◌≡◌, ◌<◌, inl, inr, ℕ, List, [], Bool, false, Ok, Err, Result, refl, sym, ap, subst}
+use Rattle.std.proofs.Common.{subst₂, ◌∙◌, ◌+◌, ◌≤◌, get_or, arith}
 use Rattle.std.proofs.Math.Nat.{eq-or-lt_of_le}
 use Rattle.sqlite.specs.declared.error.Error.{Error}
 use Rattle.sqlite.specs.declared.error.Error.TheVariants.{SqlInputError}

@@ -4,9 +4,8 @@ use Rattle.sqlite_trees.specs.declared.store.Store.{Ghosts}
 use Rattle.register_store.specs.declared.counted.Counted.{Counted}
 use Rattle.register_store.specs.declared.error.StoreError.{StoreError}
 use Rattle.register_store.specs.declared.stored_key.Role.TheVariants.{Custodian, Approver}
-use Rattle.register_store.specs.TableReads.{seen, load_steps, Calls, CallsOver, ReadsBy, HasKey}
+use Rattle.register_store.specs.TableReads.{seen, load_steps, Calls, CallsOver, ReadsBy, HasKey, HasRow, loaded}
 use Rattle.register_store.specs.Within.TableReads.{count_at, HasNames}
-use Rattle.register_store.specs.TableReads.{HasRow, loaded}
 use Rattle.register_store.specs.Tables.{Tables}
 use Rattle.register_store.specs.TableChanges.{key_at}
 use Rattle.register_store.proofs.Readings.{calls_then, calls_weaker, reads_as, reads_fail, reads_then}
