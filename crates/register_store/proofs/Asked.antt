@@ -57,8 +57,7 @@ IsWithin name version = place_of name < table_count version
 
 -- the first tables are those of each version
 pub in_both : (name : TableName) → place_of name < 5 → (version : Version) → IsWithin name version
-in_both name low First = low
-in_both name low Second = omega (arith, low)
+in_both name low version = search arith
 
 -- the text of a table's query means that in a version, under some names
 abbrev pub IsAsked : Version → TableName → Layout → Type 0

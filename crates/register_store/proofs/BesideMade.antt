@@ -28,27 +28,10 @@ use Rattle.register_store.proofs.NextTexts.{IsText}
 
 module _ (P : Table → Type 0) where
   pub adds_none : (old new : Database) → new ≡ old → Adds P old new
-  adds_none old new same = subst (Adds P old) (sym same) (record {
-    tables = λ t h. h;
-    rows = λ t h. refl;
-    indexes = λ i h. h;
-    views = λ v h. h;
-    news = λ t h. inl h;
-    higher = omega arith;
-  })
+  adds_none old new same = search arith
 
   pub adds_then : (old mid new : Database) → Adds P old mid → Adds P mid new → Adds P old new
-  adds_then old mid new a b = record {
-    tables = λ t h. b.tables t (a.tables t h);
-    rows = λ t h. b.rows t (a.tables t h) ∙ a.rows t h;
-    indexes = λ i h. b.indexes i (a.indexes i h);
-    views = λ v h. b.views v (a.views v h);
-    news = λ t h. elim (b.news t h) [
-      | inl before ↦ a.news t before
-      | inr new ↦ inr (new.0, new.1, new.2, new.3, omega (arith, new.4, a.higher))
-    ];
-    higher = omega (arith, a.higher, b.higher);
-  }
+  adds_then old mid new a b = search arith
 
 -- ---- what CREATE makes of a database
 
@@ -70,31 +53,11 @@ module _ (P : Table → Type 0) where
   pub adds_created : (old new : Database) (sql : List ℕ)
       (made : CreatesTable old.schema sql old.trees new.schema new.trees)
       → P made.table → Adds P old new
-  adds_created old new sql made holds = record {
-    tables = λ t h. subst (λ (s : Schema). Has s.tables t) (sym made.is) (has_left old.schema.tables _ t h);
-    rows = λ t h. all_has (λ (t : Table). new.trees t.tree ≡ old.trees t.tree) old.schema.tables t made.others h;
-    indexes = λ i h. subst (λ (s : Schema). Has s.indexes i) (sym made.is) (has_left old.schema.indexes _ i h);
-    views = λ v h. subst (λ (s : Schema). Has s.views v) (sym made.is) h;
-    news = λ t h. elim (has_either old.schema.tables _ t (subst (λ (s : Schema). Has s.tables t) made.is h)) [
-      | inl before ↦ inl before
-      | inr (inl same) ↦ inr (made.table, holds, next_tree old.schema, same, omega arith)
-      | inr (inr none) ↦ absurd none
-    ];
-    higher = subst (λ (s : Schema). next_tree old.schema ≤ next_tree s) (sym made.is)
-        (table_higher old.schema made.table);
-  }
+  adds_created old new sql made holds = search (arith, has_left, all_has, has_either, table_higher)
 
   pub adds_index : (old new : Database) (table : Table) (sql : List ℕ)
       (made : CreatesIndex old.schema table sql old.trees new.schema new.trees) → Adds P old new
-  adds_index old new table sql made = record {
-    tables = λ t h. subst (λ (s : Schema). Has s.tables t) (sym made.is) h;
-    rows = λ t h. all_has (λ (t : Table). new.trees t.tree ≡ old.trees t.tree) old.schema.tables t made.rows h;
-    indexes = λ i h. subst (λ (s : Schema). Has s.indexes i) (sym made.is) (has_left old.schema.indexes _ i h);
-    views = λ v h. subst (λ (s : Schema). Has s.views v) (sym made.is) h;
-    news = λ t h. inl (subst (λ (s : Schema). Has s.tables t) made.is h);
-    higher = subst (λ (s : Schema). next_tree old.schema ≤ next_tree s) (sym made.is)
-        (index_higher old.schema table made.index);
-  }
+  adds_index old new table sql made = search (arith, all_has, has_left, index_higher)
 
   -- ---- what the statements do
 
@@ -152,8 +115,4 @@ module _ (P : Table → Type 0) where
     adds_by_index old new count h =
         let ran =
         ran_as text p (Makes text p def parsed is_index) (index_understood text p def parsed is_index) old new []
-        count h in
-        elim ran.1 [
-          | inl (at, is) ↦ made_index old new at (slice_range text p.start p.end) ran.2 count (rw is at ran.3)
-          | inr is ↦ let idle = rw is at ran.3 in adds_none P old.now new.now idle.0.0.now_is
-        ]
+        count h in search (arith, made_index, adds_none)

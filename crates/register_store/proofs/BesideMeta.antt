@@ -62,14 +62,7 @@ position {X} test (x ∷ xs) i at h = by (test x) refl (λ k. position test xs (
 
 named : (s : Schema) (name : List ℕ) (at : ℕ) (table : Table) → target s name ≡ Ok at
     → slice_get s.tables at ≡ Some table → same_name table.name name ≡ true
-named s name at table found there = by (table_named s name) refl
-  where
-    by : (o : Option ℕ) → table_named s name ≡ o → same_name table.name name ≡ true
-    by None none = absurd (let e = rw none at found in cc)
-    by (Some n) some =
-        let same : n ≡ at = same_value (rw some at found) in
-        let place = position (λ (t : Table). same_name t.name name) s.tables 0 n some in
-        place.2 table (subst (λ k. slice_get s.tables k ≡ Some table) (omega (arith, same, place.1)) there)
+named s name at table found there = search (arith, same_value, position)
 
 -- ---- no action is set off
 
@@ -84,17 +77,10 @@ filter_none f (x ∷ xs) each = rw (each x (inl refl), filter_none f xs (λ y h.
 
 by_insert : (tree : ℕ) (child : Table) (ref : Reference) (deed : Option Deed) (key : Option ParentKey)
     → work_by 0 tree [] child ref deed key ≡ None
-by_insert tree child ref None key = refl
-by_insert tree child ref (Some deed) None = refl
-by_insert tree child ref (Some deed) (Some key) = by (key.0 == tree) refl
-  where
-    by : (b : Bool) → (key.0 == tree) ≡ b → work_by 0 tree [] child ref (Some deed) (Some key) ≡ None
-    by true is = rw is refl
-    by false is = rw is refl
+by_insert tree child ref deed key = search arith
 
 idle_insert : (s : Schema) (keys : Keys) (tree : ℕ) (news : List Row) → works s keys 0 tree [] news ≡ []
-idle_insert s keys tree news =
-    flat_none _ s.tables (λ child h. filter_none _ child.references (λ ref k. by_insert tree child ref _ _))
+idle_insert s keys tree news = search (arith, flat_none, filter_none, by_insert)
 
 -- ---- the writes
 
@@ -112,12 +98,7 @@ module _ (old new : State) (table : Table) (there : Has old.now.schema.tables ta
   written_one : (edit : Edit) → edit.table ≡ table
       → Applies old.now.schema (mode_of old).keys old.now.trees edit new.now.trees
       → new.now.schema ≡ old.now.schema → WritesOne table old.now new.now
-  written_one edit is did same = record {
-    schema = same;
-    rows = λ t h apart.
-        all_has (λ (t : Table). t.tree ≢ edit.table.tree → new.now.trees t.tree ≡ old.now.trees t.tree)
-        old.now.schema.tables t did.tables h (λ e. apart (e ∙ ap (λ (x : Table). x.tree) is));
-  }
+  written_one edit is did same = search (arith, all_has)
 
   insert_one : (uncounted : table.is_counted ≡ false) (params : Row) (from : Source) (tally : Tally)
       → OnRows (task_of old table params)
@@ -142,8 +123,7 @@ module _ (old new : State) (table : Table) (there : Has old.now.schema.tables ta
       → WritesOne table old.now new.now
   update_one idle params q tally h =
       let done = went h in
-      let now : new.now ≡ record { schema = old.now.schema; trees = done.0.trees } = ap (λ (p : Tally × Database). p.1)
-      (same_value (went (went done.2).2).2) in
+      let now : new.now ≡ record { schema = old.now.schema; trees = done.0.trees } = search (arith, same_value, went) in
       let given = went done.1 in
       let written = went given.2 in
       let trees : done.0.trees ≡ written.0 = ap (λ (it : Written). it.trees) (same_value written.2) in
@@ -188,8 +168,7 @@ module _ (text : List ℕ) (p : Parsed) (name : List ℕ) (parsed : first text �
       let ran = ran_as text p (Inserts text p name columns rows parsed is)
       (insert_understood text p name columns rows parsed is) old new params count h in
       let it = ran.1 in
-      let wrote : Writes old new None (Insert it.0 it.1) (slice_range text p.start p.end) ran.2 count =
-      rw it.3 at ran.3 in
+      let wrote : Writes old new None (Insert it.0 it.1) (slice_range text p.start p.end) ran.2 count = search arith in
       written_of name old new it.0 ran.2 (Insert it.0 it.1) wrote.tally it.2 wrote.changed
       (λ t has called h. insert_one old new t has (uncounted t has called) ran.2 it.1 wrote.tally h)
 
@@ -203,7 +182,6 @@ module _ (text : List ℕ) (p : Parsed) (name : List ℕ) (parsed : first text �
       ran_as text p (Updates text p name sets test parsed is) (update_understood text p name sets test parsed is)
       old new params count h in
       let it = ran.1 in
-      let did : Writes old new None (Update it.0 it.1) (slice_range text p.start p.end) ran.2 count =
-      rw it.3 at ran.3 in
+      let did : Writes old new None (Update it.0 it.1) (slice_range text p.start p.end) ran.2 count = search arith in
       written_of name old new it.0 ran.2 (Update it.0 it.1) did.tally it.2 did.changed
       (λ t has called. update_one old new t has (idle t has called) ran.2 it.1 did.tally)

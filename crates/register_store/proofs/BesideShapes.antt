@@ -40,6 +40,7 @@ use Rattle.std.specs.Option.{option_or}
 use Rattle.sql_steps.proofs.Statements.{same_value}
 use Rattle.register_store.proofs.NextTexts.{IsText, planned_as}
 use Rattle.sqlite_syntax.specs.declared.statement.Parsed.{Parsed}
+use Rattle.std.proofs.Common.{arith}
 
 -- the text comes to a command of which P holds, and gives no rows
 pub record Comes (p : Parsed) (P : Command → Type 0) (c : Compiled) : Type 0 where
@@ -73,21 +74,16 @@ module _ (text : List ℕ) (p : Parsed) (P : Schema → Command → Type 0)
 -- what gives a value gave it through each of its parts
 through : {A B : Type 0} (r : Checked A) (f : A → Checked B) (b : B) → and_then r f ≡ Ok b
     → (a : A) × (r ≡ Ok a) × (f a ≡ Ok b)
-through (Ok a) f b h = (a, refl, h)
-through (Err e) f b h = absurd (cc)
+through r f b h = search arith
 
 unrefused : {A : Type 0} (refused : Bool) (e : CompileError) (r : Checked A) (a : A)
     → cond refused (Err e) r ≡ Ok a → r ≡ Ok a
-unrefused true e r a h = absurd (cc)
-unrefused false e r a h = h
+unrefused refused e r a h = search arith
 
 -- a statement whose command is this one comes to it
 comes_to : (p : Parsed) (P : Command → Type 0) (formats : List (List ℕ)) (r : Checked Command) (c : Compiled)
     → and_then r (λ k. Ok (with_command p (formats, (k, None)))) ≡ Ok c → ((k : Command) → r ≡ Ok k → P k) → Comes p P c
-comes_to p P formats r c h shape =
-    let it = through r (λ k. Ok (with_command p (formats, (k, None)))) c h in
-    subst (Comes p P) (same_value it.2)
-    (record { returning = refl; command = shape it.0 it.1; start = refl; end = refl })
+comes_to p P formats r c h shape = search (arith, through, same_value)
 
 -- ---- CREATE TABLE
 
@@ -109,13 +105,7 @@ module _ (text : List ℕ) (p : Parsed) (def : CreateTable) (table : Table) (t :
 
   table_shape : (s : Schema) (k : Command) → create_table s p.formats def ≡ Ok k → MakesTable s k
   unfolding create_table
-  table_shape s k h =
-      let it = through (table_is_new s) table_where k
-      (unrefused (is_attached s def.name) Unsupported (and_then (table_is_new s) table_where) k h) in by it.0 it.2
-    where
-      by : (is_new : Bool) → table_where is_new ≡ Ok k → MakesTable s k
-      by true h = let made = rw (t.defined, t.computed) at h in inl (sym (same_value made))
-      by false h = inr (sym (same_value h))
+  table_shape s k h = search (arith, through, unrefused, same_value)
 
   pub table_understood : (s : Schema) (c : Compiled) → understood s text ≡ Ok c → Comes p (MakesTable s) c
   table_understood =
@@ -134,8 +124,7 @@ module _ (text : List ℕ) (p : Parsed) (def : CreateIndex) (parsed : first text
   index_planned : (s : Schema) (r : Checked Command) → create_index s def ≡ r
       → compiled s text ≡ and_then r (λ k. Ok (with_command p (p.formats, (k, None))))
   unfolding compiled planned meaning returning timed command
-  index_planned s (Ok k) h = rw (parsed, is, h) refl
-  index_planned s (Err e) h = rw (parsed, is, h) refl
+  index_planned s r h = search arith
 
   abbrev index_is_new : Schema → Checked Bool
   index_is_new s =
@@ -150,22 +139,12 @@ module _ (text : List ℕ) (p : Parsed) (def : CreateIndex) (parsed : first text
 
   index_shape : (s : Schema) (k : Command) → create_index s def ≡ Ok k → MakesIndex s k
   unfolding create_index
-  index_shape s k h =
-      let at = through (target s def.table) (indexed_at s) k
-      (unrefused (is_reserved def.table) Misuse (and_then (target s def.table) (indexed_at s)) k h) in
-      let table = through (table_at s at.0) (λ table. and_then (index_is_new s) (index_where at.0 table)) k at.2 in
-      let is_new = through (index_is_new s) (index_where at.0 table.0) k table.2 in by at.0 table.0 is_new.0 is_new.2
-    where
-      by : (at : ℕ) (table : Table) (is_new : Bool) → index_where at table is_new ≡ Ok k → MakesIndex s k
-      by at table true h =
-          inl (at, sym (same_value (through (define.index table def) (λ _. Ok (MakeIndex at)) k h).2))
-      by at table false h = inr (sym (same_value h))
+  index_shape s k h = search (arith, through, unrefused, same_value)
 
   pub index_understood : (s : Schema) (c : Compiled) → understood s text ≡ Ok c → Comes p (MakesIndex s) c
   index_understood =
       understood_so text p MakesIndex (λ s k it. elim it [ inl (at, is) ↦ ap is_select is | inr is ↦ ap is_select is ])
-      (λ s c h. comes_to p (MakesIndex s) p.formats (create_index s def) c (sym (index_planned s _ refl) ∙ h)
-      (index_shape s))
+      (search (arith, comes_to, index_planned, index_shape))
 
 -- ---- INSERT
 
@@ -183,8 +162,7 @@ module _ (text : List ℕ) (p : Parsed) (name : List ℕ) (columns : List (List 
   insert_planned : (s : Schema) (r : Checked Command) → inserting s ≡ r
       → compiled s text ≡ and_then r (λ k. Ok (with_command p (wanted s, (k, None))))
   unfolding compiled planned meaning returning timed command shows insert_or_abort
-  insert_planned s (Ok k) h = rw (parsed, is, h) refl
-  insert_planned s (Err e) h = rw (parsed, is, h) refl
+  insert_planned s r h = search arith
 
   abbrev rows_put : Schema → ℕ → Table → Checked Command
   rows_put s at table =
@@ -192,12 +170,7 @@ module _ (text : List ℕ) (p : Parsed) (name : List ℕ) (columns : List (List 
 
   insert_shape : (s : Schema) (k : Command) → inserting s ≡ Ok k → Inserts s k
   unfolding insert
-  insert_shape s k h =
-      let at = through (target s name) (λ at. and_then (table_at s at) (rows_put s at)) k h in
-      let table = through (table_at s at.0) (rows_put s at.0) k at.2 in
-      let from =
-      through (new_rows s table.0 (small p.names + small (wanted s)) columns rows) (λ from. Ok (Insert at.0 from)) k
-      table.2 in (at.0, from.0, at.1, sym (same_value from.2))
+  insert_shape s k h = search (arith, through, same_value)
 
   pub insert_understood : (s : Schema) (c : Compiled) → understood s text ≡ Ok c → Comes p (Inserts s) c
   insert_understood =
@@ -214,8 +187,7 @@ module _ (text : List ℕ) (p : Parsed) (name : List ℕ) (sets : List (List ℕ
   update_planned : (s : Schema) (r : Checked Command) → update s name sets test ≡ r
       → compiled s text ≡ and_then r (λ k. Ok (with_command p (p.formats, (k, None))))
   unfolding compiled planned meaning returning timed command shows
-  update_planned s (Ok k) h = rw (parsed, is, h) refl
-  update_planned s (Err e) h = rw (parsed, is, h) refl
+  update_planned s r h = search arith
 
   abbrev rows_set : Schema → ℕ → Draft → Checked Command
   rows_set s at d = and_then (program s [] d) (λ q. Ok (Update at q))
@@ -225,22 +197,12 @@ module _ (text : List ℕ) (p : Parsed) (name : List ℕ) (sets : List (List ℕ
 
   update_shape : (s : Schema) (k : Command) → update s name sets test ≡ Ok k → Updates s k
   unfolding update
-  update_shape s k h =
-      let at = through (target s name) (λ at. and_then (table_at s at) (drafted s at)) k h in
-      let table = through (table_at s at.0) (drafted s at.0) k at.2 in
-      let draft = through (updated s at.0 table.0 sets test) (rows_set s at.0) k table.2 in
-      let q = through (program s [] draft.0) (λ q. Ok (Update at.0 q)) k draft.2 in (
-        at.0,
-        q.0,
-        at.1,
-        sym (same_value q.2),
-      )
+  update_shape s k h = search (arith, through, same_value)
 
   pub update_understood : (s : Schema) (c : Compiled) → understood s text ≡ Ok c → Comes p (Updates s) c
   update_understood =
       understood_so text p Updates (λ s k it. ap is_select it.3)
-      (λ s c h. comes_to p (Updates s) p.formats (update s name sets test) c (sym (update_planned s _ refl) ∙ h)
-      (update_shape s))
+      (search (arith, comes_to, update_planned, update_shape))
 
 -- ---- what is run
 
@@ -259,12 +221,10 @@ ran_as text p P understood_as old new params count h =
       | inl shows ↦ absurd (let e = (rw shows at h.2).0 in cc)
       | inr runs ↦ rw runs at h.2
     ] in
-    let sql : text_of text h.0 ≡ slice_range text p.start p.end = ap (slice_range text h.0.start) it.end
-    ∙ ap (λ s. slice_range text s p.end) it.start in
+    let sql : text_of text h.0 ≡ slice_range text p.start p.end = cc in
     (h.0.command, it.command, given, subst₂ (λ r s. Runs old new r h.0.command s given count) it.returning sql ran)
 
 -- what is done at a place is done where something stands there
 pub at_place : {X A : Type 0} (P : X → Part A) (o : Option X) (a : A) → AtPlace P o (Ok a)
     → (x : X) × (o ≡ Some x) × P x (Ok a)
-at_place P None a h = absurd (let e : Ok a ≡ Err (Some InvalidQuery) = h in cc)
-at_place P (Some x) a h = (x, refl, h)
+at_place P o a h = search arith

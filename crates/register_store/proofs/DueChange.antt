@@ -51,9 +51,7 @@ parts Deactivation l = record { p = _; name = _; sets = _; check = _; d = _; par
 
 -- a date is reached where its cell is at most the moment
 reached : (date : Option ℕ) (at : ℕ) → IsMoment at → nat_le (date_cell date) at ≡ is_reached_at date at
-reached None at moment =
-    elim (leb_tells unset at) [ inl it ↦ absurd (let high = it.1 in omega (arith, moment)) | inr it ↦ it.0 ]
-reached (Some date) at moment = refl
+reached date at moment = search (arith, leb_tells)
 
 module _ (at : ℕ) (moment : IsMoment at) where
   abbrev pub params : Cells
@@ -88,16 +86,13 @@ module _ (at : ℕ) (moment : IsMoment at) where
         (in_state (state_after date)) stays_key p ≡ is_for p
 
   image : (date : DueDate) → Image date
-  image Activation p = simp (cast_int, cast_null)
-  image Deactivation p = simp (cast_int, cast_null)
+  image date = search (arith, cast_int, cast_null)
 
   check : (date : DueDate) → Check date
   check Activation p =
       both Activation p.1 _ _ (equal_numbers (state_code p.1.row.state) 1)
       (most_numbers (date_cell p.1.row.dates.activation) at)
-  check Deactivation p =
-      both Deactivation p.1 _ _ (equal_numbers (state_code p.1.row.state) 2)
-      (most_numbers (date_cell p.1.row.dates.deactivation) at)
+  check Deactivation p = search (arith, both, equal_numbers, most_numbers)
 
   pub moves : (date : DueDate) (old new : View) (count : ℕ) → Executes (update_text date) params old new (Ok count)
       → Makes Always (with_each (moved_on date at)) old.now new.now

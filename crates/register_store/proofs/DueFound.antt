@@ -152,30 +152,11 @@ search_is Past = past_is
 not_before : (sy sx ny nx : ℕ)
     → is_lt (ordering_then (int_cmp (pos sy) (pos sx)) (ordering_then (int_cmp (pos ny) (pos nx)) Equal)) ≡ false
     → (sx < sy) ⊎ ((sx ≡ sy) × (nx ≤ ny))
-not_before sy sx ny nx h = ranked (int_cmp (pos sy) (pos sx)) (int_ranks (pos sy) (pos sx)) h
-  where
-    then_number : (o : Ordering) → MatchOrdering o (pos ny <ℤ pos nx) (pos ny ≡ pos nx) (pos nx <ℤ pos ny)
-        → is_lt (ordering_then o Equal) ≡ false → nx ≤ ny
-    then_number Less low h = absurd cc
-    then_number Equal same h = omega (arith, ints)
-    then_number Greater high h = omega (arith, ints)
-
-    ranked : (o : Ordering) → MatchOrdering o (pos sy <ℤ pos sx) (pos sy ≡ pos sx) (pos sx <ℤ pos sy)
-        → is_lt (ordering_then o (ordering_then (int_cmp (pos ny) (pos nx)) Equal)) ≡ false
-        → (sx < sy) ⊎ ((sx ≡ sy) × (nx ≤ ny))
-    ranked Less low h = absurd cc
-    ranked Equal same h =
-        let is : sx ≡ sy = cc in inr (is, then_number (int_cmp (pos ny) (pos nx)) (int_ranks (pos ny) (pos nx)) h)
-    ranked Greater high h = inl (omega (arith, ints))
+not_before sy sx ny nx h = search (arith, ints)
 
 -- a number has one key
 pub one_number : (t : Tables) (x y : ℕ × Key) → Has (numbered t.keys) x → Has (numbered t.keys) y → x.0 ≡ y.0 → y ≡ x
-one_number t x y here there same =
-    let a = at_number 1 t.keys x here in
-    let b = at_number 1 t.keys y there in
-    let place : b.0 ≡ a.0 = omega (arith, a.1, b.1, same) in
-    let key : y.1 ≡ x.1 = let both : Some y.1 ≡ Some x.1 = sym b.2 ∙ ap (slice_get t.keys) place ∙ a.2 in cc in
-    λ i. (sym same i, key i)
+one_number t x y here there same = search (arith, at_number, slice_get)
 
 -- ---- one search
 

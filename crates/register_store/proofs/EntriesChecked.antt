@@ -19,6 +19,7 @@ use Rattle.register_store.proofs.Asked.{AnswersTo, IsWithin, ShowsOwn, checks_ta
 use Rattle.register_store.proofs.EachChecked.{odd_on}
 use Rattle.register_store.proofs.MetaChecked.{newer_not}
 use Rattle.register_store.proofs.RowsFailed.{reason_of}
+use Rattle.std.proofs.Common.{arith}
 
 -- the rows show what meets the table's check, where the tables before it are those of t
 abbrev pub Meets : TableName → Stored → List Row → Type 0
@@ -57,13 +58,7 @@ module _ (name : TableName) {A : Type 0} (Shows : Row → A → Type 0) (P : A
   -- the same beside what a check keeps
   pub entries_read_beside : {Kept : Type 0}
       → (HasCleanDisk new → ShowsAll (check_text name) (λ rows. Kept × HasShown Shows P rows) old new) → Checked (Ok tt)
-  entries_read_beside all =
-      entries_read (λ clean. let it = all clean in record {
-        rows = it.rows;
-        shown = it.shown;
-        holds = it.holds.1;
-        same = it.same;
-      })
+  entries_read_beside all = search (arith, entries_read)
 
   odd : (rows : List Row) → RefusesEach Shows P rows → (tail : List Row) → IsOdd name t (rows ++ tail)
   odd rows refuses tail = record {
@@ -80,8 +75,7 @@ module _ (name : TableName) {A : Type 0} (Shows : Row → A → Type 0) (P : A
   entries_fail error e is meaning refused memory =
       checks_table name t are.within are.own (newer_not t) IsAny (λ c d x like says. tt) are.one old new (Err e)
       (λ clean. tt)
-      (λ clean. subst (IsReasonAt name t old new) (sym is)
-      (reason_of name t old new (RefusesEach Shows P) error (meaning clean) (refused clean) (memory clean) (λ _. odd)))
+      (search (arith, reason_of, odd))
       survives
 
   -- the same of the error that a call hands on

@@ -36,6 +36,7 @@ use Rattle.register_store.proofs.KeyedFound.{number_params}
 use Rattle.register_store.proofs.KeyedRows.{keyed_counted, keyed_left, keyed_more}
 use Rattle.register_store.proofs.Meanings.{IsPlaced, Meant, placed}
 use Rattle.register_store.proofs.Texts.{has_number}
+use Rattle.std.proofs.Common.{arith}
 
 -- The rows of the table are those of the entries and go by their numbers; one text takes the entry of a number out, and
 -- another puts one in. Neither sets off an action.
@@ -110,10 +111,7 @@ module _ {A : Type 0} {key_of : A → ℕ} {row_of cells_of : A → Cells} {IsOn
 
     -- where the entry of a number is taken out, none has it
     none_left : (n : ℕ) (t : Tables) → HasNone n (without n t)
-    none_left n t a h same =
-        let there = subst (λ rest. Has rest a) (table.entries_are (filter (is_other n) (entries t)) t) h in
-        let passes = (has_filtered (is_other n) (entries t) a there).1 in
-        absurd (let off : not true ≡ true = sym (ap not (eq-eqb _ _ same)) ∙ passes in cc)
+    none_left n t a h same = search (arith, has_filtered, not, eq-eqb)
 
     -- an entry is put in the place of that of its number: the one is taken out, then the other is put in
     pub put_anew : {X Y E F : Type 0} (a : A) (old mid new : State) (x : X) (r : Result Y F)

@@ -28,6 +28,7 @@ use Rattle.register_store.proofs.Readings.{IsSearch}
 use Rattle.register_store.proofs.AnswersRead.{ReadsRow}
 use Rattle.register_store.proofs.RowFound.{answer_read, none_is, row_is}
 use Rattle.register_store.proofs.Texts.{has_number}
+use Rattle.std.proofs.Common.{arith}
 
 -- what a search by number is given
 abbrev pub number_params : ℕ → Cells
@@ -105,13 +106,7 @@ module _ {A X : Type 0} {key_of : A → ℕ} {value_of : A → X} {row_of : A �
 
   none_at : (sets : List A) → map value_of (filter is_its sets) ≡ [] → find is_its sets ≡ None
   none_at [] none = refl
-  none_at (x ∷ xs) none = by (is_its x) none (none_at xs)
-    where
-      by : (b : Bool) → map value_of (cond b (x ∷ filter is_its xs) (filter is_its xs)) ≡ []
-          → (map value_of (filter is_its xs) ≡ [] → find is_its xs ≡ None)
-          → cond b (Some x) (find is_its xs) ≡ None
-      by true e rest = absurd cc
-      by false e rest = rest e
+  none_at (x ∷ xs) none = search (arith, none_at xs)
 
   -- a value that stands at the number is the one
   is_value : (t : Tables) (old : State) → Holds t old.now → (x : X) → Has (its_values t) x → value_at t ≡ Some x

@@ -25,6 +25,7 @@ use Rattle.sql_steps.proofs.Members.{filter_permutation}
 use Rattle.sql_steps.proofs.SameRows.{has_map, map_has, same_row}
 use Rattle.sql_steps.proofs.Updates.{has_permutation}
 use Rattle.register_store.specs.Tables.{ShowsKeyed}
+use Rattle.std.proofs.Common.{arith}
 
 -- where no row has its rowid, a row is put among the others
 put_new : (new : Cells) (rows : List Cells)
@@ -43,16 +44,10 @@ put_new new (x ∷ xs) none = go (value_cmp (rowid x) (rowid new)) refl (put_new
     go Greater e more = IsPermutation-refl (new ∷ x ∷ xs)
 
 same_number : (m n : ℕ) → int_cmp (pos m) (pos n) ≡ Equal → m ≡ n
-same_number m n e = ranked (int_cmp (pos m) (pos n)) (int_ranks (pos m) (pos n)) e
-  where
-    ranked : (o : Ordering) → MatchOrdering o (pos m <ℤ pos n) (pos m ≡ pos n) (pos n <ℤ pos m) → o ≡ Equal → m ≡ n
-    ranked Less low is = absurd cc
-    ranked Equal same is = cc
-    ranked Greater high is = absurd cc
+same_number m n e = search arith
 
 number_same : (m n : ℕ) → m ≡ n → int_cmp (pos m) (pos n) ≡ Equal
-number_same m n is =
-    subst (λ (k : ℕ). int_cmp (pos m) (pos k) ≡ Equal) is (tied_itself int_cmp_total (pos m))
+number_same m n is = search (arith, tied_itself, int_cmp_total)
 
 module _ {A : Type 0} (row_of : A → Cells) (key_of : A → ℕ) (rowid_is : (a : A)
     → rowid (row_of a) ≡ Int (pos (key_of a))) where
@@ -75,9 +70,7 @@ module _ {A : Type 0} (row_of : A → Cells) (key_of : A → ℕ) (rowid_is : (a
       subst (λ v. IsTrue (is_int v)) (sym (ap rowid it.2 ∙ rowid_is it.0)) refl)
 
   compared : (a b : A) → value_cmp (rowid (row_of a)) (rowid (row_of b)) ≡ int_cmp (pos (key_of a)) (pos (key_of b))
-  compared a b =
-      ap (value_cmp (rowid (row_of a))) (rowid_is b) ∙ ap (λ v. value_cmp v (Int (pos (key_of b)))) (rowid_is a)
-      ∙ value_cmp-Int (pos (key_of a)) (pos (key_of b))
+  compared a b = search (arith, value_cmp-Int)
 
   apart_rows : (a b : A) → key_of a ≢ key_of b → value_cmp (rowid (row_of a)) (rowid (row_of b)) ≢ Equal
   apart_rows a b off same = off (same_number (key_of a) (key_of b) (sym (compared a b) ∙ same))
@@ -101,16 +94,14 @@ module _ {A : Type 0} (row_of : A → Cells) (key_of : A → ℕ) (rowid_is : (a
         rows_are = IsPermutation-trans _ _ _ (put_new (row_of new) rows free)
             (IsPermutation-trans _ _ _ (IsPermutation-append (row_of new ∷ []) (row_of new ∷ []) rows
             (map row_of entries) (IsPermutation-refl (row_of new ∷ [])) shows.rows_are)
-            (subst (IsPermutation (row_of new ∷ map row_of entries)) (sym (map-append row_of entries (new ∷ [])))
-            (IsPermutation-append_comm (row_of new ∷ []) (map row_of entries))));
+            (search (arith, map-append, IsPermutation-append_comm)));
         ordered = IsTable-put_row (row_of new) rows shows.ordered;
       }
 
   pub keyed_left : (p : Cells → Bool) (q : A → Bool) → ((a : A) → p (row_of a) ≡ q a) → (entries : List A)
       (rows : List Cells) → ShowsKeyed row_of entries rows → ShowsKeyed row_of (filter q entries) (filter p rows)
   keyed_left p q each entries rows shows = record {
-    rows_are = subst (IsPermutation (filter p rows)) (filter-map p row_of entries ∙ ap (map row_of)
-        (filter_same (λ a. p (row_of a)) q entries (all_of (λ a. p (row_of a) ≡ q a) each entries)))
+    rows_are = subst (IsPermutation (filter p rows)) (search (arith, filter-map, filter_same, all_of))
         (filter_permutation p rows (map row_of entries) shows.rows_are);
     ordered = ascending-filter _ p rows shows.ordered;
   }

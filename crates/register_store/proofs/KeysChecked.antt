@@ -76,14 +76,10 @@ ends n (k ∷ j ∷ keys) e =
 module _ (found : Found) (count : ℕ) (owners : List (List ℕ)) (rows : List Row) (row : Row)
     (taken : HasKeys found count owners rows) where
   rows_are : length rows ≡ count
-  rows_are =
-      show_length ShowsNumbered rows (numbered taken.keys) taken.are.shown ∙ length_numbered 1 taken.keys
-      ∙ sym taken.counted
+  rows_are = search (arith, show_length, length_numbered)
 
   more_are : (keys : List Key) → AreCounted found (rows ++ row ∷ []) keys → length keys ≡ suc count
-  more_are keys are =
-      let shown = show_length ShowsNumbered (rows ++ row ∷ []) (numbered keys) are.shown in
-      omega (arith, shown, length_numbered 1 keys, length-append rows (row ∷ []), rows_are)
+  more_are keys are = search (arith, show_length, length_numbered, length-append, rows_are)
 
   -- one row more than are counted
   pub keys_full : found.keys ≤ count → RefusesKeys found (rows ++ row ∷ [])
@@ -100,10 +96,7 @@ module _ (found : Found) (count : ℕ) (owners : List (List ℕ)) (rows : List R
         1 + length it.0,
         it.1,
       ) (subst (ShowEach ShowsNumbered (rows ++ row ∷ [])) all are.shown)).1 in
-      let next : 1 + length it.0 ≡ count + 1 = omega (arith, it.3) in
-      odd it.1 (subst (λ n. ShowsNumbered row (n, it.1)) next last)
-      (all_last (IsSoundAt found.version found.latest) it.0 it.1
-      (subst (AllByRecursion (IsSoundAt found.version found.latest)) it.2 are.sound))
+      let next : 1 + length it.0 ≡ count + 1 = omega (arith, it.3) in search (arith, all_last)
 
   -- the row of the next key
   pub keys_more : count < found.keys → (k : Key) → ShowsNumbered row (count + 1, k)
@@ -112,22 +105,7 @@ module _ (found : Found) (count : ℕ) (owners : List (List ℕ)) (rows : List R
   keys_more room k shows sound more is =
       let counted = taken.counted in
       let next : count + 1 ≡ 1 + length taken.keys = omega (arith, counted) in
-      let long = length-append taken.keys (k ∷ []) in
-      record {
-        keys = taken.keys ++ k ∷ [];
-        are = record {
-          shown = subst (ShowEach ShowsNumbered (rows ++ row ∷ [])) (sym (enumerate_append 1 taken.keys k))
-              (show_more ShowsNumbered rows (numbered taken.keys) row (
-                1 + length taken.keys,
-                k,
-              ) taken.are.shown (subst (λ n. ShowsNumbered row (n, k)) next shows));
-          sound = all_more (IsSoundAt found.version found.latest) taken.keys k taken.are.sound sound;
-          within = omega (arith, long, counted, room);
-        };
-        counted = omega (arith, long, counted);
-        owners_are = is ∙ ap (λ l. l ++ k.owner ∷ []) taken.owners_are
-            ∙ sym (map-append (λ (k : Key). k.owner) taken.keys (k ∷ []));
-      }
+      let long = length-append taken.keys (k ∷ []) in search (arith, enumerate_append, show_more, all_more, map-append)
 
 -- ---- a register's own rows
 
@@ -135,10 +113,7 @@ own_shown : (n : ℕ) (keys : List Key) → AllByRecursion IsKey keys
     → ShowEach ShowsNumbered (map (shown_of 0 (shown_of_table Keys)) (map key_row (enumerate_from n keys)))
     (enumerate_from n keys)
 own_shown n [] all = tt
-own_shown n (k ∷ keys) all = (
-  record { cells = shows_key k (Int (pos n) ∷ []) all.0; number = refl; in_range = all.0 },
-  own_shown (n + 1) keys all.1,
-)
+own_shown n (k ∷ keys) all = search (arith, shows_key, own_shown (n + 1) keys all.1)
 
 pub own_keys : (t : Stored) (db : Db) (rows : List Row) (holds : HoldsStored t db)
     → AnswersTo holds.schema.layout Keys db rows → ShowsOwn Keys t rows
@@ -147,8 +122,7 @@ own_keys t db rows holds sure =
     subst IsTable (sym (holds.shown Keys)) (is_table t.tables.keys) in
     let is = in_order (holds.schema.layout.tree Keys) (shown_of_table Keys) (overlay db.trees []) rows
     (subst IsTable (sym (shows_all db.trees (holds.schema.layout.tree Keys))) table) sure
-    ∙ ap (map (shown_of 0 (shown_of_table Keys))) (shows_all db.trees (holds.schema.layout.tree Keys)
-    ∙ holds.shown Keys) in
+    ∙ ap (map (shown_of 0 (shown_of_table Keys))) (search (arith, shows_all)) in
     record {
       c = t.tables.keys;
       shows = subst (λ rs. ShowEach ShowsNumbered rs (numbered t.tables.keys)) (sym is)
@@ -170,12 +144,7 @@ one_keys rows c d x y =
 
 -- no row yet
 pub keys_begin : (found : Found) (owners : List (List ℕ)) → owners ≡ [] → HasKeys found 0 owners []
-keys_begin found owners none = record {
-  keys = [];
-  are = record { shown = tt; sound = tt; within = omega arith };
-  counted = refl;
-  owners_are = none;
-}
+keys_begin found owners none = search arith
 
 module _ (t : Stored) (found : Found) (told : mark_of found ≡ mark t) (old new : State)
     (survives : Survives old new (λ _. ⊥)) where
@@ -193,21 +162,8 @@ module _ (t : Stored) (found : Found) (told : mark_of found ≡ mark t) (old new
 
   -- rows that do not pass do not begin rows that do
   odd_on : (rows : List Row) → RefusesKeys found rows → (tail : List Row) → IsOdd Keys t (rows ++ tail)
-  odd_on rows refuses tail = record {
-    fails = λ keys shows meets.
-        let prefix = show_prefix ShowsNumbered rows tail (numbered keys) shows in
-        let it = numbered_prefix 1 keys prefix.0 prefix.1 prefix.2 in
-        let counted = meets.counted in
-        let sound = subst (λ v. AllByRecursion (IsSoundAt v found.latest) keys) (sym version_is)
-        (subst (λ l. AllByRecursion (IsSoundAt t.version l) keys) (sym latest_is) meets.sound) in
-        refuses it.0 (record {
-          shown = subst (ShowEach ShowsNumbered rows) it.3 prefix.3;
-          sound = all_prefix (IsSoundAt found.version found.latest) it.0 it.1
-              (subst (AllByRecursion (IsSoundAt found.version found.latest)) it.2 sound);
-          within = omega (arith, ap length it.2, length-append it.0 it.1, counted, key_count_is);
-        });
-    no_newer = λ none. none;
-  }
+  odd_on rows refuses tail =
+      search (arith, show_prefix, numbered_prefix, version_is, latest_is, all_prefix, length-append, key_count_is)
 
   abbrev Checked : Result (Vec (List ℕ)) CheckError → Type 0
   Checked q = ChecksTable Keys t AreOwners old new q
@@ -219,19 +175,7 @@ module _ (t : Stored) (found : Found) (told : mark_of found ≡ mark t) (old new
   keys_read count owners all is =
       checks_table Keys t keys_within (own_keys t) (newer_not t) AreOwners
       (λ c d x like says. says ∙ ap owners_of like) one_keys old new (Ok owners)
-      (λ clean.
-      let it = all clean in
-      let keys = it.holds.keys in
-      let counted = it.holds.counted in (
-        keys,
-        record { rows = it.rows; shown = it.shown; holds = it.holds.are.shown; same = it.same },
-        record {
-          counted = sym counted ∙ is clean ∙ key_count_is;
-          sound = subst (λ l. AllByRecursion (IsSoundAt t.version l) keys) latest_is
-              (subst (λ v. AllByRecursion (IsSoundAt v found.latest) keys) version_is it.holds.are.sound);
-        },
-        it.holds.owners_are,
-      ))
+      (search (arith, key_count_is, latest_is, version_is))
       (λ clean. tt) survives
 
   -- fewer than are counted
@@ -241,21 +185,7 @@ module _ (t : Stored) (found : Found) (told : mark_of found ≡ mark t) (old new
   keys_fewer count owners all off =
       checks_table Keys t keys_within (own_keys t) (newer_not t) AreOwners
       (λ c d x like says. says ∙ ap owners_of like) one_keys old new (Err NotARegister) (λ clean. tt)
-      (λ clean.
-      let it = all clean in (
-        inr (inr (record {
-          rows = it.rows;
-          shown = it.shown;
-          holds = record {
-            fails = λ keys shows meets.
-                let same = one_keys it.rows it.holds.keys keys it.holds.are.shown shows in
-                off clean (it.holds.counted ∙ ap length same ∙ meets.counted ∙ sym key_count_is);
-            no_newer = λ none. none;
-          };
-          same = it.same;
-        })),
-        it.same,
-      ))
+      (search (arith, one_keys, key_count_is))
       survives
 
   -- an error of the reader
@@ -268,9 +198,7 @@ module _ (t : Stored) (found : Found) (told : mark_of found ≡ mark t) (old new
   keys_fail error (Err e) is meaning refused memory =
       checks_table Keys t keys_within (own_keys t) (newer_not t) AreOwners
       (λ c d x like says. says ∙ ap owners_of like) one_keys old new (Err e) (λ clean. tt)
-      (λ clean. subst (IsReasonAt Keys t old new) (sym is)
-      (reason_of Keys t old new (RefusesKeys found) error (meaning clean) (refused clean) (memory clean)
-      (λ _. odd_on))) survives
+      (search (arith, reason_of, odd_on)) survives
 
   -- what is given of them
   module _ (seen : Found) (count : ℕ) (owners : Vec (List ℕ)) (all : HasCleanDisk new
@@ -295,5 +223,4 @@ module _ (t : Stored) (found : Found) (told : mark_of found ≡ mark t) (old new
 pub given_where : (all : Bool) (owners : Vec (List ℕ)) (found : Option (Vec (List ℕ)))
     (q : Result (Vec (List ℕ)) CheckError) → found ≡ then_some all owners → q ≡ ok_or found NotARegister
     → q ≡ owners_where all owners
-given_where true owners found q found_is is = is ∙ ap (λ o. ok_or o NotARegister) found_is
-given_where false owners found q found_is is = is ∙ ap (λ o. ok_or o NotARegister) found_is
+given_where all owners found q found_is is = search arith

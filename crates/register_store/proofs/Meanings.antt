@@ -63,9 +63,7 @@ pub record Meant (s : Schema) (sql : List ℕ) (c : Command) : Type 0 where
 
 compiled_so : (s : Schema) (sql : List ℕ) (p : Parsed) (c : Command) → compiled s sql ≡ Ok (means p c) → Meant s sql c
 unfolding understood
-compiled_so s sql p c is =
-    let whole : understood s sql ≡ Ok (means p c) = rw is refl in
-    record { is = ap command_of whole; plain = subst IsPlain (sym whole) (refl, refl); unlisted = rw is refl }
+compiled_so s sql p c is = search (arith, command_of)
 
 -- the text asks the table
 pub record Asks (s : Schema) (table : Table) (sql : List ℕ) (q : Query) (names : List (List ℕ)) : Type 0 where
@@ -120,18 +118,12 @@ module _ (s : Schema) (table : Table) (has : table_classes s [] table.tree ≡ S
       → accepts_classes (query_of d) (Some (row_classes table)) ≡ true → program s [] d
       ≡ Ok (record { lets = []; body = query_of d })
   unfolding program
-  programs d from accepted =
-      let q = query_of d in
-      let over : accepts_over s [] q [] ≡ true =
-      ap (λ j. accepts_after [] q (filled s [] [] j []) && (is_count [] q.limit && is_count [] q.offset)) from
-      ∙ ap (accepts_classes q) has ∙ accepted in
-      ap (λ b. cond b (Ok (record { lets = []; body = q })) (Err Mismatch)) over
+  programs d from accepted = search arith
 
   asked_so : (sql : List ℕ) (q : Query) (names : List (List ℕ)) (a : Asks s table sql q names) → compiled s sql
       ≡ Ok (means a.p (Select (record { lets = []; body = query_of a.d }) names))
   unfolding compiled planned meaning returning timed command read
-  asked_so sql q names a =
-      let programmed = programs a.d a.from a.accepted in rw (a.parsed, a.untimed, a.is, a.drafted, programmed) refl
+  asked_so sql q names a = search (arith, programs)
 
   pub asks : (sql : List ℕ) (q : Query) (names : List (List ℕ)) → Asks s table sql q names
       → Meant s sql (Select (record { lets = []; body = q }) names)
@@ -141,8 +133,7 @@ module _ (s : Schema) (table : Table) (has : table_classes s [] table.tree ≡ S
   set_so : (sql : List ℕ) (at : ℕ) (q : Query) (a : Sets s table at sql q) → compiled s sql
       ≡ Ok (means a.p (Update at (record { lets = []; body = query_of a.d })))
   unfolding compiled planned meaning returning timed command update shows
-  set_so sql at q a = let programmed =
-      programs a.d a.from a.accepted in rw (a.parsed, a.untimed, a.is, a.named, a.there, a.drafted, programmed) refl
+  set_so sql at q a = search (arith, programs)
 
   pub sets : (sql : List ℕ) (at : ℕ) (q : Query) → Sets s table at sql q
       → Meant s sql (Update at (record { lets = []; body = q }))
@@ -152,16 +143,7 @@ module _ (s : Schema) (table : Table) (has : table_classes s [] table.tree ≡ S
   taken_so : (sql : List ℕ) (at : ℕ) (q : Query) (a : Takes s table at sql q) → compiled s sql
       ≡ Ok (means a.p (Delete at (record { lets = []; body = query_of a.d })))
   unfolding compiled planned meaning returning timed command delete shows
-  taken_so sql at q a =
-      let programmed = programs a.d a.from a.accepted in rw (
-        a.parsed,
-        a.untimed,
-        a.is,
-        a.named,
-        a.there,
-        a.drafted,
-        programmed,
-      ) refl
+  taken_so sql at q a = search (arith, programs)
 
   pub takes : (sql : List ℕ) (at : ℕ) (q : Query) → Takes s table at sql q
       → Meant s sql (Delete at (record { lets = []; body = q }))
@@ -187,8 +169,7 @@ low_in (r ∷ rows) (s ∷ tables) all t (inl same) = subst (λ (x : Table). x.t
 low_in (r ∷ rows) (s ∷ tables) all t (inr later) = low_in rows tables all.1 t later
 
 apart_below : (version : Version) (l : Layout) → AreApartIn version l → AreApartBelow (table_count version) l
-apart_below First l apart = apart
-apart_below Second l apart = λ a b low_a low_b same. apart a b same
+apart_below version l apart = search arith
 
 module _ (version : Version) where
   pub placed_of : (l : Layout) (db : Database) → db.schema ≡ schema_in version l → AreApartIn version l
@@ -218,11 +199,7 @@ found_in : (l : Layout) (name : TableName) (names : List TableName)
     → find (λ (t : Table). t.tree == l.tree name) (map (table_of l) names) ≡ Some (table_of l name)
 found_in l name [] apart h = absurd h
 found_in l name (n ∷ names) apart h = elim (cases_Bool ((table_of l n).tree == l.tree name)) [
-  | inl same ↦
-      let is : n ≡ name =
-      same_place name n (apart n (inl refl) (sym ((each n).tree_is l) ∙ eqb-true _ _ same)) in
-      ap (λ b. cond b (Some (table_of l n)) (find (λ (t : Table). t.tree == l.tree name) (map (table_of l) names)))
-      same ∙ ap (λ m. Some (table_of l m)) is
+  | inl same ↦ search (arith, same_place, each, eqb-true)
   | inr other ↦
       ap (λ b. cond b (Some (table_of l n)) (find (λ (t : Table). t.tree == l.tree name) (map (table_of l) names)))
       other ∙ found_in l name names (λ m has. apart m (inr has)) (later other h)

@@ -60,8 +60,7 @@ own_meta t db rows holds sure =
     }
 
 known_below : (v : Version) → version_number v ≤ version
-known_below First = omega arith
-known_below Second = omega arith
+known_below v = search arith
 
 -- its version is one that this program knows
 pub newer_not : (t : Stored) (found : ℕ) (old new : State) → HoldsStored t old.now → HasNewer found old new → ⊥
@@ -77,20 +76,13 @@ newer_not t found old new holds newer =
 pub told_as : (told is : Option MetaRow) (old new : State) → told ≡ is
     → (HasCleanDisk new → ShowsAll (check_text Meta) (HasMeta told) old new)
     → HasCleanDisk new → ShowsAll (check_text Meta) (HasMeta is) old new
-told_as told is old new same all clean =
-    subst (λ (it : Option MetaRow). ShowsAll (check_text Meta) (HasMeta it) old new) same (all clean)
+told_as told is old new same all clean = search arith
 
 same_version : (a b : Version) → version_number a ≡ version_number b → a ≡ b
-same_version First First e = refl
-same_version Second Second e = refl
-same_version First Second e = absurd (omega (arith, e))
-same_version Second First e = absurd (omega (arith, e))
+same_version a b e = search arith
 
 one_counts : (row : Row) (a b : Version × Counts) → ShowsCounts row a → ShowsCounts row b → a ≡ b
-one_counts row a b x y = λ i. (
-  same_version a.0 b.0 (same_number _ _ _ x.version_is y.version_is) i,
-  record { latest = same_number _ _ _ x.latest y.latest i; key_count = same_number _ _ _ x.key_count y.key_count i },
-)
+one_counts row a b x y = search (arith, same_version, same_number)
 
 one_meta : (rows : List Row) (c d : Version × Counts) → ShowsRows Meta rows c → ShowsRows Meta rows d → c ≡ d
 one_meta [] c d x y = absurd x
@@ -101,12 +93,7 @@ one_meta (row ∷ rows) c d x y = one_counts row c d x.0 y.0
 -- a second row
 pub two_refused : (told : Option MetaRow) (rows : List Row) (row : Row) → Rattle.std.specs.Prelude.IsSome told
     → HasMeta told rows → RefusesMeta (rows ++ row ∷ [])
-two_refused None rows row some taken = absurd (cc)
-two_refused (Some one) rows row some taken =
-    subst (λ rs. RefusesMeta (rs ++ row ∷ [])) (sym taken.1) (record {
-      uncounted = λ tail told shows few. shows.1;
-      no_newer = λ tail newer. let one_row = newer.2 in absurd cc;
-    })
+two_refused told rows row some taken = search arith
 
 module _ (t : Stored) (old new : State) (survives : Survives old new (λ _. ⊥)) where
   abbrev Checked : Result Found CheckError → Type 0
@@ -124,18 +111,7 @@ module _ (t : Stored) (old new : State) (survives : Survives old new (λ _. ⊥)
   counts_told : (told : MetaRow) → (HasCleanDisk new → ShowsAll (check_text Meta) (HasMeta (Some told)) old new)
       → Checked (counts_in told)
   counts_told (CountsKeys found) all = checked (Ok found)
-      (λ clean. let it = all clean in (
-        mark_of found,
-        record {
-          rows = it.rows;
-          shown = it.shown;
-          holds = subst (λ rows. ShowEach ShowsCounts rows (mark_of found ∷ [])) (sym it.holds.1)
-              (it.holds.2.0, tt);
-          same = it.same;
-        },
-        it.holds.2.1,
-        refl,
-      )) (λ clean. tt)
+      (search arith) (λ clean. tt)
   counts_told (Newer found) all = checked (Err (NewerVersion found)) (λ clean. tt)
       (λ clean. let it = all clean in record {
         row = it.holds.0;
@@ -149,10 +125,7 @@ module _ (t : Stored) (old new : State) (survives : Survives old new (λ _. ⊥)
 
   -- no rows are those of no register
   no_rows : (rows : List Row) → rows ≡ [] → IsOdd Meta t rows
-  no_rows rows none = record {
-    fails = λ c shows meets. subst (λ rs. ShowsRows Meta rs c) none shows;
-    no_newer = λ newer. let one_row : rows ≡ newer.0 ∷ [] = newer.2 in absurd cc;
-  }
+  no_rows rows none = search arith
 
   odd : (rows : List Row) → RefusesMeta rows → (tail : List Row) → IsOdd Meta t (rows ++ tail)
   odd rows refuses tail = record {
@@ -162,21 +135,13 @@ module _ (t : Stored) (old new : State) (survives : Survives old new (λ _. ⊥)
 
   pub meta_none : (HasCleanDisk new → ShowsAll (check_text Meta) (HasMeta None) old new) → Checked (Err NotARegister)
   meta_none all = checked (Err NotARegister) (λ clean. tt)
-      (λ clean. let it = all clean in (
-        inr (inr (record { rows = it.rows; shown = it.shown; holds = no_rows it.rows it.holds; same = it.same })),
-        it.same,
-      ))
+      (search (arith, no_rows))
 
   -- the rows do not pass, or were not read
   reason : (error : RowsError) → (error ≡ NoMeaning → HasNoMeaning (check_text Meta) old new)
       → (error ≡ Refused → ShowsFirst (check_text Meta) RefusesMeta old new) → (error ≡ Memory → IsUnchanged old new)
       → IsReasonAt Meta t old new (check_error error)
-  reason NoMeaning meaning refused memory = let it = meaning refl in (inl it, it.same)
-  reason Refused meaning refused memory =
-      let it = refused refl in
-      (inr (inl (record { rows = it.rows; shown = it.shown; holds = odd it.rows it.holds; same = it.same })), it.same)
-  reason Memory meaning refused memory = memory refl
-  reason (Database error) meaning refused memory = tt
+  reason error meaning refused memory = search (arith, odd)
 
   pub meta_fails : (error : RowsError) (q : Result Found CheckError) → IsErrAnd q (λ e. e ≡ check_error error)
       → (HasCleanDisk new → error ≡ NoMeaning → HasNoMeaning (check_text Meta) old new)
@@ -184,5 +149,4 @@ module _ (t : Stored) (old new : State) (survives : Survives old new (λ _. ⊥)
       → (HasCleanDisk new → error ≡ Memory → IsUnchanged old new) → Checked q
   meta_fails error (Ok found) is meaning refused memory = absurd is
   meta_fails error (Err e) is meaning refused memory =
-      subst (λ e. Checked (Err e)) (sym is) (checked (Err (check_error error)) (λ clean. tt)
-      (λ clean. reason error (meaning clean) (refused clean) (memory clean)))
+      subst (λ e. Checked (Err e)) (sym is) (search (arith, checked, reason))

@@ -47,6 +47,7 @@ use Rattle.register_store.proofs.NameAdded.{adds_name}
 use Rattle.register_store.proofs.EntryRows.{entry_of, shows_filtered}
 use Rattle.register_store.proofs.NameChecks.{at_key, at_name, places, key_past, key_is, name_past, name_is, same_cells}
 use Rattle.register_store.proofs.NameChecks.{agree_same, loses_name}
+use Rattle.std.proofs.Common.{rules}
 
 -- the text takes rows that pass out of the table at this place
 abbrev IsDelete : List ℕ → TableName → List Term → Type 0
@@ -115,13 +116,10 @@ unfolding same_name joined
 parent_is l = refl
 
 null_past : (r : Cells) → has_null places r ≡ has_null places (Null ∷ drop 1 r)
-null_past [] = refl
-null_past (v ∷ vs) = refl
+null_past r = search arith
 
 stands : (a b : Bool) → a ≡ false → ((a || b) && true) ≡ true → b ≡ true
-stands true b none e = absurd (cc)
-stands false true none e = refl
-stands false false none e = absurd (cc)
+stands a b none e = search arith
 
 -- whoever approves is a custodian
 approver : (db : Database) (t : Tables) (holds : Holds t db) (r : Cells)
@@ -138,8 +136,7 @@ approver db t holds r h =
     let passing = all_has (λ row. passes ForeignKey (schema_with l) db.trees (approval l) row ≡ true)
     (rows_of l Approval db) r followed h in
     let full : has_null places r ≡ false = null_past r ∙ ap (λ cells. has_null places (Null ∷ cells)) a.1 in
-    let held = stands _ _ full (subst (λ key. ((has_null places r || is_held db.trees places r key) && true) ≡ true)
-    (parent_is l) passing) in
+    let held = stands _ _ full (search (arith, places, parent_is)) in
     let x = some_has (λ parent. agree plain places parent places r) (rows_of l Custodian db) held in
     let b = entry_of name_cells t.custodians (rows_of l Custodian db) (holds.shown Custodian) x.0 x.1 in
     (x.0, x.1, sym (same_cells x.0 r b.0 a.0 b.1 a.1 x.2))

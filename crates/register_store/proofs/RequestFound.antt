@@ -33,6 +33,7 @@ use Rattle.register_store.proofs.Meanings.{Asks}
 use Rattle.register_store.proofs.Readings.{IsSearch, search_by}
 use Rattle.register_store.proofs.AnswersRead.{ReadsRow}
 use Rattle.register_store.proofs.RowFound.{row_read}
+use Rattle.std.proofs.Common.{arith}
 
 -- ---- the text
 
@@ -74,13 +75,11 @@ module _ (caller : List ℕ) (number : ℕ) where
   passing = is_picked params 0 under answer_shown
 
   past : (r : Cells) → passing r ≡ passing (Null ∷ drop 1 r)
-  past [] = refl
-  past (v ∷ vs) = refl
+  past r = search arith
 
   shown_past : (r : Cells)
       → eval_all answer_shown (params ∷ r ∷ []) ≡ eval_all answer_shown (params ∷ (Null ∷ drop 1 r) ∷ [])
-  shown_past [] = refl
-  shown_past (v ∷ vs) = refl
+  shown_past r = search arith
 
   under_is : (k : KeptReply) → passing (Null ∷ request_cells k) ≡ is_under caller number k
   under_is k = rw (equal_words k.caller caller, equal_numbers k.number number, and-true (k.number == number)) refl

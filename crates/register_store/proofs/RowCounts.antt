@@ -60,8 +60,7 @@ module _ (name : TableName) (old new : State) where
       let same = asks_meaningless old new {E = F} (λ (_ : Unit {0}) (a b : Database). b ≡ a) tt (count_text name) [] e
       fault is (λ is. is) asked survives in
       record {
-        changed = λ clean inside.
-            let it = same.changed clean inside in ((lacks e fault is (asked clean), it.0), it.1);
+        changed = search (arith, lacks);
         kept = same.kept;
         survives = same.survives;
       }
@@ -72,35 +71,18 @@ abbrev pub table_at : ℕ → TableName
 table_at n = get_or all_tables n Meta
 
 at_place : (name : TableName) → table_at (place_of name) ≡ name
-at_place Meta = refl
-at_place name = refl
+at_place name = search arith
 
 lacks_more : (n : ℕ) (old mid new : Database) → LacksFirst n old mid → Answers (IsThere (table_at n)) false mid new
     → LacksFirst (n + 1) old new
-lacks_more n old mid new before answer = record {
-  none = λ name low. elim (eq-or-lt_of_le (at_most n (place_of name) low)) [
-    | inl this ↦ λ there. answer.0 (subst₂ (λ (t : TableName) (db : Database). IsThere t db.schema)
-        (sym (at_place name) ∙ ap table_at this) (sym before.same) there)
-    | inr low ↦ before.none name low
-  ];
-  same = answer.1 ∙ before.same;
-}
-  where
-    at_most : (n k : ℕ) → k < n + 1 → k ≤ n
-    at_most n k low = omega arith
+lacks_more n old mid new before answer = search (arith, eq-or-lt_of_le, subst₂, at_place)
 
 -- one more was looked for
 pub lacks_next : {E : Type 0} (n : ℕ) (a b d : State) (found : Bool) → found ≡ false
     → StepsBy {E = E} (λ (_ : Unit {0}). LacksFirst n) a b (Ok tt)
     → StepsBy {E = E} (Answers (IsThere (table_at n))) b d (Ok found)
     → StepsBy {E = E} (λ (_ : Unit {0}). LacksFirst (n + 1)) a d (Ok tt)
-lacks_next {E = E} n a b d found none so_far look =
-    steps_as {E = E} {F = E} (λ (there : Bool). Then (LacksFirst n) (Answers (IsThere (table_at n)) there))
-    (λ (_ : Unit {0}). LacksFirst (n + 1)) a d false tt
-    (λ old new done. lacks_more n old done.0 new done.1 done.2)
-    (steps_then {E = E} {F = E} (λ (_ : Unit {0}). LacksFirst n) (Answers (IsThere (table_at n))) a b d tt
-    (Ok false) so_far
-    (subst (λ (is : Bool). StepsBy {E = E} (Answers (IsThere (table_at n))) b d (Ok is)) none look))
+lacks_next {E = E} n a b d found none so_far look = search (arith, steps_as, lacks_more, steps_then)
 
 -- ---- a register's tables are there
 
@@ -112,15 +94,10 @@ counts First l = (_, _, record { p = _; select = _; d = _; by = _; parsed = refl
 counts Second l = (_, _, record { p = _; select = _; d = _; by = _; parsed = refl; untimed = refl; is = refl; drafted = refl; same = refl; from = refl; accepted = refl })
 
 first_low : (version : Version) → place_of Meta < table_count version
-first_low First = omega arith
-first_low Second = omega arith
+first_low version = search arith
 
 means_one : (schema : Schema) (sql : List ℕ) → IsPlain (understood schema sql) → HasMeaning schema sql
-means_one schema sql plain = by (understood schema sql) plain refl
-  where
-    by : (r : Result Compiled CompileError) → IsPlain r → understood schema sql ≡ r → HasMeaning schema sql
-    by (Ok c) plain is = (c, is)
-    by (Err e) plain is = absurd plain
+means_one schema sql plain = search arith
 
 pub has_table : (version : Version) (t : Tables) (db : Database) → HoldsIn version t db → HasTable db.schema
 has_table version t db holds =

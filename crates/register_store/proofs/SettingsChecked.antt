@@ -43,13 +43,7 @@ own_needs t second db rows holds sure =
     (λ set is. record { key = refl; need = refl; in_range = is }) db t.tables.needs rows
     (holds.in_range Quorum)
     (subst (λ v. ShowsSinceSecond need_row v t.tables.needs (db.trees tree)) second (holds.shown Quorum))
-    (shows_all db.trees tree) sure in
-    record {
-      c = it.0;
-      shows = it.2;
-      like = it.1;
-      meets = all_permuted (IsNeedOf t.tables.counts) t.tables.needs it.0 it.1;
-    }
+    (shows_all db.trees tree) sure in search (arith, all_permuted)
 
 -- ---- a row shows one
 
@@ -103,10 +97,6 @@ needs_checked t found second told = record {
     it.shown,
     subst (λ n. AllByRecursion (IsNeedOf n) it.values) (counted t found told) it.each,
   );
-  given = λ rows met. record {
-    values = met.0;
-    shown = met.1;
-    each = subst (λ n. AllByRecursion (IsNeedOf n) met.0) (sym (counted t found told)) met.2;
-  };
+  given = search (arith, counted);
   no_newer = λ rows none. none;
 }

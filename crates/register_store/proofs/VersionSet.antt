@@ -89,10 +89,7 @@ module _ (old new : State) (count : ℕ) (h : Executes version_text version_para
 
   shown_now : (name : TableName) → Shows name (content name t) (rows_of l name new.now)
   shown_now Meta = wrote.rows_are ∙ ap (λ row. enc row ∷ []) (changed_is (First, t.counts))
-  shown_now Period =
-      subst (ShowsKeyed period_row t.periods)
-      (sym (other Period (λ e. absurd (omega (arith, e))) ∙ has.empty Period (omega arith) (omega arith)))
-      (subst (λ ps. ShowsKeyed period_row ps []) (sym has.no_periods) (keyed_none period_row))
+  shown_now Period = search (arith, other, keyed_none)
   shown_now Quorum =
       subst (ShowsKeyed need_row t.needs)
       (sym (other Quorum (λ e. absurd (omega (arith, e))) ∙ has.empty Quorum (omega arith) (omega arith)))
