@@ -1,18 +1,15 @@
 -- What a search for one row finds by a reader that tells what a row shows.
-use Rattle.std.proofs.Common.{◌≡◌, ◌≢◌, Option, None, Some, Result, Ok, Err, IfOk, IfErr, MatchOption, refl, sym, subst}
-use Rattle.std.proofs.Common.{List, ℕ}
+use Rattle.std.proofs.Common.{◌≡◌, ◌≢◌, Option, Result, IfOk, IfErr, MatchOption, List, ℕ, arith}
 use Rattle.sqlite.specs.Order.{Row}
 use Rattle.sqlite.specs.State.{State, HasCleanDisk, QueriesRow, Survives, CommitsShowing}
 use Rattle.sqlite.specs.declared.error.Error.{Error}
-use Rattle.sqlite.specs.declared.error.Error.TheVariants.{QueryReturnedNoRows}
 use Rattle.sqlite_trees.specs.declared.store.Store.{Ghosts}
 use Rattle.register_store.specs.declared.counted.Counted.{Counted}
 use Rattle.register_store.specs.declared.error.StoreError.{StoreError}
 use Rattle.register_store.specs.declared.error.StoreError.TheVariants.{Memory, NoRegister}
 use Rattle.register_store.specs.Tables.{Tables}
 use Rattle.register_store.specs.TableReads.{ReadsBy, seen}
-use Rattle.register_store.specs.Within.TableReads.{AnswersBy, FindsOne, IsRowOf, ShowsNone, given_of, given_without}
-use Rattle.std.proofs.Common.{arith}
+use Rattle.register_store.specs.Within.TableReads.{AnswersBy, FindsOne, IsRowOf, ShowsNone}
 
 -- the result is what the answer's row shows; it is no want of memory, and no register's row is refused
 pub record Tells {A : Type 0} (IsOne : A → Type 0) (ShowsOne : Row → A → Type 0) (answer : Result Row Error)

@@ -1,6 +1,6 @@
 -- Making a register and migrating one leave what the file has beside it.
-use Rattle.std.proofs.Common.{◌≡◌, ◌==◌, ◌<◌, inl, inr, ℕ, Bool, true, false, List, [], codes, Option, None, Some}
-use Rattle.std.proofs.Common.{Result, Ok, Err, refl, sym, ap, subst, ◌∙◌, arith}
+use Rattle.std.proofs.Common.{◌≡◌, ◌<◌, ℕ, true, false, List, [], codes, Option, None, Some, Result, Ok, Err, refl, sym}
+use Rattle.std.proofs.Common.{ap, arith}
 use Rattle.std.specs.Prelude.{find, ◌+◌, get_or, ◌∷◌}
 use Rattle.std.proofs.lemmas.Grind.{common_steps}
 use Rattle.register_store.specs.Within.Creation.{MakesIndex, MakesIndexes}
@@ -32,7 +32,6 @@ use Rattle.sqlite_schema.specs.declared.schema.Reference.{Reference}
 use Rattle.sqlite_syntax.specs.declared.statement.Parsed.{Parsed}
 use Rattle.sqlite_tied.specs.Compute.{everything}
 use Rattle.sql_steps.specs.Steps.{Change, StepsBy}
-use Rattle.sql_steps.specs.Within.Steps.{Then}
 use Rattle.sql_steps.proofs.Stepping.{stays, steps_as, steps_then}
 use Rattle.register_store.specs.Beside.{HasMetaApart, KeepsOthers, LacksMeta, is_meta}
 use Rattle.register_store.specs.Within.Beside.{Adds, AddsUncounted, InsertsMeta, IsMadeAs, IsUncounted, UpdatesMeta}
@@ -42,8 +41,7 @@ use Rattle.register_store.specs.Within.Tables.{create_text}
 use Rattle.register_store.specs.declared.key_index.KeyIndex.{KeyIndex}
 use Rattle.register_store.specs.declared.key_index.KeyIndex.TheVariants.{Activation, Deactivation, ProtectStop}
 use Rattle.register_store.specs.declared.table.TableName.{TableName}
-use Rattle.register_store.specs.declared.table.TableName.TheVariants.{Approval, Custodian, Keys as KeysTable, Meta}
-use Rattle.register_store.specs.declared.table.TableName.TheVariants.{Period, Quorum, Request}
+use Rattle.register_store.specs.declared.table.TableName.TheVariants.{Meta}
 use Rattle.register_store.proofs.BesideMade.{adds_by_index, adds_by_table, adds_none, adds_then}
 use Rattle.register_store.proofs.BesideMeta.{WritesOne, filter_none, flat_none, inserts_one, updates_one}
 use Rattle.register_store.proofs.Creating.{row_params, row_text}

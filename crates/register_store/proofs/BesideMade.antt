@@ -11,7 +11,6 @@ use Rattle.sqlite.specs.Schema.{Schema}
 use Rattle.sqlite.specs.Order.{Row}
 use Rattle.sqlite.specs.State.{State, Executes, Writes, mode_of}
 use Rattle.sqlite.specs.Table.{Table}
-use Rattle.sqlite_rules.specs.Lists.{Has}
 use Rattle.sqlite_rules.proofs.ListLemmas.{all_has, has_left, has_either}
 use Rattle.sqlite_schema.specs.declared.schema.Index.{Index}
 use Rattle.sqlite_ast.specs.declared.CreateIndex.{CreateIndex}

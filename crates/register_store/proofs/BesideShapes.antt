@@ -1,6 +1,6 @@
 -- What a text comes to in a schema of which nothing is known: it is a command of its statement's kind, or is refused.
-use Rattle.std.proofs.Common.{◌≡◌, ◌⊎◌, inl, inr, ℕ, Bool, true, false, cond, List, [], Option, None, Some, Ok, Err}
-use Rattle.std.proofs.Common.{refl, sym, ap, subst, ◌∙◌, subst₂}
+use Rattle.std.proofs.Common.{◌≡◌, ◌⊎◌, inl, inr, ℕ, Bool, false, cond, List, [], Option, None, Some, Ok, Err, refl}
+use Rattle.std.proofs.Common.{sym, ap, subst, ◌∙◌, subst₂, arith}
 use Rattle.std.specs.Prelude.{◌+◌, slice_range, length, not, ◌&&◌, nat_eq, ◌++◌}
 use Rattle.sqlite.specs.Command.{Command}
 use Rattle.sqlite.specs.Command.TheVariants.{CreateTable as MakeTable, CreateIndex as MakeIndex, Insert, Update}
@@ -11,9 +11,8 @@ use Rattle.sqlite.specs.Does.{AtPlace}
 use Rattle.sqlite.specs.Order.{Row}
 use Rattle.sqlite.specs.Rows.{Part}
 use Rattle.sqlite.specs.State.{State, Executes, ExecutesIn, Runs, shows_rows, text_of}
-use Rattle.sqlite.specs.declared.error.Error.TheVariants.{InvalidQuery}
 use Rattle.std.proofs.lemmas.Bool.{cases_Bool}
-use Rattle.sqlite_resolve.specs.declared.error.CompileError.TheVariants.{Misuse, Unsupported, NoSuchTable}
+use Rattle.sqlite_resolve.specs.declared.error.CompileError.TheVariants.{Unsupported, NoSuchTable}
 use Rattle.sqlite.specs.Schema.{Schema}
 use Rattle.sqlite.specs.Table.{Table}
 use Rattle.sqlite_ast.specs.declared.CreateTable.{CreateTable}
@@ -25,7 +24,7 @@ use Rattle.sqlite_ast.specs.declared.Statement.TheVariants as written
 use Rattle.sqlite_resolve.specs.Lowering.{Checked, and_then}
 use Rattle.sqlite_resolve.specs.Compile.{first, compiled, planned, meaning, returning, timed, command, create_table}
 use Rattle.sqlite_resolve.specs.Compile.{create_index, creates, insert, update, insert_or_abort, target, shows, small}
-use Rattle.sqlite_resolve.specs.Compile.{is_attached, is_reserved, formats_of, with_command, new_rows}
+use Rattle.sqlite_resolve.specs.Compile.{formats_of, with_command, new_rows}
 use Rattle.sqlite_resolve.specs.Body.{table_at}
 use Rattle.sqlite_resolve.specs.declared.compiled.Compiled.{Compiled}
 use Rattle.sqlite_resolve.specs.declared.error.CompileError.{CompileError}
@@ -40,7 +39,6 @@ use Rattle.std.specs.Option.{option_or}
 use Rattle.sql_steps.proofs.Statements.{same_value}
 use Rattle.register_store.proofs.NextTexts.{IsText, planned_as}
 use Rattle.sqlite_syntax.specs.declared.statement.Parsed.{Parsed}
-use Rattle.std.proofs.Common.{arith}
 
 -- the text comes to a command of which P holds, and gives no rows
 pub record Comes (p : Parsed) (P : Command → Type 0) (c : Compiled) : Type 0 where

@@ -29,7 +29,7 @@ use Rattle.register_requests.specs.Name.{is_among}
 use Rattle.register_store.specs.declared.error.CheckError.{CheckError}
 use Rattle.register_store.specs.declared.error.CheckError.TheVariants.{Memory as Ran_out}
 use Rattle.register_store.specs.declared.table.TableName.TheVariants.{Custodian}
-use Rattle.register_store.specs.CheckedTables.{IsOdd, IsReasonAt, ShowsName, check_error, check_text}
+use Rattle.register_store.specs.CheckedTables.{IsOdd, ShowsName, check_error, check_text}
 use Rattle.register_store.specs.Within.CheckedTables.{ChecksTable}
 use Rattle.register_store.specs.Stored.{HoldsStored, Stored}
 use Rattle.register_store.specs.Tables.{IsNamed, name_cells}

@@ -1,6 +1,6 @@
 -- What the UPDATEs of the states of due keys do.
-use Rattle.std.proofs.Common.{◌≡◌, ◌==◌, ◌&&◌, ℕ, ◌+◌, pos, List, [], ◌∷◌, map, Bool, true, Ok, Option, None, Some, set}
-use Rattle.std.proofs.Common.{nat_le, inl, inr, refl, ap, ap₂, subst, ◌∙◌, arith}
+use Rattle.std.proofs.Common.{◌≡◌, ◌==◌, ◌&&◌, ℕ, ◌+◌, pos, List, [], ◌∷◌, map, Bool, true, Ok, Option, set, nat_le}
+use Rattle.std.proofs.Common.{refl, ap, ap₂, subst, ◌∙◌, arith}
 use Rattle.std.proofs.Math.Bool.{and-true}
 use Rattle.std.proofs.lemmas.Bool.Decides.{leb_tells}
 use Rattle.std.specs.List.{enumerate_from}
@@ -19,7 +19,7 @@ use Rattle.lifecycle_core.specs.State.{is_reached_at, state_code}
 use Rattle.register_core.specs.declared.key.Key.{Key}
 use Rattle.register_store.specs.declared.accepted_request.DueDate.{DueDate}
 use Rattle.register_store.specs.declared.accepted_request.DueDate.TheVariants.{Activation, Deactivation}
-use Rattle.register_store.specs.Tables.{IsKey, key_row, date_cell, unset}
+use Rattle.register_store.specs.Tables.{IsKey, key_row, date_cell}
 use Rattle.register_store.specs.Schema.{Holds}
 use Rattle.register_store.specs.TableChanges.{Makes}
 use Rattle.register_store.specs.Within.TableChanges.{Always, in_state}

@@ -1,12 +1,11 @@
 -- Rows that pass each by itself.
-use Rattle.std.proofs.Common.{◌≡◌, true, false, List, [], ◌∷◌, ◌++◌, Option, None, Some, subst}
+use Rattle.std.proofs.Common.{◌≡◌, true, false, List, [], ◌∷◌, ◌++◌, Option, arith}
 use Rattle.std.specs.Prelude.{MatchOption, is_some}
 use Rattle.std.specs.List.{AllByRecursion}
 use Rattle.sqlite.specs.Order.{Row}
 use Rattle.row_checks.specs.EachRow.{ShowEach}
 use Rattle.row_checks.proofs.Each.{all_prefix, all_last, all_more, show_prefix, show_less, show_more}
 use Rattle.register_store.specs.CheckedRows.{HasShown, RefusesEach}
-use Rattle.std.proofs.Common.{arith}
 
 module _ {A : Type 0} (Shows : Row → A → Type 0) (P : A → Type 0) where
   pub none_shown : HasShown Shows P []

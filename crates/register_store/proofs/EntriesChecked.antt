@@ -1,5 +1,5 @@
 -- The check of a table of entries that pass each by itself, and of which nothing is found.
-use Rattle.std.proofs.Common.{◌≡◌, Result, Ok, Err, List, ◌++◌, sym, subst}
+use Rattle.std.proofs.Common.{◌≡◌, Result, Ok, Err, List, ◌++◌, arith}
 use Rattle.std.specs.Prelude.{IsErrAnd}
 use Rattle.sqlite.specs.Effect.{Database as Db}
 use Rattle.sqlite.specs.Order.{Row}
@@ -9,7 +9,7 @@ use Rattle.row_checks.specs.declared.error.RowsError.TheVariants.{NoMeaning, Ref
 use Rattle.row_checks.specs.ShownRows.{HasNoMeaning, ShowsAll, ShowsFirst}
 use Rattle.register_store.specs.declared.error.CheckError.{CheckError}
 use Rattle.register_store.specs.declared.table.TableName.{TableName}
-use Rattle.register_store.specs.CheckedTables.{AreNewer, IsOdd, IsReasonAt, ShowsRows, check_error, check_text}
+use Rattle.register_store.specs.CheckedTables.{AreNewer, IsOdd, ShowsRows, check_error, check_text}
 use Rattle.register_store.specs.Within.CheckedTables.{ChecksTable}
 use Rattle.register_store.specs.Stored.{HoldsStored, Part, Stored, with_part}
 use Rattle.register_store.specs.CheckedRows.{HasShown, RefusesEach}
@@ -19,7 +19,6 @@ use Rattle.register_store.proofs.Asked.{AnswersTo, IsWithin, ShowsOwn, checks_ta
 use Rattle.register_store.proofs.EachChecked.{odd_on}
 use Rattle.register_store.proofs.MetaChecked.{newer_not}
 use Rattle.register_store.proofs.RowsFailed.{reason_of}
-use Rattle.std.proofs.Common.{arith}
 
 -- the rows show what meets the table's check, where the tables before it are those of t
 abbrev pub Meets : TableName → Stored → List Row → Type 0

@@ -1,14 +1,13 @@
 -- What an UPDATE of keys does: of the one with a number, or of any others.
 use Rattle.std.proofs.Common.{◌≡◌, ◌==◌, ℕ, ◌+◌, pos, List, [], ◌∷◌, ◌++◌, codes, map, Bool, cond, Ok, Option, Some}
-use Rattle.std.proofs.Common.{not, ◌&&◌, true, false, refl, sym, ap, ap₂, subst, ◌∙◌}
+use Rattle.std.proofs.Common.{not, ◌&&◌, true, false, refl, sym, ap₂, subst, arith}
 use Rattle.std.proofs.Math.Bool.{and-true}
 use Rattle.std.specs.List.{AllByRecursion, enumerate_from}
-use Rattle.sqlite.specs.declared.types.Value.{Value}
 use Rattle.sqlite.specs.declared.types.Value.TheVariants.{Int, Text as Words}
 use Rattle.sqlite.specs.Collation.TheVariants.{Binary}
 use Rattle.sqlite.specs.Order.{Row as Cells}
 use Rattle.sqlite.specs.State.{State as View, Executes}
-use Rattle.sqlite.specs.Ops.{from_truth, is_true, unary}
+use Rattle.sqlite.specs.Ops.{from_truth}
 use Rattle.sqlite.specs.Term.{Term, eval, col, op1, op2}
 use Rattle.sqlite.specs.Tree.{IsTable}
 use Rattle.sqlite_sql.specs.declared.ops.BinaryOp.TheVariants.{Compare}
@@ -39,7 +38,6 @@ use Rattle.register_store.proofs.Meanings.{Sets, classes, placed, sets}
 use Rattle.register_store.proofs.Frame.{holds_with}
 use Rattle.register_store.proofs.KeyStands.{both_so, given_places, stands, stands_so, where_it_differs}
 use Rattle.register_store.proofs.Numbers.{is_table}
-use Rattle.std.proofs.Common.{arith}
 
 -- the text gives the rows that pass other cells
 abbrev pub IsUpdate : List ℕ → List Term → List Term → Type 0

@@ -1,6 +1,6 @@
 -- What the statements do by which an entry is taken out of a table by its number, and by which one is put in.
-use Rattle.std.proofs.Common.{◌≡◌, ◌≢◌, ◌==◌, ℕ, List, [], ◌∷◌, ◌++◌, filter, not, slice_get, true, false, Some, Ok}
-use Rattle.std.proofs.Common.{sym, ap, subst, Bool, Result, ◌∙◌, pos}
+use Rattle.std.proofs.Common.{◌≡◌, ◌≢◌, ◌==◌, ℕ, List, [], ◌∷◌, ◌++◌, filter, not, slice_get, false, Some, Ok, sym, ap}
+use Rattle.std.proofs.Common.{subst, Bool, Result, pos, arith}
 use Rattle.std.proofs.lemmas.Bool.{eq-eqb}
 use Rattle.std.specs.List.{AllByRecursion}
 use Rattle.sqlite.specs.declared.types.Value.TheVariants.{Int}
@@ -36,7 +36,6 @@ use Rattle.register_store.proofs.KeyedFound.{number_params}
 use Rattle.register_store.proofs.KeyedRows.{keyed_counted, keyed_left, keyed_more}
 use Rattle.register_store.proofs.Meanings.{IsPlaced, Meant, placed}
 use Rattle.register_store.proofs.Texts.{has_number}
-use Rattle.std.proofs.Common.{arith}
 
 -- The rows of the table are those of the entries and go by their numbers; one text takes the entry of a number out, and
 -- another puts one in. Neither sets off an action.

@@ -1,6 +1,6 @@
 -- What a search finds in a table whose rows go by a number of their own: the value of the entry with the number.
 use Rattle.std.proofs.Common.{◌≡◌, ◌==◌, inl, inr, ℕ, pos, Bool, true, false, cond, List, [], ◌∷◌, map, filter, Option}
-use Rattle.std.proofs.Common.{None, Some, Ok, Err, refl, sym, ap, subst, ◌∙◌}
+use Rattle.std.proofs.Common.{None, Some, Ok, Err, refl, sym, ap, subst, ◌∙◌, arith}
 use Rattle.std.proofs.lemmas.Bool.{cases_Bool, eqb-true}
 use Rattle.std.proofs.lemmas.List.Sorted.{IsPermutation-map}
 use Rattle.std.specs.Prelude.{find}
@@ -28,7 +28,6 @@ use Rattle.register_store.proofs.Readings.{IsSearch}
 use Rattle.register_store.proofs.AnswersRead.{ReadsRow}
 use Rattle.register_store.proofs.RowFound.{answer_read, none_is, row_is}
 use Rattle.register_store.proofs.Texts.{has_number}
-use Rattle.std.proofs.Common.{arith}
 
 -- what a search by number is given
 abbrev pub number_params : ℕ → Cells

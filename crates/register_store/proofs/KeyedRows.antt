@@ -1,13 +1,11 @@
 -- What a table shows whose rows go by a number of their own, after a row is added or some are taken out.
 use Rattle.std.proofs.Common.{◌≡◌, ◌≢◌, inl, inr, ℕ, pos, List, [], ◌∷◌, ◌++◌, map, filter, Bool, IsTrue, refl, sym, ap}
-use Rattle.std.proofs.Common.{subst, ◌∙◌}
+use Rattle.std.proofs.Common.{subst, ◌∙◌, arith}
 use Rattle.std.proofs.lemmas.List.{map-append}
 use Rattle.std.proofs.lemmas.List.Sorted.{IsPermutation-append, IsPermutation-append_comm, IsPermutation-middle}
 use Rattle.std.proofs.lemmas.List.Sorted.{IsPermutation-refl, IsPermutation-sym, IsPermutation-trans}
 use Rattle.std.specs.List.Sorted.{IsPermutation}
-use Rattle.std.specs.Cmp.{int_ranks}
-use Rattle.std.specs.Ordering.{MatchOrdering, match_ordering, int_cmp}
-use Rattle.std.specs.Prelude.{◌<ℤ◌}
+use Rattle.std.specs.Ordering.{match_ordering, int_cmp}
 use Rattle.std.proofs.lemmas.Cmp.{tied_itself, int_cmp_total}
 use Rattle.std.specs.declared.cmp.Ordering.{Ordering}
 use Rattle.std.specs.declared.cmp.Ordering.TheVariants.{Less, Equal, Greater}
@@ -25,7 +23,6 @@ use Rattle.sql_steps.proofs.Members.{filter_permutation}
 use Rattle.sql_steps.proofs.SameRows.{has_map, map_has, same_row}
 use Rattle.sql_steps.proofs.Updates.{has_permutation}
 use Rattle.register_store.specs.Tables.{ShowsKeyed}
-use Rattle.std.proofs.Common.{arith}
 
 -- where no row has its rowid, a row is put among the others
 put_new : (new : Cells) (rows : List Cells)

@@ -2,7 +2,7 @@
 -- table up by its name, which computes; but whether it accepts the query it asks by the table's tree, and that has to
 -- be shown.
 use Rattle.std.proofs.Common.{◌≡◌, ◌<◌, ◌==◌, ◌^◌, inl, inr, ℕ, ◌&&◌, Bool, true, false, cond, List, [], ◌∷◌, map, take}
-use Rattle.std.proofs.Common.{Option, None, Some, Ok, Err, refl, sym, ap, subst, ◌∙◌, arith}
+use Rattle.std.proofs.Common.{Option, None, Some, Ok, sym, ap, subst, ◌∙◌, arith}
 use Rattle.std.specs.Prelude.{option_map, find, filter, nat_le}
 use Rattle.std.specs.List.{AllZip}
 use Rattle.std.specs.Option.{option_and_then}
@@ -23,7 +23,6 @@ use Rattle.sqlite_trees.specs.Objects.{catalog_tree}
 use Rattle.sqlite_draft.specs.declared.query.Draft.{Draft}
 use Rattle.sqlite_draft.specs.Query.{query_of}
 use Rattle.sqlite_resolve.specs.declared.compiled.Compiled.{Compiled}
-use Rattle.sqlite_resolve.specs.declared.error.CompileError.TheVariants.{Mismatch}
 use Rattle.sqlite_resolve.specs.Body.{table_at}
 use Rattle.sqlite_resolve.specs.Program.{query, program}
 use Rattle.sqlite_resolve.specs.Write.{updated, deleted}
@@ -33,11 +32,10 @@ use Rattle.sqlite_rules.specs.Lists.{Has}
 use Rattle.sqlite_sql.specs.Query.{Query, inner, end}
 use Rattle.sqlite_syntax.specs.declared.statement.Parsed.{Parsed}
 use Rattle.sqlite_typing.specs.declared.class.Class.{Class}
-use Rattle.sqlite_typing.specs.Types.{accepts_over, accepts_after, filled, is_count, table_classes, row_classes}
+use Rattle.sqlite_typing.specs.Types.{accepts_after, is_count, table_classes, row_classes}
 use Rattle.sqlite_value.specs.declared.keys.Collation.{Collation}
 use Rattle.register_store.specs.declared.table.TableName.{TableName}
 use Rattle.register_requests.specs.declared.version.Version.{Version}
-use Rattle.register_requests.specs.declared.version.Version.TheVariants.{First, Second}
 use Rattle.register_requests.specs.Version.{current}
 use Rattle.register_store.specs.Tables.{Layout, AreApart, AreApartBelow, AreApartIn, Tables, all_tables, place_of}
 use Rattle.register_store.specs.Tables.{table_count, table_of}

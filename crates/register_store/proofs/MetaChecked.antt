@@ -1,6 +1,6 @@
 -- The check of the table meta.
-use Rattle.std.proofs.Common.{◌≡◌, ◌≤◌, inl, inr, ℕ, Option, None, Some, Result, Ok, Err, List, [], ◌∷◌, ◌++◌, IfOk}
-use Rattle.std.proofs.Common.{IfErr, IsErrAnd, sym, ap, subst, ◌∙◌, refl, arith}
+use Rattle.std.proofs.Common.{◌≡◌, ◌≤◌, ℕ, Option, None, Some, Result, Ok, Err, List, [], ◌∷◌, ◌++◌, IfOk, IfErr}
+use Rattle.std.proofs.Common.{IsErrAnd, sym, ap, subst, ◌∙◌, refl, arith}
 use Rattle.sqlite.specs.Effect.{Database as Db}
 use Rattle.sqlite.specs.Order.{Row, column}
 use Rattle.sqlite.specs.Program.{overlay}
@@ -8,7 +8,7 @@ use Rattle.sqlite.specs.State.{State, HasCleanDisk, IsUnchanged, Survives}
 use Rattle.sqlite.specs.Tree.{IsTable}
 use Rattle.row_checks.specs.EachRow.{ShowEach}
 use Rattle.row_checks.specs.declared.error.RowsError.{RowsError}
-use Rattle.row_checks.specs.declared.error.RowsError.TheVariants.{NoMeaning, Refused, Memory, Database}
+use Rattle.row_checks.specs.declared.error.RowsError.TheVariants.{NoMeaning, Refused, Memory}
 use Rattle.row_checks.specs.ShownRows.{HasNoMeaning, ShowsAll, ShowsFirst}
 use Rattle.register_store.specs.declared.found.Found.{Found}
 use Rattle.register_store.specs.declared.error.CheckError.{CheckError}
@@ -16,12 +16,10 @@ use Rattle.register_store.specs.declared.error.CheckError.TheVariants.{NewerVers
 use Rattle.register_store.specs.declared.meta_check.MetaRow.{MetaRow}
 use Rattle.register_store.specs.declared.meta_check.MetaRow.TheVariants.{Newer, Counts as CountsKeys}
 use Rattle.register_store.specs.declared.table.TableName.TheVariants.{Meta}
-use Rattle.register_core.specs.Verdict.{max_keys}
 use Rattle.register_requests.specs.declared.version.Version.{Version}
-use Rattle.register_requests.specs.declared.version.Version.TheVariants.{First, Second}
 use Rattle.register_requests.specs.Version.{version_number}
-use Rattle.register_store.specs.CheckedTables.{HasNewer, IsOdd, IsReasonAt, ShowsCounts, ShowsNewer, ShowsRows}
-use Rattle.register_store.specs.CheckedTables.{check_error, check_text, mark_of}
+use Rattle.register_store.specs.CheckedTables.{HasNewer, IsOdd, IsReasonAt, ShowsCounts, ShowsRows, check_error}
+use Rattle.register_store.specs.CheckedTables.{check_text}
 use Rattle.register_store.specs.Within.CheckedTables.{ChecksTable}
 use Rattle.register_store.specs.Schema.{rows_of}
 use Rattle.register_store.specs.Stored.{HoldsStored, Stored, mark, with_part}

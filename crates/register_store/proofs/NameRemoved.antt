@@ -13,7 +13,7 @@ use Rattle.sqlite_rules.specs.Action.{loses}
 use Rattle.sqlite_rules.specs.Lists.{Has}
 use Rattle.sqlite_trees.proofs.ListLemmas.{all-filter}
 use Rattle.sqlite_schema.specs.Names.{same_name}
-use Rattle.sqlite_schema.specs.Rules.{agree, has_null, is_held, parent_key, passes, Keeps}
+use Rattle.sqlite_schema.specs.Rules.{agree, has_null, parent_key, passes, Keeps}
 use Rattle.sqlite_schema.specs.declared.schema.Constraint.TheVariants.{ForeignKey}
 use Rattle.sqlite_tied.specs.Compute.{everything}
 use Rattle.sqlite_value.specs.Keys.{joined, plain}
@@ -47,7 +47,6 @@ use Rattle.register_store.proofs.NameAdded.{adds_name}
 use Rattle.register_store.proofs.EntryRows.{entry_of, shows_filtered}
 use Rattle.register_store.proofs.NameChecks.{at_key, at_name, places, key_past, key_is, name_past, name_is, same_cells}
 use Rattle.register_store.proofs.NameChecks.{agree_same, loses_name}
-use Rattle.std.proofs.Common.{rules}
 
 -- the text takes rows that pass out of the table at this place
 abbrev IsDelete : List ℕ → TableName → List Term → Type 0

@@ -1,6 +1,6 @@
 -- What the searches for the names of a key's custodians and approvals find.
 use Rattle.std.proofs.Common.{◌≡◌, ◌≢◌, ℕ, pos, List, [], ◌∷◌, length, map, filter, drop, codes, Result, Ok, Err, IfOk}
-use Rattle.std.proofs.Common.{IfErr, OnOk, refl, sym, ap, subst, ◌∙◌}
+use Rattle.std.proofs.Common.{IfErr, OnOk, refl, sym, ap, subst, ◌∙◌, arith}
 use Rattle.std.proofs.lemmas.List.Sorted.{IsPermutation-map, IsPermutation-sym, IsPermutation-trans, length_permutation}
 use Rattle.std.proofs.lemmas.List.{length-map}
 use Rattle.std.specs.List.Sorted.{IsPermutation}
@@ -39,7 +39,6 @@ use Rattle.register_store.proofs.EntryRows.{picks_entries}
 use Rattle.register_store.proofs.NameChecks.{at_key, key_past, key_is}
 use Rattle.register_store.proofs.OpenQueries.{open_still, shown_same}
 use Rattle.register_store.proofs.Readings.{IsSearch, fails_refused, fails_unchanged, reads_by}
-use Rattle.std.proofs.Common.{arith}
 
 -- ---- names in cells
 

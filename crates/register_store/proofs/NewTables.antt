@@ -1,8 +1,8 @@
 -- What the statements that make the two tables of the second version do, whatever trees the file has.
-use Rattle.std.proofs.Common.{◌≡◌, ◌⊎◌, ◌<◌, ◌≤◌, ◌==◌, ℕ, ◌+◌, max, true, false, Option, None, Some, List, inl, inr}
-use Rattle.std.proofs.Common.{[], ◌∷◌, ◌++◌, fold, Ok, Err, refl, sym, ap, subst, ◌∙◌, arith}
+use Rattle.std.proofs.Common.{◌≡◌, ◌⊎◌, ◌<◌, ◌≤◌, ℕ, ◌+◌, max, false, Option, None, Some, List, inl, inr, [], ◌∷◌, ◌++◌}
+use Rattle.std.proofs.Common.{fold, Ok, Err, refl, sym, ap, subst, ◌∙◌, arith}
 use Rattle.std.proofs.lemmas.Bool.{cases_Bool, cases_lt, eq-eqb, eqb-true}
-use Rattle.sqlite.specs.Change.{created, next_tree, past_views, KeepsRows}
+use Rattle.sqlite.specs.Change.{created, next_tree, KeepsRows}
 use Rattle.sqlite.specs.Command.TheVariants.{CreateTable as MakeTable}
 use Rattle.sqlite.specs.Does.{lacks_sequence}
 use Rattle.sqlite.specs.Effect.{Database, IsDatabase}
@@ -10,7 +10,7 @@ use Rattle.sqlite.specs.Listing.{understood}
 use Rattle.sqlite.specs.Schema.{Schema}
 use Rattle.sqlite.specs.State.{State, Executes, ExecutesIn}
 use Rattle.sqlite.specs.Table.{Table}
-use Rattle.sqlite.proofs.Callers.{IsPlain, command_of, statement_of, runs_as}
+use Rattle.sqlite.proofs.Callers.{IsPlain, command_of, runs_as}
 use Rattle.sqlite_resolve.specs.Compile.{is_attached}
 use Rattle.sqlite_resolve.specs.declared.error.CompileError.{CompileError}
 use Rattle.sqlite_resolve.specs.declared.error.CompileError.TheVariants.{Exists}
@@ -27,7 +27,7 @@ use Rattle.register_store.specs.declared.table.TableName.TheVariants.{Quorum}
 use Rattle.register_requests.specs.declared.version.Version.TheVariants.{First}
 use Rattle.register_store.specs.Within.Migration.{MakesNext}
 use Rattle.register_store.specs.Schema.{rows_of, schema_below}
-use Rattle.register_store.specs.Tables.{AreApartBelow, Layout, ShowsIn, content, place_of, table_count}
+use Rattle.register_store.specs.Tables.{AreApartBelow, Layout, place_of, table_count}
 use Rattle.register_store.specs.Within.Tables.{create_text}
 use Rattle.register_store.proofs.EachTable.{unplaced, same_place}
 use Rattle.register_store.proofs.NextTexts.{makes_table, refused}

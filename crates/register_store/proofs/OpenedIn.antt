@@ -1,5 +1,5 @@
 -- From the checks and the migration to what an opening does.
-use Rattle.std.proofs.Common.{◌≡◌, inl, inr, Result, Ok, Err, sym, ap, subst, ◌∙◌, refl, arith}
+use Rattle.std.proofs.Common.{◌≡◌, inr, Result, Ok, Err, sym, ap, subst, ◌∙◌, refl, arith}
 use Rattle.std.specs.Prelude.{IsErrAnd}
 use Rattle.sqlite.specs.Effect.{Database as Db}
 use Rattle.sqlite.specs.State.{State, HasCleanDisk, IsUnchanged, Survives}
@@ -10,7 +10,6 @@ use Rattle.sql_steps.specs.Steps.{TransactsBy}
 use Rattle.register_requests.specs.declared.version.Version.{Version}
 use Rattle.register_requests.specs.declared.version.Version.TheVariants.{First, Second}
 use Rattle.register_store.specs.declared.error.CheckError.{CheckError}
-use Rattle.register_store.specs.declared.error.CheckError.TheVariants.{NotARegister, NewerVersion, Memory, Database}
 use Rattle.register_store.specs.declared.error.CreateError.{CreateError}
 use Rattle.register_store.specs.declared.error.CreateError.TheVariants.{HasTables, Database as Refused}
 use Rattle.register_store.specs.declared.found.Found.{Found}
@@ -22,7 +21,7 @@ use Rattle.register_store.specs.OpenedTables.{migration_error}
 use Rattle.register_store.specs.Schema.{HoldsIn}
 use Rattle.register_store.specs.Stored.{HoldsStored, Stored}
 use Rattle.register_store.specs.Tables.{Tables}
-use Rattle.register_store.specs.OpeningChecks.{MeetsChecks, checked}
+use Rattle.register_store.specs.OpeningChecks.{MeetsChecks}
 use Rattle.register_store.proofs.Checked.{passed_on, version_of}
 use Rattle.register_store.proofs.NoneNew.{none_new}
 

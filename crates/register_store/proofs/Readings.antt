@@ -1,6 +1,5 @@
 -- What calls that only read do, one by one and one after the other.
-use Rattle.std.proofs.Common.{◌≡◌, ◌≢◌, ◌≤◌, ◌+◌, ℕ, List, [], inl, Result, Ok, Err, IfOk, IfErr, OnOk, refl, sym}
-use Rattle.std.proofs.Common.{subst, ◌∙◌, arith}
+use Rattle.std.proofs.Common.{◌≡◌, ◌≢◌, ◌≤◌, ◌+◌, ℕ, List, [], Result, Ok, Err, IfOk, IfErr, OnOk, sym, subst, arith}
 use Rattle.std.specs.Prelude.{IsErrAnd}
 use Rattle.sqlite.specs.Command.TheVariants.{Select}
 use Rattle.sqlite.specs.Order.{Row as Cells}

@@ -1,5 +1,5 @@
 -- What the search for a caller's request by its number finds.
-use Rattle.std.proofs.Common.{◌≡◌, ◌==◌, ℕ, pos, List, [], ◌∷◌, map, drop, bytes_eq, Bool, codes, refl}
+use Rattle.std.proofs.Common.{◌≡◌, ◌==◌, ℕ, pos, List, [], ◌∷◌, map, drop, bytes_eq, Bool, codes, refl, arith}
 use Rattle.std.proofs.Math.Bool.{and-true}
 use Rattle.std.proofs.lemmas.Bool.{and_parts, eqb-true}
 use Rattle.std.specs.Cmp.Lexicographic.{bytes_decides}
@@ -33,7 +33,6 @@ use Rattle.register_store.proofs.Meanings.{Asks}
 use Rattle.register_store.proofs.Readings.{IsSearch, search_by}
 use Rattle.register_store.proofs.AnswersRead.{ReadsRow}
 use Rattle.register_store.proofs.RowFound.{row_read}
-use Rattle.std.proofs.Common.{arith}
 
 -- ---- the text
 

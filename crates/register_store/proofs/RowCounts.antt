@@ -1,6 +1,6 @@
 -- What a count of a table's rows tells of the table.
-use Rattle.std.proofs.Common.{◌≡◌, ◌<◌, inl, inr, ℕ, List, [], Bool, false, Ok, Err, Result, refl, sym, ap, subst}
-use Rattle.std.proofs.Common.{subst₂, ◌∙◌, ◌+◌, ◌≤◌, get_or, arith}
+use Rattle.std.proofs.Common.{◌≡◌, ◌<◌, inl, inr, ℕ, List, [], Bool, false, Ok, Err, refl, sym, subst, subst₂, ◌+◌}
+use Rattle.std.proofs.Common.{get_or, arith}
 use Rattle.std.proofs.Math.Nat.{eq-or-lt_of_le}
 use Rattle.sqlite.specs.declared.error.Error.{Error}
 use Rattle.sqlite.specs.declared.error.Error.TheVariants.{SqlInputError}
@@ -11,11 +11,9 @@ use Rattle.sqlite.specs.Schema.{Schema}
 use Rattle.sqlite.specs.State.{State, HasCleanDisk, QueriesRow, QueriesRowInside, FailsToQuery, Survives}
 use Rattle.sqlite.proofs.Callers.{IsPlain}
 use Rattle.sqlite_resolve.specs.Compile.{first}
-use Rattle.sqlite_resolve.specs.declared.compiled.Compiled.{Compiled}
 use Rattle.sqlite_resolve.specs.declared.error.CompileError.{CompileError}
 use Rattle.sqlite_tied.specs.Compute.{everything}
 use Rattle.sql_steps.specs.Steps.{StepsBy}
-use Rattle.sql_steps.specs.Within.Steps.{Then}
 use Rattle.sql_steps.proofs.Asking.{asks_meaningless}
 use Rattle.sql_steps.proofs.Stepping.{steps_as, steps_then}
 use Rattle.row_checks.specs.ShownRows.{IsQuery}
