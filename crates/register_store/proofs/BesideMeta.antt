@@ -21,17 +21,14 @@ use Rattle.sqlite_ast.specs.declared.Expr.{Expr}
 use Rattle.sqlite_ast.specs.declared.Rows.{Rows}
 use Rattle.sqlite_ast.specs.declared.Statement.TheVariants as written
 use Rattle.sqlite_resolve.specs.Compile.{first, target}
-use Rattle.sqlite_rules.specs.Action.{work_by, works}
+use Rattle.sqlite_rules.specs.Action.{works}
 use Rattle.sqlite_rules.specs.Calls.{ids_of}
 use Rattle.sqlite_rules.specs.Edit.{taken_by}
 use Rattle.sqlite_rules.specs.Lists.{Has}
 use Rattle.sqlite_rules.proofs.ListLemmas.{all_has, has_got}
-use Rattle.sqlite_rules.specs.declared.action.Deed.{Deed}
 use Rattle.sqlite_schema.specs.Names.{same_name}
-use Rattle.sqlite_schema.specs.Rules.{ParentKey}
 use Rattle.sqlite_schema.specs.declared.program.Program.{Program}
 use Rattle.sqlite_schema.specs.declared.schema.Keys.{Keys}
-use Rattle.sqlite_schema.specs.declared.schema.Reference.{Reference}
 use Rattle.sqlite_syntax.specs.declared.statement.Parsed.{Parsed}
 use Rattle.std.proofs.lemmas.Option.{same_Some}
 use Rattle.sql_steps.proofs.Statements.{inserts_from, same_value, went}
@@ -75,12 +72,8 @@ pub filter_none : {X Y : Type 0} (f : X → Option Y) (xs : List X) → ((x : X)
 filter_none f [] each = refl
 filter_none f (x ∷ xs) each = rw (each x (inl refl), filter_none f xs (λ y h. each y (inr h))) refl
 
-by_insert : (tree : ℕ) (child : Table) (ref : Reference) (deed : Option Deed) (key : Option ParentKey)
-    → work_by 0 tree [] child ref deed key ≡ None
-by_insert tree child ref deed key = search arith
-
 idle_insert : (s : Schema) (keys : Keys) (tree : ℕ) (news : List Row) → works s keys 0 tree [] news ≡ []
-idle_insert s keys tree news = search (arith, flat_none, filter_none, by_insert)
+idle_insert s keys tree news = search (arith, flat_none, filter_none)
 
 -- ---- the writes
 

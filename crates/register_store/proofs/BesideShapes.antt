@@ -27,7 +27,6 @@ use Rattle.sqlite_resolve.specs.Compile.{create_index, creates, insert, update, 
 use Rattle.sqlite_resolve.specs.Compile.{formats_of, with_command, new_rows}
 use Rattle.sqlite_resolve.specs.Body.{table_at}
 use Rattle.sqlite_resolve.specs.declared.compiled.Compiled.{Compiled}
-use Rattle.sqlite_resolve.specs.declared.error.CompileError.{CompileError}
 use Rattle.sqlite_resolve.specs.Define as define
 use Rattle.sqlite_resolve.specs.Program.{program}
 use Rattle.sqlite_resolve.specs.Write.{updated}
@@ -74,10 +73,6 @@ through : {A B : Type 0} (r : Checked A) (f : A → Checked B) (b : B) → and_t
     → (a : A) × (r ≡ Ok a) × (f a ≡ Ok b)
 through r f b h = search arith
 
-unrefused : {A : Type 0} (refused : Bool) (e : CompileError) (r : Checked A) (a : A)
-    → cond refused (Err e) r ≡ Ok a → r ≡ Ok a
-unrefused refused e r a h = search arith
-
 -- a statement whose command is this one comes to it
 comes_to : (p : Parsed) (P : Command → Type 0) (formats : List (List ℕ)) (r : Checked Command) (c : Compiled)
     → and_then r (λ k. Ok (with_command p (formats, (k, None)))) ≡ Ok c → ((k : Command) → r ≡ Ok k → P k) → Comes p P c
@@ -103,7 +98,7 @@ module _ (text : List ℕ) (p : Parsed) (def : CreateTable) (table : Table) (t :
 
   table_shape : (s : Schema) (k : Command) → create_table s p.formats def ≡ Ok k → MakesTable s k
   unfolding create_table
-  table_shape s k h = search (arith, through, unrefused, same_value)
+  table_shape s k h = search (arith, through, same_value)
 
   pub table_understood : (s : Schema) (c : Compiled) → understood s text ≡ Ok c → Comes p (MakesTable s) c
   table_understood =
@@ -137,7 +132,7 @@ module _ (text : List ℕ) (p : Parsed) (def : CreateIndex) (parsed : first text
 
   index_shape : (s : Schema) (k : Command) → create_index s def ≡ Ok k → MakesIndex s k
   unfolding create_index
-  index_shape s k h = search (arith, through, unrefused, same_value)
+  index_shape s k h = search (arith, through, same_value)
 
   pub index_understood : (s : Schema) (c : Compiled) → understood s text ≡ Ok c → Comes p (MakesIndex s) c
   index_understood =

@@ -42,7 +42,6 @@ use Rattle.register_store.proofs.Decoding.{same_number, same_words}
 use Rattle.register_store.proofs.EntriesShown.{all_permuted, own_entries}
 use Rattle.register_store.proofs.MetaChecked.{newer_not}
 use Rattle.register_store.proofs.NameLists.{get_below, get_some}
-use Rattle.register_store.proofs.Readings.{survives_none}
 use Rattle.register_store.proofs.RowsFailed.{reason_of}
 
 -- ---- rows of names at keys
@@ -60,21 +59,17 @@ names_more : (key : ℕ) (entries others : List KeyName)
 names_more key [] others = refl
 names_more key (e ∷ entries) others = search (arith, names_more key entries others)
 
-names_one : (key : ℕ) (entry : KeyName) (b : Bool) → is_at key entry ≡ b
-    → names_at key (entry ∷ []) ≡ cond b (entry.name ∷ []) []
-names_one key entry b is = search arith
-
 either_at : (key : ℕ) (entry : KeyName) → ((entry.key ≡ key) × (is_at key entry ≡ true))
     ⊎ ((entry.key ≢ key) × (is_at key entry ≡ false))
 either_at key entry = search (arith, eqb_tells)
 
 more_here : (key : ℕ) (entries : List KeyName) (entry : KeyName) → entry.key ≡ key
     → names_at key (entries ++ entry ∷ []) ≡ names_at key entries ++ entry.name ∷ []
-more_here key entries entry here = search (arith, names_more, names_one, eq-eqb)
+more_here key entries entry here = search (arith, names_more, eq-eqb)
 
 more_other : (key : ℕ) (entries : List KeyName) (entry : KeyName) → is_at key entry ≡ false
     → names_at key (entries ++ entry ∷ []) ≡ names_at key entries
-more_other key entries entry off = search (arith, names_more, names_one, append-nil)
+more_other key entries entry off = search (arith, names_more, append-nil)
 
 -- an entry at the key of a name that is among those at it
 among_at : (key : ℕ) (name : List ℕ) (entries : List KeyName) → is_among name (names_at key entries) ≡ true
@@ -306,13 +301,8 @@ not_listed lists entry off listed = search (arith, get_below)
 
 -- nothing was read: want of memory
 
-custodians_none : (t : Stored) (old : State) → (HasCleanDisk old → IsTrue old.is_open) → (e : CheckError)
-    → e ≡ Ran_out → ChecksTable {T = Vec (Vec (List ℕ))} Custodian t KnowsCustodians old old (Err e)
-custodians_none t old is_open e is =
-    search (arith, checks_table, custodians_within, own_custodians, newer_not, knows_like, one_list, survives_none)
-
 -- memory gave out before the rows were read
 pub custodians_unread : (t : Stored) (old : State) → (HasCleanDisk old → IsTrue old.is_open) → (e : CheckError)
     → e ≡ Ran_out → (q : Result (Vec (Vec (List ℕ))) CheckError) → IsErrAnd q (λ x. x ≡ e)
     → ChecksTable Custodian t KnowsCustodians old old q
-custodians_unread t old is_open e out q is = search (arith, custodians_none)
+custodians_unread t old is_open e out q is = search arith

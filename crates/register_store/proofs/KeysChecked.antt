@@ -73,11 +73,8 @@ ends n (k ∷ j ∷ keys) e =
 
 module _ (found : Found) (count : ℕ) (owners : List (List ℕ)) (rows : List Row) (row : Row)
     (taken : HasKeys found count owners rows) where
-  rows_are : length rows ≡ count
-  rows_are = search (arith, show_length, length_numbered)
-
   more_are : (keys : List Key) → AreCounted found (rows ++ row ∷ []) keys → length keys ≡ suc count
-  more_are keys are = search (arith, show_length, length_numbered, length-append, rows_are)
+  more_are keys are = search (arith, show_length, length_numbered, length-append)
 
   -- one row more than are counted
   pub keys_full : found.keys ≤ count → RefusesKeys found (rows ++ row ∷ [])
@@ -146,9 +143,6 @@ keys_begin found owners none = search arith
 
 module _ (t : Stored) (found : Found) (told : mark_of found ≡ mark t) (old new : State)
     (survives : Survives old new (λ _. ⊥)) where
-  latest_is : found.latest ≡ t.tables.counts.latest
-  latest_is = ap (λ (m : Version × Counts). m.1.latest) told
-
   version_is : found.version ≡ t.version
   version_is = ap (λ (m : Version × Counts). m.0) told
 
@@ -161,7 +155,7 @@ module _ (t : Stored) (found : Found) (told : mark_of found ≡ mark t) (old new
   -- rows that do not pass do not begin rows that do
   odd_on : (rows : List Row) → RefusesKeys found rows → (tail : List Row) → IsOdd Keys t (rows ++ tail)
   odd_on rows refuses tail =
-      search (arith, show_prefix, numbered_prefix, version_is, latest_is, all_prefix, length-append, key_count_is)
+      search (arith, show_prefix, numbered_prefix, version_is, all_prefix, length-append, key_count_is)
 
   abbrev Checked : Result (Vec (List ℕ)) CheckError → Type 0
   Checked q = ChecksTable Keys t AreOwners old new q
@@ -173,7 +167,7 @@ module _ (t : Stored) (found : Found) (told : mark_of found ≡ mark t) (old new
   keys_read count owners all is =
       checks_table Keys t keys_within (own_keys t) (newer_not t) AreOwners
       (λ c d x like says. says ∙ ap owners_of like) one_keys old new (Ok owners)
-      (search (arith, key_count_is, latest_is, version_is))
+      (search (arith, key_count_is, version_is))
       (λ clean. tt) survives
 
   -- fewer than are counted

@@ -76,11 +76,8 @@ pub told_as : (told is : Option MetaRow) (old new : State) → told ≡ is
     → HasCleanDisk new → ShowsAll (check_text Meta) (HasMeta is) old new
 told_as told is old new same all clean = search arith
 
-same_version : (a b : Version) → version_number a ≡ version_number b → a ≡ b
-same_version a b e = search arith
-
 one_counts : (row : Row) (a b : Version × Counts) → ShowsCounts row a → ShowsCounts row b → a ≡ b
-one_counts row a b x y = search (arith, same_version, same_number)
+one_counts row a b x y = search (arith, same_number)
 
 one_meta : (rows : List Row) (c d : Version × Counts) → ShowsRows Meta rows c → ShowsRows Meta rows d → c ≡ d
 one_meta [] c d x y = absurd x
@@ -121,10 +118,6 @@ module _ (t : Stored) (old new : State) (survives : Survives old new (λ _. ⊥)
       → (HasCleanDisk new → ShowsAll (check_text Meta) (HasMeta (Some told)) old new) → Checked q
   meta_told told q is all = subst Checked (sym is) (counts_told told all)
 
-  -- no rows are those of no register
-  no_rows : (rows : List Row) → rows ≡ [] → IsOdd Meta t rows
-  no_rows rows none = search arith
-
   odd : (rows : List Row) → RefusesMeta rows → (tail : List Row) → IsOdd Meta t (rows ++ tail)
   odd rows refuses tail = record {
     fails = λ c shows meets. refuses.uncounted tail c shows meets;
@@ -133,7 +126,7 @@ module _ (t : Stored) (old new : State) (survives : Survives old new (λ _. ⊥)
 
   pub meta_none : (HasCleanDisk new → ShowsAll (check_text Meta) (HasMeta None) old new) → Checked (Err NotARegister)
   meta_none all = checked (Err NotARegister) (λ clean. tt)
-      (search (arith, no_rows))
+      (search arith)
 
   -- the rows do not pass, or were not read
   reason : (error : RowsError) → (error ≡ NoMeaning → HasNoMeaning (check_text Meta) old new)

@@ -122,10 +122,6 @@ tree_with name n l other = l.tree other
 tree_same : (name : TableName) → IsNew name → (n : ℕ) (l : Layout) → tree_with name n l name ≡ n
 tree_same name is n l = search arith
 
-tree_other : (name other : TableName) (n : ℕ) (l : Layout) → (place_of other ≡ place_of name → ⊥)
-    → tree_with name n l other ≡ l.tree other
-tree_other name other n l off = search arith
-
 abbrev layout_with : TableName → Layout → Layout
 layout_with name l = record {
   tree = tree_with name (next_tree (before name l)) l;
@@ -173,13 +169,13 @@ module _ (name : TableName) (is : IsNew name) (l : Layout) where
   tree_is other same = ap (tree_with name next l) same ∙ tree_same name is next l
 
   apart_still : AreApartBelow (place_of name) l → AreApartBelow (place_of name + 1) (layout_with name l)
-  apart_still apart a b low_a low_b same = search (arith, which, below, tree_is, tree_other)
+  apart_still apart a b low_a low_b same = search (arith, which, below, tree_is)
 
   -- the rows of the tables before it stay
   rows_stay : (old new : Database) → KeepsRows (before name l).tables old.trees new.trees → (other : TableName)
       → place_of other < place_of name → (place_of other ≡ place_of name → ⊥)
       → rows_of (layout_with name l) other new ≡ rows_of l other old
-  rows_stay old new kept other low off = search (arith, listed, all_has, tree_other)
+  rows_stay old new kept other low off = search (arith, listed, all_has)
 
 is_new : (name : TableName) → table_count First ≤ place_of name → IsNew name
 is_new name high = search arith

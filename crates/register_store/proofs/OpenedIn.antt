@@ -13,7 +13,7 @@ use Rattle.register_store.specs.declared.error.CheckError.{CheckError}
 use Rattle.register_store.specs.declared.error.CreateError.{CreateError}
 use Rattle.register_store.specs.declared.error.CreateError.TheVariants.{HasTables, Database as Refused}
 use Rattle.register_store.specs.declared.found.Found.{Found}
-use Rattle.register_store.specs.CheckedTables.{BlamesNone, ChecksBy, IsReason, Passes}
+use Rattle.register_store.specs.CheckedTables.{BlamesNone, ChecksBy, Passes}
 use Rattle.register_store.specs.Creation.{FindsBy}
 use Rattle.register_store.specs.Migration.{HasNewTable, Migrates}
 use Rattle.register_store.specs.OpenedTables.{ChangesNothing, HasCommittedIn, IsRefusal, MigratesTo, OpensBy}
@@ -25,11 +25,8 @@ use Rattle.register_store.specs.OpeningChecks.{MeetsChecks}
 use Rattle.register_store.proofs.Checked.{passed_on, version_of}
 use Rattle.register_store.proofs.NoneNew.{none_new}
 
-unchanged_back : (a b : State) → IsUnchanged a b → IsUnchanged b a
-unchanged_back a b same = search arith
-
 passes_before : (t : Stored) (a b : State) → Passes t a b → Passes t a a
-passes_before t a b it = search (arith, unchanged_back, passed_on, unchanged_then)
+passes_before t a b it = search (arith, passed_on, unchanged_then)
 
 had_on : (v : Version) (t : Tables) (a b : State) → HasCommittedIn v t a → IsUnchanged a b → HasCommittedIn v t b
 had_on v t a b had same = search arith
@@ -38,14 +35,11 @@ had_on v t a b had same = search arith
 widened : (a b : State) → Survives a b (λ _. ⊥) → Survives a b (MigratesTo a)
 widened a b survives = search arith
 
-as_refusal : (a b : State) (e : CheckError) → IsReason a b e → IsRefusal a b e
-as_refusal a b e why = search arith
-
 -- the checks failed
 pub check_fails : (a b : State) (e : CheckError) (q : Result Found CheckError) → IsErrAnd q (λ x. x ≡ e)
     → ChecksBy a b (Err e) → OpensBy a b q
 check_fails a b e (Ok y) is checks = absurd is
-check_fails a b e (Err x) is checks = subst (λ x. OpensBy a b (Err x)) (sym is) (search (arith, as_refusal, widened))
+check_fails a b e (Err x) is checks = subst (λ x. OpensBy a b (Err x)) (sym is) (search (arith, widened))
 
 -- a file of the second version
 pub second_opens : (a b : State) (found : Found) → found.version ≡ Second → ChecksBy a b (Ok found)

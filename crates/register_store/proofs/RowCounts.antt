@@ -68,12 +68,9 @@ module _ (name : TableName) (old new : State) where
 abbrev pub table_at : ℕ → TableName
 table_at n = get_or all_tables n Meta
 
-at_place : (name : TableName) → table_at (place_of name) ≡ name
-at_place name = search arith
-
 lacks_more : (n : ℕ) (old mid new : Database) → LacksFirst n old mid → Answers (IsThere (table_at n)) false mid new
     → LacksFirst (n + 1) old new
-lacks_more n old mid new before answer = search (arith, eq-or-lt_of_le, subst₂, at_place)
+lacks_more n old mid new before answer = search (arith, eq-or-lt_of_le, subst₂)
 
 -- one more was looked for
 pub lacks_next : {E : Type 0} (n : ℕ) (a b d : State) (found : Bool) → found ≡ false
