@@ -124,18 +124,7 @@ module _ (most : ℕ) (owners : List (List ℕ)) (lists : List (Vec (List ℕ)))
     shown = show_more ShowsName rows taken.entries row entry taken.shown shows;
     are = search (arith, all_more, either_at, more_here, length-append, more_other);
     counted = counted ∙ taken.counted;
-    kept = λ k names is. elim (either_at (suc k) entry) [
-      | inl here ↦
-          let same : k ≡ at = let e = here.0 in omega arith in
-          let it = added names (subst (λ n. slice_get new n ≡ Some names) same is) in
-          let before : it.0.items
-          ≡ names_at (suc k) taken.entries = taken.kept k it.0
-          (subst (λ n. slice_get lists n ≡ Some it.0) (sym same) it.1) in
-          it.2 ∙ ap (λ l. l ++ entry.name ∷ []) before ∙ sym (more_here (suc k) taken.entries entry here.0)
-      | inr off ↦
-          let apart : k ≢ at = λ e. off.0 (key ∙ ap suc (sym e)) in
-          taken.kept k names (sym (others k apart) ∙ is) ∙ sym (more_other (suc k) taken.entries entry off.1)
-    ];
+    kept = grind (arith, either_at, slice_get, more_here, more_other);
   }
 
   -- what the row would have to show
@@ -264,8 +253,7 @@ module _ (t : Stored) (most : ℕ) (most_is : most ≡ custodians_of t.version) 
     fails = λ c shows meets.
         let it = show_prefix ShowsName rows tail c shows in
         let whole = subst (λ o. AreCustodians most o (it.0 ++ it.1)) (sym are)
-        (subst (λ m. AreCustodians m (owners_of t.tables.keys) (it.0 ++ it.1)) (sym most_is)
-        (subst (AreCustodians (custodians_of t.version) (owners_of t.tables.keys)) it.2 meets)) in
+        (grind arith) in
         refuses it.0 it.3 (record {
           each = all_prefix (MayBeCustodian owners) it.0 it.1 whole.each;
           few = λ key.

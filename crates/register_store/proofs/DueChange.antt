@@ -89,9 +89,7 @@ module _ (at : ℕ) (moment : IsMoment at) where
   image date = search (arith, cast_int, cast_null)
 
   check : (date : DueDate) → Check date
-  check Activation p =
-      both Activation p.1 _ _ (equal_numbers (state_code p.1.row.state) 1)
-      (most_numbers (date_cell p.1.row.dates.activation) at)
+  check Activation p = search (arith, both, equal_numbers, most_numbers)
   check Deactivation p = search (arith, both, equal_numbers, most_numbers)
 
   pub moves : (date : DueDate) (old new : View) (count : ℕ) → Executes (update_text date) params old new (Ok count)

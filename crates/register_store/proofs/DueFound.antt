@@ -137,12 +137,10 @@ passes_of SameStop = passes_same
 passes_of Past = passes_past
 
 pub query_of : (search : DueSearch) → IsQuery (search_text search)
-query_of SameStop = same_query
-query_of Past = past_query
+query_of search = grind (arith, same_query, past_query)
 
 pub search_is : (search : DueSearch) → IsDueSearch (search_text search) (passes_of search)
-search_is SameStop = same_is
-search_is Past = past_is
+search_is search = grind (arith, same_is, past_is)
 
 -- ---- places
 
@@ -173,8 +171,7 @@ module _ (sql : List ℕ) (query : IsQuery sql) (passes : List Term) (search : I
     -- what passes came from a key that does
     came_from : (ns : List (ℕ × Key)) (r : Cells) → Has (Passing ns) r → (x : ℕ × Key) × Has ns x × (pick x ≡ true)
         × (r ≡ key_row x)
-    came_from ns r there = from_picked key_row pick ns r
-        (subst (λ rs. Has rs r) (filter-map (is_picked params 0 passes shown) key_row ns) there)
+    came_from ns r there = grind (arith, from_picked, filter-map, is_picked)
 
     goes_to : (ns : List (ℕ × Key)) (x : ℕ × Key) → Has ns x → pick x ≡ true → Has (Passing ns) (key_row x)
     goes_to ns x there is = subst (λ rs. Has rs (key_row x))
@@ -183,19 +180,12 @@ module _ (sql : List ℕ) (query : IsQuery sql) (passes : List Term) (search : I
     compared : (x y : ℕ × Key) → is_lt (output_cmp (ordered_by 0 passes shown order)
         (out_of 0 passes shown order params (key_row y)) (out_of 0 passes shown order params (key_row x))) ≡ false
         → (stop_cell x < stop_cell y) ⊎ ((stop_cell x ≡ stop_cell y) × (x.0 ≤ y.0))
-    compared x y h =
-        not_before (stop_cell y) (stop_cell x) y.0 x.0
-        (subst (λ (p : Ordering × Ordering). is_lt (ordering_then p.0 (ordering_then p.1 Equal)) ≡ false)
-        (λ i. (value_cmp-Int (pos (stop_cell y)) (pos (stop_cell x)) i, value_cmp-Int (pos y.0) (pos x.0) i)) h)
+    compared x y h = grind (arith, not_before, value_cmp-Int)
 
     first_so : (t : Tables) (x y : ℕ × Key) → Has (numbered t.keys) x → Has (numbered t.keys) y
         → (stop_cell x < stop_cell y) ⊎ ((stop_cell x ≡ stop_cell y) × (x.0 ≤ y.0))
         → (y ≡ x) ⊎ IsAfter (cell_cursor x) (cell_cursor y)
-    first_so t x y here there (inl later) = inr (inl later)
-    first_so t x y here there (inr (same, high)) = elim (cases_lt x.0 y.0) [
-      | inl below ↦ inr (inr (same, below))
-      | inr not_below ↦ inl (one_number t x y here there (omega (arith, high, not_below)))
-    ]
+    first_so t x y here there it = grind (arith, cases_lt, one_number)
 
     module _ (check : ℕ × Key → Bool) (check_is : (x : ℕ × Key) → pick x ≡ check x) where
       row_is : (old new : State) (t : Tables) → Holds t old.now → (row : Cells) → QueriesRow sql params old new (Ok row)

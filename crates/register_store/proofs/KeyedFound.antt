@@ -75,8 +75,7 @@ module _ {A X : Type 0} {key_of : A → ℕ} {value_of : A → X} {row_of : A �
   picks t old holds =
       let rows = rows_of holds.schema.layout name old.now in
       let passing : filter check (map row_of (entries t)) ≡ map row_of (filter is_its (entries t)) =
-      filter-map check row_of (entries t) ∙ ap (map row_of) (filter_same (λ a. check (row_of a)) is_its (entries t)
-      (all_of (λ a. check (row_of a) ≡ is_its a) (keyed.check_is n) (entries t))) in
+      filter-map check row_of (entries t) ∙ ap (map row_of) (grind (arith, filter_same, all_of)) in
       let right : map row_shown (filter check (map row_of (entries t))) ≡ map cells (its_values t) =
       ap (map row_shown) passing ∙ map-map row_shown row_of (filter is_its (entries t))
       ∙ shown_each (filter is_its (entries t)) ∙ sym (map-map cells value_of (filter is_its (entries t))) in

@@ -85,8 +85,7 @@ module _ (found : Found) (count : ℕ) (owners : List (List ℕ)) (rows : List R
       → RefusesKeys found (rows ++ row ∷ [])
   keys_odd odd keys are =
       let it = ends count keys (more_are keys are) in
-      let all : numbered keys ≡ numbered it.0 ++ (1 + length it.0, it.1) ∷ [] = ap numbered it.2
-      ∙ enumerate_append 1 it.0 it.1 in
+      let all : numbered keys ≡ numbered it.0 ++ (1 + length it.0, it.1) ∷ [] = grind (arith, enumerate_append) in
       let last = (show_split ShowsNumbered rows row (numbered it.0) (
         1 + length it.0,
         it.1,
@@ -113,8 +112,7 @@ own_shown n (k ∷ keys) all = search (arith, shows_key, own_shown (n + 1) keys 
 pub own_keys : (t : Stored) (db : Db) (rows : List Row) (holds : HoldsStored t db)
     → AnswersTo holds.schema.layout Keys db rows → ShowsOwn Keys t rows
 own_keys t db rows holds sure =
-    let table : IsTable (rows_of holds.schema.layout Keys db) =
-    subst IsTable (sym (holds.shown Keys)) (is_table t.tables.keys) in
+    let table : IsTable (rows_of holds.schema.layout Keys db) = grind (arith, is_table) in
     let is = in_order (holds.schema.layout.tree Keys) (shown_of_table Keys) (overlay db.trees []) rows
     (subst IsTable (sym (shows_all db.trees (holds.schema.layout.tree Keys))) table) sure
     ∙ ap (map (shown_of 0 (shown_of_table Keys))) (search (arith, shows_all)) in

@@ -108,11 +108,7 @@ module _ (t : Stored) (old new : State) (survives : Survives old new (λ _. ⊥)
   counts_told (CountsKeys found) all = checked (Ok found)
       (search arith) (λ clean. tt)
   counts_told (Newer found) all = checked (Err (NewerVersion found)) (λ clean. tt)
-      (λ clean. let it = all clean in record {
-        row = it.holds.0;
-        shown = record { rows = it.rows; shown = it.shown; holds = it.holds.1; same = it.same };
-        newer = it.holds.2;
-      })
+      (grind arith)
 
   pub meta_told : (told : MetaRow) (q : Result Found CheckError) → q ≡ counts_in told
       → (HasCleanDisk new → ShowsAll (check_text Meta) (HasMeta (Some told)) old new) → Checked q

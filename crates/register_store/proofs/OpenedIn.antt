@@ -123,8 +123,7 @@ first_opens a b d found first checks x did = record {
         t = it.0;
         passes = passes_before it.0 a b it.1;
         mark_is = it.2;
-        none_new = λ one there. (did.accepted clean).0.0
-            (subst (λ (db : Db). HasNewTable db.schema) (sym it.1.same.0.now_is) there);
+        none_new = grind arith;
         unchanged = λ second. absurd (let e : First ≡ Second = sym first ∙ version_of found it.0 it.2 ∙ second in cc);
       };
   refused = λ clean. tt;

@@ -92,11 +92,7 @@ needs_checked t found second told = record {
   within = second_within Quorum t second (omega arith);
   own = own_needs t second;
   one = show_same ShowsKeyNeed one_need;
-  taken = λ rows it. (
-    it.values,
-    it.shown,
-    subst (λ n. AllByRecursion (IsNeedOf n) it.values) (counted t found told) it.each,
-  );
+  taken = grind (arith, counted);
   given = search (arith, counted);
   no_newer = λ rows none. none;
 }

@@ -90,10 +90,7 @@ module _ (old new : State) (count : ℕ) (h : Executes version_text version_para
   shown_now : (name : TableName) → Shows name (content name t) (rows_of l name new.now)
   shown_now Meta = wrote.rows_are ∙ ap (λ row. enc row ∷ []) (changed_is (First, t.counts))
   shown_now Period = search (arith, other, keyed_none)
-  shown_now Quorum =
-      subst (ShowsKeyed need_row t.needs)
-      (sym (other Quorum (λ e. absurd (omega (arith, e))) ∙ has.empty Quorum (omega arith) (omega arith)))
-      (subst (λ ns. ShowsKeyed need_row ns []) (sym has.no_needs) (keyed_none need_row))
+  shown_now Quorum = grind (arith, other, keyed_none)
   shown_now Keys =
       subst (Shows Keys t.keys) (sym (other Keys (λ e. absurd (omega (arith, e))))) (has.shown Keys (omega arith))
   shown_now Custodian =
