@@ -23,8 +23,8 @@ use Rattle.register_store.specs.declared.table.TableName.TheVariants.{Meta, Keys
 use Rattle.register_store.specs.declared.table.TableName.TheVariants.{Quorum}
 use Rattle.register_store.specs.Within.Migration.{HasTablesBelow, SetsVersion}
 use Rattle.register_store.specs.Schema.{HoldsIn, schema_with, rows_of}
-use Rattle.register_store.specs.Tables.{AreApart, Counts, Layout, ShowsKeyed, Tables, content, counts_row_in, fresh}
-use Rattle.register_store.specs.Tables.{need_row, place_of, version}
+use Rattle.register_store.specs.Tables.{AreApart, Counts, Layout, Tables, content, counts_row_in, fresh, place_of}
+use Rattle.register_store.specs.Tables.{version}
 use Rattle.register_store.specs.Within.Tables.{Shows, meta}
 use Rattle.register_store.proofs.Actions.{idle, shows_all}
 use Rattle.register_store.proofs.EachTable.{placed_low}

@@ -1,7 +1,6 @@
-use Rattle.std.proofs.Common.{[]}
+use Rattle.std.proofs.Common.{[], arith}
 use Rattle.sqlite.specs.Held.{state}
 use Rattle.sql_steps.proofs.Stepping.{runs}
-use Rattle.register_store.specs.Within.Beside.{Adds, IsMadeAs}
 use Rattle.register_store.specs.Within.Creation.{MakesTable}
 use Rattle.register_store.specs.Within.Migration.{MakesNext}
 use Rattle.register_store.specs.Within.Tables.{create_text}
@@ -25,8 +24,4 @@ returns-clause-next g c new =
     c.in_ok-execute.ensures.survives
 
 pub returns-clause-beside : goal.returns-clause-beside
-returns-clause-beside g c =
-    runs (Adds (IsMadeAs c.args.table)) (create_text c.args.table) [] (state g.S.Store c.args.tx.now.conn.now)
-    (state g.S.Store c.execute.new.self.conn.now) c.in_ok-execute.field-0 (table_adds c.args.table _ _)
-    (λ clean inside. rw c.create_sql.ensures at (c.in_ok-execute.ensures.runs clean inside))
-    c.in_ok-execute.ensures.survives
+returns-clause-beside g c = search (arith, runs, table_adds)
