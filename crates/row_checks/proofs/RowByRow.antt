@@ -1,15 +1,11 @@
 -- What is known of a query while its rows are read one at a time.
-use Rattle.std.proofs.Common.{◌≡◌, ℕ, List, [], Option, Ok, OnOk, Result, sym, subst, arith}
+use Rattle.std.proofs.Common.{◌≡◌, ℕ, List, [], OnOk, Result, sym, subst, arith}
 use Rattle.sqlite_trees.specs.declared.store.Store as store
 use Rattle.sqlite.specs.declared.error.Error.TheVariants.{SqlInputError}
 use Rattle.sqlite_resolve.specs.declared.error.CompileError.{CompileError}
-use Rattle.sqlite_resolve.specs.declared.compiled.Compiled.{Compiled}
-use Rattle.sqlite.specs.Command.{Command}
 use Rattle.sqlite.specs.Order.{Row}
-use Rattle.sqlite.specs.Effect.{Database, RefusesToRead}
-use Rattle.sqlite.specs.Given.{HasGiven, HasBegun, IsPlain}
+use Rattle.sqlite.specs.Given.{HasGiven, HasBegun}
 use Rattle.sqlite.specs.Held.{Held, state}
-use Rattle.sqlite.specs.Listing.{understood}
 use Rattle.sqlite.specs.State.{State, HasCleanDisk, IsUnchanged, IsNotRun, FailsToQuery, Shown, Survives}
 use Rattle.sqlite.specs.State.{CommitsShowing}
 use Rattle.sqlite.proofs.Callers.{never_commits, unchanged_then}
@@ -18,10 +14,6 @@ use Rattle.sql_steps.proofs.Asking.{never_input}
 use Rattle.row_checks.specs.ShownRows.{IsQuery, HasNoMeaning, ShowsAll, ShowsFirst}
 
 -- ---- a text that has no meaning
-
-never_read : (limit : Option ℕ) (command : Command) (db : Database) (params : Row) (fault : CompileError)
-    → ¬ RefusesToRead limit command db params (SqlInputError fault)
-never_read limit command db params fault = grind arith
 
 not_run : (sql : List ℕ) (params : Row) (old new : State) (fault : CompileError)
     → IsNotRun old new sql params (SqlInputError fault) → HasNoMeaning sql old new
@@ -32,19 +24,15 @@ not_run sql params old new fault it = grind (arith, never_input)
 pub no_meaning : (sql : List ℕ) (params : Row) (old new : State) (fault : CompileError) → IsQuery sql
     → FailsToQuery sql params old new (SqlInputError fault) → HasNoMeaning sql old new
 unfolding FailsToQuery
-no_meaning sql params old new fault query it = search (arith, not_run, never_read)
+no_meaning sql params old new fault query it = search (arith, not_run)
 
 -- ---- a query
-
-plain_of : (sql : List ℕ) (schema : _) (c : Compiled) → IsQuery sql → understood schema sql ≡ Ok c
-    → IsPlain (understood schema sql)
-plain_of sql schema c query is = subst IsPlain (sym is) (query schema c is)
 
 -- it commits nothing
 pub commits_none : (sql : List ℕ) (params : Row) (old new : State) → IsQuery sql
     → Survives old new (CommitsShowing sql params old) → Survives old new (λ _. ⊥)
 unfolding CommitsShowing
-commits_none sql params old new query = search (arith, survives_weaker, never_commits, plain_of)
+commits_none sql params old new query = search (arith, survives_weaker, never_commits)
 
 -- the rows that are shown from where nothing had changed
 pub shown_from : (sql : List ℕ) (params : Row) (a b c : State) (rows : List Row) → IsQuery sql → IsUnchanged a b
@@ -69,10 +57,6 @@ given_same g sql params h given it = grind arith
 
 -- ---- a query and what is read of it
 
-pub begun_so : {S : Type 0} (g : store.Ghosts S) (sql : List ℕ) (params : Row) (old new : Held S) → IsQuery sql
-    → HasBegun g sql params old new → HasGiven g sql params new [] × IsUnchanged (state g old) (state g new)
-begun_so g sql params old new query it = grind arith
-
 pub all_from : (sql : List ℕ) (P : List Row → Type 0) (a b c : State) → IsQuery sql → IsUnchanged a b
     → ShowsAll sql P b c → ShowsAll sql P a c
 all_from sql P a b c query same all = grind (arith, shown_from)
@@ -89,7 +73,7 @@ pub at_start : {S : Type 0} (g : store.Ghosts S) (sql : List ℕ) (old mid new :
     → (HasCleanDisk (state g mid) → HasBegun g sql [] old mid) → Survives (state g mid) (state g new) (λ _. ⊥)
     → HasCleanDisk (state g new)
     → HasGiven g sql [] mid [] × IsUnchanged (state g old) (state g mid)
-at_start g sql old mid new query begun survives clean = grind (arith, begun_so)
+at_start g sql old mid new query begun survives clean = grind arith
 
 pub met_from : {E G : Type 0} (r : Result (Unit {0}) E) (sql : List ℕ) (P : List Row → Type 0) (a b c : State)
     → IsQuery sql → G × IsUnchanged a b → (G → OnOk r (ShowsAll sql P b c)) → OnOk r (ShowsAll sql P a c)
