@@ -7,10 +7,9 @@ use Rattle.sqlite.specs.Order.{Row}
 use Rattle.sqlite.specs.Listing.{understood}
 use Rattle.sqlite_trees.specs.declared.error.StoreError.{StoreError}
 use Rattle.sqlite.specs.State.{State, HasCleanDisk, QueriesRow, QueriesRowInside, Begins, store_error, FailsToQuery}
-use Rattle.sqlite.specs.State.{FailsToShow, Shown, ShowsRows, Shows, IsNotRun, IsUnchanged, IsRolledBack, KeepsCommit}
-use Rattle.sqlite.specs.State.{Survives}
+use Rattle.sqlite.specs.State.{Shown, ShowsRows, Shows, IsNotRun, IsUnchanged, IsRolledBack, KeepsCommit, Survives}
 use Rattle.sqlite.proofs.InsideLemmas.{unchanged_keeps}
-use Rattle.sql_steps.specs.Steps.{Change, StepsBy, GoesOn}
+use Rattle.sql_steps.specs.Steps.{Change, StepsBy}
 
 -- no cause of the store is a text without a meaning
 pub never_input : (fault : _) (cause : StoreError) → ¬ ◌≡◌ {A = Error} (SqlInputError fault) (store_error cause)
@@ -29,13 +28,10 @@ module _ (old new : State) where
   abbrev Stays : Type 0
   Stays = Shows old new new.now old.committed true
 
-  same_stays : IsTrue old.in_transaction → IsUnchanged old new → Stays
-  same_stays inside same = search arith
-
   shows_stays : IsTrue old.in_transaction
       → (sql : List ℕ) (c : _) (params : Row) (rows : List Row) (returning : Option Returning)
       → ShowsRows old new sql c params rows returning → Stays
-  shows_stays inside sql c params rows returning shows = search (arith, same_stays)
+  shows_stays inside sql c params rows returning shows = search arith
 
   rows_stay : IsTrue old.in_transaction → (sql : List ℕ) (params : Row) (rows : List Row)
       → Shown sql params old new rows → Stays
@@ -45,7 +41,7 @@ module _ (old new : State) where
   row_stays : IsTrue old.in_transaction → (sql : List ℕ) (params row : Row) → QueriesRow sql params old new (Ok row)
       → Stays
   unfolding QueriesRow
-  row_stays inside sql params row it = search (arith, same_stays, rows_stay)
+  row_stays inside sql params row it = search (arith, rows_stay)
 
   -- ---- a query that fails: it changes nothing, or the transaction is rolled back
 
@@ -105,7 +101,7 @@ module _ (old new : State) where
       → (HasCleanDisk new → QueriesRowInside sql params old new (Err e)) → Survives old new (λ _. ⊥)
       → StepsBy {E = E} Changes old new (Ok value)
   asks_meaningless Changes value sql params e fault is same asked survives =
-      search (arith, meaningless_same, same_stays, inside_keeps)
+      search (arith, meaningless_same, inside_keeps)
 
   -- a query whose answer, or the lack of one, is a failure
   pub asks_fails : {T E : Type 0} (Changes : T → Change) (sql : List ℕ) (params : Row) (r : Result Row Error)

@@ -1,6 +1,6 @@
 -- What a DELETE does where one other table refers to the rows with ON DELETE CASCADE, and none to its rows.
-use Rattle.std.proofs.Common.{◌≡◌, inl, inr, ◌≢◌, ◌&&◌, ℕ, zero, suc, ℤ, List, [], ◌∷◌, ◌++◌, length, Bool, true, false}
-use Rattle.std.proofs.Common.{cond, Ok, refl, sym, ap, subst, arith, length-append}
+use Rattle.std.proofs.Common.{◌≡◌, inl, inr, ◌≢◌, ℕ, zero, suc, ℤ, List, [], ◌∷◌, ◌++◌, length, Bool, true, false, cond}
+use Rattle.std.proofs.Common.{Ok, refl, sym, ap, subst, arith, length-append}
 use Rattle.std.specs.List.{AllByRecursion, list_any}
 use Rattle.sqlite.specs.Edit.{edit_of, taken_by, without_all, Applies}
 use Rattle.sqlite.specs.Order.{Row}

@@ -1,6 +1,6 @@
 -- What a DELETE with its cascade leaves of the two tables.
-use Rattle.std.proofs.Common.{◌≡◌, ◌≢◌, ◌⊎◌, inl, inr, ◌&&◌, ℕ, ℤ, List, [], ◌∷◌, filter, not, slice_get, Bool, cond}
-use Rattle.std.proofs.Common.{false, true, Some, Ok, sym, ap, subst, ◌∙◌, arith}
+use Rattle.std.proofs.Common.{◌≡◌, ◌≢◌, ◌⊎◌, inl, inr, ℕ, ℤ, List, [], ◌∷◌, filter, not, slice_get, Bool, cond, false}
+use Rattle.std.proofs.Common.{true, Some, Ok, sym, ap, subst, ◌∙◌, arith}
 use Rattle.std.specs.List.Sorted.{IsPermutation}
 use Rattle.sqlite.specs.Command.TheVariants.{Delete}
 use Rattle.sqlite.specs.Edit.{taken_by, without_all}

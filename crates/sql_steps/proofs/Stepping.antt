@@ -1,6 +1,5 @@
 -- From a statement inside a transaction to the words for a step, and from the steps to the whole.
-use Rattle.std.proofs.Common.{◌≡◌, ℕ, List, [], Ok, Err, Result, IsErr, IsTrue, IfOk, IfErr, OnOk, false, true, refl}
-use Rattle.std.proofs.Common.{arith}
+use Rattle.std.proofs.Common.{◌≡◌, ℕ, List, [], Ok, Err, Result, IsErr, IsTrue, IfErr, OnOk, false, true, refl, arith}
 use Rattle.sqlite.specs.declared.error.Error.{Error}
 use Rattle.sqlite.specs.Order.{Row}
 use Rattle.sqlite.specs.Tree.{Trees}
@@ -12,7 +11,7 @@ use Rattle.sqlite.proofs.InsideLemmas.{inside_keeps, keeps_then}
 use Rattle.sqlite.proofs.StateLemmas.{survives_then, survives_weaker}
 use Rattle.sqlite_trees.specs.declared.store.Store as store
 use Rattle.sqlite.specs.Held.{Held, state}
-use Rattle.sql_steps.specs.Steps.{Change, StepsBy, TransactsBy, GoesOn}
+use Rattle.sql_steps.specs.Steps.{Change, StepsBy, TransactsBy}
 use Rattle.sql_steps.specs.Within.Steps.{Then}
 
 -- ---- one statement
@@ -75,11 +74,6 @@ module _ (Made : Change) (old : State) where
       → TransactsBy Made old new q
   rolls_back Tried mid new r q failed step undone dropped = search (arith, survives_then)
 
-  stops : {A E : Type 0} (Tried : A → Change) (mid new : State) (x : A)
-      → ((db : Database) → Tried x old.now db → Made old.now db) → StepsBy {E = E} Tried Inner mid (Ok x)
-      → Survives mid new (λ trees. trees ≡ mid.now.trees) → Survives old new Left
-  stops Tried mid new x is step kept = search (arith, survives_then)
-
   -- the steps, and then the commit
   pub commits : {A E : Type 0} (Tried : A → Change) (mid new : State) (x : A) (r : Result (Unit {0}) Error)
       → ((db : Database) → Tried x old.now db → Made old.now db) → StepsBy {E = E} Tried Inner mid (Ok x)
@@ -88,7 +82,7 @@ module _ (Made : Change) (old : State) where
       × (new.marks ≡ [])))
       → (HasCleanDisk new → IfErr r (FailsToCommit mid new)) → Survives mid new (λ trees. trees ≡ mid.now.trees)
       → TransactsBy Made old new r
-  commits Tried mid new x r is step ok err kept = search (arith, stops, fails)
+  commits Tried mid new x r is step ok err kept = search (arith, fails)
 
 -- ---- steps that are given up, whatever they gave
 
