@@ -3,7 +3,6 @@ use Rattle.std.proofs.Common.{◌≡◌, ◌≢◌, ◌⊎◌, ◌↔◌, ◌==�
 use Rattle.std.proofs.Common.{List, [], ◌∷◌, ◌++◌, length, map, filter, slice_get, get_or, Option, None, Some, Result}
 use Rattle.std.proofs.Common.{Ok, Err, IsTrue, refl, sym, ap, subst, ◌∙◌, arith, bytes_eq}
 use Rattle.std.proofs.lemmas.Bool.{eq-eqb, eqb-true}
-use Rattle.std.proofs.lemmas.Bool.Decides.{eqb_tells}
 use Rattle.std.proofs.lemmas.List.{append-nil, length-append}
 use Rattle.std.proofs.lemmas.List.Sorted.{IsPermutation-map, length_permutation, list_any-IsPermutation}
 use Rattle.std.specs.Prelude.{IsErrAnd}
@@ -58,10 +57,6 @@ names_more : (key : ℕ) (entries others : List KeyName)
     → names_at key (entries ++ others) ≡ names_at key entries ++ names_at key others
 names_more key [] others = refl
 names_more key (e ∷ entries) others = search (arith, names_more key entries others)
-
-either_at : (key : ℕ) (entry : KeyName) → ((entry.key ≡ key) × (is_at key entry ≡ true))
-    ⊎ ((entry.key ≢ key) × (is_at key entry ≡ false))
-either_at key entry = search (arith, eqb_tells)
 
 more_here : (key : ℕ) (entries : List KeyName) (entry : KeyName) → entry.key ≡ key
     → names_at key (entries ++ entry ∷ []) ≡ names_at key entries ++ entry.name ∷ []
@@ -122,9 +117,9 @@ module _ (most : ℕ) (owners : List (List ℕ)) (lists : List (Vec (List ℕ)))
   custodians_more entry shows may room at key new counted added others = record {
     entries = taken.entries ++ entry ∷ [];
     shown = show_more ShowsName rows taken.entries row entry taken.shown shows;
-    are = search (arith, all_more, either_at, more_here, length-append, more_other);
+    are = search (arith, all_more, more_here, length-append, more_other);
     counted = counted ∙ taken.counted;
-    kept = grind (arith, either_at, slice_get, more_here, more_other);
+    kept = grind (arith, slice_get, more_here, more_other);
   }
 
   -- what the row would have to show

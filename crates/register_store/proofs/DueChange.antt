@@ -1,8 +1,5 @@
 -- What the UPDATEs of the states of due keys do.
-use Rattle.std.proofs.Common.{◌≡◌, ◌==◌, ◌&&◌, ℕ, ◌+◌, pos, List, [], ◌∷◌, map, Bool, true, Ok, Option, set, nat_le}
-use Rattle.std.proofs.Common.{refl, ap, ap₂, subst, ◌∙◌, arith}
-use Rattle.std.proofs.Math.Bool.{and-true}
-use Rattle.std.proofs.lemmas.Bool.Decides.{leb_tells}
+use Rattle.std.proofs.Common.{◌≡◌, ℕ, ◌+◌, pos, List, [], ◌∷◌, map, Bool, Ok, set, refl, ap, subst, arith}
 use Rattle.std.specs.List.{enumerate_from}
 use Rattle.sqlite.specs.declared.types.Value.TheVariants.{Int}
 use Rattle.sqlite.specs.Collation.TheVariants.{Binary}
@@ -15,16 +12,15 @@ use Rattle.sqlite_tied.specs.Compute.{everything}
 use Rattle.sql_steps.proofs.Comparing.{equal_numbers, most_numbers}
 use Rattle.sql_steps.proofs.Statements.{cast_int, cast_null}
 use Rattle.moment_core.specs.Moment.{IsMoment}
-use Rattle.lifecycle_core.specs.State.{is_reached_at, state_code}
+use Rattle.lifecycle_core.specs.State.{state_code}
 use Rattle.register_core.specs.declared.key.Key.{Key}
 use Rattle.register_store.specs.declared.accepted_request.DueDate.{DueDate}
 use Rattle.register_store.specs.declared.accepted_request.DueDate.TheVariants.{Activation, Deactivation}
-use Rattle.register_store.specs.Tables.{IsKey, key_row, date_cell}
+use Rattle.register_store.specs.Tables.{IsKey, key_row}
 use Rattle.register_store.specs.Schema.{Holds}
 use Rattle.register_store.specs.TableChanges.{Makes}
 use Rattle.register_store.specs.Within.TableChanges.{Always, in_state}
-use Rattle.register_store.specs.Within.Due.{date_of, is_due, moved_on, state_before, state_after, update_text}
-use Rattle.register_store.specs.Within.Due.{with_each}
+use Rattle.register_store.specs.Within.Due.{is_due, moved_on, state_before, state_after, update_text, with_each}
 use Rattle.sqlite_resolve.specs.Compile.{first}
 use Rattle.register_store.proofs.ColumnTerms.{key_kept}
 use Rattle.register_store.proofs.KeyChange.{IsUpdate, changed_where, changes_keys, image_of, passes_row}
@@ -49,10 +45,6 @@ unfolding everything first
 parts Activation l = record { p = _; name = _; sets = _; check = _; d = _; parsed = refl; untimed = refl; is = refl; named = refl; there = refl; drafted = refl; same = refl; from = refl; accepted = refl }
 parts Deactivation l = record { p = _; name = _; sets = _; check = _; d = _; parsed = refl; untimed = refl; is = refl; named = refl; there = refl; drafted = refl; same = refl; from = refl; accepted = refl }
 
--- a date is reached where its cell is at most the moment
-reached : (date : Option ℕ) (at : ℕ) → IsMoment at → nat_le (date_cell date) at ≡ is_reached_at date at
-reached date at moment = search (arith, leb_tells)
-
 module _ (at : ℕ) (moment : IsMoment at) where
   abbrev pub params : Cells
   params = Int (pos at) ∷ []
@@ -68,10 +60,6 @@ module _ (at : ℕ) (moment : IsMoment at) where
 
     stays_key : (k : Key) → IsKey k → IsKey (in_state (state_after date) k)
     stays_key k is = record { owner = is.owner; purpose = is.purpose; dates = is.dates }
-
-    both : (k : Key) (a b : Bool) → a ≡ (state_code k.row.state == state_code (state_before date))
-        → b ≡ nat_le (date_cell (date_of date k.row.dates)) at → (a && (b && true)) ≡ is_due date at k
-    both k a b p q = ap₂ (λ x y. x && y) p (and-true b ∙ q ∙ reached (date_of date k.row.dates) at moment)
 
     abbrev Image : Type 0
     Image =
@@ -89,8 +77,8 @@ module _ (at : ℕ) (moment : IsMoment at) where
   image date = search (arith, cast_int, cast_null)
 
   check : (date : DueDate) → Check date
-  check Activation p = search (arith, both, equal_numbers, most_numbers)
-  check Deactivation p = search (arith, both, equal_numbers, most_numbers)
+  check Activation p = search (arith, equal_numbers, most_numbers)
+  check Deactivation p = search (arith, equal_numbers, most_numbers)
 
   pub moves : (date : DueDate) (old new : View) (count : ℕ) → Executes (update_text date) params old new (Ok count)
       → Makes Always (with_each (moved_on date at)) old.now new.now

@@ -2,9 +2,7 @@
 use Rattle.std.proofs.Common.{◌≡◌, ◌⊎◌, ◌<◌, ◌≤◌, ℕ, pos, List, [], ◌∷◌, ◌++◌, codes, map, slice_get, Bool, true, false}
 use Rattle.std.proofs.Common.{None, Ok, Err, refl, sym, ap, subst, ◌∙◌, arith}
 use Rattle.std.proofs.lemmas.Bool.{cases_lt}
-use Rattle.std.proofs.lemmas.Int.{ints}
-use Rattle.std.specs.Ordering.{int_cmp, is_lt, ordering_then}
-use Rattle.std.specs.declared.cmp.Ordering.TheVariants.{Equal}
+use Rattle.std.specs.Ordering.{is_lt}
 use Rattle.sqlite.specs.declared.error.Error.TheVariants.{QueryReturnedNoRows}
 use Rattle.sqlite.specs.declared.types.Value.TheVariants.{Int}
 use Rattle.sqlite.specs.Collation.TheVariants.{Binary}
@@ -143,12 +141,6 @@ search_is search = grind (arith, same_is, past_is)
 
 -- ---- places
 
--- what does not come before another by its stop and its number
-not_before : (sy sx ny nx : ℕ)
-    → is_lt (ordering_then (int_cmp (pos sy) (pos sx)) (ordering_then (int_cmp (pos ny) (pos nx)) Equal)) ≡ false
-    → (sx < sy) ⊎ ((sx ≡ sy) × (nx ≤ ny))
-not_before sy sx ny nx h = search (arith, ints)
-
 -- a number has one key
 pub one_number : (t : Tables) (x y : ℕ × Key) → Has (numbered t.keys) x → Has (numbered t.keys) y → x.0 ≡ y.0 → y ≡ x
 one_number t x y here there same = search (arith, at_number, slice_get)
@@ -179,7 +171,7 @@ module _ (sql : List ℕ) (query : IsQuery sql) (passes : List Term) (search : I
     compared : (x y : ℕ × Key) → is_lt (output_cmp (ordered_by 0 passes shown order)
         (out_of 0 passes shown order params (key_row y)) (out_of 0 passes shown order params (key_row x))) ≡ false
         → (stop_cell x < stop_cell y) ⊎ ((stop_cell x ≡ stop_cell y) × (x.0 ≤ y.0))
-    compared x y h = grind (arith, not_before, value_cmp-Int)
+    compared x y h = grind (arith, value_cmp-Int)
 
     first_so : (t : Tables) (x y : ℕ × Key) → Has (numbered t.keys) x → Has (numbered t.keys) y
         → (stop_cell x < stop_cell y) ⊎ ((stop_cell x ≡ stop_cell y) × (x.0 ≤ y.0))

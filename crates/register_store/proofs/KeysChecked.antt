@@ -141,9 +141,6 @@ keys_begin found owners none = search arith
 
 module _ (t : Stored) (found : Found) (told : mark_of found ≡ mark t) (old new : State)
     (survives : Survives old new (λ _. ⊥)) where
-  version_is : found.version ≡ t.version
-  version_is = ap (λ (m : Version × Counts). m.0) told
-
   keys_within : IsWithin Keys t.version
   keys_within = in_both Keys (omega arith) t.version
 
@@ -153,7 +150,7 @@ module _ (t : Stored) (found : Found) (told : mark_of found ≡ mark t) (old new
   -- rows that do not pass do not begin rows that do
   odd_on : (rows : List Row) → RefusesKeys found rows → (tail : List Row) → IsOdd Keys t (rows ++ tail)
   odd_on rows refuses tail =
-      search (arith, show_prefix, numbered_prefix, version_is, all_prefix, length-append, key_count_is)
+      search (arith, show_prefix, numbered_prefix, all_prefix, length-append, key_count_is)
 
   abbrev Checked : Result (Vec (List ℕ)) CheckError → Type 0
   Checked q = ChecksTable Keys t AreOwners old new q
@@ -165,7 +162,7 @@ module _ (t : Stored) (found : Found) (told : mark_of found ≡ mark t) (old new
   keys_read count owners all is =
       checks_table Keys t keys_within (own_keys t) (newer_not t) AreOwners
       (λ c d x like says. says ∙ ap owners_of like) one_keys old new (Ok owners)
-      (search (arith, key_count_is, version_is))
+      (search (arith, key_count_is))
       (λ clean. tt) survives
 
   -- fewer than are counted

@@ -119,9 +119,6 @@ tree_with Period n l Period = n
 tree_with Quorum n l Quorum = n
 tree_with name n l other = l.tree other
 
-tree_same : (name : TableName) → IsNew name → (n : ℕ) (l : Layout) → tree_with name n l name ≡ n
-tree_same name is n l = search arith
-
 abbrev layout_with : TableName → Layout → Layout
 layout_with name l = record {
   tree = tree_with name (next_tree (before name l)) l;
@@ -165,11 +162,8 @@ module _ (name : TableName) (is : IsNew name) (l : Layout) where
       → (other ≡ name) ⊎ ((place_of other ≡ place_of name → ⊥) × (place_of other < place_of name))
   which other low = search (arith, cases_Bool, same_place, eqb-true, eq-eqb, cases_lt)
 
-  tree_is : (other : TableName) → (other ≡ name) → tree_with name next l other ≡ next
-  tree_is other same = ap (tree_with name next l) same ∙ tree_same name is next l
-
   apart_still : AreApartBelow (place_of name) l → AreApartBelow (place_of name + 1) (layout_with name l)
-  apart_still apart a b low_a low_b same = search (arith, which, below, tree_is)
+  apart_still apart a b low_a low_b same = search (arith, which, below)
 
   -- the rows of the tables before it stay
   rows_stay : (old new : Database) → KeepsRows (before name l).tables old.trees new.trees → (other : TableName)
@@ -186,4 +180,4 @@ makes_next name high old new count h t has =
     let is = is_new name high in
     let l = has.layout in
     let both = creates name is l old new count h has.schema in
-    let did = both.0 in search (arith, apart_still, schema_is, rows_stay, which, tree_is)
+    let did = both.0 in search (arith, apart_still, schema_is, rows_stay, which)

@@ -89,14 +89,11 @@ module _ {A B : Type 0} (First : Tables → A → Type 0) (Next : Tables → B
   held clean t holds live =
       let same = (one.found (two.clean clean) t holds).1 in subst (Holds t) (sym same.0.now_is) (holds same.0.was_open)
 
-  open_still : (r : Result B StoreError) → IsOpenStill a b → OnOk r (IsOpenStill b c) → OnOk r (IsOpenStill a c)
-  open_still r first next = search arith
-
   lost : (r : Result B StoreError) → IsUnchanged a b → IfErr r (ReadFails b c) → IfErr r (ReadFails a c)
   lost r first next = search (arith, unchanged_then)
 
   pub reads_then : ReadsBy (λ t y. First t x × Next t y) a c r
-  reads_then = search (arith, held, lost, open_still, survives_then)
+  reads_then = search (arith, held, lost, survives_then)
 
 -- what an open connection sees after one reading and another
 pub sight_then : {A B : Type 0} (First : Tables → A → Type 0) (Next : Tables → B

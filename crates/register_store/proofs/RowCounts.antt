@@ -1,7 +1,6 @@
 -- What a count of a table's rows tells of the table.
-use Rattle.std.proofs.Common.{◌≡◌, ◌<◌, inl, inr, ℕ, List, [], Bool, false, Ok, Err, refl, sym, subst, subst₂, ◌+◌}
-use Rattle.std.proofs.Common.{get_or, arith}
-use Rattle.std.proofs.Math.Nat.{eq-or-lt_of_le}
+use Rattle.std.proofs.Common.{◌≡◌, ◌<◌, inl, inr, ℕ, List, [], Bool, false, Ok, Err, refl, sym, subst, ◌+◌, get_or}
+use Rattle.std.proofs.Common.{arith}
 use Rattle.sqlite.specs.declared.error.Error.{Error}
 use Rattle.sqlite.specs.declared.error.Error.TheVariants.{SqlInputError}
 use Rattle.sqlite.specs.Effect.{Database}
@@ -68,16 +67,12 @@ module _ (name : TableName) (old new : State) where
 abbrev pub table_at : ℕ → TableName
 table_at n = get_or all_tables n Meta
 
-lacks_more : (n : ℕ) (old mid new : Database) → LacksFirst n old mid → Answers (IsThere (table_at n)) false mid new
-    → LacksFirst (n + 1) old new
-lacks_more n old mid new before answer = search (arith, eq-or-lt_of_le, subst₂)
-
 -- one more was looked for
 pub lacks_next : {E : Type 0} (n : ℕ) (a b d : State) (found : Bool) → found ≡ false
     → StepsBy {E = E} (λ (_ : Unit {0}). LacksFirst n) a b (Ok tt)
     → StepsBy {E = E} (Answers (IsThere (table_at n))) b d (Ok found)
     → StepsBy {E = E} (λ (_ : Unit {0}). LacksFirst (n + 1)) a d (Ok tt)
-lacks_next {E = E} n a b d found none so_far look = search (arith, steps_as, lacks_more, steps_then)
+lacks_next {E = E} n a b d found none so_far look = search (arith, steps_as, steps_then)
 
 -- ---- a register's tables are there
 
