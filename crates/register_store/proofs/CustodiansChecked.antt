@@ -282,8 +282,6 @@ pub not_listed : (lists : List (Vec (List ℕ))) (entry : KeyName) → ((1 ≤ e
     → ¬ IsListed lists entry
 not_listed lists entry off listed = search (arith, get_below)
 
--- nothing was read: want of memory
-
 -- memory gave out before the rows were read
 pub custodians_unread : (t : Stored) (old : State) → (HasCleanDisk old → IsTrue old.is_open) → (e : CheckError)
     → e ≡ Ran_out → (q : Result (Vec (Vec (List ℕ))) CheckError) → IsErrAnd q (λ x. x ≡ e)

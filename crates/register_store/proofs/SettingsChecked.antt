@@ -48,19 +48,10 @@ own_needs t second db rows holds sure =
 -- ---- a row shows one
 
 one_period : (row : Row) (a b : TypePeriod) → ShowsTypePeriod row a → ShowsTypePeriod row b → a ≡ b
-one_period row a b x y i = record {
-  kind = same_kind _ _ (same_number _ _ _ x.kind y.kind) i;
-  period = record {
-    originator = same_number _ _ _ x.originator y.originator i;
-    recipient = same_number _ _ _ x.recipient y.recipient i;
-  };
-}
+one_period row a b x y = search (arith, same_kind, same_number)
 
 pub one_need : (row : Row) (a b : KeyNeed) → ShowsKeyNeed row a → ShowsKeyNeed row b → a ≡ b
-one_need row a b x y i = record {
-  key = same_number _ _ _ x.key y.key i;
-  need = same_number _ _ _ x.need y.need i;
-}
+one_need row a b x y = search (arith, same_number)
 
 -- ---- the checks
 
