@@ -113,8 +113,7 @@ module _ (name : TableName) (t : Stored) (within : IsWithin name t.version) wher
   abbrev asked_of : (db : Database) (holds : HoldsStored t db) → Meant (schema_in t.version holds.schema.layout)
       (check_text name) (Select (record { lets = []; body = asked holds.schema.layout name })
       (asks_for t.version name within holds.schema.layout).0)
-  asked_of db holds =
-      asked_is t.version name within holds.schema.layout (placed_as t.version t.tables db holds)
+  asked_of db holds = asked_is t.version name within holds.schema.layout (placed_as t.version t.tables db holds)
 
   meaning_of : (old new : State) → HoldsStored t old.now → HasNoMeaning (check_text name) old new → ⊥
   meaning_of old new holds none = absurd (meant (understood (schema_in t.version l) (check_text name))

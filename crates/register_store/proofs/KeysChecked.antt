@@ -149,8 +149,7 @@ module _ (t : Stored) (found : Found) (told : mark_of found ≡ mark t) (old new
 
   -- rows that do not pass do not begin rows that do
   odd_on : (rows : List Row) → RefusesKeys found rows → (tail : List Row) → IsOdd Keys t (rows ++ tail)
-  odd_on rows refuses tail =
-      search (arith, show_prefix, numbered_prefix, all_prefix, length-append, key_count_is)
+  odd_on rows refuses tail = search (arith, show_prefix, numbered_prefix, all_prefix, length-append, key_count_is)
 
   abbrev Checked : Result (Vec (List ℕ)) CheckError → Type 0
   Checked q = ChecksTable Keys t AreOwners old new q

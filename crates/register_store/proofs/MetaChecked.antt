@@ -105,10 +105,8 @@ module _ (t : Stored) (old new : State) (survives : Survives old new (λ _. ⊥)
   -- all rows were read
   counts_told : (told : MetaRow) → (HasCleanDisk new → ShowsAll (check_text Meta) (HasMeta (Some told)) old new)
       → Checked (counts_in told)
-  counts_told (CountsKeys found) all = checked (Ok found)
-      (search arith) (λ clean. tt)
-  counts_told (Newer found) all = checked (Err (NewerVersion found)) (λ clean. tt)
-      (grind arith)
+  counts_told (CountsKeys found) all = checked (Ok found) (search arith) (λ clean. tt)
+  counts_told (Newer found) all = checked (Err (NewerVersion found)) (λ clean. tt) (grind arith)
 
   pub meta_told : (told : MetaRow) (q : Result Found CheckError) → q ≡ counts_in told
       → (HasCleanDisk new → ShowsAll (check_text Meta) (HasMeta (Some told)) old new) → Checked q
@@ -121,8 +119,7 @@ module _ (t : Stored) (old new : State) (survives : Survives old new (λ _. ⊥)
   }
 
   pub meta_none : (HasCleanDisk new → ShowsAll (check_text Meta) (HasMeta None) old new) → Checked (Err NotARegister)
-  meta_none all = checked (Err NotARegister) (λ clean. tt)
-      (search arith)
+  meta_none all = checked (Err NotARegister) (λ clean. tt) (search arith)
 
   -- the rows do not pass, or were not read
   reason : (error : RowsError) → (error ≡ NoMeaning → HasNoMeaning (check_text Meta) old new)

@@ -217,8 +217,7 @@ module _ (key : ℕ) (name : List ℕ) where
             (λ no_custodian. subst (Shows n (content n t))
             (sym (other n (λ written. elim written [
               | inl e ↦ no_custodian (holds.schema.apart n Custodian e)
-              | inr e ↦ no_approval
-                  (holds.schema.apart n Approval e)
+              | inr e ↦ no_approval (holds.schema.apart n Approval e)
             ]))) (holds.shown n)));
       }
 

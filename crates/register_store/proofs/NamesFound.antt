@@ -201,8 +201,7 @@ asks_names role.Approver l = record { p = _; select = _; d = _; by = _; parsed =
 
 pub select_is : (role : Role) → IsNameSearch (select_text role) (table_at role)
 select_is role = record {
-  meant = λ l at. asks (schema_with l) _ (classes l at (table_at role)) _ _ _
-      (asks_names role l);
+  meant = λ l at. asks (schema_with l) _ (classes l at (table_at role)) _ _ _ (asks_names role l);
   query = select_plain (select_text role) (names_select role);
 }
 

@@ -111,8 +111,7 @@ lift_permutation {X} {Y} f zs ys p =
         go (w ∷ ws) e q =
             let long : length (w ∷ ws) ≡ length l = sym (length-map (w ∷ ws) f) ∙ ap length e in (
               swap (w ∷ ws) i j,
-              map_swap f (w ∷ ws) i j w (omega (arith, a, long)) (omega (arith, b, long))
-                  ∙ ap (λ v. swap v i j) e,
+              map_swap f (w ∷ ws) i j w (omega (arith, a, long)) (omega (arith, b, long)) ∙ ap (λ v. swap v i j) e,
               IsPermutation-trans _ _ _ q
                   (IsPermutation-swap _ _ i j (omega (arith, a, long)) (omega (arith, b, long)) refl),
             )
