@@ -31,8 +31,7 @@ module _ (before : Schema) (table : Table) (sql : List ℕ) (is : command_of (un
       let table_is : made.table ≡ written = cc in
       let schema : first.0.schema ≡ created before table = cc in
       let uncounted' : lacks_sequence first.0.schema ≡ false = ap lacks_sequence schema ∙ uncounted in
-      let now : new.now ≡ first.0 = ap (λ (p : Tally × Database). p.1) (same_value all.2)
-      ∙ same_value (rw uncounted' at first.2) in search arith
+      let now : new.now ≡ first.0 = grind (arith, same_value) in search arith
 
 -- the same of a CREATE INDEX
 module _ (before : Schema) (at : ℕ) (table : Table) (there : slice_get before.tables at ≡ Some table)
@@ -45,8 +44,7 @@ module _ (before : Schema) (at : ℕ) (table : Table) (there : slice_get before.
   indexes old new count h has =
       let w = subst (λ t. Writes old new None (CreateIndex at) t [] count) whole
       (runs_as sql [] old new before has (CreateIndex at) is plain count h) in
-      let place : slice_get old.now.schema.tables at ≡ Some table =
-      ap (λ (s : Schema). slice_get s.tables at) has ∙ there in
+      let place : slice_get old.now.schema.tables at ≡ Some table = cc in
       let all =
       went (subst
       (λ o. AtPlace (λ t. Defines (mode_of old) (MakesIndex sql old.now t)) o (Ok (w.tally, new.now))) place
