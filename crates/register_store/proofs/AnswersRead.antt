@@ -1,19 +1,15 @@
 -- What a search for one row finds by a reader that tells what a row shows.
-use Rattle.std.proofs.Common.{◌≡◌, ◌≢◌, Option, None, Some, Result, Ok, Err, IfOk, IfErr, MatchOption, refl, sym}
-use Rattle.std.proofs.Common.{subst, List, ℕ}
+use Rattle.std.proofs.Common.{◌≡◌, ◌≢◌, Option, Result, IfOk, IfErr, MatchOption, List, ℕ, arith}
 use Rattle.sqlite.specs.Order.{Row}
 use Rattle.sqlite.specs.State.{State, HasCleanDisk, QueriesRow, Survives, CommitsShowing}
 use Rattle.sqlite.specs.declared.error.Error.{Error}
-use Rattle.sqlite.specs.declared.error.Error.TheVariants.{QueryReturnedNoRows}
 use Rattle.sqlite_trees.specs.declared.store.Store.{Ghosts}
 use Rattle.register_store.specs.declared.counted.Counted.{Counted}
 use Rattle.register_store.specs.declared.error.StoreError.{StoreError}
 use Rattle.register_store.specs.declared.error.StoreError.TheVariants.{Memory, NoRegister}
 use Rattle.register_store.specs.Tables.{Tables}
-use Rattle.register_store.specs.TableReads.{ReadsBy}
-use Rattle.register_store.specs.Within.TableReads.{AnswersBy, FindsOne, IsRowOf, ShowsNone, given_of}
-use Rattle.register_store.specs.TableReads.{seen}
-use Rattle.register_store.specs.Within.TableReads.{given_without}
+use Rattle.register_store.specs.TableReads.{ReadsBy, seen}
+use Rattle.register_store.specs.Within.TableReads.{AnswersBy, FindsOne, IsRowOf, ShowsNone}
 
 -- the result is what the answer's row shows; it is no want of memory, and no register's row is refused
 pub record Tells {A : Type 0} (IsOne : A → Type 0) (ShowsOne : Row → A → Type 0) (answer : Result Row Error)
@@ -37,19 +33,7 @@ tells : {A : Type 0} {Gives : Row → Option A → Type 0} {IsOne : A → Type 0
     → MatchOption given ((x : A) → IsOne x → ¬ ShowsOne row x) (ShowsOne row))
     → (answer : Result Row Error) (result : Result (Option A) StoreError) → AnswersBy Gives answer result
     → Tells IsOne ShowsOne answer result
-tells {A} {Gives} {IsOne} {ShowsOne} reads (Ok row) result gives =
-    subst (Tells IsOne ShowsOne (Ok row)) (sym gives.2) (of_row gives.0 (reads row gives.0 gives.1))
-  where
-    of_row : (given : Option A) → MatchOption given ((x : A) → IsOne x → ¬ ShowsOne row x) (ShowsOne row)
-        → Tells IsOne ShowsOne (Ok row) (given_of given)
-    of_row (Some x) shows = record { row = (x, refl, shows); failed = tt; registered = tt }
-    of_row None none = record { row = tt; failed = λ is. absurd cc; registered = λ is. none }
-tells {A} {Gives} {IsOne} {ShowsOne} reads (Err error) result gives =
-    subst (Tells IsOne ShowsOne (Err error)) (sym gives) (without error)
-  where
-    without : (error : Error) → Tells IsOne ShowsOne (Err error) (given_without error)
-    without QueryReturnedNoRows = record { row = (refl, refl); failed = tt; registered = tt }
-    without error = record { row = tt; failed = λ is. absurd cc; registered = λ is. absurd cc }
+tells reads answer result gives = search arith
 
 -- what such a reader gives of the first row of the answer is found so
 pub reads_one : {S A : Type 0} (g : Ghosts S) {Gives : Row → Option A → Type 0} {IsOne : A → Type 0}

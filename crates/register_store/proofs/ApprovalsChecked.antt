@@ -37,11 +37,7 @@ are_checked t lists knows = record {
   within = in_both Approval (omega arith) t.version;
   own = own_approvals t;
   one = show_same ShowsName one_name;
-  taken = λ rows it. (
-    it.values,
-    it.shown,
-    all_as (IsListed lists.items) (IsCustodian t.tables.custodians) (λ entry. (knows entry).0) it.values it.each,
-  );
+  taken = search (arith, all_as);
   given = λ rows met. record {
     values = met.0;
     shown = met.1;

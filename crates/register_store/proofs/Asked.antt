@@ -24,9 +24,8 @@ use Rattle.register_store.specs.declared.table.TableName.TheVariants.{Quorum}
 use Rattle.sqlite_resolve.specs.Compile.{first}
 use Rattle.register_requests.specs.declared.version.Version.{Version}
 use Rattle.register_requests.specs.declared.version.Version.TheVariants.{First, Second}
-use Rattle.register_store.specs.CheckedTables.{BlamesNone, FailsCheck, HasNewer, IsReasonAt, ShowsRows}
+use Rattle.register_store.specs.CheckedTables.{BlamesNone, FailsCheck, HasNewer, IsReasonAt, ShowsRows, check_text}
 use Rattle.register_store.specs.Within.CheckedTables.{ChecksTable}
-use Rattle.register_store.specs.CheckedTables.{check_text}
 use Rattle.register_store.specs.Columns.{meta_columns, name_columns, request_columns, period_columns, need_columns}
 use Rattle.register_store.specs.Schema.{schema_in}
 use Rattle.register_store.specs.Stored.{HoldsStored, Part, Stored, part, with_part}
@@ -58,8 +57,7 @@ IsWithin name version = place_of name < table_count version
 
 -- the first tables are those of each version
 pub in_both : (name : TableName) → place_of name < 5 → (version : Version) → IsWithin name version
-in_both name low First = low
-in_both name low Second = omega (arith, low)
+in_both name low version = search arith
 
 -- the text of a table's query means that in a version, under some names
 abbrev pub IsAsked : Version → TableName → Layout → Type 0
@@ -115,8 +113,7 @@ module _ (name : TableName) (t : Stored) (within : IsWithin name t.version) wher
   abbrev asked_of : (db : Database) (holds : HoldsStored t db) → Meant (schema_in t.version holds.schema.layout)
       (check_text name) (Select (record { lets = []; body = asked holds.schema.layout name })
       (asks_for t.version name within holds.schema.layout).0)
-  asked_of db holds =
-      asked_is t.version name within holds.schema.layout (placed_as t.version t.tables db holds)
+  asked_of db holds = asked_is t.version name within holds.schema.layout (placed_as t.version t.tables db holds)
 
   meaning_of : (old new : State) → HoldsStored t old.now → HasNoMeaning (check_text name) old new → ⊥
   meaning_of old new holds none = absurd (meant (understood (schema_in t.version l) (check_text name))

@@ -1,6 +1,6 @@
 -- Making a register and migrating one leave what the file has beside it.
-use Rattle.std.proofs.Common.{◌≡◌, ◌==◌, ◌<◌, inl, inr, ℕ, Bool, true, false, List, [], codes, Option, None, Some}
-use Rattle.std.proofs.Common.{Result, Ok, Err, refl, sym, ap, subst, ◌∙◌, arith}
+use Rattle.std.proofs.Common.{◌≡◌, ◌<◌, ℕ, true, false, List, [], codes, Option, None, Some, Result, Ok, Err, refl, sym}
+use Rattle.std.proofs.Common.{ap, arith}
 use Rattle.std.specs.Prelude.{find, ◌+◌, get_or, ◌∷◌}
 use Rattle.std.proofs.lemmas.Grind.{common_steps}
 use Rattle.register_store.specs.Within.Creation.{MakesIndex, MakesIndexes}
@@ -32,22 +32,16 @@ use Rattle.sqlite_schema.specs.declared.schema.Reference.{Reference}
 use Rattle.sqlite_syntax.specs.declared.statement.Parsed.{Parsed}
 use Rattle.sqlite_tied.specs.Compute.{everything}
 use Rattle.sql_steps.specs.Steps.{Change, StepsBy}
-use Rattle.sql_steps.specs.Within.Steps.{Then}
 use Rattle.sql_steps.proofs.Stepping.{stays, steps_as, steps_then}
-use Rattle.register_store.specs.Beside.{HasMetaApart}
-use Rattle.register_store.specs.Within.Beside.{Adds, AddsUncounted, InsertsMeta, IsMadeAs}
-use Rattle.register_store.specs.Beside.{KeepsOthers, LacksMeta}
-use Rattle.register_store.specs.Within.Beside.{IsUncounted}
-use Rattle.register_store.specs.Beside.{is_meta}
-use Rattle.register_store.specs.Within.Beside.{UpdatesMeta, WritesMeta}
+use Rattle.register_store.specs.Beside.{HasMetaApart, KeepsOthers, LacksMeta, is_meta}
+use Rattle.register_store.specs.Within.Beside.{Adds, AddsUncounted, InsertsMeta, IsMadeAs, IsUncounted, UpdatesMeta}
+use Rattle.register_store.specs.Within.Beside.{WritesMeta}
 use Rattle.register_store.specs.Within.Schema.{index_text}
 use Rattle.register_store.specs.Within.Tables.{create_text}
 use Rattle.register_store.specs.declared.key_index.KeyIndex.{KeyIndex}
 use Rattle.register_store.specs.declared.key_index.KeyIndex.TheVariants.{Activation, Deactivation, ProtectStop}
 use Rattle.register_store.specs.declared.table.TableName.{TableName}
-use Rattle.register_store.specs.declared.table.TableName.TheVariants.{Approval, Custodian}
-use Rattle.register_store.specs.declared.table.TableName.TheVariants.{Keys as KeysTable, Meta, Period}
-use Rattle.register_store.specs.declared.table.TableName.TheVariants.{Quorum, Request}
+use Rattle.register_store.specs.declared.table.TableName.TheVariants.{Meta}
 use Rattle.register_store.proofs.BesideMade.{adds_by_index, adds_by_table, adds_none, adds_then}
 use Rattle.register_store.proofs.BesideMeta.{WritesOne, filter_none, flat_none, inserts_one, updates_one}
 use Rattle.register_store.proofs.Creating.{row_params, row_text}
@@ -65,33 +59,14 @@ record IsApart (name : TableName) : Type 0 where
 
 apart_is : (name : TableName) → IsApart name
 unfolding everything
-apart_is Meta = record { uncounted = refl; named = λ h. refl }
-apart_is KeysTable = record { uncounted = refl; named = λ h. absurd (cc) }
-apart_is Custodian = record { uncounted = refl; named = λ h. absurd (cc) }
-apart_is Approval = record { uncounted = refl; named = λ h. absurd (cc) }
-apart_is Request = record { uncounted = refl; named = λ h. absurd (cc) }
-apart_is Period = record { uncounted = refl; named = λ h. absurd (cc) }
-apart_is Quorum = record { uncounted = refl; named = λ h. absurd (cc) }
+apart_is name = search arith
 
 unreferring : (name : TableName) (r : Reference) → Has (unplaced name).references r → is_meta r.parent ≡ false
 unfolding everything
-unreferring Meta r h = absurd h
-unreferring KeysTable r h = absurd h
-unreferring Custodian r (inl same) = rw same refl
-unreferring Custodian r (inr none) = absurd none
-unreferring Approval r (inl same) = rw same refl
-unreferring Approval r (inr none) = absurd none
-unreferring Request r h = absurd h
-unreferring Period r h = absurd h
-unreferring Quorum r (inl same) = rw same refl
-unreferring Quorum r (inr none) = absurd none
+unreferring name r h = search arith
 
 pub made_as : (name : TableName) → IsMadeAs name (unplaced name)
-made_as name = record {
-  uncounted = (apart_is name).uncounted;
-  unreferring = unreferring name;
-  named = (apart_is name).named;
-}
+made_as name = search (arith, apart_is, unreferring)
 
 -- the table that the database makes by itself, where one with AUTOINCREMENT was there without it
 abbrev sequence : Result Table CompileError → Table
@@ -107,19 +82,13 @@ counting_is = refl
 
 counting_as : (name : TableName) → IsMadeAs name counting
 unfolding everything
-counting_as name = record {
-  uncounted = refl;
-  unreferring = λ r h. absurd h;
-  named = λ h. absurd (cc);
-}
+counting_as name = search (arith, unreferring)
 
 -- a CREATE TABLE adds its table
 pub table_adds : (name : TableName) (old new : State) (count : ℕ) → Executes (create_text name) [] old new (Ok count)
     → Adds (IsMadeAs name) old.now new.now
 table_adds name =
-    let w = whole_is name in
-    adds_by_table (IsMadeAs name) counting counting_is (counting_as name) (create_text name) (parsed name) (def_of name)
-    (unplaced name) w.text w.whole w.defined (made_as name)
+    let w = whole_is name in search (arith, adds_by_table, counting_is, counting_as, parsed, def_of, unplaced, made_as)
 
 -- ---- the indexes
 
@@ -144,18 +113,13 @@ pub index_adds : (index : KeyIndex) (old new : State) (count : ℕ) → Executes
     → AddsUncounted old.now new.now
 unfolding AddsUncounted
 index_adds index =
-    let r = index_read index in
-    adds_by_index IsUncounted (index_text index) (parsed_index index)
-    (no_index (parsed_index index).statement) r.read r.is
+    let r = index_read index in search (arith, adds_by_index)
 
 -- ---- the writes of `meta`
 
 writes_meta : (old new : Database) (table : Table) → Has old.schema.tables table → is_meta table.name ≡ true
     → WritesOne table old new → WritesMeta old new
-writes_meta old new table has called one = record {
-  schema_is = one.schema;
-  rows = λ t h apart. one.rows t h (apart table has called);
-}
+writes_meta old new table has called one = search arith
 
 abbrev read_text : List ℕ → Parsed
 read_text text = read_as (first text)
@@ -199,13 +163,7 @@ parent_tree tables r key h = by (find (λ (t : Table). same_name t.name r.parent
 
 -- a table of a name that is not `meta` is not called so
 other_name : (t : Table) (name : List ℕ) → same_name t.name name ≡ true → is_meta name ≡ false → is_meta t.name ≡ false
-other_name t name same other = by (is_meta t.name) refl
-  where
-    by : (b : Bool) → is_meta t.name ≡ b → is_meta t.name ≡ false
-    by false is = is
-    by true is =
-        let low = sym ((lowered t.name name).0 same) ∙ (lowered t.name (codes "meta")).0 is in
-        absurd (let e = sym ((lowered name (codes "meta")).1 low) ∙ other in cc)
+other_name t name same other = search (arith, lowered)
 
 -- so no change of `meta` sets off an action
 module _ (s : Schema) (apart : HasMetaApart s) (m : Table) (has : Has s.tables m) (called : is_meta m.name ≡ true) where
@@ -213,20 +171,10 @@ module _ (s : Schema) (apart : HasMetaApart s) (m : Table) (has : Has s.tables m
       → (moves : List (Row × Row))
       (deed : Option Deed) (key : Option ParentKey) → parent_key s.tables r ≡ key
       → work_by 0 m.tree moves child r deed key ≡ None
-  work_none child h r k moves None key is = refl
-  work_none child h r k moves (Some deed) None is = refl
-  work_none child h r k moves (Some deed) (Some key) is = by (key.0 == m.tree) refl
-    where
-      by : (b : Bool) → (key.0 == m.tree) ≡ b → work_by 0 m.tree moves child r (Some deed) (Some key) ≡ None
-      by false off = rw off refl
-      by true on =
-          let parent = parent_tree s.tables r key is in
-          let other = other_name parent.0 r.parent parent.2 (apart.unreferred child r h k) in
-          absurd (apart.apart m parent.0 has parent.1 called other (sym (eqb-true _ _ on) ∙ parent.3))
+  work_none child h r k moves deed key is = search (arith, parent_tree, other_name, eqb-true)
 
   idle_update : (keys : Keys) (olds news : List Row) → works s keys 0 m.tree olds news ≡ []
-  idle_update keys olds news =
-      flat_none _ s.tables (λ child h. filter_none _ child.references (λ r k. work_none child h r k _ _ _ refl))
+  idle_update keys olds news = search (arith, flat_none, filter_none, work_none)
 
 pub updates_meta : (old new : State) (count : ℕ) → Executes version_text version_params old new (Ok count)
     → UpdatesMeta old.now new.now
@@ -241,36 +189,12 @@ updates_meta old new count h apart =
 
 pub adds_weaker : (P Q : Table → Type 0) → ((x : Table) → P x → Q x) → (old new : Database) → Adds P old new
     → Adds Q old new
-adds_weaker P Q weaker old new a = record {
-  tables = a.tables;
-  rows = a.rows;
-  indexes = a.indexes;
-  views = a.views;
-  news = λ t h. elim (a.news t h) [
-    | inl before ↦ inl before
-    | inr new ↦ inr (new.0, weaker new.0 new.1, new.2, new.3, new.4)
-  ];
-  higher = a.higher;
-}
+adds_weaker P Q weaker old new a = search arith
 
 pub makes_beside : (old some mid new : Database) → AddsUncounted old some → AddsUncounted some mid → InsertsMeta mid new
     → LacksMeta old.schema → KeepsOthers old new
 unfolding AddsUncounted
-makes_beside old some mid new tables indexes inserts lacks =
-    let a = adds_then IsUncounted old some mid tables indexes in
-    let wrote = inserts (λ m h called. elim (a.news m h) [
-      | inl before ↦ absurd (let e = sym called ∙ lacks m before in cc)
-      | inr new ↦ ap (λ (t : Table). t.is_counted) new.3 ∙ new.1
-    ]) in
-    record {
-      tables = λ t h. subst (λ (s : Schema). Has s.tables t) (sym wrote.schema_is) (a.tables t h);
-      rows = λ t h other. wrote.rows t (a.tables t h) (λ m k called e. elim (a.news m k) [
-        | inl before ↦ absurd (let e = sym called ∙ lacks m before in cc)
-        | inr new ↦ absurd (omega (arith, below_next old.schema t h, new.4, e, ap (λ (t : Table). t.tree) new.3))
-      ]) ∙ a.rows t h;
-      indexes = λ i h. subst (λ (s : Schema). Has s.indexes i) (sym wrote.schema_is) (a.indexes i h);
-      views = λ v h. subst (λ (s : Schema). Has s.views v) (sym wrote.schema_is) (a.views v h);
-    }
+makes_beside old some mid new tables indexes inserts lacks = search (arith, adds_then, below_next)
 
 -- a table that is none of the name `meta`, and refers to none
 pub record IsOther (x : Table) : Type 0 where
@@ -278,40 +202,14 @@ pub record IsOther (x : Table) : Type 0 where
   unreferring : (r : Reference) → Has x.references r → is_meta r.parent ≡ false
 
 other_made : (name : TableName) → (name ≡ Meta → ⊥) → (x : Table) → IsMadeAs name x → IsOther x
-other_made name off x it = record { named = by (is_meta x.name) refl; unreferring = it.unreferring }
-  where
-    by : (b : Bool) → is_meta x.name ≡ b → is_meta x.name ≡ false
-    by false is = is
-    by true is = absurd (off (it.named is))
+other_made name off x it = search (arith, unreferring)
 
 stays_apart : (old mid : Database) → Adds IsOther old mid → HasMetaApart old.schema → HasMetaApart mid.schema
-stays_apart old mid a it = record {
-  apart = λ m t h k called other. elim (a.news m h) [
-    | inl before ↦ elim (a.news t k) [
-      | inl too ↦ it.apart m t before too called other
-      | inr new ↦ λ e. omega (arith, below_next old.schema m before, new.4, e, ap (λ (x : Table). x.tree) new.3)
-    ]
-    | inr new ↦ absurd (let e = sym called ∙ ap (λ (x : Table). is_meta x.name) new.3 ∙ new.1.named in cc)
-  ];
-  unreferred = λ t r h k. elim (a.news t h) [
-    | inl before ↦ it.unreferred t r before k
-    | inr new ↦ new.1.unreferring r (subst (λ (x : Table). Has x.references r) new.3 k)
-  ];
-}
+stays_apart old mid a it = search (arith, below_next)
 
 pub migrates_beside : (old mid new : Database) → Adds IsOther old mid → UpdatesMeta mid new → HasMetaApart old.schema
     → KeepsOthers old new
-migrates_beside old mid new a updates it =
-    let there = stays_apart old mid a it in
-    let wrote = updates there in
-    record {
-      tables = λ t h. subst (λ (s : Schema). Has s.tables t) (sym wrote.schema_is) (a.tables t h);
-      rows = λ t h other. wrote.rows t (a.tables t h)
-          (λ m k called e. there.apart m t k (a.tables t h) called other (sym e))
-          ∙ a.rows t h;
-      indexes = λ i h. subst (λ (s : Schema). Has s.indexes i) (sym wrote.schema_is) (a.indexes i h);
-      views = λ v h. subst (λ (s : Schema). Has s.views v) (sym wrote.schema_is) (a.views v h);
-    }
+migrates_beside old mid new a updates it = search (arith, stays_apart)
 
 pub adds_other : (name : TableName) → (name ≡ Meta → ⊥) → (old new : Database) → Adds (IsMadeAs name) old new
     → Adds IsOther old new
@@ -323,12 +221,7 @@ pub steps_both : {A B D E F G : Type 0} (First : A → Change) (Other : B → Ch
     (a b : State) (x : A)
     (y : B) (z : D) → ((old new : Database) → First x old new → Other y old new → Next z old new)
     → StepsBy {E = E} First a b (Ok x) → StepsBy {E = F} Other a b (Ok y) → StepsBy {E = G} Next a b (Ok z)
-steps_both First Other Next a b x y z weaker one two = record {
-  changed = λ clean inside.
-      let it = one.changed clean inside in (weaker _ _ it.0 (two.changed clean inside).0, it.1);
-  kept = one.kept;
-  survives = one.survives;
-}
+steps_both First Other Next a b x y z weaker one two = search arith
 
 -- what was added, and then a table more
 pub adds_more : {E : Type 0} (name : TableName) (a b d : State) (y : Unit {0})
@@ -336,11 +229,7 @@ pub adds_more : {E : Type 0} (name : TableName) (a b d : State) (y : Unit {0})
     → StepsBy {T = Unit {0}} {E = E} (λ _. Adds (IsMadeAs name)) b d (Ok y)
     → StepsBy {T = Unit {0}} {E = E} (λ _. AddsUncounted) a d (Ok tt)
 unfolding AddsUncounted
-adds_more name a b d y before one =
-    steps_as (λ _. Then AddsUncounted (Adds (IsMadeAs name))) (λ _. AddsUncounted) a d y (tt {0})
-    (λ old new done. adds_then IsUncounted old done.0 new done.1
-    (adds_weaker (IsMadeAs name) IsUncounted (λ x h. h.uncounted) done.0 new done.2))
-    (steps_then (λ _. AddsUncounted) (λ _. Adds (IsMadeAs name)) a b d (tt {0}) (Ok y) before one)
+adds_more name a b d y before one = search (arith, steps_as, adds_then, adds_weaker, steps_then)
 
 -- and an index more
 pub adds_again : {E : Type 0} (a b d : State) (y : Unit {0})
@@ -348,16 +237,12 @@ pub adds_again : {E : Type 0} (a b d : State) (y : Unit {0})
     → StepsBy {T = Unit {0}} {E = E} (λ _. AddsUncounted) b d (Ok y)
     → StepsBy {T = Unit {0}} {E = E} (λ _. AddsUncounted) a d (Ok tt)
 unfolding AddsUncounted
-adds_again a b d y before one =
-    steps_as (λ _. Then AddsUncounted AddsUncounted) (λ _. AddsUncounted) a d y (tt {0})
-    (λ old new done. adds_then IsUncounted old done.0 new done.1 done.2)
-    (steps_then (λ _. AddsUncounted) (λ _. AddsUncounted) a b d (tt {0}) (Ok y) before one)
+adds_again a b d y before one = search (arith, steps_as, adds_then, steps_then)
 
 -- nothing, so far
 pub adds_nothing : {E : Type 0} (a : State) → StepsBy {T = Unit {0}} {E = E} (λ _. AddsUncounted) a a (Ok tt)
 unfolding AddsUncounted
-adds_nothing a =
-    stays (λ _. AddsUncounted) a (tt {0}) (adds_none IsUncounted a.now a.now refl) (survives_none a)
+adds_nothing a = search (arith, stays, adds_none, survives_none)
 
 -- ---- one index more
 

@@ -1,7 +1,7 @@
 -- What a CREATE TABLE and a CREATE INDEX leave beside what they make, whatever the schema is.
-use Rattle.std.proofs.Common.{◌≡◌, ◌≤◌, inl, inr, ℕ, ◌+◌, Bool, true, false, List, [], ◌∷◌, ◌++◌}
-use Rattle.std.proofs.Common.{None, Ok, refl, sym, ap, subst, ◌∙◌, arith}
-use Rattle.std.specs.Prelude.{fold, max, slice_range}
+use Rattle.std.proofs.Common.{◌≡◌, ◌≤◌, inl, inr, ℕ, ◌+◌, Bool, true, false, List, [], ◌∷◌, ◌++◌, None, Ok, refl, sym}
+use Rattle.std.proofs.Common.{ap, subst, ◌∙◌, arith}
+use Rattle.std.specs.Prelude.{fold, max, slice_range, slice_get}
 use Rattle.sqlite.specs.Change.{created, indexed, next_tree}
 use Rattle.sqlite.specs.Command.TheVariants.{CreateTable as MakeTable, CreateIndex as MakeIndex}
 use Rattle.sqlite.specs.Compile.{table_defined_by}
@@ -11,7 +11,6 @@ use Rattle.sqlite.specs.Schema.{Schema}
 use Rattle.sqlite.specs.Order.{Row}
 use Rattle.sqlite.specs.State.{State, Executes, Writes, mode_of}
 use Rattle.sqlite.specs.Table.{Table}
-use Rattle.sqlite_rules.specs.Lists.{Has}
 use Rattle.sqlite_rules.proofs.ListLemmas.{all_has, has_left, has_either}
 use Rattle.sqlite_schema.specs.declared.schema.Index.{Index}
 use Rattle.sqlite_ast.specs.declared.CreateIndex.{CreateIndex}
@@ -20,7 +19,6 @@ use Rattle.sqlite_ast.specs.declared.Statement.TheVariants as written
 use Rattle.sqlite_catalog.specs.Calls.{CreatesIndex, CreatesTable}
 use Rattle.sqlite_resolve.specs.Compile.{first}
 use Rattle.sqlite_syntax.specs.declared.statement.Parsed.{Parsed}
-use Rattle.std.specs.Prelude.{slice_get}
 use Rattle.sql_steps.proofs.Statements.{same_value, went}
 use Rattle.register_store.specs.Within.Beside.{Adds}
 use Rattle.register_store.proofs.BesideShapes.{MakesIndex as Makes, MakesTable, at_place, index_understood, ran_as}
@@ -29,27 +27,10 @@ use Rattle.register_store.proofs.NextTexts.{IsText}
 
 module _ (P : Table → Type 0) where
   pub adds_none : (old new : Database) → new ≡ old → Adds P old new
-  adds_none old new same = subst (Adds P old) (sym same) (record {
-    tables = λ t h. h;
-    rows = λ t h. refl;
-    indexes = λ i h. h;
-    views = λ v h. h;
-    news = λ t h. inl h;
-    higher = omega arith;
-  })
+  adds_none old new same = search arith
 
   pub adds_then : (old mid new : Database) → Adds P old mid → Adds P mid new → Adds P old new
-  adds_then old mid new a b = record {
-    tables = λ t h. b.tables t (a.tables t h);
-    rows = λ t h. b.rows t (a.tables t h) ∙ a.rows t h;
-    indexes = λ i h. b.indexes i (a.indexes i h);
-    views = λ v h. b.views v (a.views v h);
-    news = λ t h. elim (b.news t h) [
-      | inl before ↦ a.news t before
-      | inr new ↦ inr (new.0, new.1, new.2, new.3, omega (arith, new.4, a.higher))
-    ];
-    higher = omega (arith, a.higher, b.higher);
-  }
+  adds_then old mid new a b = search arith
 
 -- ---- what CREATE makes of a database
 
@@ -59,11 +40,6 @@ more_trees tree [] [] n m low = low
 more_trees tree [] (y ∷ ys) n m low = more_trees tree [] ys n (max m (tree y + 1)) (omega (arith, low))
 more_trees tree (x ∷ xs) ys n m low =
     more_trees tree xs ys (max n (tree x + 1)) (max m (tree x + 1)) (omega (arith, low))
-
-as_many : {X : Type 0} (tree : X → ℕ) (xs : List X) (n m : ℕ) → n ≤ m
-    → fold (λ k x. max k (tree x + 1)) n xs ≤ fold (λ k x. max k (tree x + 1)) m xs
-as_many tree [] n m low = low
-as_many tree (x ∷ xs) n m low = as_many tree xs (max n (tree x + 1)) (max m (tree x + 1)) (omega (arith, low))
 
 table_higher : (s : Schema) (x : Table) → next_tree s ≤ next_tree (created s x)
 table_higher s x =
@@ -76,31 +52,11 @@ module _ (P : Table → Type 0) where
   pub adds_created : (old new : Database) (sql : List ℕ)
       (made : CreatesTable old.schema sql old.trees new.schema new.trees)
       → P made.table → Adds P old new
-  adds_created old new sql made holds = record {
-    tables = λ t h. subst (λ (s : Schema). Has s.tables t) (sym made.is) (has_left old.schema.tables _ t h);
-    rows = λ t h. all_has (λ (t : Table). new.trees t.tree ≡ old.trees t.tree) old.schema.tables t made.others h;
-    indexes = λ i h. subst (λ (s : Schema). Has s.indexes i) (sym made.is) (has_left old.schema.indexes _ i h);
-    views = λ v h. subst (λ (s : Schema). Has s.views v) (sym made.is) h;
-    news = λ t h. elim (has_either old.schema.tables _ t (subst (λ (s : Schema). Has s.tables t) made.is h)) [
-      | inl before ↦ inl before
-      | inr (inl same) ↦ inr (made.table, holds, next_tree old.schema, same, omega arith)
-      | inr (inr none) ↦ absurd none
-    ];
-    higher = subst (λ (s : Schema). next_tree old.schema ≤ next_tree s) (sym made.is)
-        (table_higher old.schema made.table);
-  }
+  adds_created old new sql made holds = search (arith, has_left, all_has, has_either, table_higher)
 
   pub adds_index : (old new : Database) (table : Table) (sql : List ℕ)
       (made : CreatesIndex old.schema table sql old.trees new.schema new.trees) → Adds P old new
-  adds_index old new table sql made = record {
-    tables = λ t h. subst (λ (s : Schema). Has s.tables t) (sym made.is) h;
-    rows = λ t h. all_has (λ (t : Table). new.trees t.tree ≡ old.trees t.tree) old.schema.tables t made.rows h;
-    indexes = λ i h. subst (λ (s : Schema). Has s.indexes i) (sym made.is) (has_left old.schema.indexes _ i h);
-    views = λ v h. subst (λ (s : Schema). Has s.views v) (sym made.is) h;
-    news = λ t h. inl (subst (λ (s : Schema). Has s.tables t) made.is h);
-    higher = subst (λ (s : Schema). next_tree old.schema ≤ next_tree s) (sym made.is)
-        (index_higher old.schema table made.index);
-  }
+  adds_index old new table sql made = search (arith, all_has, has_left, index_higher)
 
   -- ---- what the statements do
 
@@ -158,8 +114,4 @@ module _ (P : Table → Type 0) where
     adds_by_index old new count h =
         let ran =
         ran_as text p (Makes text p def parsed is_index) (index_understood text p def parsed is_index) old new []
-        count h in
-        elim ran.1 [
-          | inl (at, is) ↦ made_index old new at (slice_range text p.start p.end) ran.2 count (rw is at ran.3)
-          | inr is ↦ let idle = rw is at ran.3 in adds_none P old.now new.now idle.0.0.now_is
-        ]
+        count h in search (arith, made_index, adds_none)

@@ -1,8 +1,8 @@
 -- What the INSERT and the UPDATE of `meta` leave beside that table, whatever the schema is.
-use Rattle.std.proofs.Common.{◌≡◌, ◌≢◌, ◌==◌, inl, inr, ℕ, zero, suc, ◌+◌, Bool, true, false, cond, List, [], ◌∷◌}
-use Rattle.std.proofs.Common.{Option, None, Some, Ok, refl, sym, ap, subst, ◌∙◌, arith}
+use Rattle.std.proofs.Common.{◌≡◌, ◌≢◌, inl, inr, ℕ, zero, suc, ◌+◌, Bool, true, false, List, [], ◌∷◌, Option, None}
+use Rattle.std.proofs.Common.{Some, Ok, refl, sym, ap, subst, ◌∙◌, arith}
 use Rattle.std.specs.Prelude.{slice_range, slice_get, flat_map, filter_map}
-use Rattle.std.specs.List.{list_any, position_from}
+use Rattle.std.specs.List.{position_from}
 use Rattle.sqlite.specs.Command.{Command}
 use Rattle.sqlite.specs.Command.TheVariants.{Insert, Update}
 use Rattle.sqlite.specs.Does.{AtPlace, OnRows, Tally}
@@ -21,17 +21,14 @@ use Rattle.sqlite_ast.specs.declared.Expr.{Expr}
 use Rattle.sqlite_ast.specs.declared.Rows.{Rows}
 use Rattle.sqlite_ast.specs.declared.Statement.TheVariants as written
 use Rattle.sqlite_resolve.specs.Compile.{first, target}
-use Rattle.sqlite_rules.specs.Action.{work_by, works}
+use Rattle.sqlite_rules.specs.Action.{works}
 use Rattle.sqlite_rules.specs.Calls.{ids_of}
 use Rattle.sqlite_rules.specs.Edit.{taken_by}
 use Rattle.sqlite_rules.specs.Lists.{Has}
 use Rattle.sqlite_rules.proofs.ListLemmas.{all_has, has_got}
-use Rattle.sqlite_rules.specs.declared.action.Deed.{Deed}
-use Rattle.sqlite_schema.specs.Names.{same_name, table_named}
-use Rattle.sqlite_schema.specs.Rules.{ParentKey}
+use Rattle.sqlite_schema.specs.Names.{same_name}
 use Rattle.sqlite_schema.specs.declared.program.Program.{Program}
 use Rattle.sqlite_schema.specs.declared.schema.Keys.{Keys}
-use Rattle.sqlite_schema.specs.declared.schema.Reference.{Reference}
 use Rattle.sqlite_syntax.specs.declared.statement.Parsed.{Parsed}
 use Rattle.std.proofs.lemmas.Option.{same_Some}
 use Rattle.sql_steps.proofs.Statements.{inserts_from, same_value, went}
@@ -62,20 +59,9 @@ position {X} test (x ∷ xs) i at h = by (test x) refl (λ k. position test xs (
 
 named : (s : Schema) (name : List ℕ) (at : ℕ) (table : Table) → target s name ≡ Ok at
     → slice_get s.tables at ≡ Some table → same_name table.name name ≡ true
-named s name at table found there = by (table_named s name) refl
-  where
-    by : (o : Option ℕ) → table_named s name ≡ o → same_name table.name name ≡ true
-    by None none = absurd (let e = rw none at found in cc)
-    by (Some n) some =
-        let same : n ≡ at = same_value (rw some at found) in
-        let place = position (λ (t : Table). same_name t.name name) s.tables 0 n some in
-        place.2 table (subst (λ k. slice_get s.tables k ≡ Some table) (omega (arith, same, place.1)) there)
+named s name at table found there = search (arith, same_value, position)
 
 -- ---- no action is set off
-
-no_loss : (test : Row × Row → Bool) (a : Bool) → cond a (list_any test []) false ≡ false
-no_loss test true = refl
-no_loss test false = refl
 
 pub flat_none : {X Y : Type 0} (f : X → List Y) (xs : List X) → ((x : X) → Has xs x → f x ≡ []) → flat_map f xs ≡ []
 flat_none f [] each = refl
@@ -86,19 +72,8 @@ pub filter_none : {X Y : Type 0} (f : X → Option Y) (xs : List X) → ((x : X)
 filter_none f [] each = refl
 filter_none f (x ∷ xs) each = rw (each x (inl refl), filter_none f xs (λ y h. each y (inr h))) refl
 
-by_insert : (tree : ℕ) (child : Table) (ref : Reference) (deed : Option Deed) (key : Option ParentKey)
-    → work_by 0 tree [] child ref deed key ≡ None
-by_insert tree child ref None key = refl
-by_insert tree child ref (Some deed) None = refl
-by_insert tree child ref (Some deed) (Some key) = by (key.0 == tree) refl
-  where
-    by : (b : Bool) → (key.0 == tree) ≡ b → work_by 0 tree [] child ref (Some deed) (Some key) ≡ None
-    by true is = rw is refl
-    by false is = rw is refl
-
 idle_insert : (s : Schema) (keys : Keys) (tree : ℕ) (news : List Row) → works s keys 0 tree [] news ≡ []
-idle_insert s keys tree news =
-    flat_none _ s.tables (λ child h. filter_none _ child.references (λ ref k. by_insert tree child ref _ _))
+idle_insert s keys tree news = search (arith, flat_none, filter_none)
 
 -- ---- the writes
 
@@ -116,12 +91,7 @@ module _ (old new : State) (table : Table) (there : Has old.now.schema.tables ta
   written_one : (edit : Edit) → edit.table ≡ table
       → Applies old.now.schema (mode_of old).keys old.now.trees edit new.now.trees
       → new.now.schema ≡ old.now.schema → WritesOne table old.now new.now
-  written_one edit is did same = record {
-    schema = same;
-    rows = λ t h apart.
-        all_has (λ (t : Table). t.tree ≢ edit.table.tree → new.now.trees t.tree ≡ old.now.trees t.tree)
-        old.now.schema.tables t did.tables h (λ e. apart (e ∙ ap (λ (x : Table). x.tree) is));
-  }
+  written_one edit is did same = search (arith, all_has)
 
   insert_one : (uncounted : table.is_counted ≡ false) (params : Row) (from : Source) (tally : Tally)
       → OnRows (task_of old table params)
@@ -146,8 +116,7 @@ module _ (old new : State) (table : Table) (there : Has old.now.schema.tables ta
       → WritesOne table old.now new.now
   update_one idle params q tally h =
       let done = went h in
-      let now : new.now ≡ record { schema = old.now.schema; trees = done.0.trees } = ap (λ (p : Tally × Database). p.1)
-      (same_value (went (went done.2).2).2) in
+      let now : new.now ≡ record { schema = old.now.schema; trees = done.0.trees } = search (arith, same_value, went) in
       let given = went done.1 in
       let written = went given.2 in
       let trees : done.0.trees ≡ written.0 = ap (λ (it : Written). it.trees) (same_value written.2) in
@@ -192,8 +161,7 @@ module _ (text : List ℕ) (p : Parsed) (name : List ℕ) (parsed : first text �
       let ran = ran_as text p (Inserts text p name columns rows parsed is)
       (insert_understood text p name columns rows parsed is) old new params count h in
       let it = ran.1 in
-      let wrote : Writes old new None (Insert it.0 it.1) (slice_range text p.start p.end) ran.2 count =
-      rw it.3 at ran.3 in
+      let wrote : Writes old new None (Insert it.0 it.1) (slice_range text p.start p.end) ran.2 count = search arith in
       written_of name old new it.0 ran.2 (Insert it.0 it.1) wrote.tally it.2 wrote.changed
       (λ t has called h. insert_one old new t has (uncounted t has called) ran.2 it.1 wrote.tally h)
 
@@ -207,7 +175,6 @@ module _ (text : List ℕ) (p : Parsed) (name : List ℕ) (parsed : first text �
       ran_as text p (Updates text p name sets test parsed is) (update_understood text p name sets test parsed is)
       old new params count h in
       let it = ran.1 in
-      let did : Writes old new None (Update it.0 it.1) (slice_range text p.start p.end) ran.2 count =
-      rw it.3 at ran.3 in
+      let did : Writes old new None (Update it.0 it.1) (slice_range text p.start p.end) ran.2 count = search arith in
       written_of name old new it.0 ran.2 (Update it.0 it.1) did.tally it.2 did.changed
       (λ t has called. update_one old new t has (idle t has called) ran.2 it.1 did.tally)

@@ -1,21 +1,18 @@
 -- What a text comes to in a schema of which nothing is known: it is a command of its statement's kind, or is refused.
-use Rattle.std.proofs.Common.{◌≡◌, ◌⊎◌, inl, inr, ℕ, Bool, true, false, cond, List, [], Option, None, Some, Ok}
-use Rattle.std.proofs.Common.{Err, refl, sym, ap, subst, ◌∙◌}
-use Rattle.std.specs.Prelude.{◌+◌}
+use Rattle.std.proofs.Common.{◌≡◌, ◌⊎◌, inl, inr, ℕ, Bool, false, cond, List, [], Option, None, Some, Ok, Err, refl}
+use Rattle.std.proofs.Common.{sym, ap, subst, ◌∙◌, subst₂, arith}
+use Rattle.std.specs.Prelude.{◌+◌, slice_range, length, not, ◌&&◌, nat_eq, ◌++◌}
 use Rattle.sqlite.specs.Command.{Command}
-use Rattle.sqlite.specs.Command.TheVariants.{CreateTable as MakeTable, CreateIndex as MakeIndex, Insert}
-use Rattle.sqlite.specs.Command.TheVariants.{Update, Nothing}
+use Rattle.sqlite.specs.Command.TheVariants.{CreateTable as MakeTable, CreateIndex as MakeIndex, Insert, Update}
+use Rattle.sqlite.specs.Command.TheVariants.{Nothing}
 use Rattle.sqlite.specs.Listing.{understood, listing_schema, misses_table, if_select, is_select}
 use Rattle.sqlite.specs.Clock.{timed as timed_params}
 use Rattle.sqlite.specs.Does.{AtPlace}
 use Rattle.sqlite.specs.Order.{Row}
 use Rattle.sqlite.specs.Rows.{Part}
 use Rattle.sqlite.specs.State.{State, Executes, ExecutesIn, Runs, shows_rows, text_of}
-use Rattle.sqlite.specs.declared.error.Error.TheVariants.{InvalidQuery}
-use Rattle.std.proofs.Common.{subst₂}
 use Rattle.std.proofs.lemmas.Bool.{cases_Bool}
-use Rattle.sqlite_resolve.specs.declared.error.CompileError.TheVariants.{Misuse, Unsupported}
-use Rattle.std.specs.Prelude.{slice_range, length, not, ◌&&◌, nat_eq}
+use Rattle.sqlite_resolve.specs.declared.error.CompileError.TheVariants.{Unsupported, NoSuchTable}
 use Rattle.sqlite.specs.Schema.{Schema}
 use Rattle.sqlite.specs.Table.{Table}
 use Rattle.sqlite_ast.specs.declared.CreateTable.{CreateTable}
@@ -27,12 +24,9 @@ use Rattle.sqlite_ast.specs.declared.Statement.TheVariants as written
 use Rattle.sqlite_resolve.specs.Lowering.{Checked, and_then}
 use Rattle.sqlite_resolve.specs.Compile.{first, compiled, planned, meaning, returning, timed, command, create_table}
 use Rattle.sqlite_resolve.specs.Compile.{create_index, creates, insert, update, insert_or_abort, target, shows, small}
-use Rattle.sqlite_resolve.specs.Compile.{is_attached, is_reserved, formats_of, with_command}
+use Rattle.sqlite_resolve.specs.Compile.{formats_of, with_command, new_rows}
 use Rattle.sqlite_resolve.specs.Body.{table_at}
 use Rattle.sqlite_resolve.specs.declared.compiled.Compiled.{Compiled}
-use Rattle.sqlite_resolve.specs.declared.error.CompileError.{CompileError}
-use Rattle.sqlite_resolve.specs.declared.error.CompileError.TheVariants.{NoSuchTable}
-use Rattle.sqlite_resolve.specs.Compile.{new_rows}
 use Rattle.sqlite_resolve.specs.Define as define
 use Rattle.sqlite_resolve.specs.Program.{program}
 use Rattle.sqlite_resolve.specs.Write.{updated}
@@ -41,7 +35,6 @@ use Rattle.sqlite.specs.Source.{Source}
 use Rattle.sqlite_schema.specs.declared.program.Program.{Program}
 use Rattle.sqlite_schema.specs.Names.{table_named, index_named, view_named}
 use Rattle.std.specs.Option.{option_or}
-use Rattle.std.specs.Prelude.{◌++◌}
 use Rattle.sql_steps.proofs.Statements.{same_value}
 use Rattle.register_store.proofs.NextTexts.{IsText, planned_as}
 use Rattle.sqlite_syntax.specs.declared.statement.Parsed.{Parsed}
@@ -78,21 +71,12 @@ module _ (text : List ℕ) (p : Parsed) (P : Schema → Command → Type 0)
 -- what gives a value gave it through each of its parts
 through : {A B : Type 0} (r : Checked A) (f : A → Checked B) (b : B) → and_then r f ≡ Ok b
     → (a : A) × (r ≡ Ok a) × (f a ≡ Ok b)
-through (Ok a) f b h = (a, refl, h)
-through (Err e) f b h = absurd (cc)
-
-unrefused : {A : Type 0} (refused : Bool) (e : CompileError) (r : Checked A) (a : A)
-    → cond refused (Err e) r ≡ Ok a → r ≡ Ok a
-unrefused true e r a h = absurd (cc)
-unrefused false e r a h = h
+through r f b h = search arith
 
 -- a statement whose command is this one comes to it
 comes_to : (p : Parsed) (P : Command → Type 0) (formats : List (List ℕ)) (r : Checked Command) (c : Compiled)
     → and_then r (λ k. Ok (with_command p (formats, (k, None)))) ≡ Ok c → ((k : Command) → r ≡ Ok k → P k) → Comes p P c
-comes_to p P formats r c h shape =
-    let it = through r (λ k. Ok (with_command p (formats, (k, None)))) c h in
-    subst (Comes p P) (same_value it.2)
-    (record { returning = refl; command = shape it.0 it.1; start = refl; end = refl })
+comes_to p P formats r c h shape = search (arith, through, same_value)
 
 -- ---- CREATE TABLE
 
@@ -114,13 +98,7 @@ module _ (text : List ℕ) (p : Parsed) (def : CreateTable) (table : Table) (t :
 
   table_shape : (s : Schema) (k : Command) → create_table s p.formats def ≡ Ok k → MakesTable s k
   unfolding create_table
-  table_shape s k h =
-      let it = through (table_is_new s) table_where k
-      (unrefused (is_attached s def.name) Unsupported (and_then (table_is_new s) table_where) k h) in by it.0 it.2
-    where
-      by : (is_new : Bool) → table_where is_new ≡ Ok k → MakesTable s k
-      by true h = let made = rw (t.defined, t.computed) at h in inl (sym (same_value made))
-      by false h = inr (sym (same_value h))
+  table_shape s k h = search (arith, through, same_value)
 
   pub table_understood : (s : Schema) (c : Compiled) → understood s text ≡ Ok c → Comes p (MakesTable s) c
   table_understood =
@@ -139,8 +117,7 @@ module _ (text : List ℕ) (p : Parsed) (def : CreateIndex) (parsed : first text
   index_planned : (s : Schema) (r : Checked Command) → create_index s def ≡ r
       → compiled s text ≡ and_then r (λ k. Ok (with_command p (p.formats, (k, None))))
   unfolding compiled planned meaning returning timed command
-  index_planned s (Ok k) h = rw (parsed, is, h) refl
-  index_planned s (Err e) h = rw (parsed, is, h) refl
+  index_planned s r h = search arith
 
   abbrev index_is_new : Schema → Checked Bool
   index_is_new s =
@@ -155,22 +132,12 @@ module _ (text : List ℕ) (p : Parsed) (def : CreateIndex) (parsed : first text
 
   index_shape : (s : Schema) (k : Command) → create_index s def ≡ Ok k → MakesIndex s k
   unfolding create_index
-  index_shape s k h =
-      let at = through (target s def.table) (indexed_at s) k
-      (unrefused (is_reserved def.table) Misuse (and_then (target s def.table) (indexed_at s)) k h) in
-      let table = through (table_at s at.0) (λ table. and_then (index_is_new s) (index_where at.0 table)) k at.2 in
-      let is_new = through (index_is_new s) (index_where at.0 table.0) k table.2 in by at.0 table.0 is_new.0 is_new.2
-    where
-      by : (at : ℕ) (table : Table) (is_new : Bool) → index_where at table is_new ≡ Ok k → MakesIndex s k
-      by at table true h =
-          inl (at, sym (same_value (through (define.index table def) (λ _. Ok (MakeIndex at)) k h).2))
-      by at table false h = inr (sym (same_value h))
+  index_shape s k h = search (arith, through, same_value)
 
   pub index_understood : (s : Schema) (c : Compiled) → understood s text ≡ Ok c → Comes p (MakesIndex s) c
   index_understood =
       understood_so text p MakesIndex (λ s k it. elim it [ inl (at, is) ↦ ap is_select is | inr is ↦ ap is_select is ])
-      (λ s c h. comes_to p (MakesIndex s) p.formats (create_index s def) c (sym (index_planned s _ refl) ∙ h)
-      (index_shape s))
+      (search (arith, comes_to, index_planned, index_shape))
 
 -- ---- INSERT
 
@@ -188,8 +155,7 @@ module _ (text : List ℕ) (p : Parsed) (name : List ℕ) (columns : List (List 
   insert_planned : (s : Schema) (r : Checked Command) → inserting s ≡ r
       → compiled s text ≡ and_then r (λ k. Ok (with_command p (wanted s, (k, None))))
   unfolding compiled planned meaning returning timed command shows insert_or_abort
-  insert_planned s (Ok k) h = rw (parsed, is, h) refl
-  insert_planned s (Err e) h = rw (parsed, is, h) refl
+  insert_planned s r h = search arith
 
   abbrev rows_put : Schema → ℕ → Table → Checked Command
   rows_put s at table =
@@ -197,12 +163,7 @@ module _ (text : List ℕ) (p : Parsed) (name : List ℕ) (columns : List (List 
 
   insert_shape : (s : Schema) (k : Command) → inserting s ≡ Ok k → Inserts s k
   unfolding insert
-  insert_shape s k h =
-      let at = through (target s name) (λ at. and_then (table_at s at) (rows_put s at)) k h in
-      let table = through (table_at s at.0) (rows_put s at.0) k at.2 in
-      let from =
-      through (new_rows s table.0 (small p.names + small (wanted s)) columns rows) (λ from. Ok (Insert at.0 from)) k
-      table.2 in (at.0, from.0, at.1, sym (same_value from.2))
+  insert_shape s k h = search (arith, through, same_value)
 
   pub insert_understood : (s : Schema) (c : Compiled) → understood s text ≡ Ok c → Comes p (Inserts s) c
   insert_understood =
@@ -219,8 +180,7 @@ module _ (text : List ℕ) (p : Parsed) (name : List ℕ) (sets : List (List ℕ
   update_planned : (s : Schema) (r : Checked Command) → update s name sets test ≡ r
       → compiled s text ≡ and_then r (λ k. Ok (with_command p (p.formats, (k, None))))
   unfolding compiled planned meaning returning timed command shows
-  update_planned s (Ok k) h = rw (parsed, is, h) refl
-  update_planned s (Err e) h = rw (parsed, is, h) refl
+  update_planned s r h = search arith
 
   abbrev rows_set : Schema → ℕ → Draft → Checked Command
   rows_set s at d = and_then (program s [] d) (λ q. Ok (Update at q))
@@ -230,22 +190,12 @@ module _ (text : List ℕ) (p : Parsed) (name : List ℕ) (sets : List (List ℕ
 
   update_shape : (s : Schema) (k : Command) → update s name sets test ≡ Ok k → Updates s k
   unfolding update
-  update_shape s k h =
-      let at = through (target s name) (λ at. and_then (table_at s at) (drafted s at)) k h in
-      let table = through (table_at s at.0) (drafted s at.0) k at.2 in
-      let draft = through (updated s at.0 table.0 sets test) (rows_set s at.0) k table.2 in
-      let q = through (program s [] draft.0) (λ q. Ok (Update at.0 q)) k draft.2 in (
-        at.0,
-        q.0,
-        at.1,
-        sym (same_value q.2),
-      )
+  update_shape s k h = search (arith, through, same_value)
 
   pub update_understood : (s : Schema) (c : Compiled) → understood s text ≡ Ok c → Comes p (Updates s) c
   update_understood =
       understood_so text p Updates (λ s k it. ap is_select it.3)
-      (λ s c h. comes_to p (Updates s) p.formats (update s name sets test) c (sym (update_planned s _ refl) ∙ h)
-      (update_shape s))
+      (search (arith, comes_to, update_planned, update_shape))
 
 -- ---- what is run
 
@@ -264,12 +214,10 @@ ran_as text p P understood_as old new params count h =
       | inl shows ↦ absurd (let e = (rw shows at h.2).0 in cc)
       | inr runs ↦ rw runs at h.2
     ] in
-    let sql : text_of text h.0 ≡ slice_range text p.start p.end = ap (slice_range text h.0.start) it.end
-    ∙ ap (λ s. slice_range text s p.end) it.start in
+    let sql : text_of text h.0 ≡ slice_range text p.start p.end = cc in
     (h.0.command, it.command, given, subst₂ (λ r s. Runs old new r h.0.command s given count) it.returning sql ran)
 
 -- what is done at a place is done where something stands there
 pub at_place : {X A : Type 0} (P : X → Part A) (o : Option X) (a : A) → AtPlace P o (Ok a)
     → (x : X) × (o ≡ Some x) × P x (Ok a)
-at_place P None a h = absurd (let e : Ok a ≡ Err (Some InvalidQuery) = h in cc)
-at_place P (Some x) a h = (x, refl, h)
+at_place P o a h = search arith

@@ -1,9 +1,8 @@
 -- The check of the table of custodians.
-use Rattle.std.proofs.Common.{◌≡◌, ◌≢◌, ◌⊎◌, ◌↔◌, ◌==◌, ◌≤◌, ◌<◌, ◌+◌, inl, inr, ℕ, zero, suc, Bool, true, false}
-use Rattle.std.proofs.Common.{cond, List, [], ◌∷◌, ◌++◌, length, map, filter, slice_get, get_or, Option, None, Some}
-use Rattle.std.proofs.Common.{Result, Ok, Err, IsTrue, refl, sym, ap, subst, ◌∙◌, arith, bytes_eq}
+use Rattle.std.proofs.Common.{◌≡◌, ◌≢◌, ◌⊎◌, ◌↔◌, ◌==◌, ◌≤◌, ◌<◌, ◌+◌, inl, inr, ℕ, zero, suc, Bool, true, false, cond}
+use Rattle.std.proofs.Common.{List, [], ◌∷◌, ◌++◌, length, map, filter, slice_get, get_or, Option, None, Some, Result}
+use Rattle.std.proofs.Common.{Ok, Err, IsTrue, refl, sym, ap, subst, ◌∙◌, arith, bytes_eq}
 use Rattle.std.proofs.lemmas.Bool.{eq-eqb, eqb-true}
-use Rattle.std.proofs.lemmas.Bool.Decides.{eqb_tells}
 use Rattle.std.proofs.lemmas.List.{append-nil, length-append}
 use Rattle.std.proofs.lemmas.List.Sorted.{IsPermutation-map, length_permutation, list_any-IsPermutation}
 use Rattle.std.specs.Prelude.{IsErrAnd}
@@ -29,13 +28,12 @@ use Rattle.register_requests.specs.Name.{is_among}
 use Rattle.register_store.specs.declared.error.CheckError.{CheckError}
 use Rattle.register_store.specs.declared.error.CheckError.TheVariants.{Memory as Ran_out}
 use Rattle.register_store.specs.declared.table.TableName.TheVariants.{Custodian}
-use Rattle.register_store.specs.CheckedTables.{IsOdd, IsReasonAt, ShowsName, check_error, check_text}
+use Rattle.register_store.specs.CheckedTables.{IsOdd, ShowsName, check_error, check_text}
 use Rattle.register_store.specs.Within.CheckedTables.{ChecksTable}
 use Rattle.register_store.specs.Stored.{HoldsStored, Stored}
 use Rattle.register_store.specs.Tables.{IsNamed, name_cells}
-use Rattle.register_store.specs.CheckedRows.{AreKept, HasCustodians, IsListed}
+use Rattle.register_store.specs.CheckedRows.{AreKept, HasCustodians, IsListed, RefusesCustodians}
 use Rattle.register_store.specs.Within.CheckedRows.{AreEmpty, KnowsCustodians}
-use Rattle.register_store.specs.CheckedRows.{RefusesCustodians}
 use Rattle.register_store.specs.OpeningChecks.{AreCustodians, IsCustodian, MayBeCustodian, owner_at, owners_of}
 use Rattle.register_store.proofs.Actions.{shows_all}
 use Rattle.register_store.proofs.Asked.{AnswersTo, IsWithin, ShowsOwn, in_both, shown_of_table, checks_table}
@@ -43,7 +41,6 @@ use Rattle.register_store.proofs.Decoding.{same_number, same_words}
 use Rattle.register_store.proofs.EntriesShown.{all_permuted, own_entries}
 use Rattle.register_store.proofs.MetaChecked.{newer_not}
 use Rattle.register_store.proofs.NameLists.{get_below, get_some}
-use Rattle.register_store.proofs.Readings.{survives_none}
 use Rattle.register_store.proofs.RowsFailed.{reason_of}
 
 -- ---- rows of names at keys
@@ -59,69 +56,34 @@ one_list = show_same ShowsName one_name
 names_more : (key : ℕ) (entries others : List KeyName)
     → names_at key (entries ++ others) ≡ names_at key entries ++ names_at key others
 names_more key [] others = refl
-names_more key (e ∷ entries) others = by (is_at key e) (names_more key entries others)
-  where
-    by : (b : Bool) → names_at key (entries ++ others) ≡ names_at key entries ++ names_at key others
-        → map (λ (entry : KeyName). entry.name)
-        (cond b (e ∷ filter (is_at key) (entries ++ others)) (filter (is_at key) (entries ++ others)))
-        ≡ map (λ (entry : KeyName). entry.name) (cond b (e ∷ filter (is_at key) entries) (filter (is_at key) entries))
-        ++ names_at key others
-    by true same = ap (λ l. e.name ∷ l) same
-    by false same = same
-
-names_one : (key : ℕ) (entry : KeyName) (b : Bool) → is_at key entry ≡ b
-    → names_at key (entry ∷ []) ≡ cond b (entry.name ∷ []) []
-names_one key entry true is = ap (λ c. map (λ (entry : KeyName). entry.name) (cond c (entry ∷ []) [])) is
-names_one key entry false is = ap (λ c. map (λ (entry : KeyName). entry.name) (cond c (entry ∷ []) [])) is
-
-either_at : (key : ℕ) (entry : KeyName) → ((entry.key ≡ key) × (is_at key entry ≡ true))
-    ⊎ ((entry.key ≢ key) × (is_at key entry ≡ false))
-either_at key entry = elim (eqb_tells entry.key key) [
-  | inl both ↦ inl (both.1, both.0)
-  | inr apart ↦ inr (apart.1, apart.0)
-]
+names_more key (e ∷ entries) others = search (arith, names_more key entries others)
 
 more_here : (key : ℕ) (entries : List KeyName) (entry : KeyName) → entry.key ≡ key
     → names_at key (entries ++ entry ∷ []) ≡ names_at key entries ++ entry.name ∷ []
-more_here key entries entry here =
-    names_more key entries (entry ∷ [])
-    ∙ ap (λ l. names_at key entries ++ l) (names_one key entry true (eq-eqb entry.key key here))
+more_here key entries entry here = search (arith, names_more, eq-eqb)
 
 more_other : (key : ℕ) (entries : List KeyName) (entry : KeyName) → is_at key entry ≡ false
     → names_at key (entries ++ entry ∷ []) ≡ names_at key entries
-more_other key entries entry off =
-    names_more key entries (entry ∷ []) ∙ ap (λ l. names_at key entries ++ l) (names_one key entry false off)
-    ∙ append-nil (names_at key entries)
+more_other key entries entry off = search (arith, names_more, append-nil)
 
 -- an entry at the key of a name that is among those at it
 among_at : (key : ℕ) (name : List ℕ) (entries : List KeyName) → is_among name (names_at key entries) ≡ true
     → (entry : KeyName) × Has entries entry × (entry.key ≡ key)
 among_at key name [] among = absurd (cc)
-among_at key name (e ∷ entries) among = by (is_at key e) refl (among_at key name entries) among
-  where
-    by : (b : Bool) → is_at key e ≡ b
-        → (is_among name (names_at key entries) ≡ true → (entry : KeyName) × Has entries entry × (entry.key ≡ key))
-        → is_among name
-        (map (λ (entry : KeyName). entry.name) (cond b (e ∷ filter (is_at key) entries) (filter (is_at key) entries)))
-        ≡ true → (entry : KeyName) × Has (e ∷ entries) entry × (entry.key ≡ key)
-    by true at later among = (e, inl refl, eqb-true e.key key at)
-    by false at later among = let it = later among in (it.0, inr it.1, it.2)
+among_at key name (e ∷ entries) among = search (arith, eqb-true, among_at key name entries)
 
 names_permuted : (key : ℕ) (c d : List KeyName) → IsPermutation c d → IsPermutation (names_at key c) (names_at key d)
-names_permuted key c d same =
-    IsPermutation-map (λ (entry : KeyName). entry.name) _ _ (filter_permutation (is_at key) c d same)
+names_permuted key c d same = search (arith, IsPermutation-map, filter_permutation)
 
 pub custodian_permuted : (c d : List KeyName) → IsPermutation c d → (entry : KeyName)
     → is_among entry.name (names_at entry.key c) ≡ is_among entry.name (names_at entry.key d)
-custodian_permuted c d same entry =
-    list_any-IsPermutation (λ other. bytes_eq other entry.name) _ _ (names_permuted entry.key c d same)
+custodian_permuted c d same entry = search (arith, list_any-IsPermutation, bytes_eq, names_permuted)
 
 -- ---- owners
 
 owner_range : (owners : List (List ℕ)) (key : ℕ) (owner : List ℕ) → owner_at owners key ≡ Some owner
     → (1 ≤ key) × (key ≤ length owners)
-owner_range owners zero owner e = absurd cc
-owner_range owners (suc k) owner e = let below = get_below owners k owner e in (omega arith, omega (arith, below))
+owner_range owners key owner e = search (arith, get_below)
 
 pub owner_seen : (owners : List (List ℕ)) (key at : ℕ) (seen : List ℕ) → key ≡ suc at → at < length owners
     → seen ≡ get_or owners at seen → owner_at owners key ≡ Some seen
@@ -142,13 +104,7 @@ kept_at entries lists key at seen e low kept is =
 
 pub begin_custodians : (most : ℕ) (owners : List (List ℕ)) (lists : List (Vec (List ℕ))) → AreEmpty lists
     → length lists ≡ length owners → HasCustodians most owners lists []
-begin_custodians most owners lists none counted = record {
-  entries = [];
-  shown = tt;
-  are = record { each = tt; few = λ key. omega arith };
-  counted = counted;
-  kept = λ k names is. none k names is;
-}
+begin_custodians most owners lists none counted = search arith
 
 module _ (most : ℕ) (owners : List (List ℕ)) (lists : List (Vec (List ℕ))) (rows : List Row) (row : Row)
     (taken : HasCustodians most owners lists rows) where
@@ -161,35 +117,9 @@ module _ (most : ℕ) (owners : List (List ℕ)) (lists : List (Vec (List ℕ)))
   custodians_more entry shows may room at key new counted added others = record {
     entries = taken.entries ++ entry ∷ [];
     shown = show_more ShowsName rows taken.entries row entry taken.shown shows;
-    are = record {
-      each = all_more (MayBeCustodian owners) taken.entries entry taken.are.each may;
-      few = λ k. elim (either_at k entry) [
-        | inl here ↦
-            let at_key : names_at entry.key taken.entries
-            ≡ names_at k taken.entries = ap (λ n. names_at n taken.entries) here.0 in
-            omega (
-              arith,
-              ap length (more_here k taken.entries entry here.0),
-              length-append (names_at k taken.entries) (entry.name ∷ []),
-              ap length at_key,
-              room,
-            )
-        | inr off ↦ let few = taken.are.few k in omega (arith, ap length (more_other k taken.entries entry off.1), few)
-      ];
-    };
+    are = search (arith, all_more, more_here, length-append, more_other);
     counted = counted ∙ taken.counted;
-    kept = λ k names is. elim (either_at (suc k) entry) [
-      | inl here ↦
-          let same : k ≡ at = let e = here.0 in omega arith in
-          let it = added names (subst (λ n. slice_get new n ≡ Some names) same is) in
-          let before : it.0.items
-          ≡ names_at (suc k) taken.entries = taken.kept k it.0
-          (subst (λ n. slice_get lists n ≡ Some it.0) (sym same) it.1) in
-          it.2 ∙ ap (λ l. l ++ entry.name ∷ []) before ∙ sym (more_here (suc k) taken.entries entry here.0)
-      | inr off ↦
-          let apart : k ≢ at = λ e. off.0 (key ∙ ap suc (sym e)) in
-          taken.kept k names (sym (others k apart) ∙ is) ∙ sym (more_other (suc k) taken.entries entry off.1)
-    ];
+    kept = grind (arith, slice_get, more_here, more_other);
   }
 
   -- what the row would have to show
@@ -218,37 +148,21 @@ module _ (most : ℕ) (owners : List (List ℕ)) (lists : List (Vec (List ℕ)))
 
   module _ (key : ℕ) (key_is : column row 0 ≡ Int (Rattle.std.proofs.Common.pos key)) where
     pub not_there : ((1 ≤ key) × (key ≤ length owners) → ⊥) → RefusesCustodians most owners (rows ++ row ∷ [])
-    not_there off entries shown are =
-        let it = would entries shown are in
-        let same = same_number (column row 0) it.0.key key it.1.key key_is in
-        let r = owner_range owners it.0.key it.2.owner it.2.there in off (
-          omega (arith, r.0, same),
-          omega (arith, r.1, same),
-        )
+    not_there off entries shown are = search (arith, would, same_number, owner_range)
 
     pub is_full : most ≤ length (names_at key taken.entries) → RefusesCustodians most owners (rows ++ row ∷ [])
-    is_full full entries shown are =
-        let it = would entries shown are in
-        let same = same_number (column row 0) it.0.key key it.1.key key_is in
-        let room = it.3 in
-        omega (arith, room, full, ap length (ap (λ n. names_at n taken.entries) same))
+    is_full full entries shown are = search (arith, would, same_number)
 
     pub is_owner : (name : List ℕ) → column row 1 ≡ Words name → owner_at owners key ≡ Some name
         → RefusesCustodians most owners (rows ++ row ∷ [])
-    is_owner name name_is owns entries shown are =
-        let it = would entries shown are in
-        let same = same_number (column row 0) it.0.key key it.1.key key_is in
-        let named = same_words (column row 1) it.0.name name it.1.name name_is in
-        let there : owner_at owners key ≡ Some it.2.owner = ap (owner_at owners) (sym same) ∙ it.2.there in
-        it.2.other (named ∙ (let e : name ≡ it.2.owner = cc in e))
+    is_owner name name_is owns entries shown are = search (arith, would, same_number, same_words)
 
 -- ---- a register's own rows
 
 pub names_past : (r : Row)
     → eval_all (shown_of_table Custodian) ([] ∷ r ∷ [])
     ≡ eval_all (shown_of_table Custodian) ([] ∷ (Null ∷ Rattle.std.specs.Prelude.drop 1 r) ∷ [])
-names_past [] = refl
-names_past (v ∷ vs) = refl
+names_past r = search arith
 
 pub own_row : (entry : KeyName) → IsNamed entry
     → ShowsName (eval_all (shown_of_table Custodian) ([] ∷ (Null ∷ name_cells entry) ∷ [])) entry
@@ -266,13 +180,7 @@ pub own_custodians : (t : Stored) (db : Db) (rows : List Row) (holds : HoldsStor
 own_custodians t db rows holds sure =
     let it = own_entries name_cells ShowsName IsNamed (holds.schema.layout.tree Custodian) (shown_of_table Custodian)
     names_past own_row db t.tables.custodians rows (holds.in_range Custodian) (holds.shown Custodian)
-    (shows_all db.trees (holds.schema.layout.tree Custodian)) sure in
-    record {
-      c = it.0;
-      shows = it.2;
-      like = it.1;
-      meets = are_permuted (custodians_of t.version) (owners_of t.tables.keys) t.tables.custodians it.0 it.1;
-    }
+    (shows_all db.trees (holds.schema.layout.tree Custodian)) sure in search (arith, are_permuted)
 
 knows_like : (c d : List KeyName) (lists : Vec (Vec (List ℕ))) → IsPermutation d c → KnowsCustodians c lists
     → KnowsCustodians d lists
@@ -311,8 +219,7 @@ knows_so most owners lists rows taken entry = ((λ listed. forth entry.key refl 
             record {
               names = here.0;
               there = ap (Rattle.register_store.specs.CheckedRows.list_at lists.items) at ∙ here.1;
-              among = ap (is_among entry.name)
-                  (taken.kept k here.0 here.1 ∙ ap (λ n. names_at n taken.entries) (sym at)) ∙ is;
+              among = search arith;
             }
 
 module _ (t : Stored) (most : ℕ) (most_is : most ≡ custodians_of t.version) (owners : List (List ℕ)) (are : owners
@@ -341,18 +248,11 @@ module _ (t : Stored) (most : ℕ) (most_is : most ≡ custodians_of t.version) 
     fails = λ c shows meets.
         let it = show_prefix ShowsName rows tail c shows in
         let whole = subst (λ o. AreCustodians most o (it.0 ++ it.1)) (sym are)
-        (subst (λ m. AreCustodians m (owners_of t.tables.keys) (it.0 ++ it.1)) (sym most_is)
-        (subst (AreCustodians (custodians_of t.version) (owners_of t.tables.keys)) it.2 meets)) in
+        (grind arith) in
         refuses it.0 it.3 (record {
           each = all_prefix (MayBeCustodian owners) it.0 it.1 whole.each;
           few = λ key.
-              let few = whole.few key in
-              omega (
-                arith,
-                few,
-                ap length (names_more key it.0 it.1),
-                length-append (names_at key it.0) (names_at key it.1),
-              );
+              let few = whole.few key in search (arith, names_more, length-append);
         });
     no_newer = λ none. none;
   }
@@ -367,9 +267,7 @@ module _ (t : Stored) (most : ℕ) (most_is : most ≡ custodians_of t.version) 
   custodians_fail error (Err e) is meaning refused memory =
       checks_table Custodian t (custodians_within t) (own_custodians t) (newer_not t) KnowsCustodians
       (λ c d x like says. knows_like c d x like says) one_list old new (Err e) (λ clean. tt)
-      (λ clean. subst (IsReasonAt Custodian t old new) (sym is)
-      (reason_of Custodian t old new (RefusesCustodians most owners) error (meaning clean) (refused clean)
-      (memory clean) (λ _. odd))) survives
+      (search (arith, reason_of, odd)) survives
 
 -- ---- approvals
 
@@ -377,46 +275,15 @@ module _ (t : Stored) (most : ℕ) (most_is : most ≡ custodians_of t.version) 
 pub list_seen : (lists : List (Vec (List ℕ))) (key at : ℕ) (seen : Vec (List ℕ)) → key ≡ suc at → at < length lists
     → seen ≡ get_or lists at seen → Rattle.register_store.specs.CheckedRows.list_at lists key ≡ Some seen
 list_seen lists key at seen e low is =
-    let it = get_some lists at low in
-    ap (Rattle.register_store.specs.CheckedRows.list_at lists) e ∙ it.1
-    ∙ ap (λ (v : Vec (List ℕ)). Some v) (sym (is ∙ it.2 seen))
+    let it = get_some lists at low in search arith
 
 -- a key that is not there has no list
 pub not_listed : (lists : List (Vec (List ℕ))) (entry : KeyName) → ((1 ≤ entry.key) × (entry.key ≤ length lists) → ⊥)
     → ¬ IsListed lists entry
-not_listed lists entry off listed = by entry.key refl
-  where
-    by : (key : ℕ) → entry.key ≡ key → ⊥
-    by zero at =
-        absurd (let e = sym (ap (Rattle.register_store.specs.CheckedRows.list_at lists) at) ∙ listed.there in cc)
-    by (suc k) at =
-        let below = get_below lists k listed.names
-        (sym (ap (Rattle.register_store.specs.CheckedRows.list_at lists) at) ∙ listed.there) in
-        off (omega (arith, at), omega (arith, at, below))
-
--- nothing was read: want of memory
-
-custodians_none : (t : Stored) (old : State) → (HasCleanDisk old → IsTrue old.is_open) → (e : CheckError)
-    → e ≡ Ran_out → ChecksTable {T = Vec (Vec (List ℕ))} Custodian t KnowsCustodians old old (Err e)
-custodians_none t old is_open e is =
-    subst (λ e. ChecksTable {T = Vec (Vec (List ℕ))} Custodian t KnowsCustodians old old (Err e)) (sym is)
-    (checks_table Custodian t (custodians_within t) (own_custodians t) (newer_not t) KnowsCustodians
-    (λ c d x like says. knows_like c d x like says) one_list old old (Err Ran_out) (λ clean. tt)
-    (λ clean. (
-      record {
-        was_open = is_open clean;
-        is_open = is_open clean;
-        now_is = refl;
-        committed_is = refl;
-        mode = refl;
-      },
-      record { changes = refl; last_rowid = refl },
-      refl,
-    )) (survives_none old))
+not_listed lists entry off listed = search (arith, get_below)
 
 -- memory gave out before the rows were read
 pub custodians_unread : (t : Stored) (old : State) → (HasCleanDisk old → IsTrue old.is_open) → (e : CheckError)
     → e ≡ Ran_out → (q : Result (Vec (Vec (List ℕ))) CheckError) → IsErrAnd q (λ x. x ≡ e)
     → ChecksTable Custodian t KnowsCustodians old old q
-custodians_unread t old is_open e out (Ok x) is = absurd is
-custodians_unread t old is_open e out (Err x) is = custodians_none t old is_open x (is ∙ out)
+custodians_unread t old is_open e out q is = search arith

@@ -1,8 +1,5 @@
 -- What the UPDATEs of the states of due keys do.
-use Rattle.std.proofs.Common.{◌≡◌, ◌==◌, ◌&&◌, ℕ, ◌+◌, pos, List, [], ◌∷◌, map, Bool, true, Ok, Option, None, Some, set}
-use Rattle.std.proofs.Common.{nat_le, inl, inr, refl, ap, ap₂, subst, ◌∙◌, arith}
-use Rattle.std.proofs.Math.Bool.{and-true}
-use Rattle.std.proofs.lemmas.Bool.Decides.{leb_tells}
+use Rattle.std.proofs.Common.{◌≡◌, ℕ, ◌+◌, pos, List, [], ◌∷◌, map, Bool, Ok, set, refl, ap, subst, arith}
 use Rattle.std.specs.List.{enumerate_from}
 use Rattle.sqlite.specs.declared.types.Value.TheVariants.{Int}
 use Rattle.sqlite.specs.Collation.TheVariants.{Binary}
@@ -15,16 +12,15 @@ use Rattle.sqlite_tied.specs.Compute.{everything}
 use Rattle.sql_steps.proofs.Comparing.{equal_numbers, most_numbers}
 use Rattle.sql_steps.proofs.Statements.{cast_int, cast_null}
 use Rattle.moment_core.specs.Moment.{IsMoment}
-use Rattle.lifecycle_core.specs.State.{is_reached_at, state_code}
+use Rattle.lifecycle_core.specs.State.{state_code}
 use Rattle.register_core.specs.declared.key.Key.{Key}
 use Rattle.register_store.specs.declared.accepted_request.DueDate.{DueDate}
 use Rattle.register_store.specs.declared.accepted_request.DueDate.TheVariants.{Activation, Deactivation}
-use Rattle.register_store.specs.Tables.{IsKey, key_row, date_cell, unset}
+use Rattle.register_store.specs.Tables.{IsKey, key_row}
 use Rattle.register_store.specs.Schema.{Holds}
 use Rattle.register_store.specs.TableChanges.{Makes}
 use Rattle.register_store.specs.Within.TableChanges.{Always, in_state}
-use Rattle.register_store.specs.Within.Due.{date_of, is_due, moved_on, state_before, state_after, update_text}
-use Rattle.register_store.specs.Within.Due.{with_each}
+use Rattle.register_store.specs.Within.Due.{is_due, moved_on, state_before, state_after, update_text, with_each}
 use Rattle.sqlite_resolve.specs.Compile.{first}
 use Rattle.register_store.proofs.ColumnTerms.{key_kept}
 use Rattle.register_store.proofs.KeyChange.{IsUpdate, changed_where, changes_keys, image_of, passes_row}
@@ -49,12 +45,6 @@ unfolding everything first
 parts Activation l = record { p = _; name = _; sets = _; check = _; d = _; parsed = refl; untimed = refl; is = refl; named = refl; there = refl; drafted = refl; same = refl; from = refl; accepted = refl }
 parts Deactivation l = record { p = _; name = _; sets = _; check = _; d = _; parsed = refl; untimed = refl; is = refl; named = refl; there = refl; drafted = refl; same = refl; from = refl; accepted = refl }
 
--- a date is reached where its cell is at most the moment
-reached : (date : Option ℕ) (at : ℕ) → IsMoment at → nat_le (date_cell date) at ≡ is_reached_at date at
-reached None at moment =
-    elim (leb_tells unset at) [ inl it ↦ absurd (let high = it.1 in omega (arith, moment)) | inr it ↦ it.0 ]
-reached (Some date) at moment = refl
-
 module _ (at : ℕ) (moment : IsMoment at) where
   abbrev pub params : Cells
   params = Int (pos at) ∷ []
@@ -71,10 +61,6 @@ module _ (at : ℕ) (moment : IsMoment at) where
     stays_key : (k : Key) → IsKey k → IsKey (in_state (state_after date) k)
     stays_key k is = record { owner = is.owner; purpose = is.purpose; dates = is.dates }
 
-    both : (k : Key) (a b : Bool) → a ≡ (state_code k.row.state == state_code (state_before date))
-        → b ≡ nat_le (date_cell (date_of date k.row.dates)) at → (a && (b && true)) ≡ is_due date at k
-    both k a b p q = ap₂ (λ x y. x && y) p (and-true b ∙ q ∙ reached (date_of date k.row.dates) at moment)
-
     abbrev Image : Type 0
     Image =
         (p : ℕ × Key)
@@ -88,16 +74,11 @@ module _ (at : ℕ) (moment : IsMoment at) where
         (in_state (state_after date)) stays_key p ≡ is_for p
 
   image : (date : DueDate) → Image date
-  image Activation p = simp (cast_int, cast_null)
-  image Deactivation p = simp (cast_int, cast_null)
+  image date = search (arith, cast_int, cast_null)
 
   check : (date : DueDate) → Check date
-  check Activation p =
-      both Activation p.1 _ _ (equal_numbers (state_code p.1.row.state) 1)
-      (most_numbers (date_cell p.1.row.dates.activation) at)
-  check Deactivation p =
-      both Deactivation p.1 _ _ (equal_numbers (state_code p.1.row.state) 2)
-      (most_numbers (date_cell p.1.row.dates.deactivation) at)
+  check Activation p = search (arith, equal_numbers, most_numbers)
+  check Deactivation p = search (arith, equal_numbers, most_numbers)
 
   pub moves : (date : DueDate) (old new : View) (count : ℕ) → Executes (update_text date) params old new (Ok count)
       → Makes Always (with_each (moved_on date at)) old.now new.now

@@ -1,13 +1,8 @@
 -- What the searches for the next key that is due find.
-use Rattle.std.proofs.Common.{◌≡◌, ◌⊎◌, ◌<◌, ◌≤◌, inl, inr, ℕ, pos, List, [], ◌∷◌, ◌++◌, codes, map, slice_get, Bool}
-use Rattle.std.proofs.Common.{true, false, Some, None, Ok, Err, refl, sym, ap, subst, ◌∙◌, arith}
+use Rattle.std.proofs.Common.{◌≡◌, ◌⊎◌, ◌<◌, ◌≤◌, ℕ, pos, List, [], ◌∷◌, ◌++◌, codes, map, slice_get, Bool, true, false}
+use Rattle.std.proofs.Common.{None, Ok, Err, refl, sym, ap, subst, ◌∙◌, arith}
 use Rattle.std.proofs.lemmas.Bool.{cases_lt}
-use Rattle.std.proofs.lemmas.Int.{ints}
-use Rattle.std.specs.Cmp.{int_ranks}
-use Rattle.std.specs.Ordering.{MatchOrdering, int_cmp, is_lt, ordering_then}
-use Rattle.std.specs.Prelude.{◌<ℤ◌}
-use Rattle.std.specs.declared.cmp.Ordering.{Ordering}
-use Rattle.std.specs.declared.cmp.Ordering.TheVariants.{Less, Equal, Greater}
+use Rattle.std.specs.Ordering.{is_lt}
 use Rattle.sqlite.specs.declared.error.Error.TheVariants.{QueryReturnedNoRows}
 use Rattle.sqlite.specs.declared.types.Value.TheVariants.{Int}
 use Rattle.sqlite.specs.Collation.TheVariants.{Binary}
@@ -139,43 +134,16 @@ passes_of SameStop = passes_same
 passes_of Past = passes_past
 
 pub query_of : (search : DueSearch) → IsQuery (search_text search)
-query_of SameStop = same_query
-query_of Past = past_query
+query_of search = grind (arith, same_query, past_query)
 
 pub search_is : (search : DueSearch) → IsDueSearch (search_text search) (passes_of search)
-search_is SameStop = same_is
-search_is Past = past_is
+search_is search = grind (arith, same_is, past_is)
 
 -- ---- places
 
--- what does not come before another by its stop and its number
-not_before : (sy sx ny nx : ℕ)
-    → is_lt (ordering_then (int_cmp (pos sy) (pos sx)) (ordering_then (int_cmp (pos ny) (pos nx)) Equal)) ≡ false
-    → (sx < sy) ⊎ ((sx ≡ sy) × (nx ≤ ny))
-not_before sy sx ny nx h = ranked (int_cmp (pos sy) (pos sx)) (int_ranks (pos sy) (pos sx)) h
-  where
-    then_number : (o : Ordering) → MatchOrdering o (pos ny <ℤ pos nx) (pos ny ≡ pos nx) (pos nx <ℤ pos ny)
-        → is_lt (ordering_then o Equal) ≡ false → nx ≤ ny
-    then_number Less low h = absurd cc
-    then_number Equal same h = omega (arith, ints)
-    then_number Greater high h = omega (arith, ints)
-
-    ranked : (o : Ordering) → MatchOrdering o (pos sy <ℤ pos sx) (pos sy ≡ pos sx) (pos sx <ℤ pos sy)
-        → is_lt (ordering_then o (ordering_then (int_cmp (pos ny) (pos nx)) Equal)) ≡ false
-        → (sx < sy) ⊎ ((sx ≡ sy) × (nx ≤ ny))
-    ranked Less low h = absurd cc
-    ranked Equal same h =
-        let is : sx ≡ sy = cc in inr (is, then_number (int_cmp (pos ny) (pos nx)) (int_ranks (pos ny) (pos nx)) h)
-    ranked Greater high h = inl (omega (arith, ints))
-
 -- a number has one key
 pub one_number : (t : Tables) (x y : ℕ × Key) → Has (numbered t.keys) x → Has (numbered t.keys) y → x.0 ≡ y.0 → y ≡ x
-one_number t x y here there same =
-    let a = at_number 1 t.keys x here in
-    let b = at_number 1 t.keys y there in
-    let place : b.0 ≡ a.0 = omega (arith, a.1, b.1, same) in
-    let key : y.1 ≡ x.1 = let both : Some y.1 ≡ Some x.1 = sym b.2 ∙ ap (slice_get t.keys) place ∙ a.2 in cc in
-    λ i. (sym same i, key i)
+one_number t x y here there same = search (arith, at_number, slice_get)
 
 -- ---- one search
 
@@ -194,8 +162,7 @@ module _ (sql : List ℕ) (query : IsQuery sql) (passes : List Term) (search : I
     -- what passes came from a key that does
     came_from : (ns : List (ℕ × Key)) (r : Cells) → Has (Passing ns) r → (x : ℕ × Key) × Has ns x × (pick x ≡ true)
         × (r ≡ key_row x)
-    came_from ns r there = from_picked key_row pick ns r
-        (subst (λ rs. Has rs r) (filter-map (is_picked params 0 passes shown) key_row ns) there)
+    came_from ns r there = grind (arith, from_picked, filter-map, is_picked)
 
     goes_to : (ns : List (ℕ × Key)) (x : ℕ × Key) → Has ns x → pick x ≡ true → Has (Passing ns) (key_row x)
     goes_to ns x there is = subst (λ rs. Has rs (key_row x))
@@ -204,19 +171,12 @@ module _ (sql : List ℕ) (query : IsQuery sql) (passes : List Term) (search : I
     compared : (x y : ℕ × Key) → is_lt (output_cmp (ordered_by 0 passes shown order)
         (out_of 0 passes shown order params (key_row y)) (out_of 0 passes shown order params (key_row x))) ≡ false
         → (stop_cell x < stop_cell y) ⊎ ((stop_cell x ≡ stop_cell y) × (x.0 ≤ y.0))
-    compared x y h =
-        not_before (stop_cell y) (stop_cell x) y.0 x.0
-        (subst (λ (p : Ordering × Ordering). is_lt (ordering_then p.0 (ordering_then p.1 Equal)) ≡ false)
-        (λ i. (value_cmp-Int (pos (stop_cell y)) (pos (stop_cell x)) i, value_cmp-Int (pos y.0) (pos x.0) i)) h)
+    compared x y h = grind (arith, value_cmp-Int)
 
     first_so : (t : Tables) (x y : ℕ × Key) → Has (numbered t.keys) x → Has (numbered t.keys) y
         → (stop_cell x < stop_cell y) ⊎ ((stop_cell x ≡ stop_cell y) × (x.0 ≤ y.0))
         → (y ≡ x) ⊎ IsAfter (cell_cursor x) (cell_cursor y)
-    first_so t x y here there (inl later) = inr (inl later)
-    first_so t x y here there (inr (same, high)) = elim (cases_lt x.0 y.0) [
-      | inl below ↦ inr (inr (same, below))
-      | inr not_below ↦ inl (one_number t x y here there (omega (arith, high, not_below)))
-    ]
+    first_so t x y here there it = grind (arith, cases_lt, one_number)
 
     module _ (check : ℕ × Key → Bool) (check_is : (x : ℕ × Key) → pick x ≡ check x) where
       row_is : (old new : State) (t : Tables) → Holds t old.now → (row : Cells) → QueriesRow sql params old new (Ok row)

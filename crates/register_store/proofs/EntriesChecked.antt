@@ -1,5 +1,5 @@
 -- The check of a table of entries that pass each by itself, and of which nothing is found.
-use Rattle.std.proofs.Common.{◌≡◌, Result, Ok, Err, List, ◌++◌, sym, subst}
+use Rattle.std.proofs.Common.{◌≡◌, Result, Ok, Err, List, ◌++◌, arith}
 use Rattle.std.specs.Prelude.{IsErrAnd}
 use Rattle.sqlite.specs.Effect.{Database as Db}
 use Rattle.sqlite.specs.Order.{Row}
@@ -9,9 +9,8 @@ use Rattle.row_checks.specs.declared.error.RowsError.TheVariants.{NoMeaning, Ref
 use Rattle.row_checks.specs.ShownRows.{HasNoMeaning, ShowsAll, ShowsFirst}
 use Rattle.register_store.specs.declared.error.CheckError.{CheckError}
 use Rattle.register_store.specs.declared.table.TableName.{TableName}
-use Rattle.register_store.specs.CheckedTables.{AreNewer, IsOdd, IsReasonAt, ShowsRows, check_error}
+use Rattle.register_store.specs.CheckedTables.{AreNewer, IsOdd, ShowsRows, check_error, check_text}
 use Rattle.register_store.specs.Within.CheckedTables.{ChecksTable}
-use Rattle.register_store.specs.CheckedTables.{check_text}
 use Rattle.register_store.specs.Stored.{HoldsStored, Part, Stored, with_part}
 use Rattle.register_store.specs.CheckedRows.{HasShown, RefusesEach}
 use Rattle.register_store.specs.Within.CheckedRows.{IsAny}
@@ -58,13 +57,7 @@ module _ (name : TableName) {A : Type 0} (Shows : Row → A → Type 0) (P : A
   -- the same beside what a check keeps
   pub entries_read_beside : {Kept : Type 0}
       → (HasCleanDisk new → ShowsAll (check_text name) (λ rows. Kept × HasShown Shows P rows) old new) → Checked (Ok tt)
-  entries_read_beside all =
-      entries_read (λ clean. let it = all clean in record {
-        rows = it.rows;
-        shown = it.shown;
-        holds = it.holds.1;
-        same = it.same;
-      })
+  entries_read_beside all = search (arith, entries_read)
 
   odd : (rows : List Row) → RefusesEach Shows P rows → (tail : List Row) → IsOdd name t (rows ++ tail)
   odd rows refuses tail = record {
@@ -81,8 +74,7 @@ module _ (name : TableName) {A : Type 0} (Shows : Row → A → Type 0) (P : A
   entries_fail error e is meaning refused memory =
       checks_table name t are.within are.own (newer_not t) IsAny (λ c d x like says. tt) are.one old new (Err e)
       (λ clean. tt)
-      (λ clean. subst (IsReasonAt name t old new) (sym is)
-      (reason_of name t old new (RefusesEach Shows P) error (meaning clean) (refused clean) (memory clean) (λ _. odd)))
+      (search (arith, reason_of, odd))
       survives
 
   -- the same of the error that a call hands on

@@ -1,13 +1,12 @@
 -- A statement that writes one table leaves every other as it was: so it proves its own table alone.
-use Rattle.std.proofs.Common.{◌≡◌, ℕ, sym, subst}
+use Rattle.std.proofs.Common.{◌≡◌, ℕ, sym, subst, arith}
 use Rattle.sqlite.specs.Effect.{Database}
-use Rattle.sqlite.specs.Table.{Table}
 use Rattle.sqlite_rules.proofs.ListLemmas.{all_has}
 use Rattle.sql_steps.proofs.Written.{Kept, Wrote}
 use Rattle.sqlite.specs.Order.{Row as Cells}
 use Rattle.std.specs.Prelude.{List}
 use Rattle.register_store.specs.declared.table.TableName.{TableName}
-use Rattle.register_store.specs.Tables.{Layout, table_of, Tables, Content, content, with_content, IsInRange}
+use Rattle.register_store.specs.Tables.{Layout, Tables, Content, with_content, IsInRange}
 use Rattle.register_store.specs.Within.Tables.{Shows}
 use Rattle.register_store.specs.Schema.{schema_with, Holds, rows_of}
 use Rattle.register_store.proofs.EachTable.{each, content_with}
@@ -15,10 +14,7 @@ use Rattle.register_store.proofs.EachTable.{each, content_with}
 module _ (l : Layout) (written : ℕ → Type 0) (old new : Database) (kept : Kept (schema_with l) written old new) where
   -- a table that was not written has its rows
   pub rows_kept : (name : TableName) → (written (l.tree name) → ⊥) → rows_of l name new ≡ rows_of l name old
-  rows_kept name free =
-      subst (λ (tree : ℕ). (written tree → ⊥) → new.trees tree ≡ old.trees tree) ((each name).tree_is l)
-      (all_has (λ (t : Table). (written t.tree → ⊥) → new.trees t.tree ≡ old.trees t.tree) (schema_with l).tables
-      (table_of l name) kept.others ((each name).listed l)) free
+  rows_kept name free = search (arith, each, all_has)
 
 -- the tables with another content of this one
 pub holds_with : (name : TableName) (c : Content name) (t : Tables) (old new : Database) (rows : List Cells)
@@ -33,6 +29,5 @@ holds_with name c t old new rows holds wrote in_range shows =
       in_range = λ other. content_with IsInRange name other c t in_range (λ apart. holds.in_range other);
       shown = λ other. content_with (λ n held. Shows n held (rows_of l n new)) name other c t
           (subst (Shows name c) (sym wrote.rows_are) shows)
-          (λ other_place. subst (Shows other (content other t))
-          (sym (kept other (λ same. other_place (holds.schema.apart other name same)))) (holds.shown other));
+          (search arith);
     }

@@ -1,15 +1,13 @@
 -- What an UPDATE of keys does: of the one with a number, or of any others.
 use Rattle.std.proofs.Common.{◌≡◌, ◌==◌, ℕ, ◌+◌, pos, List, [], ◌∷◌, ◌++◌, codes, map, Bool, cond, Ok, Option, Some}
-use Rattle.std.proofs.Common.{not}
-use Rattle.std.proofs.Common.{◌&&◌, true, false, refl, sym, ap, ap₂, subst, ◌∙◌}
+use Rattle.std.proofs.Common.{not, ◌&&◌, true, false, refl, sym, ap₂, subst, arith}
 use Rattle.std.proofs.Math.Bool.{and-true}
 use Rattle.std.specs.List.{AllByRecursion, enumerate_from}
-use Rattle.sqlite.specs.declared.types.Value.{Value}
 use Rattle.sqlite.specs.declared.types.Value.TheVariants.{Int, Text as Words}
 use Rattle.sqlite.specs.Collation.TheVariants.{Binary}
 use Rattle.sqlite.specs.Order.{Row as Cells}
 use Rattle.sqlite.specs.State.{State as View, Executes}
-use Rattle.sqlite.specs.Ops.{from_truth, is_true, unary}
+use Rattle.sqlite.specs.Ops.{from_truth}
 use Rattle.sqlite.specs.Term.{Term, eval, col, op1, op2}
 use Rattle.sqlite.specs.Tree.{IsTable}
 use Rattle.sqlite_sql.specs.declared.ops.BinaryOp.TheVariants.{Compare}
@@ -66,8 +64,7 @@ module _ (sql : List ℕ) (passes shown : List Term) (parts : IsUpdate sql passe
   passes_row = typed.check key_row (λ p. pos p.0) (λ _. refl) (keys (fresh [])) params passes shown set
 
   one : (n : ℕ) (k : Key) (b : Bool) → key_row (cond b (set (n, k)) (n, k)) ≡ key_row (n, cond b (f k) k)
-  one n k true = refl
-  one n k false = refl
+  one n k b = search arith
 
   in_range : (n : ℕ) (ks : List Key) → AllByRecursion IsKey ks
       → AllByRecursion IsKey (map (changed_where is_for f) (enumerate_from n ks))
@@ -83,11 +80,7 @@ module _ (sql : List ℕ) (passes shown : List Term) (parts : IsUpdate sql passe
         → map key_row (map changed (enumerate_from n ks))
         ≡ map key_row (enumerate_from n (map (changed_where is_for f) (enumerate_from n ks)))
     each n [] = refl
-    each n (k ∷ ks) =
-        ap (λ b. key_row (cond b (set (n, k)) (n, k)) ∷ map key_row (map changed (enumerate_from (n + 1) ks)))
-        (is (n, k))
-        ∙ ap (λ row. row ∷ map key_row (map changed (enumerate_from (n + 1) ks))) (one n k (is_for (n, k)))
-        ∙ ap (λ rows. key_row (n, changed_where is_for f (n, k)) ∷ rows) (each (n + 1) ks)
+    each n (k ∷ ks) = search (arith, one, each (n + 1) ks)
 
     -- each key that passes is changed, and no other
     pub changes_keys : ((p : ℕ × Key) → image_of p ≡ key_row (set p)) → (old new : View) (count : ℕ)
@@ -142,11 +135,7 @@ AreLaterDates d = (initial : ℕ) → IsMoment initial → AreDates (record d { 
 
 stays_key : (owner : List ℕ) (row : Row) → IsName owner → AreLaterDates row.dates → (k : Key) → IsKey k
     → IsKey (held_by owner row k)
-stays_key owner row name dates k is = record {
-  owner = name;
-  purpose = is.purpose;
-  dates = dates k.row.dates.initial is.dates.initial;
-}
+stays_key owner row name dates k is = search arith
 
 module _ (number : ℕ) (owner : List ℕ) (row : Row) where
   abbrev is_to_change : ℕ × Key → Bool
@@ -158,9 +147,7 @@ module _ (number : ℕ) (owner : List ℕ) (row : Row) where
       let d = row.dates in
       let e = k.row.dates in
       let date = λ (a b : Option ℕ). equal_integers (date_cell a) (date_cell b) in
-      both_so _ _ _ _ (both_so _ _ _ _ (both_so _ _ _ _ (both_so _ _ _ _ (both_so _ _ _ _ (both_so _ _ _ _
-      (both_so _ _ _ _ (equal_texts k.owner owner) (equal_integers (state_code k.row.state) (state_code row.state)))
-      (date e.activation d.activation)) (date e.protect_stop d.protect_stop)) (date e.deactivation d.deactivation))
+      both_so _ _ _ _ (both_so _ _ _ _ (both_so _ _ _ _ (search (arith, both_so, equal_texts, equal_integers))
       (date e.destroy d.destroy)) (date e.compromise d.compromise))
       (date e.compromise_occurrence d.compromise_occurrence)
 
@@ -179,9 +166,7 @@ module _ (number : ℕ) (owner : List ℕ) (row : Row) where
   updates_key name dates old new count ran t holds always =
       let made = changes_keys key_text differs key_given key_parts (key_params number owner row) is_to_change
       (held_by owner row) (stays_key owner row name dates)
-      (λ p. ap₂ (λ (a : Bool) (v : Value). a && (is_true (unary Not v) && true)) (equal_numbers p.0 number)
-      (condition_is p.1)
-      ∙ ap (λ (b : Bool). (p.0 == number) && b) (and-true _ ∙ opposite (stands owner row p.1)))
+      (search (arith, ap₂, equal_numbers, condition_is, and-true, opposite, stands))
       (λ p. simp (cast_int, cast_null)) old new count ran in
       subst (λ ks. Holds (record t { keys = ks }) new.now) (all_alike dates 1 t.keys (holds.in_range Keys))
       (made t holds tt)

@@ -1,6 +1,6 @@
 -- What the statements do by which an entry is taken out of a table by its number, and by which one is put in.
-use Rattle.std.proofs.Common.{◌≡◌, ◌≢◌, ◌==◌, ℕ, List, [], ◌∷◌, ◌++◌, filter, not, slice_get, true, false, Some, Ok}
-use Rattle.std.proofs.Common.{sym, ap, subst, Bool, Result, ◌∙◌, pos}
+use Rattle.std.proofs.Common.{◌≡◌, ◌≢◌, ◌==◌, ℕ, List, [], ◌∷◌, ◌++◌, filter, not, slice_get, false, Some, Ok, sym, ap}
+use Rattle.std.proofs.Common.{subst, Bool, Result, pos, arith}
 use Rattle.std.proofs.lemmas.Bool.{eq-eqb}
 use Rattle.std.specs.List.{AllByRecursion}
 use Rattle.sqlite.specs.declared.types.Value.TheVariants.{Int}
@@ -110,10 +110,7 @@ module _ {A : Type 0} {key_of : A → ℕ} {row_of cells_of : A → Cells} {IsOn
 
     -- where the entry of a number is taken out, none has it
     none_left : (n : ℕ) (t : Tables) → HasNone n (without n t)
-    none_left n t a h same =
-        let there = subst (λ rest. Has rest a) (table.entries_are (filter (is_other n) (entries t)) t) h in
-        let passes = (has_filtered (is_other n) (entries t) a there).1 in
-        absurd (let off : not true ≡ true = sym (ap not (eq-eqb _ _ same)) ∙ passes in cc)
+    none_left n t a h same = search (arith, has_filtered, not, eq-eqb)
 
     -- an entry is put in the place of that of its number: the one is taken out, then the other is put in
     pub put_anew : {X Y E F : Type 0} (a : A) (old mid new : State) (x : X) (r : Result Y F)

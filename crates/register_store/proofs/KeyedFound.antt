@@ -1,6 +1,6 @@
 -- What a search finds in a table whose rows go by a number of their own: the value of the entry with the number.
-use Rattle.std.proofs.Common.{◌≡◌, ◌==◌, inl, inr, ℕ, pos, Bool, true, false, cond, List, [], ◌∷◌, map, filter}
-use Rattle.std.proofs.Common.{Option, None, Some, Ok, Err, refl, sym, ap, subst, ◌∙◌}
+use Rattle.std.proofs.Common.{◌≡◌, ◌==◌, inl, inr, ℕ, pos, Bool, true, false, cond, List, [], ◌∷◌, map, filter, Option}
+use Rattle.std.proofs.Common.{None, Some, Ok, Err, refl, sym, ap, subst, ◌∙◌, arith}
 use Rattle.std.proofs.lemmas.Bool.{cases_Bool, eqb-true}
 use Rattle.std.proofs.lemmas.List.Sorted.{IsPermutation-map}
 use Rattle.std.specs.Prelude.{find}
@@ -75,8 +75,7 @@ module _ {A X : Type 0} {key_of : A → ℕ} {value_of : A → X} {row_of : A �
   picks t old holds =
       let rows = rows_of holds.schema.layout name old.now in
       let passing : filter check (map row_of (entries t)) ≡ map row_of (filter is_its (entries t)) =
-      filter-map check row_of (entries t) ∙ ap (map row_of) (filter_same (λ a. check (row_of a)) is_its (entries t)
-      (all_of (λ a. check (row_of a) ≡ is_its a) (keyed.check_is n) (entries t))) in
+      filter-map check row_of (entries t) ∙ ap (map row_of) (grind (arith, filter_same, all_of)) in
       let right : map row_shown (filter check (map row_of (entries t))) ≡ map cells (its_values t) =
       ap (map row_shown) passing ∙ map-map row_shown row_of (filter is_its (entries t))
       ∙ shown_each (filter is_its (entries t)) ∙ sym (map-map cells value_of (filter is_its (entries t))) in
@@ -105,13 +104,7 @@ module _ {A X : Type 0} {key_of : A → ℕ} {value_of : A → X} {row_of : A �
 
   none_at : (sets : List A) → map value_of (filter is_its sets) ≡ [] → find is_its sets ≡ None
   none_at [] none = refl
-  none_at (x ∷ xs) none = by (is_its x) none (none_at xs)
-    where
-      by : (b : Bool) → map value_of (cond b (x ∷ filter is_its xs) (filter is_its xs)) ≡ []
-          → (map value_of (filter is_its xs) ≡ [] → find is_its xs ≡ None)
-          → cond b (Some x) (find is_its xs) ≡ None
-      by true e rest = absurd cc
-      by false e rest = rest e
+  none_at (x ∷ xs) none = search (arith, none_at xs)
 
   -- a value that stands at the number is the one
   is_value : (t : Tables) (old : State) → Holds t old.now → (x : X) → Has (its_values t) x → value_at t ≡ Some x

@@ -1,13 +1,11 @@
 -- What a table shows whose rows go by a number of their own, after a row is added or some are taken out.
 use Rattle.std.proofs.Common.{◌≡◌, ◌≢◌, inl, inr, ℕ, pos, List, [], ◌∷◌, ◌++◌, map, filter, Bool, IsTrue, refl, sym, ap}
-use Rattle.std.proofs.Common.{subst, ◌∙◌}
+use Rattle.std.proofs.Common.{subst, ◌∙◌, arith}
 use Rattle.std.proofs.lemmas.List.{map-append}
 use Rattle.std.proofs.lemmas.List.Sorted.{IsPermutation-append, IsPermutation-append_comm, IsPermutation-middle}
 use Rattle.std.proofs.lemmas.List.Sorted.{IsPermutation-refl, IsPermutation-sym, IsPermutation-trans}
 use Rattle.std.specs.List.Sorted.{IsPermutation}
-use Rattle.std.specs.Cmp.{int_ranks}
-use Rattle.std.specs.Ordering.{MatchOrdering, match_ordering, int_cmp}
-use Rattle.std.specs.Prelude.{◌<ℤ◌}
+use Rattle.std.specs.Ordering.{match_ordering, int_cmp}
 use Rattle.std.proofs.lemmas.Cmp.{tied_itself, int_cmp_total}
 use Rattle.std.specs.declared.cmp.Ordering.{Ordering}
 use Rattle.std.specs.declared.cmp.Ordering.TheVariants.{Less, Equal, Greater}
@@ -43,16 +41,10 @@ put_new new (x ∷ xs) none = go (value_cmp (rowid x) (rowid new)) refl (put_new
     go Greater e more = IsPermutation-refl (new ∷ x ∷ xs)
 
 same_number : (m n : ℕ) → int_cmp (pos m) (pos n) ≡ Equal → m ≡ n
-same_number m n e = ranked (int_cmp (pos m) (pos n)) (int_ranks (pos m) (pos n)) e
-  where
-    ranked : (o : Ordering) → MatchOrdering o (pos m <ℤ pos n) (pos m ≡ pos n) (pos n <ℤ pos m) → o ≡ Equal → m ≡ n
-    ranked Less low is = absurd cc
-    ranked Equal same is = cc
-    ranked Greater high is = absurd cc
+same_number m n e = search arith
 
 number_same : (m n : ℕ) → m ≡ n → int_cmp (pos m) (pos n) ≡ Equal
-number_same m n is =
-    subst (λ (k : ℕ). int_cmp (pos m) (pos k) ≡ Equal) is (tied_itself int_cmp_total (pos m))
+number_same m n is = search (arith, tied_itself, int_cmp_total)
 
 module _ {A : Type 0} (row_of : A → Cells) (key_of : A → ℕ) (rowid_is : (a : A)
     → rowid (row_of a) ≡ Int (pos (key_of a))) where
@@ -75,9 +67,7 @@ module _ {A : Type 0} (row_of : A → Cells) (key_of : A → ℕ) (rowid_is : (a
       subst (λ v. IsTrue (is_int v)) (sym (ap rowid it.2 ∙ rowid_is it.0)) refl)
 
   compared : (a b : A) → value_cmp (rowid (row_of a)) (rowid (row_of b)) ≡ int_cmp (pos (key_of a)) (pos (key_of b))
-  compared a b =
-      ap (value_cmp (rowid (row_of a))) (rowid_is b) ∙ ap (λ v. value_cmp v (Int (pos (key_of b)))) (rowid_is a)
-      ∙ value_cmp-Int (pos (key_of a)) (pos (key_of b))
+  compared a b = search (arith, value_cmp-Int)
 
   apart_rows : (a b : A) → key_of a ≢ key_of b → value_cmp (rowid (row_of a)) (rowid (row_of b)) ≢ Equal
   apart_rows a b off same = off (same_number (key_of a) (key_of b) (sym (compared a b) ∙ same))
@@ -101,16 +91,14 @@ module _ {A : Type 0} (row_of : A → Cells) (key_of : A → ℕ) (rowid_is : (a
         rows_are = IsPermutation-trans _ _ _ (put_new (row_of new) rows free)
             (IsPermutation-trans _ _ _ (IsPermutation-append (row_of new ∷ []) (row_of new ∷ []) rows
             (map row_of entries) (IsPermutation-refl (row_of new ∷ [])) shows.rows_are)
-            (subst (IsPermutation (row_of new ∷ map row_of entries)) (sym (map-append row_of entries (new ∷ [])))
-            (IsPermutation-append_comm (row_of new ∷ []) (map row_of entries))));
+            (search (arith, map-append, IsPermutation-append_comm)));
         ordered = IsTable-put_row (row_of new) rows shows.ordered;
       }
 
   pub keyed_left : (p : Cells → Bool) (q : A → Bool) → ((a : A) → p (row_of a) ≡ q a) → (entries : List A)
       (rows : List Cells) → ShowsKeyed row_of entries rows → ShowsKeyed row_of (filter q entries) (filter p rows)
   keyed_left p q each entries rows shows = record {
-    rows_are = subst (IsPermutation (filter p rows)) (filter-map p row_of entries ∙ ap (map row_of)
-        (filter_same (λ a. p (row_of a)) q entries (all_of (λ a. p (row_of a) ≡ q a) each entries)))
+    rows_are = subst (IsPermutation (filter p rows)) (search (arith, filter-map, filter_same, all_of))
         (filter_permutation p rows (map row_of entries) shows.rows_are);
     ordered = ascending-filter _ p rows shows.ordered;
   }

@@ -1,11 +1,10 @@
 -- The check of the table of keys.
-use Rattle.std.proofs.Common.{◌≡◌, ◌≢◌, ◌==◌, ◌≤◌, ◌<◌, ◌+◌, Bool, true, false, inr, ℕ, suc, pos, Result, Ok, Err}
-use Rattle.std.proofs.Common.{List, [], ◌∷◌, ◌++◌, length, length-append, map, sym, ap, subst, ◌∙◌, refl, arith}
+use Rattle.std.proofs.Common.{◌≡◌, ◌≢◌, ◌==◌, ◌≤◌, ◌<◌, ◌+◌, Bool, true, false, ℕ, suc, Result, Ok, Err, List, [], ◌∷◌}
+use Rattle.std.proofs.Common.{◌++◌, length, length-append, map, sym, ap, subst, ◌∙◌, refl, arith, Option}
 use Rattle.std.proofs.lemmas.Bool.{eq-eqb, eqb-true}
 use Rattle.std.proofs.lemmas.List.{map-append}
 use Rattle.std.specs.List.{AllByRecursion, enumerate_from}
 use Rattle.std.specs.Global.{Vec}
-use Rattle.sqlite.specs.declared.types.Value.TheVariants.{Int}
 use Rattle.sqlite.specs.Effect.{Database as Db}
 use Rattle.sqlite.specs.Order.{Row}
 use Rattle.sqlite.specs.Program.{overlay}
@@ -23,13 +22,11 @@ use Rattle.register_store.specs.declared.error.CheckError.{CheckError}
 use Rattle.register_store.specs.declared.error.CheckError.TheVariants.{NotARegister}
 use Rattle.register_store.specs.declared.table.TableName.TheVariants.{Keys}
 use Rattle.register_requests.specs.declared.version.Version.{Version}
-use Rattle.register_store.specs.CheckedTables.{IsOdd, IsReasonAt, ShowsNumbered, ShowsRows, check_error}
+use Rattle.register_store.specs.CheckedTables.{IsOdd, ShowsNumbered, ShowsRows, check_error, check_text, mark_of}
 use Rattle.register_store.specs.Within.CheckedTables.{ChecksTable}
-use Rattle.register_store.specs.CheckedTables.{check_text, mark_of}
 use Rattle.register_store.specs.Schema.{rows_of}
 use Rattle.std.specs.Bool.{then_some}
 use Rattle.std.specs.Option.{ok_or}
-use Rattle.std.proofs.Common.{Option}
 use Rattle.register_store.specs.Stored.{HoldsStored, Stored, mark}
 use Rattle.register_store.specs.Tables.{Counts, IsKey, key_row, numbered}
 use Rattle.register_store.specs.CheckedRows.{AreCounted, HasKeys, RefusesKeys}
@@ -76,15 +73,8 @@ ends n (k ∷ j ∷ keys) e =
 
 module _ (found : Found) (count : ℕ) (owners : List (List ℕ)) (rows : List Row) (row : Row)
     (taken : HasKeys found count owners rows) where
-  rows_are : length rows ≡ count
-  rows_are =
-      show_length ShowsNumbered rows (numbered taken.keys) taken.are.shown ∙ length_numbered 1 taken.keys
-      ∙ sym taken.counted
-
   more_are : (keys : List Key) → AreCounted found (rows ++ row ∷ []) keys → length keys ≡ suc count
-  more_are keys are =
-      let shown = show_length ShowsNumbered (rows ++ row ∷ []) (numbered keys) are.shown in
-      omega (arith, shown, length_numbered 1 keys, length-append rows (row ∷ []), rows_are)
+  more_are keys are = search (arith, show_length, length_numbered, length-append)
 
   -- one row more than are counted
   pub keys_full : found.keys ≤ count → RefusesKeys found (rows ++ row ∷ [])
@@ -95,16 +85,12 @@ module _ (found : Found) (count : ℕ) (owners : List (List ℕ)) (rows : List R
       → RefusesKeys found (rows ++ row ∷ [])
   keys_odd odd keys are =
       let it = ends count keys (more_are keys are) in
-      let all : numbered keys ≡ numbered it.0 ++ (1 + length it.0, it.1) ∷ [] = ap numbered it.2
-      ∙ enumerate_append 1 it.0 it.1 in
+      let all : numbered keys ≡ numbered it.0 ++ (1 + length it.0, it.1) ∷ [] = grind (arith, enumerate_append) in
       let last = (show_split ShowsNumbered rows row (numbered it.0) (
         1 + length it.0,
         it.1,
       ) (subst (ShowEach ShowsNumbered (rows ++ row ∷ [])) all are.shown)).1 in
-      let next : 1 + length it.0 ≡ count + 1 = omega (arith, it.3) in
-      odd it.1 (subst (λ n. ShowsNumbered row (n, it.1)) next last)
-      (all_last (IsSoundAt found.version found.latest) it.0 it.1
-      (subst (AllByRecursion (IsSoundAt found.version found.latest)) it.2 are.sound))
+      let next : 1 + length it.0 ≡ count + 1 = omega (arith, it.3) in search (arith, all_last)
 
   -- the row of the next key
   pub keys_more : count < found.keys → (k : Key) → ShowsNumbered row (count + 1, k)
@@ -113,22 +99,7 @@ module _ (found : Found) (count : ℕ) (owners : List (List ℕ)) (rows : List R
   keys_more room k shows sound more is =
       let counted = taken.counted in
       let next : count + 1 ≡ 1 + length taken.keys = omega (arith, counted) in
-      let long = length-append taken.keys (k ∷ []) in
-      record {
-        keys = taken.keys ++ k ∷ [];
-        are = record {
-          shown = subst (ShowEach ShowsNumbered (rows ++ row ∷ [])) (sym (enumerate_append 1 taken.keys k))
-              (show_more ShowsNumbered rows (numbered taken.keys) row (
-                1 + length taken.keys,
-                k,
-              ) taken.are.shown (subst (λ n. ShowsNumbered row (n, k)) next shows));
-          sound = all_more (IsSoundAt found.version found.latest) taken.keys k taken.are.sound sound;
-          within = omega (arith, long, counted, room);
-        };
-        counted = omega (arith, long, counted);
-        owners_are = is ∙ ap (λ l. l ++ k.owner ∷ []) taken.owners_are
-            ∙ sym (map-append (λ (k : Key). k.owner) taken.keys (k ∷ []));
-      }
+      let long = length-append taken.keys (k ∷ []) in search (arith, enumerate_append, show_more, all_more, map-append)
 
 -- ---- a register's own rows
 
@@ -136,20 +107,15 @@ own_shown : (n : ℕ) (keys : List Key) → AllByRecursion IsKey keys
     → ShowEach ShowsNumbered (map (shown_of 0 (shown_of_table Keys)) (map key_row (enumerate_from n keys)))
     (enumerate_from n keys)
 own_shown n [] all = tt
-own_shown n (k ∷ keys) all = (
-  record { cells = shows_key k (Int (pos n) ∷ []) all.0; number = refl; in_range = all.0 },
-  own_shown (n + 1) keys all.1,
-)
+own_shown n (k ∷ keys) all = search (arith, shows_key, own_shown (n + 1) keys all.1)
 
 pub own_keys : (t : Stored) (db : Db) (rows : List Row) (holds : HoldsStored t db)
     → AnswersTo holds.schema.layout Keys db rows → ShowsOwn Keys t rows
 own_keys t db rows holds sure =
-    let table : IsTable (rows_of holds.schema.layout Keys db) =
-    subst IsTable (sym (holds.shown Keys)) (is_table t.tables.keys) in
+    let table : IsTable (rows_of holds.schema.layout Keys db) = grind (arith, is_table) in
     let is = in_order (holds.schema.layout.tree Keys) (shown_of_table Keys) (overlay db.trees []) rows
     (subst IsTable (sym (shows_all db.trees (holds.schema.layout.tree Keys))) table) sure
-    ∙ ap (map (shown_of 0 (shown_of_table Keys))) (shows_all db.trees (holds.schema.layout.tree Keys)
-    ∙ holds.shown Keys) in
+    ∙ ap (map (shown_of 0 (shown_of_table Keys))) (search (arith, shows_all)) in
     record {
       c = t.tables.keys;
       shows = subst (λ rs. ShowEach ShowsNumbered rs (numbered t.tables.keys)) (sym is)
@@ -171,21 +137,10 @@ one_keys rows c d x y =
 
 -- no row yet
 pub keys_begin : (found : Found) (owners : List (List ℕ)) → owners ≡ [] → HasKeys found 0 owners []
-keys_begin found owners none = record {
-  keys = [];
-  are = record { shown = tt; sound = tt; within = omega arith };
-  counted = refl;
-  owners_are = none;
-}
+keys_begin found owners none = search arith
 
 module _ (t : Stored) (found : Found) (told : mark_of found ≡ mark t) (old new : State)
     (survives : Survives old new (λ _. ⊥)) where
-  latest_is : found.latest ≡ t.tables.counts.latest
-  latest_is = ap (λ (m : Version × Counts). m.1.latest) told
-
-  version_is : found.version ≡ t.version
-  version_is = ap (λ (m : Version × Counts). m.0) told
-
   keys_within : IsWithin Keys t.version
   keys_within = in_both Keys (omega arith) t.version
 
@@ -194,21 +149,7 @@ module _ (t : Stored) (found : Found) (told : mark_of found ≡ mark t) (old new
 
   -- rows that do not pass do not begin rows that do
   odd_on : (rows : List Row) → RefusesKeys found rows → (tail : List Row) → IsOdd Keys t (rows ++ tail)
-  odd_on rows refuses tail = record {
-    fails = λ keys shows meets.
-        let prefix = show_prefix ShowsNumbered rows tail (numbered keys) shows in
-        let it = numbered_prefix 1 keys prefix.0 prefix.1 prefix.2 in
-        let counted = meets.counted in
-        let sound = subst (λ v. AllByRecursion (IsSoundAt v found.latest) keys) (sym version_is)
-        (subst (λ l. AllByRecursion (IsSoundAt t.version l) keys) (sym latest_is) meets.sound) in
-        refuses it.0 (record {
-          shown = subst (ShowEach ShowsNumbered rows) it.3 prefix.3;
-          sound = all_prefix (IsSoundAt found.version found.latest) it.0 it.1
-              (subst (AllByRecursion (IsSoundAt found.version found.latest)) it.2 sound);
-          within = omega (arith, ap length it.2, length-append it.0 it.1, counted, key_count_is);
-        });
-    no_newer = λ none. none;
-  }
+  odd_on rows refuses tail = search (arith, show_prefix, numbered_prefix, all_prefix, length-append, key_count_is)
 
   abbrev Checked : Result (Vec (List ℕ)) CheckError → Type 0
   Checked q = ChecksTable Keys t AreOwners old new q
@@ -220,19 +161,7 @@ module _ (t : Stored) (found : Found) (told : mark_of found ≡ mark t) (old new
   keys_read count owners all is =
       checks_table Keys t keys_within (own_keys t) (newer_not t) AreOwners
       (λ c d x like says. says ∙ ap owners_of like) one_keys old new (Ok owners)
-      (λ clean.
-      let it = all clean in
-      let keys = it.holds.keys in
-      let counted = it.holds.counted in (
-        keys,
-        record { rows = it.rows; shown = it.shown; holds = it.holds.are.shown; same = it.same },
-        record {
-          counted = sym counted ∙ is clean ∙ key_count_is;
-          sound = subst (λ l. AllByRecursion (IsSoundAt t.version l) keys) latest_is
-              (subst (λ v. AllByRecursion (IsSoundAt v found.latest) keys) version_is it.holds.are.sound);
-        },
-        it.holds.owners_are,
-      ))
+      (search (arith, key_count_is))
       (λ clean. tt) survives
 
   -- fewer than are counted
@@ -242,21 +171,7 @@ module _ (t : Stored) (found : Found) (told : mark_of found ≡ mark t) (old new
   keys_fewer count owners all off =
       checks_table Keys t keys_within (own_keys t) (newer_not t) AreOwners
       (λ c d x like says. says ∙ ap owners_of like) one_keys old new (Err NotARegister) (λ clean. tt)
-      (λ clean.
-      let it = all clean in (
-        inr (inr (record {
-          rows = it.rows;
-          shown = it.shown;
-          holds = record {
-            fails = λ keys shows meets.
-                let same = one_keys it.rows it.holds.keys keys it.holds.are.shown shows in
-                off clean (it.holds.counted ∙ ap length same ∙ meets.counted ∙ sym key_count_is);
-            no_newer = λ none. none;
-          };
-          same = it.same;
-        })),
-        it.same,
-      ))
+      (search (arith, one_keys, key_count_is))
       survives
 
   -- an error of the reader
@@ -269,9 +184,7 @@ module _ (t : Stored) (found : Found) (told : mark_of found ≡ mark t) (old new
   keys_fail error (Err e) is meaning refused memory =
       checks_table Keys t keys_within (own_keys t) (newer_not t) AreOwners
       (λ c d x like says. says ∙ ap owners_of like) one_keys old new (Err e) (λ clean. tt)
-      (λ clean. subst (IsReasonAt Keys t old new) (sym is)
-      (reason_of Keys t old new (RefusesKeys found) error (meaning clean) (refused clean) (memory clean)
-      (λ _. odd_on))) survives
+      (search (arith, reason_of, odd_on)) survives
 
   -- what is given of them
   module _ (seen : Found) (count : ℕ) (owners : Vec (List ℕ)) (all : HasCleanDisk new
@@ -296,5 +209,4 @@ module _ (t : Stored) (found : Found) (told : mark_of found ≡ mark t) (old new
 pub given_where : (all : Bool) (owners : Vec (List ℕ)) (found : Option (Vec (List ℕ)))
     (q : Result (Vec (List ℕ)) CheckError) → found ≡ then_some all owners → q ≡ ok_or found NotARegister
     → q ≡ owners_where all owners
-given_where true owners found q found_is is = is ∙ ap (λ o. ok_or o NotARegister) found_is
-given_where false owners found q found_is is = is ∙ ap (λ o. ok_or o NotARegister) found_is
+given_where all owners found q found_is is = search arith

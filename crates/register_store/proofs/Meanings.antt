@@ -2,7 +2,7 @@
 -- table up by its name, which computes; but whether it accepts the query it asks by the table's tree, and that has to
 -- be shown.
 use Rattle.std.proofs.Common.{◌≡◌, ◌<◌, ◌==◌, ◌^◌, inl, inr, ℕ, ◌&&◌, Bool, true, false, cond, List, [], ◌∷◌, map, take}
-use Rattle.std.proofs.Common.{Option, None, Some, Ok, Err, refl, sym, ap, subst, ◌∙◌, arith}
+use Rattle.std.proofs.Common.{Option, None, Some, Ok, sym, ap, subst, ◌∙◌, arith}
 use Rattle.std.specs.Prelude.{option_map, find, filter, nat_le}
 use Rattle.std.specs.List.{AllZip}
 use Rattle.std.specs.Option.{option_and_then}
@@ -23,7 +23,6 @@ use Rattle.sqlite_trees.specs.Objects.{catalog_tree}
 use Rattle.sqlite_draft.specs.declared.query.Draft.{Draft}
 use Rattle.sqlite_draft.specs.Query.{query_of}
 use Rattle.sqlite_resolve.specs.declared.compiled.Compiled.{Compiled}
-use Rattle.sqlite_resolve.specs.declared.error.CompileError.TheVariants.{Mismatch}
 use Rattle.sqlite_resolve.specs.Body.{table_at}
 use Rattle.sqlite_resolve.specs.Program.{query, program}
 use Rattle.sqlite_resolve.specs.Write.{updated, deleted}
@@ -33,11 +32,10 @@ use Rattle.sqlite_rules.specs.Lists.{Has}
 use Rattle.sqlite_sql.specs.Query.{Query, inner, end}
 use Rattle.sqlite_syntax.specs.declared.statement.Parsed.{Parsed}
 use Rattle.sqlite_typing.specs.declared.class.Class.{Class}
-use Rattle.sqlite_typing.specs.Types.{accepts_over, accepts_after, filled, is_count, table_classes, row_classes}
+use Rattle.sqlite_typing.specs.Types.{accepts_after, is_count, table_classes, row_classes}
 use Rattle.sqlite_value.specs.declared.keys.Collation.{Collation}
 use Rattle.register_store.specs.declared.table.TableName.{TableName}
 use Rattle.register_requests.specs.declared.version.Version.{Version}
-use Rattle.register_requests.specs.declared.version.Version.TheVariants.{First, Second}
 use Rattle.register_requests.specs.Version.{current}
 use Rattle.register_store.specs.Tables.{Layout, AreApart, AreApartBelow, AreApartIn, Tables, all_tables, place_of}
 use Rattle.register_store.specs.Tables.{table_count, table_of}
@@ -63,9 +61,7 @@ pub record Meant (s : Schema) (sql : List ℕ) (c : Command) : Type 0 where
 
 compiled_so : (s : Schema) (sql : List ℕ) (p : Parsed) (c : Command) → compiled s sql ≡ Ok (means p c) → Meant s sql c
 unfolding understood
-compiled_so s sql p c is =
-    let whole : understood s sql ≡ Ok (means p c) = rw is refl in
-    record { is = ap command_of whole; plain = subst IsPlain (sym whole) (refl, refl); unlisted = rw is refl }
+compiled_so s sql p c is = search (arith, command_of)
 
 -- the text asks the table
 pub record Asks (s : Schema) (table : Table) (sql : List ℕ) (q : Query) (names : List (List ℕ)) : Type 0 where
@@ -120,18 +116,12 @@ module _ (s : Schema) (table : Table) (has : table_classes s [] table.tree ≡ S
       → accepts_classes (query_of d) (Some (row_classes table)) ≡ true → program s [] d
       ≡ Ok (record { lets = []; body = query_of d })
   unfolding program
-  programs d from accepted =
-      let q = query_of d in
-      let over : accepts_over s [] q [] ≡ true =
-      ap (λ j. accepts_after [] q (filled s [] [] j []) && (is_count [] q.limit && is_count [] q.offset)) from
-      ∙ ap (accepts_classes q) has ∙ accepted in
-      ap (λ b. cond b (Ok (record { lets = []; body = q })) (Err Mismatch)) over
+  programs d from accepted = search arith
 
   asked_so : (sql : List ℕ) (q : Query) (names : List (List ℕ)) (a : Asks s table sql q names) → compiled s sql
       ≡ Ok (means a.p (Select (record { lets = []; body = query_of a.d }) names))
   unfolding compiled planned meaning returning timed command read
-  asked_so sql q names a =
-      let programmed = programs a.d a.from a.accepted in rw (a.parsed, a.untimed, a.is, a.drafted, programmed) refl
+  asked_so sql q names a = search (arith, programs)
 
   pub asks : (sql : List ℕ) (q : Query) (names : List (List ℕ)) → Asks s table sql q names
       → Meant s sql (Select (record { lets = []; body = q }) names)
@@ -141,8 +131,7 @@ module _ (s : Schema) (table : Table) (has : table_classes s [] table.tree ≡ S
   set_so : (sql : List ℕ) (at : ℕ) (q : Query) (a : Sets s table at sql q) → compiled s sql
       ≡ Ok (means a.p (Update at (record { lets = []; body = query_of a.d })))
   unfolding compiled planned meaning returning timed command update shows
-  set_so sql at q a = let programmed =
-      programs a.d a.from a.accepted in rw (a.parsed, a.untimed, a.is, a.named, a.there, a.drafted, programmed) refl
+  set_so sql at q a = search (arith, programs)
 
   pub sets : (sql : List ℕ) (at : ℕ) (q : Query) → Sets s table at sql q
       → Meant s sql (Update at (record { lets = []; body = q }))
@@ -152,16 +141,7 @@ module _ (s : Schema) (table : Table) (has : table_classes s [] table.tree ≡ S
   taken_so : (sql : List ℕ) (at : ℕ) (q : Query) (a : Takes s table at sql q) → compiled s sql
       ≡ Ok (means a.p (Delete at (record { lets = []; body = query_of a.d })))
   unfolding compiled planned meaning returning timed command delete shows
-  taken_so sql at q a =
-      let programmed = programs a.d a.from a.accepted in rw (
-        a.parsed,
-        a.untimed,
-        a.is,
-        a.named,
-        a.there,
-        a.drafted,
-        programmed,
-      ) refl
+  taken_so sql at q a = search (arith, programs)
 
   pub takes : (sql : List ℕ) (at : ℕ) (q : Query) → Takes s table at sql q
       → Meant s sql (Delete at (record { lets = []; body = q }))
@@ -187,8 +167,7 @@ low_in (r ∷ rows) (s ∷ tables) all t (inl same) = subst (λ (x : Table). x.t
 low_in (r ∷ rows) (s ∷ tables) all t (inr later) = low_in rows tables all.1 t later
 
 apart_below : (version : Version) (l : Layout) → AreApartIn version l → AreApartBelow (table_count version) l
-apart_below First l apart = apart
-apart_below Second l apart = λ a b low_a low_b same. apart a b same
+apart_below version l apart = search arith
 
 module _ (version : Version) where
   pub placed_of : (l : Layout) (db : Database) → db.schema ≡ schema_in version l → AreApartIn version l
@@ -218,11 +197,7 @@ found_in : (l : Layout) (name : TableName) (names : List TableName)
     → find (λ (t : Table). t.tree == l.tree name) (map (table_of l) names) ≡ Some (table_of l name)
 found_in l name [] apart h = absurd h
 found_in l name (n ∷ names) apart h = elim (cases_Bool ((table_of l n).tree == l.tree name)) [
-  | inl same ↦
-      let is : n ≡ name =
-      same_place name n (apart n (inl refl) (sym ((each n).tree_is l) ∙ eqb-true _ _ same)) in
-      ap (λ b. cond b (Some (table_of l n)) (find (λ (t : Table). t.tree == l.tree name) (map (table_of l) names)))
-      same ∙ ap (λ m. Some (table_of l m)) is
+  | inl same ↦ search (arith, same_place, each, eqb-true)
   | inr other ↦
       ap (λ b. cond b (Some (table_of l n)) (find (λ (t : Table). t.tree == l.tree name) (map (table_of l) names)))
       other ∙ found_in l name names (λ m has. apart m (inr has)) (later other h)

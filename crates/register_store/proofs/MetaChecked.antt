@@ -1,6 +1,6 @@
 -- The check of the table meta.
-use Rattle.std.proofs.Common.{◌≡◌, ◌≤◌, inl, inr, ℕ, Option, None, Some, Result, Ok, Err, List, [], ◌∷◌, ◌++◌, IfOk}
-use Rattle.std.proofs.Common.{IfErr, IsErrAnd, sym, ap, subst, ◌∙◌, refl, arith}
+use Rattle.std.proofs.Common.{◌≡◌, ◌≤◌, ℕ, Option, None, Some, Result, Ok, Err, List, [], ◌∷◌, ◌++◌, IfOk, IfErr}
+use Rattle.std.proofs.Common.{IsErrAnd, sym, ap, subst, ◌∙◌, refl, arith}
 use Rattle.sqlite.specs.Effect.{Database as Db}
 use Rattle.sqlite.specs.Order.{Row, column}
 use Rattle.sqlite.specs.Program.{overlay}
@@ -8,7 +8,7 @@ use Rattle.sqlite.specs.State.{State, HasCleanDisk, IsUnchanged, Survives}
 use Rattle.sqlite.specs.Tree.{IsTable}
 use Rattle.row_checks.specs.EachRow.{ShowEach}
 use Rattle.row_checks.specs.declared.error.RowsError.{RowsError}
-use Rattle.row_checks.specs.declared.error.RowsError.TheVariants.{NoMeaning, Refused, Memory, Database}
+use Rattle.row_checks.specs.declared.error.RowsError.TheVariants.{NoMeaning, Refused, Memory}
 use Rattle.row_checks.specs.ShownRows.{HasNoMeaning, ShowsAll, ShowsFirst}
 use Rattle.register_store.specs.declared.found.Found.{Found}
 use Rattle.register_store.specs.declared.error.CheckError.{CheckError}
@@ -16,12 +16,10 @@ use Rattle.register_store.specs.declared.error.CheckError.TheVariants.{NewerVers
 use Rattle.register_store.specs.declared.meta_check.MetaRow.{MetaRow}
 use Rattle.register_store.specs.declared.meta_check.MetaRow.TheVariants.{Newer, Counts as CountsKeys}
 use Rattle.register_store.specs.declared.table.TableName.TheVariants.{Meta}
-use Rattle.register_core.specs.Verdict.{max_keys}
 use Rattle.register_requests.specs.declared.version.Version.{Version}
-use Rattle.register_requests.specs.declared.version.Version.TheVariants.{First, Second}
 use Rattle.register_requests.specs.Version.{version_number}
-use Rattle.register_store.specs.CheckedTables.{HasNewer, IsOdd, IsReasonAt, ShowsCounts, ShowsNewer, ShowsRows}
-use Rattle.register_store.specs.CheckedTables.{check_error, check_text, mark_of}
+use Rattle.register_store.specs.CheckedTables.{HasNewer, IsOdd, IsReasonAt, ShowsCounts, ShowsRows, check_error}
+use Rattle.register_store.specs.CheckedTables.{check_text}
 use Rattle.register_store.specs.Within.CheckedTables.{ChecksTable}
 use Rattle.register_store.specs.Schema.{rows_of}
 use Rattle.register_store.specs.Stored.{HoldsStored, Stored, mark, with_part}
@@ -60,8 +58,7 @@ own_meta t db rows holds sure =
     }
 
 known_below : (v : Version) → version_number v ≤ version
-known_below First = omega arith
-known_below Second = omega arith
+known_below v = search arith
 
 -- its version is one that this program knows
 pub newer_not : (t : Stored) (found : ℕ) (old new : State) → HoldsStored t old.now → HasNewer found old new → ⊥
@@ -77,20 +74,10 @@ newer_not t found old new holds newer =
 pub told_as : (told is : Option MetaRow) (old new : State) → told ≡ is
     → (HasCleanDisk new → ShowsAll (check_text Meta) (HasMeta told) old new)
     → HasCleanDisk new → ShowsAll (check_text Meta) (HasMeta is) old new
-told_as told is old new same all clean =
-    subst (λ (it : Option MetaRow). ShowsAll (check_text Meta) (HasMeta it) old new) same (all clean)
-
-same_version : (a b : Version) → version_number a ≡ version_number b → a ≡ b
-same_version First First e = refl
-same_version Second Second e = refl
-same_version First Second e = absurd (omega (arith, e))
-same_version Second First e = absurd (omega (arith, e))
+told_as told is old new same all clean = search arith
 
 one_counts : (row : Row) (a b : Version × Counts) → ShowsCounts row a → ShowsCounts row b → a ≡ b
-one_counts row a b x y = λ i. (
-  same_version a.0 b.0 (same_number _ _ _ x.version_is y.version_is) i,
-  record { latest = same_number _ _ _ x.latest y.latest i; key_count = same_number _ _ _ x.key_count y.key_count i },
-)
+one_counts row a b x y = search (arith, same_number)
 
 one_meta : (rows : List Row) (c d : Version × Counts) → ShowsRows Meta rows c → ShowsRows Meta rows d → c ≡ d
 one_meta [] c d x y = absurd x
@@ -101,21 +88,7 @@ one_meta (row ∷ rows) c d x y = one_counts row c d x.0 y.0
 -- a second row
 pub two_refused : (told : Option MetaRow) (rows : List Row) (row : Row) → Rattle.std.specs.Prelude.IsSome told
     → HasMeta told rows → RefusesMeta (rows ++ row ∷ [])
-two_refused None rows row some taken = absurd (cc)
-two_refused (Some one) rows row some taken =
-    subst (λ rs. RefusesMeta (rs ++ row ∷ [])) (sym taken.1) (record {
-      uncounted = λ tail told shows few. shows.1;
-      no_newer = λ tail newer. let one_row = newer.2 in absurd cc;
-    })
-
--- one row, which counts no keys and is of no later version
-pub one_refused : (row : Row) → ((told : Version × Counts) → told.1.key_count ≤ max_keys → ¬ ShowsCounts row told)
-    → ((found : ℕ) → ¬ ShowsNewer row found) → RefusesMeta (row ∷ [])
-one_refused row none own = record {
-  uncounted = λ tail told shows few. none told few shows.0;
-  no_newer = λ tail newer. let same : row ≡ newer.0 = cc in
-      own newer.1 (subst (λ r. ShowsNewer r newer.1) (sym same) newer.3);
-}
+two_refused told rows row some taken = search arith
 
 module _ (t : Stored) (old new : State) (survives : Survives old new (λ _. ⊥)) where
   abbrev Checked : Result Found CheckError → Type 0
@@ -132,36 +105,12 @@ module _ (t : Stored) (old new : State) (survives : Survives old new (λ _. ⊥)
   -- all rows were read
   counts_told : (told : MetaRow) → (HasCleanDisk new → ShowsAll (check_text Meta) (HasMeta (Some told)) old new)
       → Checked (counts_in told)
-  counts_told (CountsKeys found) all = checked (Ok found)
-      (λ clean. let it = all clean in (
-        mark_of found,
-        record {
-          rows = it.rows;
-          shown = it.shown;
-          holds = subst (λ rows. ShowEach ShowsCounts rows (mark_of found ∷ [])) (sym it.holds.1)
-              (it.holds.2.0, tt);
-          same = it.same;
-        },
-        it.holds.2.1,
-        refl,
-      )) (λ clean. tt)
-  counts_told (Newer found) all = checked (Err (NewerVersion found)) (λ clean. tt)
-      (λ clean. let it = all clean in record {
-        row = it.holds.0;
-        shown = record { rows = it.rows; shown = it.shown; holds = it.holds.1; same = it.same };
-        newer = it.holds.2;
-      })
+  counts_told (CountsKeys found) all = checked (Ok found) (search arith) (λ clean. tt)
+  counts_told (Newer found) all = checked (Err (NewerVersion found)) (λ clean. tt) (grind arith)
 
   pub meta_told : (told : MetaRow) (q : Result Found CheckError) → q ≡ counts_in told
       → (HasCleanDisk new → ShowsAll (check_text Meta) (HasMeta (Some told)) old new) → Checked q
   meta_told told q is all = subst Checked (sym is) (counts_told told all)
-
-  -- no rows are those of no register
-  no_rows : (rows : List Row) → rows ≡ [] → IsOdd Meta t rows
-  no_rows rows none = record {
-    fails = λ c shows meets. subst (λ rs. ShowsRows Meta rs c) none shows;
-    no_newer = λ newer. let one_row : rows ≡ newer.0 ∷ [] = newer.2 in absurd cc;
-  }
 
   odd : (rows : List Row) → RefusesMeta rows → (tail : List Row) → IsOdd Meta t (rows ++ tail)
   odd rows refuses tail = record {
@@ -170,22 +119,13 @@ module _ (t : Stored) (old new : State) (survives : Survives old new (λ _. ⊥)
   }
 
   pub meta_none : (HasCleanDisk new → ShowsAll (check_text Meta) (HasMeta None) old new) → Checked (Err NotARegister)
-  meta_none all = checked (Err NotARegister) (λ clean. tt)
-      (λ clean. let it = all clean in (
-        inr (inr (record { rows = it.rows; shown = it.shown; holds = no_rows it.rows it.holds; same = it.same })),
-        it.same,
-      ))
+  meta_none all = checked (Err NotARegister) (λ clean. tt) (search arith)
 
   -- the rows do not pass, or were not read
   reason : (error : RowsError) → (error ≡ NoMeaning → HasNoMeaning (check_text Meta) old new)
       → (error ≡ Refused → ShowsFirst (check_text Meta) RefusesMeta old new) → (error ≡ Memory → IsUnchanged old new)
       → IsReasonAt Meta t old new (check_error error)
-  reason NoMeaning meaning refused memory = let it = meaning refl in (inl it, it.same)
-  reason Refused meaning refused memory =
-      let it = refused refl in
-      (inr (inl (record { rows = it.rows; shown = it.shown; holds = odd it.rows it.holds; same = it.same })), it.same)
-  reason Memory meaning refused memory = memory refl
-  reason (Database error) meaning refused memory = tt
+  reason error meaning refused memory = search (arith, odd)
 
   pub meta_fails : (error : RowsError) (q : Result Found CheckError) → IsErrAnd q (λ e. e ≡ check_error error)
       → (HasCleanDisk new → error ≡ NoMeaning → HasNoMeaning (check_text Meta) old new)
@@ -193,5 +133,4 @@ module _ (t : Stored) (old new : State) (survives : Survives old new (λ _. ⊥)
       → (HasCleanDisk new → error ≡ Memory → IsUnchanged old new) → Checked q
   meta_fails error (Ok found) is meaning refused memory = absurd is
   meta_fails error (Err e) is meaning refused memory =
-      subst (λ e. Checked (Err e)) (sym is) (checked (Err (check_error error)) (λ clean. tt)
-      (λ clean. reason error (meaning clean) (refused clean) (memory clean)))
+      subst (λ e. Checked (Err e)) (sym is) (search (arith, checked, reason))

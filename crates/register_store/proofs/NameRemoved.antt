@@ -13,7 +13,7 @@ use Rattle.sqlite_rules.specs.Action.{loses}
 use Rattle.sqlite_rules.specs.Lists.{Has}
 use Rattle.sqlite_trees.proofs.ListLemmas.{all-filter}
 use Rattle.sqlite_schema.specs.Names.{same_name}
-use Rattle.sqlite_schema.specs.Rules.{agree, has_null, is_held, parent_key, passes, Keeps}
+use Rattle.sqlite_schema.specs.Rules.{agree, has_null, parent_key, passes, Keeps}
 use Rattle.sqlite_schema.specs.declared.schema.Constraint.TheVariants.{ForeignKey}
 use Rattle.sqlite_tied.specs.Compute.{everything}
 use Rattle.sqlite_value.specs.Keys.{joined, plain}
@@ -31,10 +31,9 @@ use Rattle.register_store.specs.declared.table.TableName.TheVariants.{Custodian,
 use Rattle.register_store.specs.declared.stored_key.RoleChange.{RoleChange}
 use Rattle.register_store.specs.declared.stored_key.RoleChange.TheVariants.{Given, Taken}
 use Rattle.register_store.specs.Within.Roles.{change_text, with_role_changed}
-use Rattle.register_store.specs.Tables.{to_custodian, place_of, table_of, Layout, Tables}
-use Rattle.register_store.specs.Within.Tables.{custodian, approval}
-use Rattle.register_store.specs.Tables.{ShowsEntries, IsNamed, IsInRange, content, name_cells}
-use Rattle.register_store.specs.Within.Tables.{Shows}
+use Rattle.register_store.specs.Tables.{to_custodian, place_of, table_of, Layout, Tables, ShowsEntries, IsNamed}
+use Rattle.register_store.specs.Tables.{IsInRange, content, name_cells}
+use Rattle.register_store.specs.Within.Tables.{custodian, approval, Shows}
 use Rattle.register_store.specs.Schema.{schema_with, Holds, rows_of}
 use Rattle.register_store.specs.TableChanges.{Makes}
 use Rattle.register_store.specs.Within.TableChanges.{Always, without_custodian, without_approval, without_approvals}
@@ -46,8 +45,8 @@ use Rattle.register_store.proofs.Meanings.{Takes, classes, placed, takes}
 use Rattle.register_store.proofs.Frame.{holds_with, rows_kept}
 use Rattle.register_store.proofs.NameAdded.{adds_name}
 use Rattle.register_store.proofs.EntryRows.{entry_of, shows_filtered}
-use Rattle.register_store.proofs.NameChecks.{at_key, at_name, places, key_past, key_is, name_past, name_is}
-use Rattle.register_store.proofs.NameChecks.{same_cells, agree_same, loses_name}
+use Rattle.register_store.proofs.NameChecks.{at_key, at_name, places, key_past, key_is, name_past, name_is, same_cells}
+use Rattle.register_store.proofs.NameChecks.{agree_same, loses_name}
 
 -- the text takes rows that pass out of the table at this place
 abbrev IsDelete : List ℕ → TableName → List Term → Type 0
@@ -116,13 +115,10 @@ unfolding same_name joined
 parent_is l = refl
 
 null_past : (r : Cells) → has_null places r ≡ has_null places (Null ∷ drop 1 r)
-null_past [] = refl
-null_past (v ∷ vs) = refl
+null_past r = search arith
 
 stands : (a b : Bool) → a ≡ false → ((a || b) && true) ≡ true → b ≡ true
-stands true b none e = absurd (cc)
-stands false true none e = refl
-stands false false none e = absurd (cc)
+stands a b none e = search arith
 
 -- whoever approves is a custodian
 approver : (db : Database) (t : Tables) (holds : Holds t db) (r : Cells)
@@ -139,8 +135,7 @@ approver db t holds r h =
     let passing = all_has (λ row. passes ForeignKey (schema_with l) db.trees (approval l) row ≡ true)
     (rows_of l Approval db) r followed h in
     let full : has_null places r ≡ false = null_past r ∙ ap (λ cells. has_null places (Null ∷ cells)) a.1 in
-    let held = stands _ _ full (subst (λ key. ((has_null places r || is_held db.trees places r key) && true) ≡ true)
-    (parent_is l) passing) in
+    let held = stands _ _ full (search (arith, places, parent_is)) in
     let x = some_has (λ parent. agree plain places parent places r) (rows_of l Custodian db) held in
     let b = entry_of name_cells t.custodians (rows_of l Custodian db) (holds.shown Custodian) x.0 x.1 in
     (x.0, x.1, sym (same_cells x.0 r b.0 a.0 b.1 a.1 x.2))
@@ -222,8 +217,7 @@ module _ (key : ℕ) (name : List ℕ) where
             (λ no_custodian. subst (Shows n (content n t))
             (sym (other n (λ written. elim written [
               | inl e ↦ no_custodian (holds.schema.apart n Custodian e)
-              | inr e ↦ no_approval
-                  (holds.schema.apart n Approval e)
+              | inr e ↦ no_approval (holds.schema.apart n Approval e)
             ]))) (holds.shown n)));
       }
 

@@ -1,6 +1,6 @@
 -- What the searches for the names of a key's custodians and approvals find.
-use Rattle.std.proofs.Common.{◌≡◌, ◌≢◌, ℕ, pos, List, [], ◌∷◌, length, map, filter, drop, codes, Result, Ok, Err}
-use Rattle.std.proofs.Common.{IfOk, IfErr, OnOk, refl, sym, ap, subst, ◌∙◌}
+use Rattle.std.proofs.Common.{◌≡◌, ◌≢◌, ℕ, pos, List, [], ◌∷◌, length, map, filter, drop, codes, Result, Ok, Err, IfOk}
+use Rattle.std.proofs.Common.{IfErr, OnOk, refl, sym, ap, subst, ◌∙◌, arith}
 use Rattle.std.proofs.lemmas.List.Sorted.{IsPermutation-map, IsPermutation-sym, IsPermutation-trans, length_permutation}
 use Rattle.std.proofs.lemmas.List.{length-map}
 use Rattle.std.specs.List.Sorted.{IsPermutation}
@@ -63,8 +63,7 @@ pub sorted_so : (rows : List Cells) (names sorted : List (List ℕ)) → map (λ
     → ((others : List (List ℕ)) → IsPermutation names others → sorted ≡ sorted_names others)
     → (others : List (List ℕ)) → IsPermutation (map (λ row. column row 0) rows) (map Words others)
     → sorted ≡ sorted_names others
-sorted_so rows names sorted are sorts others shown =
-    sorts others (same_names names others (subst (λ cells. IsPermutation cells (map Words others)) are shown))
+sorted_so rows names sorted are sorts others shown = search (arith, same_names)
 
 -- ---- the rows of the answer
 
@@ -80,8 +79,7 @@ IsNameSearch sql table = IsSearch sql table at_key name_shown name_column
 
 shown_past : (params r : Cells)
     → eval_all name_shown (params ∷ r ∷ []) ≡ eval_all name_shown (params ∷ (Null ∷ drop 1 r) ∷ [])
-shown_past params [] = refl
-shown_past params (v ∷ vs) = refl
+shown_past params r = search arith
 
 module _ (sql : List ℕ) (table : TableName) (search_is : IsNameSearch sql table) (key : ℕ) where
   abbrev pub params : Cells
@@ -94,8 +92,7 @@ module _ (sql : List ℕ) (table : TableName) (search_is : IsNameSearch sql tabl
   found_names entries rows shows =
       let among = filter (is_at key) entries in
       let right : map (λ (row : Cells). column row 0) (map (λ (entry : KeyName). Words entry.name ∷ []) among)
-      ≡ map Words (names_at key entries) =
-      map-map _ _ among ∙ sym (map-map Words (λ (entry : KeyName). entry.name) among) in
+      ≡ map Words (names_at key entries) = search (arith, map-map) in
       subst (IsPermutation (map (λ row. column row 0) (picked params 0 at_key name_shown rows))) right
       (IsPermutation-map (λ (row : Cells). column row 0) _ _
       (picks_entries name_cells params 0 at_key name_shown (is_at key) (key_past 0 name_shown key)
@@ -143,9 +140,7 @@ module _ (sql : List ℕ) (table : TableName) (search_is : IsNameSearch sql tabl
     found_so : (t : Tables) → Holds t old.now → (rows : List Cells) (q : Result (List (List ℕ)) StoreError)
         → IfOk q (AreNamesOf rows) → Shown sql params old new rows
         → IfOk q (λ names. Found t names × IsUnchanged old new)
-    found_so t holds rows (Err e) reads asked = tt
-    found_so t holds rows (Ok names) reads asked =
-        (reads (names_at key (entries_of t)) (shown_names t holds rows asked), unchanged_so t holds rows asked)
+    found_so t holds rows q reads asked = search (arith, shown_names, unchanged_so)
 
     -- each row that was given shows a name
     no_other : (t : Tables) → Holds t old.now → (rows : List Cells) → Shown sql params old new rows → HasNoName rows → ⊥
@@ -167,8 +162,7 @@ module _ (sql : List ℕ) (table : TableName) (search_is : IsNameSearch sql tabl
 
     given_open : (rows : List Cells) (q : Result (List (List ℕ)) StoreError) → Shown sql params old new rows
         → OnOk q (IsOpenStill old new)
-    given_open rows (Ok names) asked = open_still old new (shown_same sql params search_is.query old new rows asked)
-    given_open rows (Err e) asked = tt
+    given_open rows q asked = search (arith, open_still, shown_same)
 
     -- the rows were given
     pub names_read : (rows : List Cells) (q : Result (List (List ℕ)) StoreError) → IfOk q (AreNamesOf rows)
@@ -179,8 +173,7 @@ module _ (sql : List ℕ) (table : TableName) (search_is : IsNameSearch sql tabl
         (shown_same sql params search_is.query old new rows (asked clean)).0.was_open in
         reads_by sql params search_is.query old new survives Found q (λ clean. given_open rows q (asked clean))
         (λ clean t holds. found_so t (holds (opened clean)) rows q reads (asked clean))
-        (λ clean t holds. fails_unchanged q old new (unchanged_so t (holds (opened clean)) rows (asked clean))
-        (registered_so t (holds (opened clean)) rows q none (asked clean)))
+        (search (arith, fails_unchanged, unchanged_so, registered_so))
 
     -- the database refused
     pub names_refused : (error : Error) → ReadsBy Found old new (Err (Database error))
@@ -208,8 +201,7 @@ asks_names role.Approver l = record { p = _; select = _; d = _; by = _; parsed =
 
 pub select_is : (role : Role) → IsNameSearch (select_text role) (table_at role)
 select_is role = record {
-  meant = λ l at. asks (schema_with l) _ (classes l at (table_at role)) _ _ _
-      (asks_names role l);
+  meant = λ l at. asks (schema_with l) _ (classes l at (table_at role)) _ _ _ (asks_names role l);
   query = select_plain (select_text role) (names_select role);
 }
 
@@ -219,5 +211,4 @@ names_ranged role.Approver t old holds = holds.in_range Approval
 
 pub names_shown : (role : Role) (t : Tables) (old : State) (holds : Holds t old.now)
     → ShowsEntries name_cells (names_of role t) (rows_of holds.schema.layout (table_at role) old.now)
-names_shown role.Custodian t old holds = holds.shown Custodian
-names_shown role.Approver t old holds = holds.shown Approval
+names_shown role t old holds = search arith

@@ -1,5 +1,5 @@
 -- The search for a key's need, and what its table shows.
-use Rattle.std.proofs.Common.{◌≡◌, ◌==◌, ℕ, pos, List, [], ◌∷◌, map, codes, refl}
+use Rattle.std.proofs.Common.{◌==◌, ℕ, pos, List, [], ◌∷◌, map, codes, refl}
 use Rattle.std.proofs.Math.Bool.{and-true}
 use Rattle.sqlite.specs.declared.types.Value.TheVariants.{Int}
 use Rattle.sqlite.specs.Order.{Row as Cells}
@@ -41,21 +41,15 @@ need_search = search_by need_text Quorum has_number need_shown need_names asks_n
 abbrev need_cells : ℕ → Cells
 need_cells need = Int (pos need) ∷ []
 
-same_need : (a b : KeyNeed) → need_row a ≡ need_row b → a.need ≡ b.need
-same_need a b e = cc
-
-same_number : (m n : ℕ) → Int (pos m) ≡ Int (pos n) → n ≡ m
-same_number m n e = cc
-
 pub needs_keyed : IsKeyed (λ (set : KeyNeed). set.key) (λ set. set.need) need_row need_cells IsQuorum ShowsNeed need_shown
     Quorum (λ (t : Tables). t.needs)
 needs_keyed = record {
   rowid_is = λ set. refl;
   check_is = λ n set. rw (equal_numbers set.key n) (and-true (set.key == n));
   shown_is = λ n set. refl;
-  value_is = same_need;
+  value_is = λ a b e. cc;
   shows = λ need is. record { cell = refl; in_range = is };
-  same = λ need other shows. same_number need other shows.cell;
+  same = λ need other shows. cc;
   table_shows = λ t db holds. holds.shown Quorum;
   table_in_range = λ t db holds. holds.in_range Quorum;
 }

@@ -1,8 +1,8 @@
 -- What the statements that make the two tables of the second version do, whatever trees the file has.
-use Rattle.std.proofs.Common.{◌≡◌, ◌⊎◌, ◌<◌, ◌≤◌, ◌==◌, ℕ, ◌+◌, max, true, false, Option, None, Some, List, inl, inr}
-use Rattle.std.proofs.Common.{[], ◌∷◌, ◌++◌, fold, Ok, Err, refl, sym, ap, subst, ◌∙◌, arith}
+use Rattle.std.proofs.Common.{◌≡◌, ◌⊎◌, ◌<◌, ◌≤◌, ℕ, ◌+◌, max, false, Option, None, Some, List, inl, inr, [], ◌∷◌, ◌++◌}
+use Rattle.std.proofs.Common.{fold, Ok, Err, refl, sym, ap, subst, ◌∙◌, arith}
 use Rattle.std.proofs.lemmas.Bool.{cases_Bool, cases_lt, eq-eqb, eqb-true}
-use Rattle.sqlite.specs.Change.{created, next_tree, past_views, KeepsRows}
+use Rattle.sqlite.specs.Change.{created, next_tree, KeepsRows}
 use Rattle.sqlite.specs.Command.TheVariants.{CreateTable as MakeTable}
 use Rattle.sqlite.specs.Does.{lacks_sequence}
 use Rattle.sqlite.specs.Effect.{Database, IsDatabase}
@@ -10,7 +10,7 @@ use Rattle.sqlite.specs.Listing.{understood}
 use Rattle.sqlite.specs.Schema.{Schema}
 use Rattle.sqlite.specs.State.{State, Executes, ExecutesIn}
 use Rattle.sqlite.specs.Table.{Table}
-use Rattle.sqlite.proofs.Callers.{IsPlain, command_of, statement_of, runs_as}
+use Rattle.sqlite.proofs.Callers.{IsPlain, command_of, runs_as}
 use Rattle.sqlite_resolve.specs.Compile.{is_attached}
 use Rattle.sqlite_resolve.specs.declared.error.CompileError.{CompileError}
 use Rattle.sqlite_resolve.specs.declared.error.CompileError.TheVariants.{Exists}
@@ -22,12 +22,12 @@ use Rattle.sqlite_tied.specs.Compute.{everything}
 use Rattle.sql_steps.specs.Within.CreatedTables.{Created}
 use Rattle.sql_steps.proofs.Creating.{makes}
 use Rattle.register_store.specs.declared.table.TableName.{TableName}
-use Rattle.register_store.specs.declared.table.TableName.TheVariants.{Meta, Keys, Custodian, Approval, Request}
-use Rattle.register_store.specs.declared.table.TableName.TheVariants.{Period, Quorum}
+use Rattle.register_store.specs.declared.table.TableName.TheVariants.{Meta, Keys, Custodian, Approval, Request, Period}
+use Rattle.register_store.specs.declared.table.TableName.TheVariants.{Quorum}
 use Rattle.register_requests.specs.declared.version.Version.TheVariants.{First}
 use Rattle.register_store.specs.Within.Migration.{MakesNext}
 use Rattle.register_store.specs.Schema.{rows_of, schema_below}
-use Rattle.register_store.specs.Tables.{AreApartBelow, Layout, ShowsIn, content, place_of, table_count}
+use Rattle.register_store.specs.Tables.{AreApartBelow, Layout, place_of, table_count}
 use Rattle.register_store.specs.Within.Tables.{create_text}
 use Rattle.register_store.proofs.EachTable.{unplaced, same_place}
 use Rattle.register_store.proofs.NextTexts.{makes_table, refused}
@@ -58,9 +58,7 @@ is_free name is l = absurd is
 
 uncounted : (name : TableName) → IsNew name → (l : Layout) → lacks_sequence (created (before name l) (unplaced name))
     ≡ false
-uncounted Period is l = refl
-uncounted Quorum is l = refl
-uncounted name is l = absurd is
+uncounted name is l = search arith
 
 not_executed : (text : List ℕ) (old new : State) (count : ℕ) (s : Schema) (e : CompileError) → old.now.schema ≡ s
     → understood s text ≡ Err e → Executes text [] old new (Ok count) → ⊥
@@ -85,8 +83,7 @@ creates name is l old new count h has = by (index_named (before name l) (def_of 
         free.bare free.no_table free.no_view none in
         let plain : IsPlain (understood s (create_text name)) = subst IsPlain (sym known) (refl, refl) in
         let w = runs_as (create_text name) [] old new s has MakeTable (ap command_of known) plain count h in (
-          makes s (unplaced name) (create_text name) (ap command_of known) (ap (statement_of (create_text name)) known
-              ∙ it.whole) plain (unplaced name) it.defined refl
+          makes s (unplaced name) (create_text name) (ap command_of known) (cc) plain (unplaced name) it.defined refl
               (uncounted name is l) old new count h has,
           w.sound,
         )
@@ -109,35 +106,18 @@ none_lower (t ∷ tables) n = omega (arith, none_lower tables (max n (t.tree + 1
 below_in : (tables : List Table) (n : ℕ) (t : Table) → Has tables t
     → t.tree < fold (λ m (t : Table). max m (t.tree + 1)) n tables
 below_in [] n t h = absurd h
-below_in (x ∷ tables) n t (inl same) =
-    omega (arith, none_lower tables (max n (x.tree + 1)), ap (λ (y : Table). y.tree) same)
+below_in (x ∷ tables) n t (inl same) = search (arith, none_lower, max)
 below_in (x ∷ tables) n t (inr later) = below_in tables (max n (x.tree + 1)) t later
 
 -- each table of the schema is below the next tree
 pub below_next : (s : Schema) (t : Table) → Has s.tables t → t.tree < next_tree s
-below_next s t h =
-    omega (
-      arith,
-      below_in s.tables (past_views s) t h,
-      no_lower s.indexes (fold (λ m (t : Table). max m (t.tree + 1)) (past_views s) s.tables),
-    )
+below_next s t h = search (arith, below_in, no_lower, fold, max)
 
 -- the trees with another one of this table
 abbrev tree_with : TableName → ℕ → Layout → TableName → ℕ
 tree_with Period n l Period = n
 tree_with Quorum n l Quorum = n
 tree_with name n l other = l.tree other
-
-tree_same : (name : TableName) → IsNew name → (n : ℕ) (l : Layout) → tree_with name n l name ≡ n
-tree_same Period is n l = refl
-tree_same Quorum is n l = refl
-tree_same name is n l = absurd is
-
-tree_other : (name other : TableName) (n : ℕ) (l : Layout) → (place_of other ≡ place_of name → ⊥)
-    → tree_with name n l other ≡ l.tree other
-tree_other Period Period n l off = absurd (off refl)
-tree_other Quorum Quorum n l off = absurd (off refl)
-tree_other name other n l off = refl
 
 abbrev layout_with : TableName → Layout → Layout
 layout_with name l = record {
@@ -149,9 +129,7 @@ layout_with name l = record {
 -- the table is the last of the schema
 schema_is : (name : TableName) → IsNew name → (l : Layout)
     → created (before name l) (unplaced name) ≡ schema_below (place_of name + 1) (layout_with name l)
-schema_is Period is l = refl
-schema_is Quorum is l = refl
-schema_is name is l = absurd is
+schema_is name is l = search arith
 
 -- the tables before it stand in the schema
 listed : (name : TableName) → IsNew name → (l : Layout) (other : TableName) → place_of other < place_of name
@@ -182,58 +160,19 @@ module _ (name : TableName) (is : IsNew name) (l : Layout) where
   -- a table is this one, or one before it
   which : (other : TableName) → place_of other < place_of name + 1
       → (other ≡ name) ⊎ ((place_of other ≡ place_of name → ⊥) × (place_of other < place_of name))
-  which other low = elim (cases_Bool (place_of other == place_of name)) [
-    | inl same ↦ inl (same_place name other (eqb-true _ _ same))
-    | inr differs ↦ inr (
-        let off : place_of other ≡ place_of name
-        → ⊥ = λ e. absurd (let here : (place_of other == place_of name) ≡ true = eq-eqb _ _ e in cc) in
-        (off, lower _ _ low off))
-  ]
-    where
-      lower : (a b : ℕ) → a < b + 1 → (a ≡ b → ⊥) → a < b
-      lower a b low off = elim (cases_lt a b) [ inl under ↦ under | inr high ↦ absurd (off (omega (arith, low, high))) ]
-
-  tree_is : (other : TableName) → (other ≡ name) → tree_with name next l other ≡ next
-  tree_is other same = ap (tree_with name next l) same ∙ tree_same name is next l
+  which other low = search (arith, cases_Bool, same_place, eqb-true, eq-eqb, cases_lt)
 
   apart_still : AreApartBelow (place_of name) l → AreApartBelow (place_of name + 1) (layout_with name l)
-  apart_still apart a b low_a low_b same = elim (which a low_a) [
-    | inl here ↦ elim (which b low_b) [
-      | inl there ↦ ap place_of here ∙ sym (ap place_of there)
-      | inr other ↦ absurd
-          (let under = below b other.1 in omega (
-            arith,
-            under,
-            sym (tree_is a here) ∙ same ∙ tree_other name b next l other.0,
-          ))
-    ]
-    | inr other_a ↦ elim (which b low_b) [
-      | inl there ↦ absurd
-          (let under = below a other_a.1 in omega (
-            arith,
-            under,
-            sym (tree_other name a next l other_a.0) ∙ same ∙ tree_is b there,
-          ))
-      | inr other ↦ apart a b other_a.1 other.1 (sym (tree_other name a next l other_a.0) ∙ same
-          ∙ tree_other name b next l other.0)
-    ]
-  ]
+  apart_still apart a b low_a low_b same = search (arith, which, below)
 
   -- the rows of the tables before it stay
   rows_stay : (old new : Database) → KeepsRows (before name l).tables old.trees new.trees → (other : TableName)
       → place_of other < place_of name → (place_of other ≡ place_of name → ⊥)
       → rows_of (layout_with name l) other new ≡ rows_of l other old
-  rows_stay old new kept other low off =
-      let it = listed name is l other low in
-      let stays : new.trees (l.tree other)
-      ≡ old.trees (l.tree other) = subst (λ n. new.trees n ≡ old.trees n) it.2
-      (all_has (λ (t : Table). new.trees t.tree ≡ old.trees t.tree) (before name l).tables it.0 kept it.1) in
-      ap new.trees (tree_other name other next l off) ∙ stays
+  rows_stay old new kept other low off = search (arith, listed, all_has)
 
 is_new : (name : TableName) → table_count First ≤ place_of name → IsNew name
-is_new Period high = tt
-is_new Quorum high = tt
-is_new name high = absurd (omega (arith, high))
+is_new name high = search arith
 
 pub makes_next : (name : TableName) → table_count First ≤ place_of name → (old new : State) (count : ℕ)
     → Executes (create_text name) [] old new (Ok count) → MakesNext name old.now new.now
@@ -241,23 +180,4 @@ makes_next name high old new count h t has =
     let is = is_new name high in
     let l = has.layout in
     let both = creates name is l old new count h has.schema in
-    let did = both.0 in
-    record {
-      layout = layout_with name l;
-      apart = apart_still name is l has.apart;
-      schema = did.schema ∙ schema_is name is l;
-      sound = both.1;
-      in_range = has.in_range;
-      shown = λ other low.
-          let under : place_of other < place_of name = omega (arith, low, high) in
-          subst (ShowsIn First other (content other t))
-          (sym (rows_stay name is l old.now new.now did.others other under (λ e. absurd (omega (arith, e, under)))))
-          (has.shown other low);
-      no_periods = has.no_periods;
-      no_needs = has.no_needs;
-      empty = λ other past low. elim (which name is l other low) [
-        | inl here ↦ ap new.now.trees (tree_is name is l other here) ∙ did.empty
-        | inr under ↦ rows_stay name is l old.now new.now did.others other under.1 under.0
-            ∙ has.empty other past under.1
-      ];
-    }
+    let did = both.0 in search (arith, apart_still, schema_is, rows_stay, which)

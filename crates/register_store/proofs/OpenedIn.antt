@@ -1,5 +1,5 @@
 -- From the checks and the migration to what an opening does.
-use Rattle.std.proofs.Common.{◌≡◌, inl, inr, Result, Ok, Err, sym, ap, subst, ◌∙◌, refl, arith}
+use Rattle.std.proofs.Common.{◌≡◌, inr, Result, Ok, Err, sym, ap, subst, ◌∙◌, refl, arith}
 use Rattle.std.specs.Prelude.{IsErrAnd}
 use Rattle.sqlite.specs.Effect.{Database as Db}
 use Rattle.sqlite.specs.State.{State, HasCleanDisk, IsUnchanged, Survives}
@@ -10,11 +10,10 @@ use Rattle.sql_steps.specs.Steps.{TransactsBy}
 use Rattle.register_requests.specs.declared.version.Version.{Version}
 use Rattle.register_requests.specs.declared.version.Version.TheVariants.{First, Second}
 use Rattle.register_store.specs.declared.error.CheckError.{CheckError}
-use Rattle.register_store.specs.declared.error.CheckError.TheVariants.{NotARegister, NewerVersion, Memory, Database}
 use Rattle.register_store.specs.declared.error.CreateError.{CreateError}
 use Rattle.register_store.specs.declared.error.CreateError.TheVariants.{HasTables, Database as Refused}
 use Rattle.register_store.specs.declared.found.Found.{Found}
-use Rattle.register_store.specs.CheckedTables.{BlamesNone, ChecksBy, IsReason, Passes}
+use Rattle.register_store.specs.CheckedTables.{BlamesNone, ChecksBy, Passes}
 use Rattle.register_store.specs.Creation.{FindsBy}
 use Rattle.register_store.specs.Migration.{HasNewTable, Migrates}
 use Rattle.register_store.specs.OpenedTables.{ChangesNothing, HasCommittedIn, IsRefusal, MigratesTo, OpensBy}
@@ -22,66 +21,25 @@ use Rattle.register_store.specs.OpenedTables.{migration_error}
 use Rattle.register_store.specs.Schema.{HoldsIn}
 use Rattle.register_store.specs.Stored.{HoldsStored, Stored}
 use Rattle.register_store.specs.Tables.{Tables}
-use Rattle.register_store.specs.OpeningChecks.{MeetsChecks, checked}
+use Rattle.register_store.specs.OpeningChecks.{MeetsChecks}
 use Rattle.register_store.proofs.Checked.{passed_on, version_of}
 use Rattle.register_store.proofs.NoneNew.{none_new}
 
-unchanged_back : (a b : State) → IsUnchanged a b → IsUnchanged b a
-unchanged_back a b same = (
-  record {
-    was_open = same.0.is_open;
-    is_open = same.0.was_open;
-    now_is = sym same.0.now_is;
-    committed_is = sym same.0.committed_is;
-    mode = sym same.0.mode;
-  },
-  record { changes = sym same.1.changes; last_rowid = sym same.1.last_rowid },
-  sym same.2,
-)
-
 passes_before : (t : Stored) (a b : State) → Passes t a b → Passes t a a
-passes_before t a b it =
-    let back = unchanged_back a b it.same in
-    record { passed = passed_on (checked t.version) t a b a it.passed back; same = unchanged_then a b a it.same back }
+passes_before t a b it = search (arith, passed_on, unchanged_then)
 
 had_on : (v : Version) (t : Tables) (a b : State) → HasCommittedIn v t a → IsUnchanged a b → HasCommittedIn v t b
-had_on v t a b had same = record {
-  is_open = same.0.is_open;
-  holds = subst (HoldsIn v t) (sym same.0.now_is) had.holds;
-  committed = same.0.committed_is ∙ had.committed ∙ sym same.0.now_is;
-}
+had_on v t a b had same = search arith
 
 -- where nothing more is left than before, no more than a migration makes is
 widened : (a b : State) → Survives a b (λ _. ⊥) → Survives a b (MigratesTo a)
-widened a b survives = record {
-  clean = survives.clean;
-  shield = survives.shield;
-  counts = survives.counts;
-  limit = survives.limit;
-  closes = survives.closes;
-  crash = λ clean db may. elim (survives.crash clean db may) [ inl left ↦ inl left | inr none ↦ absurd none ];
-}
-
-as_refusal : (a b : State) (e : CheckError) → IsReason a b e → IsRefusal a b e
-as_refusal a b NotARegister why = inl why
-as_refusal a b (NewerVersion found) why = why
-as_refusal a b Memory why = why
-as_refusal a b (Database error) why = tt
+widened a b survives = search arith
 
 -- the checks failed
 pub check_fails : (a b : State) (e : CheckError) (q : Result Found CheckError) → IsErrAnd q (λ x. x ≡ e)
     → ChecksBy a b (Err e) → OpensBy a b q
 check_fails a b e (Ok y) is checks = absurd is
-check_fails a b e (Err x) is checks = subst (λ x. OpensBy a b (Err x)) (sym is) (record {
-  passed = λ clean. tt;
-  refused = λ clean. as_refusal a b e (checks.refused clean);
-  opened = λ clean t had meets. tt;
-  blames_none = λ clean t holds meets. checks.blames_none clean t holds meets;
-  stop = widened a b checks.survives;
-  stop_refused = λ nothing. checks.survives;
-  stop_current = λ t own holds meets. checks.survives;
-  clean = checks.clean;
-})
+check_fails a b e (Err x) is checks = subst (λ x. OpensBy a b (Err x)) (sym is) (search (arith, widened))
 
 -- a file of the second version
 pub second_opens : (a b : State) (found : Found) → found.version ≡ Second → ChecksBy a b (Ok found)
@@ -136,8 +94,7 @@ module _ {A : Type 0} (a b d : State) (found : Found) (first : found.version ≡
       }
 
   stops : Survives a d (MigratesTo a)
-  stops = survives_then a b d (λ _. ⊥) (λ trees. (db : Db) × Migrates b.now db × (trees ≡ db.trees)) (MigratesTo a)
-      (λ clean db none. absurd none) taken checks.survives did.stop
+  stops = search (arith, survives_then, taken)
 
   own_first : HasCleanDisk d → (t : Stored) → HoldsStored t a.now → MeetsChecks t → t.version ≡ First
   own_first clean t holds meets = sym (version_of found t (checks.counted (early clean) t holds meets)) ∙ first
@@ -166,8 +123,7 @@ first_opens a b d found first checks x did = record {
         t = it.0;
         passes = passes_before it.0 a b it.1;
         mark_is = it.2;
-        none_new = λ one there. (did.accepted clean).0.0
-            (subst (λ (db : Db). HasNewTable db.schema) (sym it.1.same.0.now_is) there);
+        none_new = grind arith;
         unchanged = λ second. absurd (let e : First ≡ Second = sym first ∙ version_of found it.0 it.2 ∙ second in cc);
       };
   refused = λ clean. tt;
@@ -215,12 +171,7 @@ first_fails a b d found first checks e did there (Err x) is = subst (λ x. Opens
     why HasTables did there clean =
         let it = checks.passed (early a b d found first checks (Err HasTables) did clean) in
         let schema = ap (λ (n : Db). n.schema) it.1.same.0.now_is in
-        inr (record {
-          t = it.0;
-          passes = passes_before it.0 a b it.1;
-          first = sym (version_of found it.0 it.2) ∙ first;
-          there = subst (λ s. HasNewTable s) schema ((there refl).there clean);
-        })
+        inr (search (arith, passes_before, version_of))
     why (Refused error) did there clean = tt
 
     kept : (e : CreateError) → (e ≡ HasTables → FindsBy HasNewTable b d) → ChangesNothing (migration_error e)

@@ -1,5 +1,5 @@
 -- The search for the period of a type, and what its table shows.
-use Rattle.std.proofs.Common.{◌≡◌, ◌==◌, ℕ, pos, List, [], ◌∷◌, map, codes, refl}
+use Rattle.std.proofs.Common.{arith, ◌≡◌, ◌==◌, ℕ, pos, List, [], ◌∷◌, map, codes, refl}
 use Rattle.std.proofs.Math.Bool.{and-true}
 use Rattle.sqlite.specs.declared.types.Value.TheVariants.{Int}
 use Rattle.sqlite.specs.Order.{Row as Cells}
@@ -44,23 +44,11 @@ period_search = search_by period_text Period has_number period_shown period_name
 abbrev period_cells : UsagePeriod → Cells
 period_cells p = Int (pos p.originator) ∷ Int (pos p.recipient) ∷ []
 
-same_number : (m n : ℕ) → Int (pos m) ≡ Int (pos n) → n ≡ m
-same_number m n e = cc
-
-same_originator : (a b : TypePeriod) → period_row a ≡ period_row b → a.period.originator ≡ b.period.originator
-same_originator a b e = cc
-
-same_recipient : (a b : TypePeriod) → period_row a ≡ period_row b → a.period.recipient ≡ b.period.recipient
-same_recipient a b e = cc
-
 same_period : (a b : TypePeriod) → period_row a ≡ period_row b → a.period ≡ b.period
-same_period a b e i = record { originator = same_originator a b e i; recipient = same_recipient a b e i }
+same_period a b e = grind arith
 
 shown_period : (p other : UsagePeriod) → ShowsPeriod (period_cells p) other → other ≡ p
-shown_period p other shows i = record {
-  originator = same_number p.originator other.originator shows.originator i;
-  recipient = same_number p.recipient other.recipient shows.recipient i;
-}
+shown_period p other shows = grind arith
 
 pub periods_keyed : IsKeyed (λ (set : TypePeriod). key_type_code set.kind) (λ set. set.period) period_row period_cells
     IsPeriod ShowsPeriod period_shown Period (λ (t : Tables). t.periods)

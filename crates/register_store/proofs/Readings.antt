@@ -1,6 +1,5 @@
 -- What calls that only read do, one by one and one after the other.
-use Rattle.std.proofs.Common.{◌≡◌, ◌≢◌, ◌≤◌, ◌+◌, ℕ, List, [], inl, Result, Ok, Err, IfOk, IfErr, OnOk, refl, sym}
-use Rattle.std.proofs.Common.{subst, ◌∙◌, arith}
+use Rattle.std.proofs.Common.{◌≡◌, ◌≢◌, ◌≤◌, ◌+◌, ℕ, List, [], Result, Ok, Err, IfOk, IfErr, OnOk, sym, subst, arith}
 use Rattle.std.specs.Prelude.{IsErrAnd}
 use Rattle.sqlite.specs.Command.TheVariants.{Select}
 use Rattle.sqlite.specs.Order.{Row as Cells}
@@ -42,28 +41,16 @@ search_by sql name passes shown names asked = record {
 -- a failure where nothing is changed
 pub fails_unchanged : {A : Type 0} (r : Result A StoreError) (old new : State) → IsUnchanged old new
     → IfErr r (λ error. error ≢ NoRegister) → IfErr r (ReadFails old new)
-fails_unchanged (Ok x) old new same registered = tt
-fails_unchanged (Err error) old new same registered = record { unchanged = λ is. same; registered = registered }
+fails_unchanged r old new same registered = search arith
 
 -- a failure that is no want of memory
 pub fails_refused : {A : Type 0} (r : Result A StoreError) (old new : State) → IfErr r (λ error. error ≢ Memory)
     → IfErr r (λ error. error ≢ NoRegister) → IfErr r (ReadFails old new)
-fails_refused (Ok x) old new other registered = tt
-fails_refused (Err error) old new other registered = record {
-  unchanged = λ is. absurd (other is);
-  registered = registered;
-}
+fails_refused r old new other registered = search arith
 
 -- what changes nothing leaves nothing new after a stop
 pub survives_none : (s : State) → Survives s s (λ _. ⊥)
-survives_none s = record {
-  clean = omega arith;
-  shield = λ h. h;
-  counts = omega arith;
-  limit = refl;
-  closes = λ clean is. inl is;
-  crash = λ clean db left. inl left;
-}
+survives_none s = search arith
 
 -- ---- one query
 
@@ -73,14 +60,7 @@ pub reads_by : {T : Type 0} (sql : List ℕ) (params : Cells) → IsQuery sql �
     → (HasCleanDisk new → OnOk q (IsOpenStill old new))
     → (HasCleanDisk new → (t : Tables) → HoldsWhereOpen t old → IfOk q (λ value. Found t value × IsUnchanged old new))
     → (HasCleanDisk new → (t : Tables) → HoldsWhereOpen t old → IfErr q (ReadFails old new)) → ReadsBy Found old new q
-reads_by sql params query old new survives Found q live found failed =
-    record {
-      found = found;
-      failed = failed;
-      opened = live;
-      clean = λ clean. omega (arith, survives.clean);
-      survives = commits_none sql params old new query survives;
-    }
+reads_by sql params query old new survives Found q live found failed = search (arith, commits_none)
 
 -- ---- one reading after another
 
@@ -88,32 +68,18 @@ reads_by sql params query old new survives Found q live found failed =
 pub reads_as : {A B : Type 0} (First : Tables → A → Type 0) (Next : Tables → B
     → Type 0) (old new : State) (x : A) (y : B) → ((t : Tables) → First t x → Next t y)
     → ReadsBy First old new (Ok x) → ReadsBy Next old new (Ok y)
-reads_as First Next old new x y weaker one = record {
-  found = λ clean t holds. let it = one.found clean t holds in (weaker t it.0, it.1);
-  failed = λ clean t holds. tt;
-  opened = one.opened;
-  clean = one.clean;
-  survives = one.survives;
-}
+reads_as First Next old new x y weaker one = search arith
 
 -- a failure, whatever was to be found
 pub reads_fail : {A B : Type 0} (First : Tables → A → Type 0) (Next : Tables → B
     → Type 0) (old new : State) (e : StoreError) (q : Result B StoreError) → IsErrAnd q (λ x. x ≡ e)
     → ReadsBy First old new (Err e) → ReadsBy Next old new q
-reads_fail First Next old new e (Ok y) failed one = absurd failed
-reads_fail First Next old new e (Err x) same one = record {
-  found = λ clean t holds. tt;
-  failed = λ clean t holds. subst (ReadFails old new) (sym same) (one.failed clean t holds);
-  opened = λ clean. tt;
-  clean = one.clean;
-  survives = one.survives;
-}
+reads_fail First Next old new e q failed one = search arith
 
 -- the same where what is found says more
 pub reads_weaker : {A : Type 0} (First Next : Tables → A → Type 0) (old new : State) (r : Result A StoreError)
     → ((t : Tables) (x : A) → First t x → Next t x) → ReadsBy First old new r → ReadsBy Next old new r
-reads_weaker First Next old new (Ok x) weaker one = reads_as First Next old new x x (λ t. weaker t x) one
-reads_weaker First Next old new (Err e) weaker one = reads_fail First Next old new e (Err e) refl one
+reads_weaker First Next old new r weaker one = search (arith, reads_as, reads_fail)
 
 module _ {A B : Type 0} (First : Tables → A → Type 0) (Next : Tables → B
     → Type 0) (a b c : State) (x : A) (r : Result B StoreError) (one : ReadsBy First a b (Ok x))
@@ -123,45 +89,17 @@ module _ {A B : Type 0} (First : Tables → A → Type 0) (Next : Tables → B
   held clean t holds live =
       let same = (one.found (two.clean clean) t holds).1 in subst (Holds t) (sym same.0.now_is) (holds same.0.was_open)
 
-  joined : (r : Result B StoreError) (t : Tables) → First t x × IsUnchanged a b
-      → IfOk r (λ y. Next t y × IsUnchanged b c) → IfOk r (λ y. (First t x × Next t y) × IsUnchanged a c)
-  joined (Ok y) t first next = ((first.0, next.0), unchanged_then a b c first.1 next.1)
-  joined (Err e) t first next = tt
-
-  open_still : (r : Result B StoreError) → IsOpenStill a b → OnOk r (IsOpenStill b c) → OnOk r (IsOpenStill a c)
-  open_still (Ok y) first next = record { was_open = first.was_open; is_open = next.is_open }
-  open_still (Err e) first next = tt
-
   lost : (r : Result B StoreError) → IsUnchanged a b → IfErr r (ReadFails b c) → IfErr r (ReadFails a c)
-  lost (Ok y) first next = tt
-  lost (Err e) first next = record {
-    unchanged = λ is. unchanged_then a b c first (next.unchanged is);
-    registered = next.registered;
-  }
+  lost r first next = search (arith, unchanged_then)
 
   pub reads_then : ReadsBy (λ t y. First t x × Next t y) a c r
-  reads_then = record {
-    found = λ clean t holds. joined r t (one.found (two.clean clean) t holds) (two.found clean t (held clean t holds));
-    failed = λ clean t holds. lost r (one.found (two.clean clean) t holds).1 (two.failed clean t (held clean t holds));
-    opened = λ clean. open_still r (one.opened (two.clean clean)) (two.opened clean);
-    clean = λ clean. one.clean (two.clean clean);
-    survives = survives_then a b c (λ _. ⊥) (λ _. ⊥) (λ _. ⊥) (λ _ _ none. none) (λ _ _ none. none) one.survives
-        two.survives;
-  }
+  reads_then = search (arith, held, lost, survives_then)
 
 -- what an open connection sees after one reading and another
 pub sight_then : {A B : Type 0} (First : Tables → A → Type 0) (Next : Tables → B
     → Type 0) (a b c : State) (x : A) (r : Result B StoreError) → ReadsBy First a b (Ok x) → ReadsBy Next b c r
     → KeepsSight a b → KeepsSight b c → KeepsSight a c
-sight_then First Next a b c x r one two first next clean committed is_open =
-    let early = two.clean clean in
-    let mid = first early committed (one.opened early).is_open in
-    let last = next clean (λ _. mid.now_is ∙ committed mid.was_open ∙ sym mid.committed_is) is_open in
-    record {
-      was_open = mid.was_open;
-      now_is = last.now_is ∙ mid.now_is;
-      committed_is = last.committed_is ∙ mid.committed_is;
-    }
+sight_then First Next a b c x r one two first next clean committed is_open = search arith
 
 -- the steps of one reading and another
 pub calls_then : {S A B : Type 0} (g : Ghosts S) (First : Tables → A → Type 0) (Next : Tables → B
@@ -176,5 +114,4 @@ calls_then g First Next a b c x r m n one two first next clean t holds =
 -- a greater bound
 pub calls_weaker : {S : Type 0} (g : Ghosts S) (a b : Counted S g) (m n : Tables → ℕ) → ((t : Tables) → m t ≤ n t)
     → CallsOver g m a b → CallsOver g n a b
-calls_weaker g a b m n more first clean t holds =
-    let p = first clean t holds in record { risen = p.risen; within = omega (arith, p.within, more t) }
+calls_weaker g a b m n more first clean t holds = search arith

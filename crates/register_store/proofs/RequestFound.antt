@@ -1,5 +1,5 @@
 -- What the search for a caller's request by its number finds.
-use Rattle.std.proofs.Common.{◌≡◌, ◌==◌, ℕ, pos, List, [], ◌∷◌, map, drop, bytes_eq, Bool, codes, refl}
+use Rattle.std.proofs.Common.{◌≡◌, ◌==◌, ℕ, pos, List, [], ◌∷◌, map, drop, bytes_eq, Bool, codes, refl, arith}
 use Rattle.std.proofs.Math.Bool.{and-true}
 use Rattle.std.proofs.lemmas.Bool.{and_parts, eqb-true}
 use Rattle.std.specs.Cmp.Lexicographic.{bytes_decides}
@@ -74,13 +74,11 @@ module _ (caller : List ℕ) (number : ℕ) where
   passing = is_picked params 0 under answer_shown
 
   past : (r : Cells) → passing r ≡ passing (Null ∷ drop 1 r)
-  past [] = refl
-  past (v ∷ vs) = refl
+  past r = search arith
 
   shown_past : (r : Cells)
       → eval_all answer_shown (params ∷ r ∷ []) ≡ eval_all answer_shown (params ∷ (Null ∷ drop 1 r) ∷ [])
-  shown_past [] = refl
-  shown_past (v ∷ vs) = refl
+  shown_past r = search arith
 
   under_is : (k : KeptReply) → passing (Null ∷ request_cells k) ≡ is_under caller number k
   under_is k = rw (equal_words k.caller caller, equal_numbers k.number number, and-true (k.number == number)) refl

@@ -1,5 +1,5 @@
 -- The check of the table of requests.
-use Rattle.std.proofs.Common.{◌≡◌, List, [], ◌∷◌, sym, subst, refl, arith}
+use Rattle.std.proofs.Common.{◌≡◌, List, [], ◌∷◌, subst, arith}
 use Rattle.std.specs.List.{AllByRecursion}
 use Rattle.sqlite.specs.Effect.{Database as Db}
 use Rattle.sqlite.specs.Order.{Row}
@@ -23,56 +23,22 @@ use Rattle.register_store.proofs.EntriesChecked.{AreChecked}
 shown_past : (r : Row)
     → eval_all (shown_of_table Request) ([] ∷ r ∷ [])
     ≡ eval_all (shown_of_table Request) ([] ∷ (Null ∷ Rattle.std.specs.Prelude.drop 1 r) ∷ [])
-shown_past [] = refl
-shown_past (v ∷ vs) = refl
+shown_past r = search arith
 
 own_row : (k : KeptReply) → IsKeptReply k
     → ShowsKept (eval_all (shown_of_table Request) ([] ∷ (Null ∷ request_cells k) ∷ [])) k
-own_row k is = record {
-  cells = record {
-    cells = record {
-      caller = refl;
-      number = refl;
-      command = (refl, is.command);
-      key = refl;
-      state = refl;
-      moment = refl;
-    };
-    whole = is.whole;
-  };
-  caller = refl;
-  number = refl;
-  in_range = is;
-}
+own_row k is = search arith
 
 own_requests : (t : Stored) (db : Db) (rows : List Row) (holds : HoldsStored t db)
     → AnswersTo holds.schema.layout Request db rows → ShowsOwn Request t rows
 own_requests t db rows holds sure =
     let it = own_entries request_cells ShowsKept IsKeptReply (holds.schema.layout.tree Request)
     (shown_of_table Request) shown_past own_row db t.tables.requests rows (holds.in_range Request) (holds.shown Request)
-    (shows_all db.trees (holds.schema.layout.tree Request)) sure in
-    record {
-      c = it.0;
-      shows = it.2;
-      like = it.1;
-      meets = all_permuted (IsReplyOf (mark t)) t.tables.requests it.0 it.1;
-    }
+    (shows_all db.trees (holds.schema.layout.tree Request)) sure in search (arith, all_permuted)
 
 -- a row shows one request
 pub one_kept : (row : Row) (a b : KeptReply) → ShowsKept row a → ShowsKept row b → a ≡ b
-one_kept row a b x y =
-    let caller : a.caller ≡ b.caller = same_words _ _ _ x.caller y.caller in
-    let number : a.number ≡ b.number = same_number _ _ _ x.number y.number in
-    let own = x.cells.cells in
-    same_request b.caller b.number row a b
-    (record {
-      caller = caller;
-      number = number;
-      command = own.command;
-      key = own.key;
-      state = own.state;
-      moment = own.moment;
-    }) y.cells.cells
+one_kept row a b x y = search (arith, same_words, same_number, same_request)
 
 -- the check asks of each that the register of this version, with these counts, may have given its reply
 pub are_checked : (t : Stored) (found : Found) → mark_of found ≡ mark t
@@ -82,10 +48,6 @@ are_checked t found counts = record {
   own = own_requests t;
   one = show_same ShowsKept one_kept;
   taken = λ rows it. (it.values, it.shown, subst (λ n. AllByRecursion (IsReplyOf n) it.values) counts it.each);
-  given = λ rows met. record {
-    values = met.0;
-    shown = met.1;
-    each = subst (λ n. AllByRecursion (IsReplyOf n) met.0) (sym counts) met.2;
-  };
+  given = search arith;
   no_newer = λ rows none. none;
 }

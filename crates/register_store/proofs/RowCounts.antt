@@ -1,7 +1,6 @@
 -- What a count of a table's rows tells of the table.
-use Rattle.std.proofs.Common.{◌≡◌, ◌<◌, inl, inr, ℕ, List, [], Bool, false, Ok, Err, Result, refl, sym}
-use Rattle.std.proofs.Common.{ap, subst, subst₂, ◌∙◌, ◌+◌, ◌≤◌, get_or, arith}
-use Rattle.std.proofs.Math.Nat.{eq-or-lt_of_le}
+use Rattle.std.proofs.Common.{◌≡◌, ◌<◌, inl, inr, ℕ, List, [], Bool, false, Ok, Err, refl, sym, subst, ◌+◌, get_or}
+use Rattle.std.proofs.Common.{arith}
 use Rattle.sqlite.specs.declared.error.Error.{Error}
 use Rattle.sqlite.specs.declared.error.Error.TheVariants.{SqlInputError}
 use Rattle.sqlite.specs.Effect.{Database}
@@ -11,11 +10,9 @@ use Rattle.sqlite.specs.Schema.{Schema}
 use Rattle.sqlite.specs.State.{State, HasCleanDisk, QueriesRow, QueriesRowInside, FailsToQuery, Survives}
 use Rattle.sqlite.proofs.Callers.{IsPlain}
 use Rattle.sqlite_resolve.specs.Compile.{first}
-use Rattle.sqlite_resolve.specs.declared.compiled.Compiled.{Compiled}
 use Rattle.sqlite_resolve.specs.declared.error.CompileError.{CompileError}
 use Rattle.sqlite_tied.specs.Compute.{everything}
 use Rattle.sql_steps.specs.Steps.{StepsBy}
-use Rattle.sql_steps.specs.Within.Steps.{Then}
 use Rattle.sql_steps.proofs.Asking.{asks_meaningless}
 use Rattle.sql_steps.proofs.Stepping.{steps_as, steps_then}
 use Rattle.row_checks.specs.ShownRows.{IsQuery}
@@ -60,8 +57,7 @@ module _ (name : TableName) (old new : State) where
       let same = asks_meaningless old new {E = F} (λ (_ : Unit {0}) (a b : Database). b ≡ a) tt (count_text name) [] e
       fault is (λ is. is) asked survives in
       record {
-        changed = λ clean inside.
-            let it = same.changed clean inside in ((lacks e fault is (asked clean), it.0), it.1);
+        changed = search (arith, lacks);
         kept = same.kept;
         survives = same.survives;
       }
@@ -71,36 +67,12 @@ module _ (name : TableName) (old new : State) where
 abbrev pub table_at : ℕ → TableName
 table_at n = get_or all_tables n Meta
 
-at_place : (name : TableName) → table_at (place_of name) ≡ name
-at_place Meta = refl
-at_place name = refl
-
-lacks_more : (n : ℕ) (old mid new : Database) → LacksFirst n old mid → Answers (IsThere (table_at n)) false mid new
-    → LacksFirst (n + 1) old new
-lacks_more n old mid new before answer = record {
-  none = λ name low. elim (eq-or-lt_of_le (at_most n (place_of name) low)) [
-    | inl this ↦ λ there. answer.0 (subst₂ (λ (t : TableName) (db : Database). IsThere t db.schema)
-        (sym (at_place name) ∙ ap table_at this) (sym before.same) there)
-    | inr low ↦ before.none name low
-  ];
-  same = answer.1 ∙ before.same;
-}
-  where
-    at_most : (n k : ℕ) → k < n + 1 → k ≤ n
-    at_most n k low = omega arith
-
 -- one more was looked for
 pub lacks_next : {E : Type 0} (n : ℕ) (a b d : State) (found : Bool) → found ≡ false
     → StepsBy {E = E} (λ (_ : Unit {0}). LacksFirst n) a b (Ok tt)
     → StepsBy {E = E} (Answers (IsThere (table_at n))) b d (Ok found)
     → StepsBy {E = E} (λ (_ : Unit {0}). LacksFirst (n + 1)) a d (Ok tt)
-lacks_next {E = E} n a b d found none so_far look =
-    steps_as {E = E} {F = E} (λ (there : Bool). Then (LacksFirst n) (Answers (IsThere (table_at n)) there))
-    (λ (_ : Unit {0}). LacksFirst (n + 1)) a d false tt
-    (λ old new done. lacks_more n old done.0 new done.1 done.2)
-    (steps_then {E = E} {F = E} (λ (_ : Unit {0}). LacksFirst n) (Answers (IsThere (table_at n))) a b d tt
-    (Ok false) so_far
-    (subst (λ (is : Bool). StepsBy {E = E} (Answers (IsThere (table_at n))) b d (Ok is)) none look))
+lacks_next {E = E} n a b d found none so_far look = search (arith, steps_as, steps_then)
 
 -- ---- a register's tables are there
 
@@ -112,15 +84,10 @@ counts First l = (_, _, record { p = _; select = _; d = _; by = _; parsed = refl
 counts Second l = (_, _, record { p = _; select = _; d = _; by = _; parsed = refl; untimed = refl; is = refl; drafted = refl; same = refl; from = refl; accepted = refl })
 
 first_low : (version : Version) → place_of Meta < table_count version
-first_low First = omega arith
-first_low Second = omega arith
+first_low version = search arith
 
 means_one : (schema : Schema) (sql : List ℕ) → IsPlain (understood schema sql) → HasMeaning schema sql
-means_one schema sql plain = by (understood schema sql) plain refl
-  where
-    by : (r : Result Compiled CompileError) → IsPlain r → understood schema sql ≡ r → HasMeaning schema sql
-    by (Ok c) plain is = (c, is)
-    by (Err e) plain is = absurd plain
+means_one schema sql plain = search arith
 
 pub has_table : (version : Version) (t : Tables) (db : Database) → HoldsIn version t db → HasTable db.schema
 has_table version t db holds =

@@ -43,30 +43,15 @@ own_needs t second db rows holds sure =
     (λ set is. record { key = refl; need = refl; in_range = is }) db t.tables.needs rows
     (holds.in_range Quorum)
     (subst (λ v. ShowsSinceSecond need_row v t.tables.needs (db.trees tree)) second (holds.shown Quorum))
-    (shows_all db.trees tree) sure in
-    record {
-      c = it.0;
-      shows = it.2;
-      like = it.1;
-      meets = all_permuted (IsNeedOf t.tables.counts) t.tables.needs it.0 it.1;
-    }
+    (shows_all db.trees tree) sure in search (arith, all_permuted)
 
 -- ---- a row shows one
 
 one_period : (row : Row) (a b : TypePeriod) → ShowsTypePeriod row a → ShowsTypePeriod row b → a ≡ b
-one_period row a b x y i = record {
-  kind = same_kind _ _ (same_number _ _ _ x.kind y.kind) i;
-  period = record {
-    originator = same_number _ _ _ x.originator y.originator i;
-    recipient = same_number _ _ _ x.recipient y.recipient i;
-  };
-}
+one_period row a b x y = search (arith, same_kind, same_number)
 
 pub one_need : (row : Row) (a b : KeyNeed) → ShowsKeyNeed row a → ShowsKeyNeed row b → a ≡ b
-one_need row a b x y i = record {
-  key = same_number _ _ _ x.key y.key i;
-  need = same_number _ _ _ x.need y.need i;
-}
+one_need row a b x y = search (arith, same_number)
 
 -- ---- the checks
 
@@ -98,15 +83,7 @@ needs_checked t found second told = record {
   within = second_within Quorum t second (omega arith);
   own = own_needs t second;
   one = show_same ShowsKeyNeed one_need;
-  taken = λ rows it. (
-    it.values,
-    it.shown,
-    subst (λ n. AllByRecursion (IsNeedOf n) it.values) (counted t found told) it.each,
-  );
-  given = λ rows met. record {
-    values = met.0;
-    shown = met.1;
-    each = subst (λ n. AllByRecursion (IsNeedOf n) met.0) (sym (counted t found told)) met.2;
-  };
+  taken = grind (arith, counted);
+  given = search (arith, counted);
   no_newer = λ rows none. none;
 }

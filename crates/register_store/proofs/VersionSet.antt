@@ -23,10 +23,9 @@ use Rattle.register_store.specs.declared.table.TableName.TheVariants.{Meta, Keys
 use Rattle.register_store.specs.declared.table.TableName.TheVariants.{Quorum}
 use Rattle.register_store.specs.Within.Migration.{HasTablesBelow, SetsVersion}
 use Rattle.register_store.specs.Schema.{HoldsIn, schema_with, rows_of}
-use Rattle.register_store.specs.Tables.{AreApart, Counts, Layout, ShowsKeyed, Tables, content, counts_row_in}
-use Rattle.register_store.specs.Within.Tables.{Shows}
-use Rattle.register_store.specs.Tables.{fresh, need_row, period_row, place_of, version}
-use Rattle.register_store.specs.Within.Tables.{meta}
+use Rattle.register_store.specs.Tables.{AreApart, Counts, Layout, Tables, content, counts_row_in, fresh, place_of}
+use Rattle.register_store.specs.Tables.{version}
+use Rattle.register_store.specs.Within.Tables.{Shows, meta}
 use Rattle.register_store.proofs.Actions.{idle, shows_all}
 use Rattle.register_store.proofs.EachTable.{placed_low}
 use Rattle.register_store.proofs.EntryRows.{keyed_none}
@@ -90,14 +89,8 @@ module _ (old new : State) (count : ℕ) (h : Executes version_text version_para
 
   shown_now : (name : TableName) → Shows name (content name t) (rows_of l name new.now)
   shown_now Meta = wrote.rows_are ∙ ap (λ row. enc row ∷ []) (changed_is (First, t.counts))
-  shown_now Period =
-      subst (ShowsKeyed period_row t.periods)
-      (sym (other Period (λ e. absurd (omega (arith, e))) ∙ has.empty Period (omega arith) (omega arith)))
-      (subst (λ ps. ShowsKeyed period_row ps []) (sym has.no_periods) (keyed_none period_row))
-  shown_now Quorum =
-      subst (ShowsKeyed need_row t.needs)
-      (sym (other Quorum (λ e. absurd (omega (arith, e))) ∙ has.empty Quorum (omega arith) (omega arith)))
-      (subst (λ ns. ShowsKeyed need_row ns []) (sym has.no_needs) (keyed_none need_row))
+  shown_now Period = search (arith, other, keyed_none)
+  shown_now Quorum = grind (arith, other, keyed_none)
   shown_now Keys =
       subst (Shows Keys t.keys) (sym (other Keys (λ e. absurd (omega (arith, e))))) (has.shown Keys (omega arith))
   shown_now Custodian =

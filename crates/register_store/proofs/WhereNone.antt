@@ -1,10 +1,8 @@
 -- What is made where a look for tables found none.
-use Rattle.std.proofs.Common.{◌≡◌, Bool, false, Ok, subst}
-use Rattle.sqlite.specs.Effect.{Database}
+use Rattle.std.proofs.Common.{◌≡◌, Bool, false, Ok, arith}
 use Rattle.sqlite.specs.Schema.{Schema}
 use Rattle.sqlite.specs.State.{State}
 use Rattle.sql_steps.specs.Steps.{Change, StepsBy}
-use Rattle.sql_steps.specs.Within.Steps.{Then}
 use Rattle.sql_steps.proofs.Stepping.{steps_as, steps_then}
 use Rattle.register_store.specs.Creation.{WhereNone}
 use Rattle.register_store.specs.Within.Creation.{Answers}
@@ -13,8 +11,4 @@ pub made_where_none : {E F G : Type 0} (HasOne : Schema
     → Type 0) (Made : Change) (a b d : State) (found : Bool) (x : Unit {0})
     → found ≡ false → StepsBy {E = E} (Answers HasOne) a b (Ok found) → StepsBy {E = F} (λ _. Made) b d (Ok x)
     → StepsBy {E = G} (λ _. WhereNone HasOne Made) a d (Ok (tt {0}))
-made_where_none {E = E} {F = F} {G = G} HasOne Made a b d found x none look made =
-    steps_as {E = F} {F = G} (λ _. Then (Answers HasOne false) Made) (λ _. WhereNone HasOne Made) a d x (tt {0})
-    (λ old new done. (done.1.0, subst (λ (db : Database). Made db new) done.1.1 done.2))
-    (steps_then {E = E} {F = F} (Answers HasOne) (λ _. Made) a b d false (Ok x)
-    (subst (λ (is : Bool). StepsBy {E = E} (Answers HasOne) a b (Ok is)) none look) made)
+made_where_none {E = E} {F = F} {G = G} HasOne Made a b d found x none look made = search (arith, steps_as, steps_then)

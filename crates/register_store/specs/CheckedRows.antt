@@ -1,6 +1,5 @@
 -- What the check of each table has taken so far, and what it refuses.
-use Rattle.std.specs.Prelude.{◌≡◌, ◌≤◌, ℕ, zero, suc, List, [], ◌∷◌, ◌++◌, length, slice_get, true}
-use Rattle.std.specs.Prelude.{Option, None, Some}
+use Rattle.std.specs.Prelude.{◌≡◌, ◌≤◌, ℕ, zero, suc, List, [], ◌∷◌, ◌++◌, length, slice_get, true, Option, None, Some}
 use Rattle.std.specs.List.{AllByRecursion}
 use Rattle.std.specs.Global.{Vec}
 use Rattle.sqlite.specs.Order.{Row}
@@ -16,8 +15,7 @@ use Rattle.register_store.specs.declared.meta_check.MetaRow.TheVariants.{Newer, 
 use Rattle.register_requests.specs.declared.version.Version.{Version}
 use Rattle.register_store.specs.Tables.{Counts, numbered}
 use Rattle.register_store.specs.declared.table.TableName.TheVariants.{Meta}
-use Rattle.register_store.specs.CheckedTables.{AreNewer, ShowsCounts}
-use Rattle.register_store.specs.CheckedTables.{ShowsName, ShowsNewer, ShowsNumbered, mark_of}
+use Rattle.register_store.specs.CheckedTables.{AreNewer, ShowsCounts, ShowsName, ShowsNewer, ShowsNumbered, mark_of}
 use Rattle.register_store.specs.OpeningChecks.{AreCustodians, IsSoundAt, owners_of}
 
 -- ---- meta

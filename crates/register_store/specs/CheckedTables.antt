@@ -26,8 +26,8 @@ use Rattle.register_store.specs.declared.error.CheckError.TheVariants.{NotARegis
 use Rattle.register_store.specs.declared.table.TableName.{TableName}
 use Rattle.register_store.specs.declared.table.TableName.TheVariants.{Meta, Keys, Custodian, Approval, Request, Period}
 use Rattle.register_store.specs.declared.table.TableName.TheVariants.{Quorum}
-use Rattle.register_store.specs.Columns.{meta_columns, key_columns, name_columns, request_columns}
-use Rattle.register_store.specs.Columns.{period_columns, need_columns, listed, select}
+use Rattle.register_store.specs.Columns.{meta_columns, key_columns, name_columns, request_columns, period_columns}
+use Rattle.register_store.specs.Columns.{need_columns, listed, select}
 use Rattle.register_store.specs.TableReads.{ShowsKey, ShowsRequest}
 use Rattle.register_store.specs.Stored.{HoldsStored, Part, Stored, mark, part, with_part}
 use Rattle.register_store.specs.Tables.{Counts, IsKey, IsSetNeed, IsSetPeriod, numbered, place_of, table_count, version}

@@ -11,9 +11,7 @@ use Rattle.sql_steps.specs.Steps.{Change}
 use Rattle.register_store.specs.declared.table.TableName.{TableName}
 use Rattle.register_store.specs.Beside.{KeepsOthers, LacksMeta}
 use Rattle.register_store.specs.Tables.{fresh, count_text, no_rows}
-use Rattle.register_store.specs.Within.Tables.{keys}
-use Rattle.register_store.specs.Schema.{no_schema, schema_with, made_indexes}
-use Rattle.register_store.specs.Schema.{Holds}
+use Rattle.register_store.specs.Schema.{no_schema, schema_with, made_indexes, Holds}
 
 -- ---- whether tables are there
 

@@ -1,6 +1,6 @@
 -- What is read of a register in a database.
-use Rattle.std.specs.Prelude.{◌≡◌, ◌≢◌, ◌+◌, ℕ, pos, true, List, [], length, Option, None, Some, Result}
-use Rattle.std.specs.Prelude.{IfOk, IfErr, OnOk, IsTrue}
+use Rattle.std.specs.Prelude.{◌≡◌, ◌≢◌, ◌+◌, ℕ, pos, true, List, [], length, Option, None, Some, Result, IfOk, IfErr}
+use Rattle.std.specs.Prelude.{OnOk, IsTrue}
 use Rattle.std.specs.Option.{option_map}
 use Rattle.sqlite.specs.declared.types.Value.TheVariants.{Int, Text as Words}
 use Rattle.sqlite.specs.Order.{Row, column}

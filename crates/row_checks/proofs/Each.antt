@@ -37,8 +37,7 @@ module _ {A : Type 0} (Shows : Row → A → Type 0) where
   show_split [] row (v ∷ w ∷ values) value each = absurd each.1
   show_split (r ∷ []) row [] value each = absurd each.1
   show_split (r ∷ s ∷ rows) row [] value each = absurd each.1
-  show_split (r ∷ rows) row (v ∷ values) value each =
-      let it = show_split rows row values value each.1 in ((each.0, it.0), it.1)
+  show_split (r ∷ rows) row (v ∷ values) value each = grind (arith, show_split rows row values value each.1)
 
   -- the first rows show the first values
   pub show_prefix : (rows tail : List Row) (values : List A) → ShowEach Shows (rows ++ tail) values
@@ -89,16 +88,7 @@ all_prefix P (x ∷ xs) ys all = (all.0, all_prefix P xs ys all.1)
 
 map_swap : {X Y : Type 0} (f : X → Y) (xs : List X) (i j : ℕ) (d : X) → i < length xs → j < length xs
     → map f (swap xs i j) ≡ swap (map f xs) i j
-map_swap f xs i j d a b =
-    let long : length (map f xs) ≡ length xs = length-map xs f in
-    rw (
-      sym (swap_is xs i j d a b),
-      map-set f (set xs i (slice_index_or xs j d)) j (slice_index_or xs i d),
-      map-set f xs i (slice_index_or xs j d),
-      sym (swap_is (map f xs) i j (f d) (rw long a) (rw long b)),
-      get_or-map f xs j d (f d) b,
-      get_or-map f xs i d (f d) a,
-    ) refl
+map_swap f xs i j d a b = grind (arith, length-map, swap_is, map-set, set, slice_index_or, get_or-map)
 
 -- a permutation of what f makes of a list is what it makes of one of the list
 pub lift_permutation : {X Y : Type 0} (f : X → Y) (zs : List X) (ys : List Y) → IsPermutation (map f zs) ys
@@ -121,8 +111,7 @@ lift_permutation {X} {Y} f zs ys p =
         go (w ∷ ws) e q =
             let long : length (w ∷ ws) ≡ length l = sym (length-map (w ∷ ws) f) ∙ ap length e in (
               swap (w ∷ ws) i j,
-              map_swap f (w ∷ ws) i j w (omega (arith, a, long)) (omega (arith, b, long))
-                  ∙ ap (λ v. swap v i j) e,
+              map_swap f (w ∷ ws) i j w (omega (arith, a, long)) (omega (arith, b, long)) ∙ ap (λ v. swap v i j) e,
               IsPermutation-trans _ _ _ q
                   (IsPermutation-swap _ _ i j (omega (arith, a, long)) (omega (arith, b, long)) refl),
             )

@@ -1,14 +1,9 @@
 -- An INSERT below which all rows stand puts its row at the end, and so does one whose rowid is chosen.
-use Rattle.std.proofs.Common.{◌≡◌, ℤ, pos, ◌+ℤ◌, List, [], ◌∷◌, ◌++◌, map, drop, IsTrue, inl, inr, refl, sym, ap}
-use Rattle.std.proofs.Common.{subst, ◌∙◌, arith}
-use Rattle.std.proofs.lemmas.Cmp.{int_ranked}
-use Rattle.std.proofs.lemmas.Int.{ints}
+use Rattle.std.proofs.Common.{◌≡◌, ℤ, pos, ◌+ℤ◌, List, [], ◌∷◌, ◌++◌, map, drop, IsTrue, refl, sym, ap, subst, ◌∙◌}
+use Rattle.std.proofs.Common.{arith}
 use Rattle.std.proofs.lemmas.List.{map-append}
 use Rattle.std.specs.List.{AllByRecursion}
-use Rattle.std.specs.Ordering.{int_cmp, MatchOrdering, match_ordering}
-use Rattle.std.specs.Prelude.{fold, ◌<ℤ◌}
-use Rattle.std.specs.declared.cmp.Ordering.{Ordering}
-use Rattle.std.specs.declared.cmp.Ordering.TheVariants.{Less, Equal, Greater}
+use Rattle.std.specs.declared.cmp.Ordering.TheVariants.{Less}
 use Rattle.sqlite.specs.declared.types.Value.TheVariants.{Int}
 use Rattle.sqlite.specs.Edit.{id_in, next_rowid}
 use Rattle.sqlite.specs.Order.{Row, value_cmp}
@@ -25,21 +20,12 @@ Below a b = value_cmp (rowid a) (rowid b) ≡ Less
 
 pub put_last : (rows : List Row) (r : Row) → AllByRecursion (λ x. Below x r) rows → put_row r rows ≡ rows ++ r ∷ []
 put_last [] r low = refl
-put_last (x ∷ xs) r low =
-    ap (λ o. match_ordering o (x ∷ put_row r xs) (r ∷ xs) (r ∷ x ∷ xs)) low.0 ∙ ap (λ rs. x ∷ rs) (put_last xs r low.1)
+put_last (x ∷ xs) r low = search (arith, put_last xs r low.1)
 
 -- ---- a rowid that is chosen
 
 abbrev pub AreCounted : List Row → Type 0
 AreCounted rows = AllByRecursion (λ row. IsTrue (is_int (rowid row))) rows
-
-one_more : (a : ℤ) → int_cmp a (a +ℤ pos 1) ≡ Less
-one_more a = ranked (int_cmp a (a +ℤ pos 1)) (int_ranked a (a +ℤ pos 1) _ refl)
-  where
-    ranked : (o : Ordering) → MatchOrdering o (a <ℤ (a +ℤ pos 1)) (a ≡ a +ℤ pos 1) ((a +ℤ pos 1) <ℤ a) → o ≡ Less
-    ranked Less h = refl
-    ranked Equal h = absurd (omega (arith, ints))
-    ranked Greater h = absurd (omega (arith, ints))
 
 -- one above the last rowid, or this where there is none
 abbrev top : ℤ → List Row → ℤ
@@ -49,20 +35,12 @@ top start (r ∷ rs) = top (id_in (rowid r) +ℤ pos 1) rs
 below_top : (x : Row) (xs : List Row) (cells : Row) → IsTable (x ∷ xs)
     → AllByRecursion (λ row. rowid row ≡ Int (id_in (rowid row))) (x ∷ xs)
     → AllByRecursion (λ y. Below y (Int (top (id_in (rowid x) +ℤ pos 1) xs) ∷ cells)) (x ∷ xs)
-below_top x [] cells t i = (
-  ap (λ v. value_cmp v (Int (id_in (rowid x) +ℤ pos 1))) i.0 ∙ value_cmp-Int _ _
-      ∙ one_more (id_in (rowid x)),
-  tt,
-)
+below_top x [] cells t i = search (arith, value_cmp-Int)
 below_top x (y ∷ ys) cells t i =
     let rest = below_top y ys cells t.1 i.1 in (value_cmp_total.trans _ _ _ t.0.0 rest.0, rest)
 
 next_is : (rows : List Row) → next_rowid rows ≡ top (pos 1) rows
-next_is rows = from (pos 1) rows
-  where
-    from : (s : ℤ) (rs : List Row) → fold (λ (_ : ℤ) (r : Row). id_in (rowid r) +ℤ pos 1) s rs ≡ top s rs
-    from s [] = refl
-    from s (r ∷ rs) = from (id_in (rowid r) +ℤ pos 1) rs
+next_is rows = search arith
 
 module _ (cells : Row) where
   abbrev pub chosen : List Row → Row
@@ -83,7 +61,4 @@ module _ (cells : Row) where
   chosen_ordered rows t = IsTable-put_row (chosen rows) rows t
 
   pub chosen_counted : (rows : List Row) → AreCounted rows → AreCounted (put_row (chosen rows) rows)
-  chosen_counted rows i = all_from _ (put_row (chosen rows) rows) (λ x h. elim (put_has (chosen rows) rows x h) [
-    | inl new ↦ subst (λ (row : Row). IsTrue (is_int (rowid row))) (sym new) refl
-    | inr old ↦ all_has _ rows x i old
-  ])
+  chosen_counted rows i = search (arith, all_from, put_has, all_has)

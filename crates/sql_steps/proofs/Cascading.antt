@@ -1,6 +1,6 @@
 -- What a DELETE does where one other table refers to the rows with ON DELETE CASCADE, and none to its rows.
-use Rattle.std.proofs.Common.{◌≡◌, inl, inr, ◌≢◌, ◌&&◌, ℕ, zero, suc, ℤ, List, [], ◌∷◌, ◌++◌, length, Bool, true, false}
-use Rattle.std.proofs.Common.{cond, Ok, refl, sym, ap, subst, arith, length-append}
+use Rattle.std.proofs.Common.{◌≡◌, inl, inr, ◌≢◌, ℕ, zero, suc, ℤ, List, [], ◌∷◌, ◌++◌, length, Bool, true, false, cond}
+use Rattle.std.proofs.Common.{Ok, refl, sym, ap, subst, arith, length-append}
 use Rattle.std.specs.List.{AllByRecursion, list_any}
 use Rattle.sqlite.specs.Edit.{edit_of, taken_by, without_all, Applies}
 use Rattle.sqlite.specs.Order.{Row}
@@ -19,10 +19,6 @@ use Rattle.sqlite_value.specs.declared.keys.Order.{Order}
 single : {A : Type 0} (below : List A) (w x : A) → below ++ w ∷ [] ≡ x ∷ [] → (below ≡ []) × (w ≡ x)
 single [] w x e = (refl, cc)
 single (b ∷ bs) w x e = absurd (omega (arith, ap length e, length-append bs (w ∷ [])))
-
-left_part : (a b : Bool) → (a && b) ≡ true → a ≡ true
-left_part true b e = refl
-left_part false b e = e
 
 module _ (schema : Schema) (parent child : Table) (ref : Reference) (places : List ℕ) (order : Order) where
   -- the rows of the child that refer to these, to be deleted
@@ -52,23 +48,11 @@ module _ (schema : Schema) (parent child : Table) (ref : Reference) (places : Li
     -- nothing is done where there is no orphan
     no_drop : (olds : List Row) (next after : Trees) → AreChildren next (orphans olds) [] → after ≡ next
         → Drops olds next after
-    no_drop olds next after none same = record {
-      ids = [];
-      are = none;
-      rows = ap (λ (db : Trees). db child.tree) same;
-      others = all_from _ schema.tables (λ t h other. ap (λ (db : Trees). db t.tree) same);
-    }
+    no_drop olds next after none same = search (arith, all_from)
 
     -- where no row loses its key there is none
     no_orphan : (olds : List Row) (next : Trees) → some_lose olds ≡ false → AreChildren next (orphans olds) []
-    no_orphan olds next none = record {
-      rise = tt;
-      sound = λ id h. absurd h;
-      complete = λ r id h is own.
-          let move = some_has (is_child_of (orphans olds) r) (pairs olds []) is in
-          let some = some_from (loses order places) (pairs olds []) move.0 move.1 (left_part _ _ move.2) in
-          absurd (cc);
-    }
+    no_orphan olds next none = search (arith, some_has, some_from)
 
     acts : (n : ℕ) (next after : Trees) (olds : List Row) (ids : List ℤ) → AreChildren next (orphans olds) ids
         → ActsOn schema Enforced (Leads schema Enforced n) next (orphans olds) [] (Ok after) ids → Drops olds next after
@@ -77,9 +61,7 @@ module _ (schema : Schema) (parent child : Table) (ref : Reference) (places : Li
     acts n next after olds (id ∷ ids) are (inr (inl big)) = absurd (let e = big.3 in cc)
     acts n next after olds (id ∷ ids) are (inr (inr went)) =
         let e = action_edit next (orphans olds) (id ∷ ids) in
-        let last : after ≡ went.0 =
-        empty_leads n went.0 after
-        (subst (λ ws. Leads schema Enforced n went.0 ws (Ok after)) (idle (taken_by next e)) went.2) in
+        let last : after ≡ went.0 = search (arith, empty_leads) in
         let applies = subst (Applies schema Enforced next e) (sym last) went.1 in
         record { ids = id ∷ ids; are = are; rows = applies.rows; others = applies.tables }
 
@@ -99,12 +81,4 @@ module _ (schema : Schema) (parent child : Table) (ref : Reference) (places : Li
         → Writes schema Enforced db (edit_of db parent gone Given 0 []) (Ok after)
         → (next : Trees) × Applies schema Enforced db (edit_of db parent gone Given 0 []) next
         × Drops (taken_by db (edit_of db parent gone Given 0 [])) next after
-    drops_after db after gone (inl refused) = absurd (let e = refused.2 in cc)
-    drops_after db after gone (inr (inl big)) = absurd (let e = big.3 in cc)
-    drops_after db after gone (inr (inr went)) =
-        let olds = taken_by db (edit_of db parent gone Given 0 []) in (
-          went.0,
-          went.1,
-          settles _ went.2.0 went.0 after olds refl
-              (subst (λ ws. Leads schema Enforced went.2.0 went.0 ws (Ok after)) (cascade olds) went.2.1),
-        )
+    drops_after db after gone it = search (arith, settles)

@@ -1,5 +1,5 @@
 -- What an UPDATE does that sets off no action, where the rows of its table stand for values of a type.
-use Rattle.std.proofs.Common.{◌≡◌, ℕ, ℤ, List, [], ◌∷◌, map, slice_get, false, Some, Ok, subst, ◌∙◌}
+use Rattle.std.proofs.Common.{◌≡◌, ℕ, ℤ, List, [], ◌∷◌, map, slice_get, false, Some, Ok, subst, arith}
 use Rattle.std.specs.List.Sorted.{IsPermutation}
 use Rattle.sqlite.specs.declared.types.Value.TheVariants.{Int}
 use Rattle.sqlite.specs.Command.TheVariants.{Update}
@@ -53,8 +53,4 @@ module _ {A : Type 0} (enc : A → Row) (number : A → ℤ) (rowid_is : (a : A)
       let applies = one_step schema Enforced old.now.trees new.now.trees edit
       (idle (taken_by old.now.trees edit) edit.news) did.3 in
       let each = typed.changes_each enc number rowid_is table params passes more f image same old.now.trees items rows
-      ordered did.1 all applies.fresh in
-      record {
-        rows_are = applies.rows ∙ each;
-        kept = record { schema_is = did.0; others = applies.tables; sound = w.sound };
-      }
+      ordered did.1 all applies.fresh in search arith

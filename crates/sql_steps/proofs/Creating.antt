@@ -1,6 +1,6 @@
 -- What a CREATE TABLE and a CREATE INDEX make, whatever the table and the index are.
-use Rattle.std.proofs.Common.{◌≡◌, ℕ, List, [], slice_get, None, Some, Ok, false, sym, ap, subst, ◌∙◌}
-use Rattle.sqlite.specs.Change.{created, indexed, next_tree, KeepsRows}
+use Rattle.std.proofs.Common.{◌≡◌, ℕ, List, [], slice_get, None, Some, Ok, false, sym, ap, subst, ◌∙◌, arith}
+use Rattle.sqlite.specs.Change.{created, indexed}
 use Rattle.sqlite.specs.Command.TheVariants.{CreateTable, CreateIndex}
 use Rattle.sqlite.specs.Compile.{table_defined_by, index_defined_by}
 use Rattle.sqlite.specs.Does.{Tally, AtPlace, Defines, MakesIndex, lacks_sequence}
@@ -29,18 +29,9 @@ module _ (before : Schema) (table : Table) (sql : List ℕ) (is : command_of (un
       let made = first.1 in
       let both : Ok made.table ≡ Ok written = sym made.defined ∙ defined in
       let table_is : made.table ≡ written = cc in
-      let schema : first.0.schema ≡ created before table = made.is ∙ ap (λ s. created s made.table) has
-      ∙ ap (created before) table_is ∙ same in
+      let schema : first.0.schema ≡ created before table = cc in
       let uncounted' : lacks_sequence first.0.schema ≡ false = ap lacks_sequence schema ∙ uncounted in
-      let now : new.now ≡ first.0 = ap (λ (p : Tally × Database). p.1) (same_value all.2)
-      ∙ same_value (rw uncounted' at first.2) in
-      record {
-        schema = ap (λ (d : Database). d.schema) now ∙ schema;
-        empty = ap (λ (d : Database). d.trees (next_tree before)) now
-            ∙ subst (λ (s : Schema). first.0.trees (next_tree s) ≡ []) has made.empty;
-        others = subst (λ (d : Database). KeepsRows before.tables old.now.trees d.trees) (sym now)
-            (subst (λ (s : Schema). KeepsRows s.tables old.now.trees first.0.trees) has made.others);
-      }
+      let now : new.now ≡ first.0 = grind (arith, same_value) in search arith
 
 -- the same of a CREATE INDEX
 module _ (before : Schema) (at : ℕ) (table : Table) (there : slice_get before.tables at ≡ Some table)
@@ -53,8 +44,7 @@ module _ (before : Schema) (at : ℕ) (table : Table) (there : slice_get before.
   indexes old new count h has =
       let w = subst (λ t. Writes old new None (CreateIndex at) t [] count) whole
       (runs_as sql [] old new before has (CreateIndex at) is plain count h) in
-      let place : slice_get old.now.schema.tables at ≡ Some table =
-      ap (λ (s : Schema). slice_get s.tables at) has ∙ there in
+      let place : slice_get old.now.schema.tables at ≡ Some table = cc in
       let all =
       went (subst
       (λ o. AtPlace (λ t. Defines (mode_of old) (MakesIndex sql old.now t)) o (Ok (w.tally, new.now))) place
@@ -62,11 +52,5 @@ module _ (before : Schema) (at : ℕ) (table : Table) (there : slice_get before.
       let made = all.1 in
       let both : Ok made.index ≡ Ok written = sym made.defined ∙ defined in
       let index_is : made.index ≡ written = cc in
-      let schema : all.0.schema ≡ indexed before table index = made.is
-      ∙ ap (λ s. indexed s table made.index) has ∙ ap (indexed before table) index_is ∙ same in
-      let now : new.now ≡ all.0 = ap (λ (p : Tally × Database). p.1) (same_value all.2) in
-      record {
-        schema = ap (λ (d : Database). d.schema) now ∙ schema;
-        tables = subst (λ (d : Database). KeepsRows before.tables old.now.trees d.trees) (sym now)
-            (subst (λ (s : Schema). KeepsRows s.tables old.now.trees all.0.trees) has made.rows);
-      }
+      let schema : all.0.schema ≡ indexed before table index = cc in
+      let now : new.now ≡ all.0 = ap (λ (p : Tally × Database). p.1) (same_value all.2) in search arith

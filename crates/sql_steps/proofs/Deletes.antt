@@ -1,5 +1,6 @@
 -- What a DELETE of some rows takes out and leaves.
 use Rattle.std.proofs.Common.{◌≡◌, ℕ, ℤ, List, [], ◌∷◌, map, filter, not, Bool, true, IsTrue, sym, ap, subst, ◌∙◌}
+use Rattle.std.proofs.Common.{arith}
 use Rattle.std.specs.Ordering.{is_eq}
 use Rattle.std.specs.List.Sorted.{IsPermutation}
 use Rattle.std.proofs.lemmas.Cmp.{tied_itself}
@@ -63,8 +64,4 @@ module _ (params : Row) (tree : ℕ) (passes : List Term) (rows : List Row) (ord
       subst (Has (map (row_at rows) (ids_of answer))) same (has_map (row_at rows) (ids_of answer) id.0 id.1)
 
   pub taken_from : (y : Row) → Has (map (row_at rows) (ids_of answer)) y → Has rows y × (p y ≡ true)
-  taken_from y h =
-      let id = map_has (row_at rows) (ids_of answer) y h in
-      let x = ids_from id.0 id.1 in
-      let same : x.0 ≡ y = sym (row_at_is rows id.0 x.0 ordered x.1 (has_own x.0 id.0 x.3)) ∙ sym id.2 in
-      (subst (Has rows) same x.1, subst (λ y. p y ≡ true) same x.2)
+  taken_from y h = search (arith, map_has, ids_from, row_at_is, has_own)

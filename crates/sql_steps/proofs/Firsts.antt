@@ -106,8 +106,7 @@ module _ (t : ℕ) (passes shown : List Term) (order : List (Term × Key)) where
 
       pub gives_no_row : QueriesRow sql params old new (Err QueryReturnedNoRows) → passing (old.now.trees t) ≡ []
       unfolding QueriesRow
-      gives_no_row (inl fails) = absurd
-          (never_fails sql params old new (subst (λ s. IsPlain (understood s sql)) (sym has) plain) fails)
+      gives_no_row (inl fails) = search (arith, never_fails)
       gives_no_row (inr h) =
           let db = overlay old.now.trees [] in
           let a : IsAnswer ordered_by db params

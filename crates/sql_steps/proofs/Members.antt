@@ -1,6 +1,6 @@
 -- Membership in lists.
-use Rattle.std.proofs.Common.{◌≡◌, inl, inr, zero, suc, List, [], ◌∷◌, map, filter, Bool, true, false, cond, refl}
-use Rattle.std.proofs.Common.{sym, ap, subst, ◌∙◌, arith}
+use Rattle.std.proofs.Common.{◌≡◌, inl, inr, zero, suc, List, [], ◌∷◌, map, filter, Bool, true, cond, refl, sym, subst}
+use Rattle.std.proofs.Common.{arith}
 use Rattle.std.specs.List.{Contains, flat_map}
 use Rattle.std.specs.List.Sorted.{IsPermutation}
 use Rattle.sqlite_trees.proofs.ListLemmas.{filter_as_flat_map, IsPermutation-flat_map}
@@ -21,9 +21,7 @@ step_from : {A B : Type 0} (f : A → B) (q : A
     → Bool) (x : A) (xs : List A) (y : B) (later : Has (map f (filter q xs)) y → (z : A) × Has xs z × (q z ≡ true)
     × (y ≡ f z)) (b : Bool) → q x ≡ b
     → Has (map f (cond b (x ∷ filter q xs) (filter q xs))) y → (z : A) × Has (x ∷ xs) z × (q z ≡ true) × (y ≡ f z)
-step_from f q x xs y later true is (inl e) = (x, inl refl, is, e)
-step_from f q x xs y later true is (inr k) = let r = later k in (r.0, inr r.1, r.2, r.3)
-step_from f q x xs y later false is k = let r = later k in (r.0, inr r.1, r.2, r.3)
+step_from f q x xs y later b is k = search arith
 
 pub from_picked : {A B : Type 0} (f : A → B) (q : A → Bool) (xs : List A) (y : B) → Has (map f (filter q xs)) y
     → (x : A) × Has xs x × (q x ≡ true) × (y ≡ f x)
@@ -34,10 +32,7 @@ from_picked f q (x ∷ xs) y h = step_from f q x xs y (from_picked f q xs y) (q 
 step_to : {A B : Type 0} (f : A → B) (q : A → Bool) (y : A) (ys : List A) (x : A) (later : Has ys x
     → Has (map f (filter q ys)) (f x)) → q x ≡ true → (b : Bool) → q y ≡ b → Has (y ∷ ys) x
     → Has (map f (cond b (y ∷ filter q ys) (filter q ys))) (f x)
-step_to f q y ys x later is true here (inl e) = inl (ap f e)
-step_to f q y ys x later is true here (inr k) = inr (later k)
-step_to f q y ys x later is false here (inl e) = absurd (let l = sym (ap q e) ∙ is in cc)
-step_to f q y ys x later is false here (inr k) = later k
+step_to f q y ys x later is b here it = search arith
 
 pub to_picked : {A B : Type 0} (f : A → B) (q : A → Bool) (xs : List A) (x : A) → Has xs x → q x ≡ true
     → Has (map f (filter q xs)) (f x)

@@ -1,9 +1,9 @@
 -- What a DELETE with its cascade leaves of the two tables.
-use Rattle.std.proofs.Common.{◌≡◌, ◌≢◌, ◌⊎◌, inl, inr, ◌&&◌, ℕ, ℤ, List, [], ◌∷◌, filter, not, slice_get, Bool, cond}
-use Rattle.std.proofs.Common.{false, true, Some, Ok, IsTrue, sym, ap, subst, ◌∙◌}
+use Rattle.std.proofs.Common.{◌≡◌, ◌≢◌, ◌⊎◌, inl, inr, ℕ, ℤ, List, [], ◌∷◌, filter, not, slice_get, Bool, cond, false}
+use Rattle.std.proofs.Common.{true, Some, Ok, sym, ap, subst, ◌∙◌, arith}
 use Rattle.std.specs.List.Sorted.{IsPermutation}
 use Rattle.sqlite.specs.Command.TheVariants.{Delete}
-use Rattle.sqlite.specs.Edit.{id_in, taken_by, without_all}
+use Rattle.sqlite.specs.Edit.{taken_by, without_all}
 use Rattle.sqlite.specs.Effect.{Database}
 use Rattle.sqlite.specs.Listing.{understood}
 use Rattle.sqlite.specs.Order.{Row}
@@ -12,17 +12,16 @@ use Rattle.sqlite.specs.Schema.{Schema}
 use Rattle.sqlite.specs.State.{State, mode_of, Executes}
 use Rattle.sqlite.specs.Table.{Table}
 use Rattle.sqlite.specs.Term.{Term}
-use Rattle.sqlite.specs.Tree.{Trees, IsTable, rowid}
+use Rattle.sqlite.specs.Tree.{Trees, IsTable}
 use Rattle.sqlite.proofs.Callers.{IsPlain, command_of, statement_of, runs_as}
 use Rattle.sqlite_rules.proofs.ListLemmas.{all_from, all_has, some_from, some_has}
 use Rattle.sqlite_rules.proofs.TableLemmas.{int_is}
-use Rattle.sqlite_rules.specs.Action.{works, pairs, loses, is_child_of, AreChildren}
+use Rattle.sqlite_rules.specs.Action.{works, pairs, loses, AreChildren}
 use Rattle.sqlite_rules.specs.Calls.{ids_of}
 use Rattle.sqlite_rules.specs.Lists.{Has}
 use Rattle.sqlite_schema.specs.Rules.{agree}
 use Rattle.sqlite_schema.specs.declared.schema.Keys.TheVariants.{Enforced}
 use Rattle.sqlite_schema.specs.declared.schema.Reference.{Reference}
-use Rattle.sqlite_trees.specs.View.{is_int}
 use Rattle.sqlite_value.specs.declared.keys.Order.{Order}
 use Rattle.sql_steps.proofs.Appending.{AreCounted}
 use Rattle.sql_steps.proofs.Cascading.{orphans, some_lose, is_orphan, drops_after}
@@ -40,14 +39,6 @@ pairs_has : (olds : List Row) (old : Row) → Has olds old → Has (pairs olds [
 pairs_has [] old h = absurd h
 pairs_has (first ∷ olds) old (inl same) = inl (ap (λ (row : Row). (row, [])) same)
 pairs_has (first ∷ olds) old (inr later) = inr (pairs_has olds old later)
-
-right_part : (a b : Bool) → (a && b) ≡ true → b ≡ true
-right_part true b e = e
-right_part false b e = absurd (cc)
-
-both_parts : (a b : Bool) → a ≡ true → b ≡ true → (a && b) ≡ true
-both_parts true b p q = q
-both_parts false b p q = absurd (cc)
 
 module _ (schema : Schema) (base child : Table) (ref : Reference) (places : List ℕ) (order : Order) (params : Row)
     (passes : List Term) where
@@ -69,35 +60,15 @@ module _ (schema : Schema) (base child : Table) (ref : Reference) (places : List
       (are : AreChildren next (orphans schema parent child ref places order olds) ids) where
     orphan_passes : (r : Row) → Has children r → is_orphan schema parent child ref places order olds r ≡ true
         → c r ≡ true
-    orphan_passes r h is =
-        let move = some_has (is_child_of (orphans schema parent child ref places order olds) r) (pairs olds []) is in
-        let stood = was move.0.0 (pairs_from olds move.0 move.1) in
-        c_all r move.0.0 h stood.0 stood.1 (right_part _ _ move.2)
+    orphan_passes r h is = search (arith, some_has, orphans, pairs_from)
 
     passing_orphan : (r : Row) → Has children r → c r ≡ true
         → is_orphan schema parent child ref places order olds r ≡ true
-    passing_orphan r h is =
-        let x = c_from r h is in
-        some_from (is_child_of (orphans schema parent child ref places order olds) r) (pairs olds []) (
-          x.0,
-          [],
-        ) (pairs_has olds x.0 (taken x.0 x.1 x.2)) (both_parts _ _ x.3 x.4)
+    passing_orphan r h is = search (arith, some_from, orphans, pairs_has)
 
     -- the children that pass are those that go
     children_left : without_all children ids ≡ filter (λ r. not (c r)) children
-    children_left = deletes_each children ids c ordered
-        (λ id h. let it = are.sound id h in let here = subst (λ rows. Has rows it.0) same it.1 in (
-          it.0,
-          here,
-          orphan_passes it.0 here it.2,
-          it.3,
-        ))
-        (λ r h is.
-        let own = int_is (rowid r) (all_has (λ row. IsTrue (is_int (rowid row))) children r counted h) in (
-          id_in (rowid r),
-          are.complete r (id_in (rowid r)) (subst (λ rows. Has rows r) (sym same) h) (passing_orphan r h is) own,
-          own,
-        ))
+    children_left = search (arith, deletes_each, orphan_passes, int_is, all_has, passing_orphan)
 
   -- the rows that pass went, and the rows of the other table for which c holds, and no other
   pub record RemovedBoth (c : Row → Bool) (old new : Database) : Type 0 where
@@ -140,8 +111,7 @@ module _ (schema : Schema) (base child : Table) (ref : Reference) (places : List
       (ids_of did.1) did.3 in
       let olds = taken_by old.now.trees
       (deleted old.step_limit (mode_of old) params old.now schema has at base did.1) in
-      let same : fell.0 child.tree ≡ children = all_has (λ (t : Table). t.tree ≢ parent.tree
-      → fell.0 t.tree ≡ old.now.trees t.tree) schema.tables child fell.1.tables child_listed apart in
+      let same : fell.0 child.tree ≡ children = grind (arith, all_has) in
       let stays = all_has (λ (t : Table). t.tree ≢ child.tree
       → new.now.trees t.tree ≡ fell.0 t.tree) schema.tables parent fell.2.others listed (λ e. apart (sym e)) in
       record {
@@ -153,11 +123,7 @@ module _ (schema : Schema) (base child : Table) (ref : Reference) (places : List
             fell.0 same fell.2.ids fell.2.are;
         kept = record {
           schema_is = did.0;
-          others = all_from _ schema.tables (λ t h not_written.
-              all_has (λ (t : Table). t.tree ≢ child.tree
-              → new.now.trees t.tree ≡ fell.0 t.tree) schema.tables t fell.2.others h (λ e. not_written (inr e))
-              ∙ all_has (λ (t : Table). t.tree ≢ parent.tree
-              → fell.0 t.tree ≡ old.now.trees t.tree) schema.tables t fell.1.tables h (λ e. not_written (inl e)));
+          others = all_from _ schema.tables (search (arith, all_has));
           sound = w.sound;
         };
       }

@@ -1,5 +1,5 @@
 -- What a DELETE does that sets off no action.
-use Rattle.std.proofs.Common.{◌≡◌, ℕ, List, [], filter, not, slice_get, false, Some, Ok, subst, ◌∙◌}
+use Rattle.std.proofs.Common.{◌≡◌, ℕ, List, [], filter, not, slice_get, false, Some, Ok, subst, arith}
 use Rattle.std.specs.List.Sorted.{IsPermutation}
 use Rattle.sqlite.specs.Command.TheVariants.{Delete}
 use Rattle.sqlite.specs.Edit.{taken_by}
@@ -47,8 +47,4 @@ module _ (base : Table) (params : Row) (passes : List Term) where
       let edit = deleted old.step_limit (mode_of old) params old.now schema has at base did.1 in
       let applies = one_step schema Enforced old.now.trees new.now.trees edit (idle (taken_by old.now.trees edit))
       did.3 in
-      let rest = left params table.tree passes (old.now.trees table.tree) ordered counted did.1 all in
-      record {
-        rows_are = applies.rows ∙ rest;
-        kept = record { schema_is = did.0; others = applies.tables; sound = w.sound };
-      }
+      let rest = left params table.tree passes (old.now.trees table.tree) ordered counted did.1 all in search arith

@@ -1,10 +1,8 @@
 -- Two tables with the same rows are one, and what an UPDATE of some rows leaves.
-use Rattle.std.proofs.Common.{◌≡◌, inl, inr, ℤ, List, [], ◌∷◌, map, filter, not, Bool, true, false, cond, refl, sym}
-use Rattle.std.proofs.Common.{ap, subst, ◌∙◌}
-use Rattle.std.specs.List.{AllByRecursion}
+use Rattle.std.proofs.Common.{◌≡◌, inl, inr, ℤ, List, [], ◌∷◌, map, filter, not, Bool, true, false, cond, refl, sym, ap}
+use Rattle.std.proofs.Common.{subst, ◌∙◌, arith}
 use Rattle.std.specs.Ordering.{is_eq}
-use Rattle.std.specs.declared.cmp.Ordering.{Ordering}
-use Rattle.std.specs.declared.cmp.Ordering.TheVariants.{Less, Equal, Greater}
+use Rattle.std.specs.declared.cmp.Ordering.TheVariants.{Less, Equal}
 use Rattle.std.proofs.lemmas.Cmp.{tied_itself}
 use Rattle.std.proofs.lemmas.Bool.{cases_Bool}
 use Rattle.sqlite.specs.declared.types.Value.TheVariants.{Int}
@@ -42,14 +40,8 @@ same_tables (x ∷ xs) (y ∷ ys) tx ty there back =
                 (never_both x y (all_has (Below x) xs y tx.0 after) (all_has (Below y) ys x ty.0 later))
           ]
     ] in
-    let on : (z : Row) → Has xs z → Has ys z = λ z h. elim (there z (inr h)) [
-      | inl same ↦ absurd (never_below x (subst (Below x) (same ∙ sym first) (all_has (Below x) xs z tx.0 h)))
-      | inr later ↦ later
-    ] in
-    let off : (z : Row) → Has ys z → Has xs z = λ z h. elim (back z (inr h)) [
-      | inl same ↦ absurd (never_below y (subst (Below y) (same ∙ first) (all_has (Below y) ys z ty.0 h)))
-      | inr later ↦ later
-    ] in
+    let on : (z : Row) → Has xs z → Has ys z = search (arith, never_below, all_has) in
+    let off : (z : Row) → Has ys z → Has xs z = search (arith, never_below, all_has) in
     let rest = same_tables xs ys tx.1 ty.1 on off in
     ap (λ r. r ∷ xs) first ∙ ap (λ rs. y ∷ rs) rest
 
@@ -71,29 +63,19 @@ table_put_all (n ∷ news) rows t = table_put_all news (put_row n rows) (IsTable
 
 table_filter : (p : Row → Bool) (rows : List Row) → IsTable rows → IsTable (filter p rows)
 table_filter p [] t = tt
-table_filter p (r ∷ rows) t =
-    step (p r) (all_from (Below r) (filter p rows) (λ x h. all_has (Below r) rows x t.0 (has_filtered p rows x h).0))
-    (table_filter p rows t.1)
-  where
-    step : (b : Bool) → AllByRecursion (Below r) (filter p rows) → IsTable (filter p rows)
-        → IsTable (cond b (r ∷ filter p rows) (filter p rows))
-    step true low rest = (low, rest)
-    step false low rest = rest
+table_filter p (r ∷ rows) t = search (arith, all_from, all_has, has_filtered, table_filter p rows t.1)
 
 pub table_without_all : (ids : List ℤ) (rows : List Row) → IsTable rows → IsTable (without_all rows ids)
 table_without_all [] rows t = t
 table_without_all (id ∷ ids) rows t = table_without_all ids (without_rowid id rows) (table_filter _ rows t)
 
 turned : (b : Bool) → not b ≡ true → b ≡ false
-turned true e = absurd cc
-turned false e = refl
+turned b e = search arith
 
 pub without_all_drops : (ids : List ℤ) (rows : List Row) (x : Row) (id : ℤ) → Has (without_all rows ids) x
     → Has ids id → has_rowid id x ≡ false
 without_all_drops [] rows x id h k = absurd k
-without_all_drops (i ∷ ids) rows x id h (inl same) =
-    let was = (has_filtered _ rows x (without_all_has ids (without_rowid i rows) x h)).1 in subst (λ j. has_rowid j x
-    ≡ false) (sym same) (turned (has_rowid i x) was)
+without_all_drops (i ∷ ids) rows x id h (inl same) = search (arith, has_filtered, without_all_has, turned)
 without_all_drops (i ∷ ids) rows x id h (inr later) = without_all_drops ids (without_rowid i rows) x id h later
 
 pub without_all_keeps : (ids : List ℤ) (rows : List Row) (x : Row) → Has rows x
@@ -116,43 +98,21 @@ map_has f (x ∷ xs) y (inr h) = let r = map_has f xs y h in (r.0, inr r.1, r.2)
 table_map : (f : Row → Row) (rows : List Row) → ((r : Row) → Has rows r → rowid (f r) ≡ rowid r) → IsTable rows
     → IsTable (map f rows)
 table_map f [] keeps t = tt
-table_map f (r ∷ rows) keeps t = (
-  all_from (Below (f r)) (map f rows)
-      (λ y h. let it = map_has f rows y h in rw (
-        it.2,
-        keeps r (inl refl),
-        keeps it.0 (inr it.1),
-      ) (all_has (Below r) rows it.0 t.0 it.1)),
-  table_map f rows (λ x h. keeps x (inr h)) t.1,
-)
+table_map f (r ∷ rows) keeps t =
+    search (arith, all_from, map_has, all_has, table_map f rows (λ x h. keeps x (inr h)) t.1)
 
 has_its_rowid : (x : Row) (id : ℤ) → rowid x ≡ Int id → has_rowid id x ≡ true
 has_its_rowid x id e = ap (λ v. is_eq (value_cmp v (Int id))) e ∙ ap is_eq (tied_itself value_cmp_total (Int id))
-
-tied : (o : Ordering) → is_eq o ≡ true → o ≡ Equal
-tied Less e = absurd cc
-tied Equal e = refl
-tied Greater e = absurd cc
 
 -- a DELETE of the rows that pass leaves the others, in their order
 module _ (rows : List Row) (ids : List ℤ) (p : Row → Bool) (table : IsTable rows)
     (ids_from : (id : ℤ) → Has ids id → (x : Row) × Has rows x × (p x ≡ true) × (rowid x ≡ Int id))
     (ids_all : (x : Row) → Has rows x → p x ≡ true → (id : ℤ) × Has ids id × (rowid x ≡ Int id)) where
   left_fails : (y : Row) → Has (without_all rows ids) y → p y ≡ false
-  left_fails y h = elim (cases_Bool (p y)) [
-    | inl passes ↦ absurd
-        (let it = ids_all y (without_all_has ids rows y h) passes in let out = without_all_drops ids rows y it.0 h
-        it.1 in let in_it = has_its_rowid y it.0 it.2 in cc)
-    | inr fails ↦ fails
-  ]
+  left_fails y h = search (arith, cases_Bool, without_all_has, without_all_drops, has_its_rowid)
 
   fails_left : (x : Row) → Has rows x → p x ≡ false → Has (without_all rows ids) x
-  fails_left x h fails = without_all_keeps ids rows x h (λ id k. elim (cases_Bool (has_rowid id x)) [
-    | inl has ↦ absurd
-        (let from = ids_from id k in let same = same_row rows x from.0 table h from.1 (ap (value_cmp (rowid x)) from.3
-        ∙ tied _ has) in let passes = ap p same ∙ from.2 in cc)
-    | inr not_it ↦ not_it
-  ])
+  fails_left x h fails = search (arith, without_all_keeps, cases_Bool, same_row)
 
   stays : (y : Row) → Has (without_all rows ids) y → Has (filter (λ r. not (p r)) rows) y
   stays y h = has_kept (λ r. not (p r)) rows y (without_all_has ids rows y h) (ap not (left_fails y h))
@@ -177,13 +137,9 @@ module _ (rows news : List Row) (ids : List ℤ) (p : Row → Bool) (g : Row
   abbrev changed : Row → Row
   changed = changed_by p g
 
-  changed_keeps : (r : Row) → Has rows r → rowid (changed r) ≡ rowid r
-  changed_keeps r h = elim (p r) as (λ b. rowid (cond b (g r) r) ≡ rowid r) [ true ↦ keeps r h | false ↦ refl ]
-
   on : (y : Row) → Has (put_all (without_all rows ids) news) y → Has (map changed rows) y
   on y h = elim (put_all_has news (without_all rows ids) y h) [
-    | inl new ↦ let it = news_from y new in subst (Has (map changed rows)) (ap (λ b. cond b (g it.0) it.0) it.2
-        ∙ sym it.3) (has_map changed rows it.0 it.1)
+    | inl new ↦ let it = news_from y new in subst (Has (map changed rows)) (cc) (has_map changed rows it.0 it.1)
     | inr old ↦
         let fails = left_fails rows ids p table ids_from ids_all y old in
         subst (Has (map changed rows)) (ap (λ b. cond b (g y) y) fails)
@@ -194,14 +150,11 @@ module _ (rows news : List Row) (ids : List ℤ) (p : Row → Bool) (g : Row
   off y h =
       let it = map_has changed rows y h in
       elim (cases_Bool (p it.0)) [
-        | inl passes ↦ put_all_adds news (without_all rows ids) y fresh
-            (subst (Has news) (sym (it.2 ∙ ap (λ b. cond b (g it.0) it.0) passes)) (news_all it.0 it.1 passes))
+        | inl passes ↦ search (arith, put_all_adds)
         | inr fails ↦ put_all_keeps news (without_all rows ids) y fresh
             (subst (Has (without_all rows ids)) (sym (it.2 ∙ ap (λ b. cond b (g it.0) it.0) fails))
             (fails_left rows ids p table ids_from ids_all it.0 it.1 fails))
       ]
 
   pub updates_each : put_all (without_all rows ids) news ≡ map (changed_by p g) rows
-  updates_each =
-      same_tables _ _ (table_put_all news (without_all rows ids) (table_without_all ids rows table))
-      (table_map changed rows changed_keeps table) on off
+  updates_each = search (arith, same_tables, table_put_all, table_without_all, table_map, on, off)

@@ -1,7 +1,6 @@
 -- What INSERT, UPDATE, DELETE and SELECT of the plain forms make, whatever the schema and the table are.
-use Rattle.std.proofs.Common.{◌≡◌, ◌⊎◌, inl, inr, ℕ, ℤ, pos, negsuc, ◌/◌, List, [], ◌∷◌, length, map, filter}
-use Rattle.std.proofs.Common.{slice_get, Bool, true, false, cond, Some, None, Option, Ok, Err, Result, refl, sym, ap}
-use Rattle.std.proofs.Common.{subst, ◌∙◌}
+use Rattle.std.proofs.Common.{◌≡◌, ◌⊎◌, ℕ, ℤ, pos, negsuc, ◌/◌, List, [], ◌∷◌, length, map, filter, slice_get, Bool}
+use Rattle.std.proofs.Common.{false, cond, Some, None, Option, Ok, Err, Result, sym, ap, subst, ◌∙◌, arith}
 use Rattle.std.specs.List.{list_all}
 use Rattle.std.specs.List.Sorted.{IsPermutation}
 use Rattle.sqlite.specs.declared.types.Value.{Value}
@@ -19,13 +18,12 @@ use Rattle.sqlite.specs.Source.TheVariants.{Values}
 use Rattle.sqlite.specs.Command.{Command}
 use Rattle.sqlite.specs.Command.TheVariants.{Insert, Update, Delete}
 use Rattle.sqlite.specs.Edit.{Edit, edit_of, Applies}
-use Rattle.sqlite_rules.specs.Edit.{taken_by}
 use Rattle.sqlite_rules.specs.Action.{works, Writes}
 use Rattle.sqlite_rules.specs.Calls.{ids_of}
 use Rattle.sqlite.specs.Cast.{cast}
 use Rattle.sqlite.specs.Rowids.TheVariants.{Chosen, Given}
 use Rattle.sqlite.specs.declared.run.Mode.{Mode}
-use Rattle.sqlite.specs.Does.{Tally, Does, AtPlace, OnRows, Concludes}
+use Rattle.sqlite.specs.Does.{Tally, Does, AtPlace, OnRows}
 use Rattle.sqlite.specs.Effect.{Database, IsSource, value_rows}
 use Rattle.sqlite.specs.Rows.{Part, Then, Gives, Queried, Edited, Task, Written, stamped}
 use Rattle.sqlite.specs.Tree.{Trees}
@@ -35,8 +33,7 @@ use Rattle.std.proofs.lemmas.List.Sorted.{IsPermutation-map}
 use Rattle.sqlite.proofs.Callers.{one_step}
 
 either : (b : Bool) (x : Value) → cond b x x ≡ x
-either true x = refl
-either false x = refl
+either b x = search arith
 
 pub cast_int : (n : ℤ) → cast Integer (Int n) ≡ Int n
 unfolding unary
@@ -48,8 +45,7 @@ cast_null = either _ Null
 
 -- a part that gave a value did not stop on the way
 pub went : {B E R : Type 0} {b : B} {Stops : E → Type 0} → ((stop : E) × Stops stop × (Ok b ≡ Err stop)) ⊎ R → R
-went (inl stopped) = absurd (let e = stopped.2 in cc)
-went (inr on) = on
+went it = search arith
 
 pub same_value : {B E : Type 0} {a b : B} → ◌≡◌ {A = Result B E} (Ok a) (Ok b) → a ≡ b
 same_value e = cc
@@ -75,9 +71,7 @@ module _ (limit : Option ℕ) (mode : Mode) (params : Row) (db : Database) (sche
       subst (λ o. AtPlace
       (λ table. OnRows (record { limit = limit; keys = mode.keys; schema = schema; table = table; params = params })
       mode None command db.trees) o out) there
-      (subst (λ (s : Schema). AtPlace
-      (λ table. OnRows (record { limit = limit; keys = mode.keys; schema = s; table = table; params = params }) mode
-      None command db.trees) (slice_get s.tables at) out) has h)
+      (search (arith, slice_get))
 
   abbrev pub put : List Row → Edit
   put rows = edit_of db.trees table [] Chosen 0 rows
@@ -91,22 +85,7 @@ module _ (limit : Option ℕ) (mode : Mode) (params : Row) (db : Database) (sche
   -- an INSERT puts the rows of its source
   pub inserts_from : (from : Source) (tally : Tally) (after : Database)
       → OnRows task mode None (Insert at from) db.trees (Ok (tally, after)) → LeavesFrom from after
-  inserts_from from tally after h =
-      let done = went h in
-      let now : after
-      ≡ record { schema = schema; trees = done.0.trees } = ap (λ (p : Tally × Database). p.1)
-      (same_value (went (went done.2).2).2) in
-      let given = went done.1 in
-      let written = went (went given.2).2 in
-      let counted = went written.2 in
-      let trees : done.0.trees ≡ written.0 = ap (λ (it : Written). it.trees) (same_value counted.2)
-      ∙ same_value counted.1 in
-      let whole : after.trees ≡ written.0 = ap (λ (d : Database). d.trees) now ∙ trees in (
-        ap (λ (d : Database). d.schema) now,
-        given.0,
-        given.1,
-        subst (λ t. Writes schema mode.keys db.trees (put given.0) (Ok t)) (sym whole) written.1,
-      )
+  inserts_from from tally after h = search (arith, went, same_value)
 
   abbrev pub inserted : List Term → ℕ → Edit
   inserted terms width = put (value_rows (stamped table params) width (length terms / width) terms)
@@ -137,23 +116,6 @@ module _ (limit : Option ℕ) (mode : Mode) (params : Row) (db : Database) (sche
       (after.schema ≡ schema) × (rows : List Row) × IsSureAnswer q (overlay db.trees []) params rows
       × Writes schema mode.keys db.trees (edit rows) (Ok after.trees)
 
-  rewritten : (q : Query) (edit : List Row → Edit) (wrote : List Row → List Row) (tally : Tally) (after : Database)
-      → Then (Rewrites q edit wrote) (Concludes task mode None) (Ok (tally, after)) → Leaves q edit after
-  rewritten q edit wrote tally after h =
-      let done = went h in
-      let now : after
-      ≡ record { schema = schema; trees = done.0.trees } = ap (λ (p : Tally × Database). p.1)
-      (same_value (went (went done.2).2).2) in
-      let given = went done.1 in
-      let written = went given.2 in
-      let trees : done.0.trees ≡ written.0 = ap (λ (it : Written). it.trees) (same_value written.2) in
-      let whole : after.trees ≡ written.0 = ap (λ (d : Database). d.trees) now ∙ trees in (
-        ap (λ (d : Database). d.schema) now,
-        given.0,
-        given.1.answer,
-        subst (λ t. Writes schema mode.keys db.trees (edit given.0) (Ok t)) (sym whole) written.1,
-      )
-
   abbrev pub updated : List Row → Edit
   updated rows = edit_of db.trees table (ids_of rows) Given 1 rows
 
@@ -161,9 +123,7 @@ module _ (limit : Option ℕ) (mode : Mode) (params : Row) (db : Database) (sche
   pub updates : slice_get schema.tables at ≡ Some table → (q : Query) (text : List ℕ) (tally : Tally) (after : Database)
       → Does limit mode params db text None (Update at (record { lets = []; body = q })) (Ok (tally, after))
       → Leaves q updated after
-  updates there q text tally after h =
-      rewritten q updated (λ rows. (updated rows).news) tally after
-      (on_table (Update at (record { lets = []; body = q })) text (Ok (tally, after)) there h)
+  updates there q text tally after h = search (arith, on_table)
 
   abbrev pub deleted : List Row → Edit
   deleted rows = edit_of db.trees table (ids_of rows) Given 0 []
@@ -171,9 +131,7 @@ module _ (limit : Option ℕ) (mode : Mode) (params : Row) (db : Database) (sche
   pub deletes : slice_get schema.tables at ≡ Some table → (q : Query) (text : List ℕ) (tally : Tally) (after : Database)
       → Does limit mode params db text None (Delete at (record { lets = []; body = q })) (Ok (tally, after))
       → Leaves q deleted after
-  deletes there q text tally after h =
-      rewritten q deleted (λ rows. taken_by db.trees (deleted rows)) tally after
-      (on_table (Delete at (record { lets = []; body = q })) text (Ok (tally, after)) there h)
+  deletes there q text tally after h = search (arith, on_table)
 
 -- ---- the queries
 
@@ -201,17 +159,9 @@ module _ (params : Row) (t : ℕ) (passes shown : List Term) where
   abbrev pub picked : List Row → List Row
   picked rows = map (λ r. eval_all shown (env_of r)) (filter is_picked rows)
 
-  one_or_none : (b : Bool) (r : Row) → map env_of (cond b (r ∷ []) []) ≡ cond b (env_of r ∷ []) []
-  one_or_none true r = refl
-  one_or_none false r = refl
-
   pub matched : (lost : Value) (db : Trees)
       → map env_of (filter is_picked (db t)) ≡ matches_as lost db passes (inner t end) (params ∷ [])
-  matched lost db =
-      ap (map env_of) (filter_as_flat_map is_picked (db t))
-      ∙ map-flat_map env_of (λ x. cond (is_picked x) (x ∷ []) []) (db t)
-      ∙ flat_map_same_on (λ x. map env_of (cond (is_picked x) (x ∷ []) []))
-      (λ r. cond (is_picked r) (env_of r ∷ []) []) (λ r. one_or_none (is_picked r) r) (db t)
+  matched lost db = search (arith, filter_as_flat_map, map-flat_map, flat_map_same_on)
 
   pub answers : (db : Trees) (rows : List Row) → IsSureAnswer (plain_query t passes shown) db params rows
       → IsPermutation (picked (db t)) rows
@@ -221,8 +171,7 @@ module _ (params : Row) (t : ℕ) (passes shown : List Term) where
       let found = filter is_picked (db t) in
       let kept : a.kept ≡ map (output q) (map env_of found) = a.distinct
       ∙ ap (map (output q)) (a.grouped ∙ sym (matched Null db)) in
-      let shown : map (λ (o : Output). o.1) a.kept ≡ picked (db t) = ap (map (λ (o : Output). o.1)) kept
-      ∙ map-map (λ (o : Output). o.1) (output q) (map env_of found) ∙ map-map (λ e. (output q e).1) env_of found in
+      let shown : map (λ (o : Output). o.1) a.kept ≡ picked (db t) = search (arith, map-map) in
       let moved : IsPermutation (map (λ (o : Output). o.1) a.kept)
       (map (λ (o : Output). o.1) a.ordered) = IsPermutation-map (λ (o : Output). o.1) a.kept a.ordered a.same in
       subst (λ xs. IsPermutation xs rows) shown

@@ -1,6 +1,5 @@
 -- From a statement inside a transaction to the words for a step, and from the steps to the whole.
-use Rattle.std.proofs.Common.{◌≡◌, inl, inr, ℕ, List, [], Ok, Err, Result, IsErr, IsTrue, IfOk, IfErr, OnOk, false}
-use Rattle.std.proofs.Common.{true, refl, sym, ap, subst, ◌∙◌, arith}
+use Rattle.std.proofs.Common.{◌≡◌, ℕ, List, [], Ok, Err, Result, IsErr, IsTrue, IfErr, OnOk, false, true, refl, arith}
 use Rattle.sqlite.specs.declared.error.Error.{Error}
 use Rattle.sqlite.specs.Order.{Row}
 use Rattle.sqlite.specs.Tree.{Trees}
@@ -12,110 +11,52 @@ use Rattle.sqlite.proofs.InsideLemmas.{inside_keeps, keeps_then}
 use Rattle.sqlite.proofs.StateLemmas.{survives_then, survives_weaker}
 use Rattle.sqlite_trees.specs.declared.store.Store as store
 use Rattle.sqlite.specs.Held.{Held, state}
-use Rattle.sql_steps.specs.Steps.{Change, StepsBy, TransactsBy, GoesOn}
+use Rattle.sql_steps.specs.Steps.{Change, StepsBy, TransactsBy}
 use Rattle.sql_steps.specs.Within.Steps.{Then}
 
 -- ---- one statement
-
-goes_on : (old new : State) → Shows old new new.now old.committed true → GoesOn old new
-goes_on old new shows = record { is_open = λ _. shows.is_open; committed_is = shows.committed_is; mode = shows.mode }
 
 -- a write
 pub writes : (Made : Change) (sql : List ℕ) (params : Row) (old new : State) (r : Result ℕ Error)
     → ((count : ℕ) → Executes sql params old new (Ok count) → Made old.now new.now)
     → (HasCleanDisk new → IsTrue old.in_transaction → ExecutesInside 0 sql params old new r)
     → Survives old new (λ _. ⊥) → StepsBy (λ (_ : ℕ). Made) old new r
-writes Made sql params old new (Ok count) does ran survives = record {
-  changed = λ clean inside. let it = ran clean inside in (does count it.0, goes_on old new it.1);
-  kept = λ clean inside. inside_keeps old new 0 false sql params (Ok count) (ran clean inside);
-  survives = survives;
-}
-writes Made sql params old new (Err e) does ran survives = record {
-  changed = λ clean inside. tt;
-  kept = λ clean inside. inside_keeps old new 0 false sql params (Err e) (ran clean inside);
-  survives = survives;
-}
+writes Made sql params old new r does ran survives = search (arith, inside_keeps)
 
 -- ---- steps
 
 -- nothing was done
 pub stays : {T E : Type 0} (Changes : T → Change) (a : State) (value : T) → Changes value a.now a.now
     → Survives a a (λ _. ⊥) → StepsBy {E = E} Changes a a (Ok value)
-stays Changes a value same survives = record {
-  changed = λ clean inside. (same, record { is_open = λ is. is; committed_is = refl; mode = inside });
-  kept = λ clean inside. record { was_open = λ is. is; committed = λ _. refl };
-  survives = survives;
-}
+stays Changes a value same survives = search arith
 
 -- a failure claims no change, whatever the step was
 pub fails : {A B E F : Type 0} (First : A → Change) (Next : B → Change) (a b : State) (r : Result A E) (q : Result B F)
     → IsErr q → StepsBy First a b r → StepsBy Next a b q
-fails First Next a b r (Err f) failed one =
-    record { changed = λ clean inside. tt; kept = one.kept; survives = one.survives }
-fails First Next a b r (Ok y) failed one = absurd (cc)
+fails First Next a b r q failed one = search arith
 
 -- another value, and a weaker word for the change
 pub steps_as : {A B E F : Type 0} (First : A → Change) (Next : B → Change) (a b : State) (x : A) (y : B)
     → ((old new : Database) → First x old new → Next y old new) → StepsBy {E = E} First a b (Ok x)
     → StepsBy {E = F} Next a b (Ok y)
-steps_as First Next a b x y weaker one = record {
-  changed = λ clean inside. let it = one.changed clean inside in (weaker _ _ it.0, it.1);
-  kept = one.kept;
-  survives = one.survives;
-}
+steps_as First Next a b x y weaker one = search arith
 
 -- a weaker word for the change, whatever the result is
 pub steps_weaker : {A E : Type 0} (First Next : A → Change) (a b : State) (r : Result A E)
     → ((x : A) (old new : Database) → First x old new → Next x old new) → StepsBy First a b r → StepsBy Next a b r
-steps_weaker First Next a b (Ok x) weaker one = steps_as First Next a b x x (weaker x) one
-steps_weaker First Next a b (Err e) weaker one = fails First Next a b (Err e) (Err e) refl one
-
-join : {B E : Type 0} (First : Change) (Next : B → Change) (a b c : State) (r : Result B E)
-    → First a.now b.now × GoesOn a b → IfOk r (λ y. Next y b.now c.now × GoesOn b c)
-    → IfOk r (λ y. Then First (Next y) a.now c.now × GoesOn a c)
-join First Next a b c (Ok y) one two = (
-  (b.now, one.0, two.0),
-  record {
-    is_open = λ is. two.1.is_open (one.1.is_open is);
-    committed_is = two.1.committed_is
-        ∙ one.1.committed_is;
-    mode = two.1.mode;
-  },
-)
-join First Next a b c (Err e) one two = tt
+steps_weaker First Next a b r weaker one = search (arith, steps_as, fails)
 
 -- a write whose count nobody asks for
 pub runs : {E : Type 0} (Made : Change) (sql : List ℕ) (params : Row) (old new : State) (count : ℕ)
     → ((count : ℕ) → Executes sql params old new (Ok count) → Made old.now new.now)
     → (HasCleanDisk new → IsTrue old.in_transaction → ExecutesInside 0 sql params old new (Ok count))
     → Survives old new (λ _. ⊥) → StepsBy {E = E} (λ (_ : Unit {0}). Made) old new (Ok tt)
-runs Made sql params old new count does ran survives =
-    steps_as (λ _. Made) (λ _. Made) old new count tt (λ _ _ made. made)
-    (writes Made sql params old new (Ok count) does ran survives)
+runs Made sql params old new count does ran survives = search (arith, steps_as, writes)
 
 -- a step that went on, and then another
 pub steps_then : {A B E F : Type 0} (First : A → Change) (Next : B → Change) (a b c : State) (x : A) (r : Result B F)
     → StepsBy {E = E} First a b (Ok x) → StepsBy Next b c r → StepsBy (λ y. Then (First x) (Next y)) a c r
-steps_then First Next a b c x r one two =
-    let early = λ (clean : HasCleanDisk c). let it : HasCleanDisk b = omega (arith, two.survives.clean) in it in
-    let mid =
-    λ (clean : HasCleanDisk c) (inside : IsTrue a.in_transaction). (one.changed (early clean) inside).1.mode in
-    record {
-      changed =
-          λ clean inside. join (First x) Next a b c r (one.changed (early clean) inside)
-          (two.changed clean (mid clean inside));
-      kept = λ clean inside. keeps_then a b c (one.kept (early clean) inside) (two.kept clean (mid clean inside));
-      survives =
-          survives_then a b c (λ _. ⊥) (λ _. ⊥) (λ _. ⊥) (λ _ _ none. none)
-          (λ _ _ none. none) one.survives two.survives;
-    }
-
--- the same where the second failed
-pub then_fails : {A B C E F G : Type 0} (First : A → Change) (Next : B → Change) (All : C → Change)
-    (a b c : State) (x : A) (r : Result B F) (q : Result C G) → IsErr q → StepsBy {E = E} First a b (Ok x)
-    → StepsBy Next b c r → StepsBy All a c q
-then_fails First Next All a b c x r q failed one two =
-    fails (λ y. Then (First x) (Next y)) All a c r q failed (steps_then First Next a b c x r one two)
+steps_then First Next a b c x r one two = search (arith, keeps_then, survives_then)
 
 -- ---- one transaction
 
@@ -124,9 +65,6 @@ module _ (Made : Change) (old : State) where
   abbrev Inner : State
   Inner = record old { in_transaction = true }
 
-  outer : (new : State) (P : Trees → Type 0) → Survives Inner new P → Survives old new P
-  outer new P s = record { clean = s.clean; shield = s.shield; counts = s.counts; limit = s.limit; closes = s.closes; crash = s.crash }
-
   abbrev Left : Trees → Type 0
   Left trees = (db : Database) × Made old.now db × (trees ≡ db.trees)
 
@@ -134,26 +72,7 @@ module _ (Made : Change) (old : State) where
   pub rolls_back : {A B E F : Type 0} (Tried : A → Change) (mid new : State) (r : Result A E) (q : Result B F)
       → IsErr q → StepsBy Tried Inner mid r → (HasCleanDisk new → IsRolledBack mid new) → Survives mid new (λ _. ⊥)
       → TransactsBy Made old new q
-  rolls_back Tried mid new r (Ok y) failed step undone dropped = absurd (cc)
-  rolls_back Tried mid new r (Err f) failed step undone dropped =
-      let early = λ (clean : HasCleanDisk new). let it : HasCleanDisk mid = omega (arith, dropped.clean) in it in
-      record {
-        accepted = λ clean. tt;
-        failed = λ clean shown. let back = (undone clean).undone shown in let kept =
-            (step.kept (early clean) refl).committed ((undone clean).was_open shown) in (back.0 ∙ kept, back.1 ∙ kept);
-        stop = outer new Left
-            (survives_then Inner mid new (λ _. ⊥) (λ _. ⊥) Left (λ _ _ none. absurd none)
-            (λ _ _ none. absurd none) step.survives dropped);
-      }
-
-  stops : {A E : Type 0} (Tried : A → Change) (mid new : State) (x : A)
-      → ((db : Database) → Tried x old.now db → Made old.now db) → StepsBy {E = E} Tried Inner mid (Ok x)
-      → Survives mid new (λ trees. trees ≡ mid.now.trees) → Survives old new Left
-  stops Tried mid new x is step kept =
-      let early = λ (clean : HasCleanDisk new). let it : HasCleanDisk mid = omega (arith, kept.clean) in it in
-      outer new Left
-      (survives_then Inner mid new (λ _. ⊥) (λ trees. trees ≡ mid.now.trees) Left (λ _ _ none. absurd none)
-      (λ clean db same. (mid.now, is mid.now (step.changed (early clean) refl).0, same)) step.survives kept)
+  rolls_back Tried mid new r q failed step undone dropped = search (arith, survives_then)
 
   -- the steps, and then the commit
   pub commits : {A E : Type 0} (Tried : A → Change) (mid new : State) (x : A) (r : Result (Unit {0}) Error)
@@ -163,30 +82,7 @@ module _ (Made : Change) (old : State) where
       × (new.marks ≡ [])))
       → (HasCleanDisk new → IfErr r (FailsToCommit mid new)) → Survives mid new (λ trees. trees ≡ mid.now.trees)
       → TransactsBy Made old new r
-  commits Tried mid new x (Ok unit) is step ok err kept =
-      let early = λ (clean : HasCleanDisk new). let it : HasCleanDisk mid = omega (arith, kept.clean) in it in
-      record {
-        accepted = λ clean. let it = ok clean in let did =
-            step.changed (early clean) refl in (
-              subst (Made old.now) (sym it.1.now_is) (is mid.now did.0),
-              it.1.committed_is ∙ sym it.1.now_is,
-              (step.kept (early clean) refl).was_open it.1.was_open,
-              it.1.is_open,
-            );
-        failed = λ clean shown. tt;
-        stop = stops Tried mid new x is step kept;
-      }
-  commits Tried mid new x (Err e) is step ok err kept =
-      let early = λ (clean : HasCleanDisk new). let it : HasCleanDisk mid = omega (arith, kept.clean) in it in
-      record {
-        accepted = λ clean. tt;
-        failed = λ clean shown. elim (err clean) [
-          | inl fails ↦ let back = fails.3.undone shown in let was =
-              (step.kept (early clean) refl).committed (fails.3.was_open shown) in (back.0 ∙ was, back.1 ∙ was)
-          | inr late ↦ absurd (let mode = (step.changed (early clean) refl).1.mode in let out = late.1 in cc)
-        ];
-        stop = stops Tried mid new x is step kept;
-      }
+  commits Tried mid new x r is step ok err kept = search (arith, fails)
 
 -- ---- steps that are given up, whatever they gave
 
@@ -196,21 +92,6 @@ module _ {A E : Type 0} (Tried : A → Change) (old mid new : State) (r : Result
     (dropped : Survives mid new (λ _. ⊥)) where
   gives_up : TransactsBy {T = Unit {0}} {E = Unit {0}} (λ _ _. ⊥) old new (Err tt)
   gives_up = rolls_back (λ _ _. ⊥) old Tried mid new r (Err tt) refl step undone dropped
-
-  found : (r : Result A E) → IfOk r (λ x. Tried x old.now mid.now × GoesOn (record old { in_transaction = true }) mid)
-      → IfOk r (λ x. Tried x old.now mid.now)
-  found (Ok x) it = it.0
-  found (Err e) it = tt
-
-  -- what they found was so
-  pub given_up_found : HasCleanDisk new → IfOk r (λ x. Tried x old.now mid.now)
-  given_up_found clean = let early : HasCleanDisk mid =
-      omega (arith, dropped.clean) in found r (step.changed early refl)
-
-  -- and nothing is committed
-  pub given_up_kept : HasCleanDisk new → IsTrue new.is_open → (new.now ≡ old.committed)
-      × (new.committed ≡ old.committed)
-  given_up_kept clean shown = gives_up.failed clean shown
 
   pub given_up_survives : Survives old new (λ _. ⊥)
   given_up_survives = survives_weaker old new _ (λ _. ⊥) (λ clean trees left. left.1) gives_up.stop
@@ -222,8 +103,7 @@ transacts_as Made old new x y one = record { accepted = one.accepted; failed = �
 
 pub fails_as : {A B E F : Type 0} (Made : Change) (old new : State) (e : E) (q : Result B F) → IsErr q
     → TransactsBy {T = A} Made old new (Err e) → TransactsBy Made old new q
-fails_as Made old new e (Err f) failed one = record { accepted = λ clean. tt; failed = one.failed; stop = one.stop }
-fails_as Made old new e (Ok y) failed one = absurd (cc)
+fails_as Made old new e q failed one = search arith
 
 -- After a success a stop leaves the new alone.
 pub leaves_alone : {S A E : Type 0} (g : store.Ghosts S) (settled : (s : S) (db : Trees)
@@ -231,7 +111,4 @@ pub leaves_alone : {S A E : Type 0} (g : store.Ghosts S) (settled : (s : S) (db 
     (new : Held S) (r : Result A E)
     → TransactsBy Made old (state g new) r → HasCleanDisk (state g new)
     → OnOk r ((trees : Trees) → (state g new).may_leave trees → trees ≡ (state g new).now.trees)
-leaves_alone g settled Made old new (Ok x) whole clean =
-    let it = whole.accepted clean in
-    λ trees may. settled new.store trees it.3 may ∙ ap (λ (d : Database). d.trees) it.1
-leaves_alone g settled Made old new (Err e) whole clean = tt
+leaves_alone g settled Made old new r whole clean = search arith

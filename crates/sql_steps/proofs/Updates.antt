@@ -1,5 +1,5 @@
 -- What an UPDATE of some rows leaves, where the rows stand for values of a type.
-use Rattle.std.proofs.Common.{◌≡◌, ℤ, List, [], ◌∷◌, map, drop, Bool, true, false, cond, refl, sym, ap, subst, ◌∙◌}
+use Rattle.std.proofs.Common.{◌≡◌, ℤ, List, [], ◌∷◌, map, drop, Bool, true, cond, refl, ap, subst, arith}
 use Rattle.std.specs.List.Sorted.{IsPermutation}
 use Rattle.std.proofs.lemmas.List.Sorted.{Contains-permutation, IsPermutation-sym}
 use Rattle.sqlite.specs.declared.types.Value.TheVariants.{Int}
@@ -9,7 +9,7 @@ use Rattle.sqlite.specs.Table.{Table}
 use Rattle.sqlite.specs.Tree.{Trees, IsTable, rowid}
 use Rattle.sqlite.specs.Cast.{cast_row}
 use Rattle.sqlite.specs.Rowids.TheVariants.{Given}
-use Rattle.sqlite.specs.Edit.{edit_of, edited, left_by, numbered, put_all, without_all, are_fresh, id_in}
+use Rattle.sqlite.specs.Edit.{edit_of, edited, left_by, numbered, are_fresh, id_in}
 use Rattle.sqlite_rules.specs.Calls.{ids_of}
 use Rattle.sqlite_rules.specs.Lists.{Has}
 use Rattle.sql_steps.proofs.Statements.{picked, is_picked, env_of}
@@ -71,38 +71,27 @@ module _ {A : Type 0} (enc : A → Row) (number : A → ℤ) (rowid_is : (a : A)
     news_are = numbered_given _ _
 
     keeps : (r : Row) → Has rows r → rowid (g r) ≡ rowid r
-    keeps r h =
-        let it = item_of r h in ap (λ x. rowid (g x)) it.1 ∙ ap rowid (image it.0) ∙ rowid_is (f it.0)
-        ∙ ap Int (same it.0) ∙ sym (rowid_is it.0) ∙ ap rowid (sym it.1)
+    keeps r h = search (arith, item_of)
 
     ids_from : (id : ℤ) → Has (ids_of answer) id → (x : Row) × Has rows x × (p x ≡ true) × (rowid x ≡ Int id)
-    ids_from id h =
-        let s = map_has (λ r. id_in (rowid r)) answer id h in
-        let x = from_answer s.0 s.1 in
-        (x.0, x.1, x.2, id_of x.0 x.1 ∙ ap (λ r. Int (id_in (rowid r))) (sym x.3) ∙ ap Int (sym s.2))
+    ids_from id h = search (arith, map_has, from_answer, id_of)
 
     ids_all : (x : Row) → Has rows x → p x ≡ true → (id : ℤ) × Has (ids_of answer) id × (rowid x ≡ Int id)
     ids_all x h is = (id_in (rowid x), has_map (λ r. id_in (rowid r)) answer _ (in_answer x h is), id_of x h)
 
     news_from : (y : Row) → Has (map (λ s. cast_row table (drop 1 s)) answer) y
         → (x : Row) × Has rows x × (p x ≡ true) × (y ≡ g x)
-    news_from y h =
-        let s = map_has (λ s. cast_row table (drop 1 s)) answer y h in
-        let x = from_answer s.0 s.1 in
-        (x.0, x.1, x.2, s.2 ∙ ap (λ s. cast_row table (drop 1 s)) x.3)
+    news_from y h = search (arith, map_has, from_answer)
 
     news_all : (x : Row) → Has rows x → p x ≡ true → Has (map (λ s. cast_row table (drop 1 s)) answer) (g x)
     news_all x h is = has_map (λ s. cast_row table (drop 1 s)) answer _ (in_answer x h is)
 
     each : (a : A) (b : Bool) → cond b (g (enc a)) (enc a) ≡ enc (cond b (f a) a)
-    each a true = image a
-    each a false = refl
+    each a b = search arith
 
     all_each : (xs : List A) → map (changed_by p g) (map enc xs) ≡ map enc (map updated xs)
     all_each [] = refl
-    all_each (a ∷ xs) =
-        ap (λ r. r ∷ map (changed_by p g) (map enc xs)) (each a (check a))
-        ∙ ap (λ rs. enc (updated a) ∷ rs) (all_each xs)
+    all_each (a ∷ xs) = search (arith, changed_by, each, all_each xs)
 
     abbrev news : List Row
     news = map (λ s. cast_row table (drop 1 s)) answer
@@ -110,7 +99,4 @@ module _ {A : Type 0} (enc : A → Row) (number : A → ℤ) (rowid_is : (a : A)
     -- each row is changed exactly where the check holds
     pub changes_each : edited db (edit_of db table (ids_of answer) Given 1 answer) ≡ map enc (map updated items)
     changes_each =
-        ap (put_all (without_all rows (ids_of answer))) news_are
-        ∙ updates_each rows news (ids_of answer) p g ordered keeps ids_from ids_all news_from news_all
-        (sym (ap (are_fresh (without_all rows (ids_of answer))) news_are) ∙ fresh)
-        ∙ ap (map (changed_by p g)) rows_are ∙ all_each items
+        grind (arith, news_are, updates_each, keeps, ids_from, ids_all, news_from, news_all, changed_by, all_each)

@@ -1,6 +1,5 @@
 -- What functions within the crate say of one another, beside `specs/CheckedRows.antt`.
-use Rattle.std.specs.Prelude.{◌≡◌, ◌↔◌, ℕ, List, [], slice_get, Bool, true, false}
-use Rattle.std.specs.Prelude.{Some, Result, Ok, Err}
+use Rattle.std.specs.Prelude.{◌≡◌, ◌↔◌, ℕ, List, [], slice_get, Bool, true, false, Some, Result, Ok, Err}
 use Rattle.std.specs.Global.{Vec}
 use Rattle.sqlite.specs.State.{State, HasCleanDisk, IsUnchanged, Survives}
 use Rattle.period_core.specs.declared.key_type.KeyType.{KeyType}
@@ -17,8 +16,7 @@ use Rattle.register_requests.specs.declared.version.Version.{Version}
 use Rattle.register_store.specs.Tables.{Counts}
 use Rattle.register_store.specs.Stored.{HoldsStored, Stored, mark}
 use Rattle.register_store.specs.declared.table.TableName.{TableName}
-use Rattle.register_store.specs.CheckedTables.{ArePassed, ChecksBy}
-use Rattle.register_store.specs.CheckedTables.{mark_of}
+use Rattle.register_store.specs.CheckedTables.{ArePassed, ChecksBy, mark_of}
 use Rattle.register_store.specs.OpeningChecks.{IsCustodian, MeetsChecks, owners_of}
 use Rattle.register_store.specs.CheckedRows.{IsListed}
 

@@ -2,11 +2,10 @@
 use Rattle.std.specs.Prelude.{Result, IfOk, IfErr}
 use Rattle.sqlite.specs.State.{State, HasCleanDisk, Survives}
 use Rattle.row_checks.specs.ShownRows.{ShowsAll}
-use Rattle.row_checks.specs.declared.error.RowsError.TheVariants as rows
 use Rattle.register_store.specs.declared.error.CheckError.{CheckError}
 use Rattle.register_store.specs.declared.table.TableName.{TableName}
 use Rattle.register_store.specs.Stored.{HoldsStored, Part, Stored, part, with_part}
-use Rattle.register_store.specs.OpeningChecks.{MeetsCheck, MeetsChecks, before}
+use Rattle.register_store.specs.OpeningChecks.{MeetsCheck, MeetsChecks}
 use Rattle.register_store.specs.CheckedTables.{BlamesNone, IsReasonAt, ShowsRows, check_text}
 
 -- ---- the check of one table

@@ -9,9 +9,8 @@ use Rattle.register_store.specs.declared.key_index.KeyIndex.{KeyIndex}
 use Rattle.register_store.specs.declared.table.TableName.{TableName}
 use Rattle.register_store.specs.Tables.{fresh, all_tables, table_of, place_of}
 use Rattle.register_store.specs.Within.Tables.{keys}
-use Rattle.register_store.specs.Schema.{no_schema, schema_with, made_indexes, index_of}
+use Rattle.register_store.specs.Schema.{no_schema, schema_with, made_indexes, index_of, rows_of}
 use Rattle.register_store.specs.Within.Schema.{schema_after, index_place}
-use Rattle.register_store.specs.Schema.{rows_of}
 use Rattle.register_store.specs.Creation.{IsNewRegister, IsThere}
 
 -- ---- the steps

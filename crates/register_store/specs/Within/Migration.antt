@@ -4,8 +4,8 @@ use Rattle.sqlite.specs.Effect.{Database, IsDatabase}
 use Rattle.register_requests.specs.declared.version.Version.TheVariants.{First, Second}
 use Rattle.register_store.specs.declared.table.TableName.{TableName}
 use Rattle.register_store.specs.Schema.{Holds, rows_of, schema_below}
-use Rattle.register_store.specs.Tables.{AreApartBelow, IsInRange, Layout, ShowsIn, Tables, content}
-use Rattle.register_store.specs.Tables.{place_of, table_count}
+use Rattle.register_store.specs.Tables.{AreApartBelow, IsInRange, Layout, ShowsIn, Tables, content, place_of}
+use Rattle.register_store.specs.Tables.{table_count}
 
 -- ---- the steps
 

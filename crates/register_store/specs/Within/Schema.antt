@@ -4,8 +4,7 @@ use Rattle.sqlite.specs.Schema.{Schema}
 use Rattle.sqlite.specs.Change.{created}
 use Rattle.register_store.specs.declared.key_index.KeyIndex.{KeyIndex}
 use Rattle.register_store.specs.declared.key_index.KeyIndex.TheVariants.{Activation, Deactivation, ProtectStop}
-use Rattle.register_store.specs.Tables.{fresh, all_tables}
-use Rattle.register_store.specs.Tables.{table_of}
+use Rattle.register_store.specs.Tables.{fresh, all_tables, table_of}
 use Rattle.register_store.specs.Schema.{no_schema}
 
 -- ---- schemas

@@ -1,5 +1,5 @@
 -- What functions within the crate say of one another, beside `specs/StepCount.antt`.
-use Rattle.std.specs.Prelude.{◌≡◌, ℕ, ◌+◌, ◌-◌, length, Result, Ok, Err}
+use Rattle.std.specs.Prelude.{◌≡◌, ℕ, ◌+◌, length, Result, Ok, Err}
 use Rattle.std.specs.Global.{Vec}
 use Rattle.sqlite.specs.State.{State}
 use Rattle.sql_steps.specs.Steps.{Change, StepsBy}

@@ -1,6 +1,5 @@
 -- What functions within the crate say of one another, beside `specs/TableChanges.antt`.
-use Rattle.std.specs.Prelude.{◌≢◌, ◌==◌, ℕ, not, List, [], ◌∷◌, ◌++◌}
-use Rattle.std.specs.Prelude.{filter}
+use Rattle.std.specs.Prelude.{◌≢◌, ◌==◌, ℕ, not, List, [], ◌∷◌, ◌++◌, filter}
 use Rattle.sqlite_rules.specs.Lists.{Has}
 use Rattle.lifecycle_core.specs.declared.state.State.{State}
 use Rattle.register_core.specs.declared.kept_reply.KeptReply.{KeptReply}

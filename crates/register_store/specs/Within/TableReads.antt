@@ -1,6 +1,5 @@
 -- What functions within the crate say of one another, beside `specs/TableReads.antt`.
-use Rattle.std.specs.Prelude.{◌≡◌, ◌≢◌, ℕ, pos, List, length, map, Option, None, Some, Result, Ok, Err}
-use Rattle.std.specs.Prelude.{IsPermutation}
+use Rattle.std.specs.Prelude.{◌≡◌, ◌≢◌, ℕ, pos, List, length, map, Option, None, Some, Result, Ok, Err, IsPermutation}
 use Rattle.sqlite.specs.declared.types.Value.TheVariants.{Int, Text as Words}
 use Rattle.sqlite.specs.Order.{Row, column}
 use Rattle.sqlite.specs.declared.error.Error.{Error}

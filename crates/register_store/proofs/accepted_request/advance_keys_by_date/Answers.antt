@@ -1,4 +1,4 @@
-use Rattle.std.proofs.Common.{rules}
+use Rattle.std.proofs.Common.{rules, arith}
 use Rattle.sql_steps.proofs.Stepping.{runs}
 use Rattle.register_store.specs.TableChanges.{Makes}
 use Rattle.register_store.specs.Within.TableChanges.{Always}
@@ -17,7 +17,4 @@ returns g c =
     wrote (search rules) (search rules) (
     runs (Makes Always (with_each (moved_on date at))) (update_text date) (params at moment) old new
     c.in_ok-execute.field-0 (moves at moment date old new)
-    (λ clean inside. rw (
-      c.update_sql.ensures,
-      c.params-to_sql.ensures.value,
-    ) at (c.in_ok-execute.ensures.runs clean inside)) c.in_ok-execute.ensures.survives)
+    (search arith) c.in_ok-execute.ensures.survives)

@@ -3,6 +3,7 @@ use Rattle.register_store.specs.AcceptedRequest.{CanTake, with_request}
 use Rattle.register_store.specs.TableChanges.{Makes}
 use Rattle.register_store.specs.TableReads.{seen}
 use Rattle.register_store.proofs.accepted_request.commit_request.Goals as goal
+use Rattle.std.proofs.Common.{arith}
 
 -- each of the other two cites one of these, and so is not tried where that fails
 
@@ -21,9 +22,4 @@ returns-clause-written g c =
     c.in_ok-transact.field-0 _ c.in_ok-transact.ensures.made
 
 pub returns-in_err-transact-clause-written : goal.returns-in_err-transact-clause-written
-returns-in_err-transact-clause-written g c =
-    let steps = returns-in_err-transact-clause-steps g c in
-    let Made = Makes (CanTake c.args.keys c.args.latest c.args.kept.now)
-    (with_request c.args.keys c.args.change.now c.args.kept.now) in
-    fails_as Made (seen g.S.Store c.args.connection.now) (seen g.S.Store c.transact.new.self)
-    _ _ c.from_residual.ensures.0 c.in_err-transact.ensures.made
+returns-in_err-transact-clause-written g c = search (arith, returns-in_err-transact-clause-steps, fails_as)

@@ -1,4 +1,4 @@
-use Rattle.std.proofs.Common.{◌≡◌, false, refl, sym, ap, ◌∙◌}
+use Rattle.std.proofs.Common.{◌≡◌, false, sym, ap, ◌∙◌, arith}
 use Rattle.register_core.specs.declared.kept_reply.KeptReply.{KeptReply}
 use Rattle.register_core.specs.KeptReply.{fits_its_command}
 use Rattle.register_store.specs.TableReads.{HasCellsOf}
@@ -20,14 +20,7 @@ returns-else-fits_its_command c k is shows =
         moment = c.in_ok-moment_in.field-0;
       };
     } in
-    let shown : HasCellsOf caller number row read = record {
-      caller = refl;
-      number = refl;
-      command = c.in_ok-command_in.ensures;
-      key = c.in_ok-key_number_or_zero_in.ensures;
-      state = c.in_ok-state_or_none_in.ensures;
-      moment = c.in_ok-moment_in.ensures;
-    } in
+    let shown : HasCellsOf caller number row read = search arith in
     let broken : fits_its_command read ≡ false = sym c.fits_its_command.ensures ∙ c.if-fits_its_command.false in
     let whole = ap fits_its_command (same_request caller number row read k shown shows.cells) ∙ is.whole in
     cc

@@ -3,9 +3,9 @@ use Rattle.sql_steps.specs.Steps.{StepsBy}
 use Rattle.sql_steps.specs.Within.Steps.{Then}
 use Rattle.sql_steps.proofs.Stepping.{steps_then, steps_weaker}
 use Rattle.register_core.specs.declared.change.Change.{Change}
-use Rattle.register_core.specs.declared.change.Change.TheVariants.{Held, Made, PeriodSet}
+use Rattle.register_core.specs.declared.change.Change.TheVariants.{Held, Made}
 use Rattle.register_store.specs.Change.{with_change, with_custody}
-use Rattle.register_store.specs.TableChanges.{Makes, HasKeys, held_by, with_key, with_key_at, with_period_set}
+use Rattle.register_store.specs.TableChanges.{Makes, HasKeys, held_by, with_key, with_key_at}
 use Rattle.register_store.specs.Within.TableChanges.{Always}
 use Rattle.register_store.proofs.Wrote.{wrote}
 use Rattle.register_store.proofs.accepted_request.write_change.Goals as goal
@@ -49,6 +49,4 @@ returns-in-PeriodSet g c =
     let All = λ (change : Change). Makes (HasKeys c.args.keys) (with_change change) in
     wrote (search rules) (search rules) (
     subst (λ (change : Change). StepsBy (λ _. All change) a b c.set_period.result) (sym arm.is)
-    (steps_weaker (λ _. Makes Always (with_period_set arm.kind arm.period))
-    (λ _. All (PeriodSet arm.kind arm.period)) a b c.set_period.result
-    (λ _ old new done t holds has. done t holds tt) c.set_period.ensures.made))
+    (search (arith, steps_weaker)))

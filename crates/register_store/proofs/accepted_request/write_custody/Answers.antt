@@ -1,6 +1,5 @@
-use Rattle.std.proofs.Common.{◌≡◌, ◌≤◌, ℕ, Result, Ok, refl, sym, subst, arith}
+use Rattle.std.proofs.Common.{◌≡◌, ◌≤◌, ℕ, Result, Ok, refl, arith}
 use Rattle.sqlite.specs.State.{State}
-use Rattle.sql_steps.specs.Steps.{StepsBy}
 use Rattle.register_core.specs.declared.change.CustodyChange.{CustodyChange}
 use Rattle.sql_steps.proofs.Stepping.{stays}
 use Rattle.register_core.specs.declared.change.CustodyChange.TheVariants.{Kept}
@@ -17,11 +16,7 @@ written : {A E : Type 0} (sees : A → State) (name : A → ℕ) (most number : 
     (r : Result (Unit {0}) E) → asked ≡ made → most ≤ 2
     → Writes sees name most (Makes Always (with_custody number made)) old new before after r
     → Writes sees name 2 (Makes Always (with_custody number asked)) old new before after r
-written sees name most number asked made old new before after r is few did = record {
-  same_reference = did.same_reference;
-  counted = record { risen = did.counted.risen; within = omega (arith, did.counted.within, few) };
-  made = subst (λ (custody : CustodyChange). StepsBy (λ _. Makes Always (with_custody number custody)) (sees old) (sees new) r) (sym is) did.made;
-}
+written sees name most number asked made old new before after r is few did = search arith
 
 pub returns-in-CustodianAdded : goal.returns-in-CustodianAdded
 returns-in-CustodianAdded g c =

@@ -11,10 +11,7 @@ pub check_rows-requires-clause-query : goal.check_rows-requires-clause-query
 check_rows-requires-clause-query g c = query_of Custodian
 
 pub returns-in_err-custodians-clause-checks : goal.returns-in_err-custodians-clause-checks
-returns-in_err-custodians-clause-checks g c is_open t version are =
-    let stopped = c.in_err-custodians in
-    custodians_unread t (state g.S.Store c.args.connection.now) is_open stopped.field-0.0 stopped.ensures.failed
-    c.from_residual.result c.from_residual.ensures.1
+returns-in_err-custodians-clause-checks g c is_open t version are = search (arith, custodians_unread)
 
 pub returns-clause-checks : goal.returns-clause-checks
 returns-clause-checks g c is_open t version are =
@@ -26,16 +23,13 @@ returns-clause-checks g c is_open t version are =
     custodians_read t c.max_custodians.result (c.max_custodians.ensures ∙ ap custodians_of version) owners are
     (state g.S.Store c.args.connection.now) (state g.S.Store c.check_rows.new.connection)
     c.check_rows.ensures.survives c.check_rows.new.check.custodians
-    (λ clean.
-    let it = c.in_ok-check_rows.ensures.met clean (refl, refl, begun) in
-    record { rows = it.rows; shown = it.shown; holds = it.holds.2; same = it.same })
+    (search arith)
 
 pub returns-in_err-check_rows-clause-checks : goal.returns-in_err-check_rows-clause-checks
 returns-in_err-check_rows-clause-checks g c is_open t version are =
     let owners = c.args.owners.items in
     let lists = c.in_ok-custodians in
-    let counted : length lists.custodians.items ≡ length owners =
-    let many = lists.ensures.made.1 in let len = c.len.ensures in omega (arith, many, len) in
+    let counted : length lists.custodians.items ≡ length owners = search arith in
     let begun = begin_custodians c.max_custodians.result owners lists.custodians.items lists.ensures.made.0 counted in
     let stopped = c.in_err-check_rows in
     custodians_fail t c.max_custodians.result (c.max_custodians.ensures ∙ ap custodians_of version) owners are

@@ -1,4 +1,4 @@
-use Rattle.std.proofs.Common.{◌==◌, Err, ap, refl}
+use Rattle.std.proofs.Common.{◌==◌, Err, ap, refl, arith}
 use Rattle.sqlite.specs.Held.{state}
 use Rattle.register_store.specs.declared.table.TableName.TheVariants.{Keys}
 use Rattle.register_store.proofs.Asked.{query_of}
@@ -13,8 +13,7 @@ returns-clause-checks g c t told =
     let check = c.check_rows.new.check in
     keys_given t c.args.found.now told
     (state g.S.Store c.args.connection.now) (state g.S.Store c.check_rows.new.connection) c.check_rows.ensures.survives
-    check.found check.count check.owners (λ clean. c.in_ok-check_rows.ensures.met clean
-    (refl, keys_begin c.args.found.now c.new.result.items c.new.ensures.items)) _
+    check.found check.count check.owners (search (arith, keys_begin)) _
     (given_where (check.count == check.found.keys) check.owners c.then_some.result _ c.then_some.ensures
     c.ok_or.ensures.value)
 

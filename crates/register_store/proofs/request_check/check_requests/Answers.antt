@@ -1,4 +1,4 @@
-use Rattle.std.proofs.Common.{Err, ap, refl}
+use Rattle.std.proofs.Common.{Err, ap, refl, arith}
 use Rattle.register_store.specs.declared.table.TableName.TheVariants.{Request}
 use Rattle.register_store.specs.CheckedTables.{ShowsKept, mark_of}
 use Rattle.register_store.specs.OpeningChecks.{IsReplyOf}
@@ -12,11 +12,7 @@ pub check_rows-requires-clause-query : goal.check_rows-requires-clause-query
 check_rows-requires-clause-query g c = query_of Request
 
 pub returns-clause-checks : goal.returns-clause-checks
-returns-clause-checks g c t counts =
-    let Passes = IsReplyOf (mark_of c.args.found.now) in
-    entries_read_beside Request ShowsKept Passes t (are_checked t c.args.found.now counts) _ _
-    c.check_rows.ensures.survives
-    (λ clean. c.in_ok-check_rows.ensures.met clean (refl, none_shown ShowsKept Passes))
+returns-clause-checks g c t counts = search (arith, entries_read_beside, are_checked, none_shown)
 
 pub returns-in_err-check_rows-clause-checks : goal.returns-in_err-check_rows-clause-checks
 returns-in_err-check_rows-clause-checks g c t counts =

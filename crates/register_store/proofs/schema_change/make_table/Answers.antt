@@ -1,8 +1,6 @@
-use Rattle.std.proofs.Common.{[]}
+use Rattle.std.proofs.Common.{[], arith}
 use Rattle.sqlite.specs.Held.{state}
 use Rattle.sql_steps.proofs.Stepping.{runs}
-use Rattle.register_store.specs.Within.Beside.{Adds, IsMadeAs}
-use Rattle.register_store.specs.Within.Creation.{MakesTable}
 use Rattle.register_store.specs.Within.Migration.{MakesNext}
 use Rattle.register_store.specs.Within.Tables.{create_text}
 use Rattle.register_store.proofs.Beside.{table_adds}
@@ -11,11 +9,7 @@ use Rattle.register_store.proofs.NewTables.{makes_next}
 use Rattle.register_store.proofs.schema_change.make_table.Goals as goal
 
 pub returns-clause-made : goal.returns-clause-made
-returns-clause-made g c =
-    runs (MakesTable c.args.table) (create_text c.args.table) [] (state g.S.Store c.args.tx.now.conn.now)
-    (state g.S.Store c.execute.new.self.conn.now) c.in_ok-execute.field-0 (makes_table c.args.table _ _)
-    (λ clean inside. rw c.create_sql.ensures at (c.in_ok-execute.ensures.runs clean inside))
-    c.in_ok-execute.ensures.survives
+returns-clause-made g c = grind (arith, runs, makes_table)
 
 pub returns-clause-next : goal.returns-clause-next
 returns-clause-next g c new =
@@ -25,8 +19,4 @@ returns-clause-next g c new =
     c.in_ok-execute.ensures.survives
 
 pub returns-clause-beside : goal.returns-clause-beside
-returns-clause-beside g c =
-    runs (Adds (IsMadeAs c.args.table)) (create_text c.args.table) [] (state g.S.Store c.args.tx.now.conn.now)
-    (state g.S.Store c.execute.new.self.conn.now) c.in_ok-execute.field-0 (table_adds c.args.table _ _)
-    (λ clean inside. rw c.create_sql.ensures at (c.in_ok-execute.ensures.runs clean inside))
-    c.in_ok-execute.ensures.survives
+returns-clause-beside g c = search (arith, runs, table_adds)

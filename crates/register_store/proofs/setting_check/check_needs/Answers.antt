@@ -1,4 +1,4 @@
-use Rattle.std.proofs.Common.{Err, ap, refl}
+use Rattle.std.proofs.Common.{Err, ap, refl, arith}
 use Rattle.register_store.specs.declared.table.TableName.TheVariants.{Quorum}
 use Rattle.register_store.specs.CheckedTables.{ShowsKeyNeed, counts_of}
 use Rattle.register_store.specs.OpeningChecks.{IsNeedOf}
@@ -12,11 +12,7 @@ pub check_rows-requires-clause-query : goal.check_rows-requires-clause-query
 check_rows-requires-clause-query g c = query_of Quorum
 
 pub returns-clause-checks : goal.returns-clause-checks
-returns-clause-checks g c t second told =
-    let Passes = IsNeedOf (counts_of c.args.found.now) in
-    entries_read_beside Quorum ShowsKeyNeed Passes t (needs_checked t c.args.found.now second told) _ _
-    c.check_rows.ensures.survives
-    (λ clean. c.in_ok-check_rows.ensures.met clean (refl, none_shown ShowsKeyNeed Passes))
+returns-clause-checks g c t second told = search (arith, entries_read_beside, needs_checked, none_shown)
 
 pub returns-in_err-check_rows-clause-checks : goal.returns-in_err-check_rows-clause-checks
 returns-in_err-check_rows-clause-checks g c t second told =

@@ -1,4 +1,4 @@
-use Rattle.std.proofs.Common.{Err, ap}
+use Rattle.std.proofs.Common.{Err, ap, arith}
 use Rattle.register_store.specs.declared.table.TableName.TheVariants.{Period}
 use Rattle.register_store.specs.CheckedTables.{ShowsTypePeriod}
 use Rattle.register_store.specs.CheckedRows.{IsAnyPeriod}
@@ -12,9 +12,7 @@ pub check_rows-requires-clause-query : goal.check_rows-requires-clause-query
 check_rows-requires-clause-query g c = query_of Period
 
 pub returns-clause-checks : goal.returns-clause-checks
-returns-clause-checks g c t second =
-    entries_read Period ShowsTypePeriod IsAnyPeriod t (periods_checked t second) _ _ c.check_rows.ensures.survives
-    (λ clean. c.in_ok-check_rows.ensures.met clean (none_shown ShowsTypePeriod IsAnyPeriod))
+returns-clause-checks g c t second = search (arith, entries_read, periods_checked, none_shown)
 
 pub returns-in_err-check_rows-clause-checks : goal.returns-in_err-check_rows-clause-checks
 returns-in_err-check_rows-clause-checks g c t second =

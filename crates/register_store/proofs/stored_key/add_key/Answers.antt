@@ -1,4 +1,4 @@
-use Rattle.std.proofs.Common.{◌≡◌, ◌+◌, length, rules}
+use Rattle.std.proofs.Common.{◌≡◌, ◌+◌, length, rules, arith}
 use Rattle.sql_steps.proofs.Stepping.{runs}
 use Rattle.register_store.specs.Tables.{IsKey}
 use Rattle.register_store.specs.TableChanges.{Makes, with_key}
@@ -12,19 +12,7 @@ returns g c =
     let new = g.T.Inside.sees c.execute.new.self in
     let number = c.args.number in
     let key = c.args.key.now in
-    let in_range : IsKey key = record {
-      owner = rw c.text.ensures.value at c.text.ensures.in_range;
-      purpose = rw c.text-2.ensures.value at c.text-2.ensures.in_range;
-      dates = record {
-        initial = c.params-to_sql-6.ensures.in_range;
-        activation = c.params-to_sql-7.ensures.in_range;
-        protect_stop = c.params-to_sql-8.ensures.in_range;
-        deactivation = c.params-to_sql-9.ensures.in_range;
-        destroy = c.params-to_sql-10.ensures.in_range;
-        compromise = c.params-to_sql-11.ensures.in_range;
-        compromise_occurrence = c.params-to_sql-12.ensures.in_range;
-      };
-    } in
+    let in_range : IsKey key = search arith in
     wrote (search rules) (search rules) (
     runs (Makes (λ t. number ≡ length t.keys + 1) (with_key key)) insert_text (params number key) old new
     c.in_ok-execute.field-0 (adds_key number key in_range old new)

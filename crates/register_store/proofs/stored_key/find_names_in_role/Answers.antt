@@ -1,12 +1,12 @@
-use Rattle.std.proofs.Common.{◌+◌, subst}
 use Rattle.register_store.specs.Within.Roles.{names_of, select_text}
 use Rattle.register_store.specs.declared.error.StoreError.TheVariants.{Database}
-use Rattle.register_store.specs.TableReads.{seen, Calls}
+use Rattle.register_store.specs.TableReads.{seen}
 use Rattle.register_store.specs.Within.TableReads.{HasNames}
 use Rattle.register_store.proofs.NamesFound.{names_read, names_refused, rows_counted, names_ranged, names_shown}
 use Rattle.register_store.proofs.NamesFound.{select_is, table_at}
 use Rattle.register_store.proofs.Readings.{reads_fail}
 use Rattle.register_store.proofs.stored_key.find_names_in_role.Goals as goal
+use Rattle.std.proofs.Common.{arith}
 
 pub returns-clause-reads : goal.returns-clause-reads
 returns-clause-reads g c =
@@ -33,6 +33,4 @@ returns-clause-counted g c clean t holds =
     let asked = rw (c.select_sql.ensures, c.params-to_sql.ensures) at (c.in_ok-rows.ensures.ok clean) in
     let survives = rw (c.select_sql.ensures, c.params-to_sql.ensures) at c.query_all.ensures.survives in
     let same = rows_counted (select_text role) (table_at role) (select_is role) c.args.key (names_of role)
-    (names_shown role) (names_ranged role) _ _ survives t holds c.in_ok-rows.rows.items asked in
-    subst (λ n. Calls (1 + n) c.args.connection.now c.query_all.new.self) same
-    (rw c.in_ok-rows.was at c.query_all.ensures.calls)
+    (names_shown role) (names_ranged role) _ _ survives t holds c.in_ok-rows.rows.items asked in search arith

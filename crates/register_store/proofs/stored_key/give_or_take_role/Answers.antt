@@ -1,4 +1,4 @@
-use Rattle.std.proofs.Common.{rules}
+use Rattle.std.proofs.Common.{rules, arith}
 use Rattle.sql_steps.proofs.Stepping.{runs}
 use Rattle.register_core.specs.KeyName.{key_name}
 use Rattle.register_store.specs.Within.Roles.{change_text, with_role_changed}
@@ -18,10 +18,5 @@ returns g c =
     runs (Makes Always (with_role_changed change key name)) (change_text change) (name_cells (key_name key name))
     (g.T.Inside.sees c.args.tx.now) (g.T.Inside.sees c.execute.new.self)
     c.in_ok-execute.field-0 (changes_role change key name (rw c.text.ensures.value at c.text.ensures.in_range) _ _)
-    (λ clean inside. rw (
-      c.sql.ensures,
-      c.params-to_sql.ensures,
-      c.params-to_sql-2.ensures,
-      c.text.ensures.value,
-    ) at (c.in_ok-execute.ensures.runs clean inside))
+    (search arith)
     c.in_ok-execute.ensures.survives)

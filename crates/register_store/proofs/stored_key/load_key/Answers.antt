@@ -1,31 +1,19 @@
-use Rattle.std.proofs.Common.{◌≡◌, ◌+◌, ℕ, List, Some, None, Result, Ok, Err, sym, ap, ◌∙◌, arith}
-use Rattle.std.specs.Option.{option_map}
+use Rattle.std.proofs.Common.{◌+◌, ℕ, List, Result, Ok, Err, arith}
 use Rattle.sqlite_trees.specs.declared.store.Store.{Ghosts}
 use Rattle.register_store.specs.declared.counted.Counted.{Counted}
 use Rattle.register_store.specs.declared.error.StoreError.{StoreError}
 use Rattle.register_store.specs.declared.stored_key.Role.TheVariants.{Custodian, Approver}
-use Rattle.register_store.specs.TableReads.{seen, load_steps, Calls, CallsOver, ReadsBy, HasKey}
+use Rattle.register_store.specs.TableReads.{seen, load_steps, Calls, CallsOver, ReadsBy, HasKey, HasRow}
 use Rattle.register_store.specs.Within.TableReads.{count_at, HasNames}
-use Rattle.register_store.specs.TableReads.{HasRow, loaded}
 use Rattle.register_store.specs.Tables.{Tables}
-use Rattle.register_store.specs.TableChanges.{key_at}
 use Rattle.register_store.proofs.Readings.{calls_then, calls_weaker, reads_as, reads_fail, reads_then}
 use Rattle.register_store.proofs.stored_key.load_key.Goals as goal
 
 pub returns-in_err-key-clause-reads : goal.returns-in_err-key-clause-reads
-returns-in_err-key-clause-reads g c =
-    reads_fail (HasRow c.args.number) (HasKey c.args.number c.args.need) (seen g.S.Store c.args.connection.now)
-    (seen g.S.Store c.find_key_row.new.connection) c.in_err-key.field-0.0 c.from_residual.result
-    c.from_residual.ensures.1 c.in_err-key.ensures.reads
+returns-in_err-key-clause-reads g c = search (arith, reads_fail)
 
 pub returns-in_default-clause-reads : goal.returns-in_default-clause-reads
-returns-in_default-clause-reads g c =
-    let number = c.args.number in
-    reads_as (HasRow number) (HasKey number c.args.need) (seen g.S.Store c.args.connection.now)
-    (seen g.S.Store c.find_key_row.new.connection) c.in_ok-key.field-0 None
-    (λ t found. let none : c.in_ok-key.field-0
-    ≡ None = c.in_default.is in ap (option_map (loaded number c.args.need t)) (sym none ∙ found))
-    c.in_ok-key.ensures.reads
+returns-in_default-clause-reads g c = search (arith, reads_as)
 
 pub returns-in_err-custodians-clause-reads : goal.returns-in_err-custodians-clause-reads
 returns-in_err-custodians-clause-reads g c =
@@ -50,10 +38,7 @@ returns-in_err-approvals-clause-reads g c =
     let two = reads_then (HasRow number) (HasNames Custodian number) a b d c.in_ok-key.field-0
     (Ok c.in_ok-custodians.custodians) c.in_ok-key.ensures.reads c.in_ok-custodians.ensures.reads in
     let three = reads_then First (HasNames Approver number) a d e c.in_ok-custodians.custodians
-    (Err c.in_err-approvals.field-0.0) two c.in_err-approvals.ensures.reads in
-    reads_fail (λ t names. First t c.in_ok-custodians.custodians × HasNames Approver number t names)
-    (HasKey number c.args.need) a e c.in_err-approvals.field-0.0 c.from_residual-in_err-approvals.result
-    c.from_residual-in_err-approvals.ensures.1 three
+    (Err c.in_err-approvals.field-0.0) two c.in_err-approvals.ensures.reads in search (arith, reads_fail)
 
 pub returns-clause-reads : goal.returns-clause-reads
 returns-clause-reads g c =
@@ -71,33 +56,13 @@ returns-clause-reads g c =
     (Ok c.in_ok-approvals.approvals) two c.in_ok-approvals.ensures.reads in
     reads_as (λ t names. First t c.in_ok-custodians.custodians × HasNames Approver number t names)
     (HasKey number c.args.need) a e c.in_ok-approvals.approvals _
-    (λ t all.
-    let row : Some key ≡ key_at t.keys number = sym c.in-Some.is ∙ all.0.0 in
-    (λ i. Some (
-      record {
-        kind = key.kind;
-        owner = key.owner;
-        row = key.row;
-        need = c.args.need;
-        custodians = all.0.1 i;
-        approvals = all.1 i;
-      },
-      key.purpose,
-    )) ∙ ap (option_map (loaded number c.args.need t)) row)
+    (search arith)
     three
 
 -- ---- steps
 
 pub returns-in_err-custodians-clause-counted : goal.returns-in_err-custodians-clause-counted
-returns-in_err-custodians-clause-counted g c =
-    let number = c.args.number in
-    let a = c.args.connection.now in
-    let d = c.find_names_in_role.new.connection in
-    calls_weaker g.S.Store a d (λ t. 2 + (1 + count_at number Custodian t)) (load_steps number) (λ t. omega arith)
-    (calls_then g.S.Store (HasRow number) (HasNames Custodian number) a c.find_key_row.new.connection d
-    c.in_ok-key.field-0 (Err c.in_err-custodians.field-0.0) (λ _. 2) (λ t. 1 + count_at number Custodian t)
-    c.in_ok-key.ensures.reads c.in_err-custodians.ensures.reads (λ clean t holds. c.find_key_row.ensures.counted)
-    c.find_names_in_role.ensures.counted)
+returns-in_err-custodians-clause-counted g c = search (arith, calls_weaker, calls_then)
 
 -- the row and the custodians, and then the approvals
 with_approvals : {S : Type 0} (g : Ghosts S) (number : ℕ) (a b d e : Counted S g) (row : _) (names : List (List ℕ))
@@ -108,30 +73,10 @@ with_approvals : {S : Type 0} (g : Ghosts S) (number : ℕ) (a b d e : Counted S
     → Calls 2 a b → CallsOver g (λ t. 1 + count_at number Custodian t) b d
     → CallsOver g (λ t. 1 + count_at number Approver t) d e → CallsOver g (load_steps number) a e
 with_approvals g number a b d e row names r one two three first second third =
-    let both = λ (t : Tables) (found : List (List ℕ)). HasRow number t row × HasNames Custodian number t found in
-    calls_weaker g a e (λ t. (2 + (1 + count_at number Custodian t)) + (1 + count_at number Approver t))
-    (load_steps number) (λ t. omega arith)
-    (calls_then g both (HasNames Approver number) a d e names r (λ t. 2 + (1 + count_at number Custodian t))
-    (λ t. 1 + count_at number Approver t)
-    (reads_then (HasRow number) (HasNames Custodian number) (seen g a) (seen g b) (seen g d) row (Ok names) one two)
-    three
-    (calls_then g (HasRow number) (HasNames Custodian number) a b d row (Ok names) (λ _. 2)
-    (λ t. 1 + count_at number Custodian t) one two (λ clean t holds. first) second) third)
+    search (arith, calls_weaker, calls_then, reads_then)
 
 pub returns-in_err-approvals-clause-counted : goal.returns-in_err-approvals-clause-counted
-returns-in_err-approvals-clause-counted g c =
-    with_approvals g.S.Store c.args.number c.args.connection.now c.find_key_row.new.connection
-    c.find_names_in_role.new.connection
-    c.find_names_in_role-2.new.connection c.in_ok-key.field-0 c.in_ok-custodians.custodians
-    (Err c.in_err-approvals.field-0.0) c.in_ok-key.ensures.reads c.in_ok-custodians.ensures.reads
-    c.in_err-approvals.ensures.reads c.find_key_row.ensures.counted c.find_names_in_role.ensures.counted
-    c.find_names_in_role-2.ensures.counted
+returns-in_err-approvals-clause-counted g c = search (arith, with_approvals)
 
 pub returns-clause-counted : goal.returns-clause-counted
-returns-clause-counted g c =
-    with_approvals g.S.Store c.args.number c.args.connection.now c.find_key_row.new.connection
-    c.find_names_in_role.new.connection
-    c.find_names_in_role-2.new.connection c.in_ok-key.field-0 c.in_ok-custodians.custodians
-    (Ok c.in_ok-approvals.approvals) c.in_ok-key.ensures.reads c.in_ok-custodians.ensures.reads
-    c.in_ok-approvals.ensures.reads c.find_key_row.ensures.counted c.find_names_in_role.ensures.counted
-    c.find_names_in_role-2.ensures.counted
+returns-clause-counted g c = search (arith, with_approvals)

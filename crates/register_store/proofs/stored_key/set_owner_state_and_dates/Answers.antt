@@ -1,4 +1,4 @@
-use Rattle.std.proofs.Common.{rules}
+use Rattle.std.proofs.Common.{rules, arith}
 use Rattle.sql_steps.proofs.Stepping.{runs}
 use Rattle.register_store.specs.TableChanges.{Makes, held_by, with_key_at}
 use Rattle.register_store.specs.Within.TableChanges.{Always}
@@ -13,15 +13,7 @@ returns g c =
     let number = c.args.number in
     let owner = c.args.owner.now in
     let row = c.args.row.now in
-    let in_range : AreLaterDates row.dates = λ initial is. record {
-      initial = is;
-      activation = c.params-to_sql-4.ensures.in_range;
-      protect_stop = c.params-to_sql-5.ensures.in_range;
-      deactivation = c.params-to_sql-6.ensures.in_range;
-      destroy = c.params-to_sql-7.ensures.in_range;
-      compromise = c.params-to_sql-8.ensures.in_range;
-      compromise_occurrence = c.params-to_sql-9.ensures.in_range;
-    } in
+    let in_range : AreLaterDates row.dates = search arith in
     wrote (search rules) (search rules) (
     runs (Makes Always (with_key_at number (held_by owner row))) key_text (key_params number owner row) old new
     c.in_ok-execute.field-0

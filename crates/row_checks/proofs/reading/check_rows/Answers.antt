@@ -1,7 +1,7 @@
-use Rattle.std.proofs.Common.{◌≡◌, [], Err, OnOk, rules}
+use Rattle.std.proofs.Common.{◌≡◌, [], Err, OnOk, rules, arith}
 use Rattle.sqlite.specs.Held.{Held, state}
-use Rattle.sqlite.specs.State.{HasCleanDisk, IsUnchanged, Survives}
-use Rattle.row_checks.specs.declared.error.RowsError.TheVariants.{Memory, Refused}
+use Rattle.sqlite.specs.State.{HasCleanDisk, Survives}
+use Rattle.row_checks.specs.declared.error.RowsError.TheVariants.{Refused}
 use Rattle.sqlite.proofs.Callers.{unchanged_then}
 use Rattle.sqlite.proofs.StateLemmas.{survives_then}
 use Rattle.row_checks.proofs.RowByRow.{commits_none, no_meaning, carry, at_start, first_from, met_from}
@@ -21,14 +21,11 @@ returns-in-Ok-clause-met g c =
     let it : P last = λ clean taken. met_from c.check_rows_left.result sql
     (g.T.RowCheck.has_taken c.args.check.now c.check_rows_left.new.check) first (state g.S.Store c.in-Ok.rows.conn.now)
     (state g.S.Store last) c.requires.query
-    (at_start g.S.Store sql c.args.connection.now c.in-Ok.rows.conn.now last c.requires.query begun.begun
-    c.check_rows_left.ensures.survives clean) (λ given. c.check_rows_left.ensures.met clean given taken) in
+    (grind (arith, at_start)) (λ given. c.check_rows_left.ensures.met clean given taken) in
     let eq : c.connection-1.given.0 ≡ last = search rules in carry P c.connection-1.given.0 last eq it
 
 pub returns-in-Err-SqlInputError-clause-meaning : goal.returns-in-Err-SqlInputError-clause-meaning
-returns-in-Err-SqlInputError-clause-meaning g c clean is =
-    let refused = rw (c.in-Err-SqlInputError.is, c.in-Err-SqlInputError.field-0-is) at c.query.follows.holds-at-none in
-    no_meaning c.args.sql.now [] _ _ _ c.requires.query (refused.err clean)
+returns-in-Err-SqlInputError-clause-meaning g c clean is = grind (arith, no_meaning)
 
 pub returns-in-Err-SqlInputError-clause-survives : goal.returns-in-Err-SqlInputError-clause-survives
 returns-in-Err-SqlInputError-clause-survives g c =
@@ -60,19 +57,7 @@ returns-in-Ok-clause-survives g c =
     c.check_rows_left.ensures.survives)
 
 pub returns-in-Ok-clause-memory : goal.returns-in-Ok-clause-memory
-returns-in-Ok-clause-memory g c =
-    let first = state g.S.Store c.args.connection.now in
-    let mid = c.in-Ok.rows.conn.now in
-    let last = c.check_rows_left.new.rows.conn.now in
-    let eq : c.connection-1.given.0 ≡ last = search rules in
-    let P : Held g.row.S.Denot → Type 0 = λ h. HasCleanDisk (state g.S.Store h) → c.check_rows_left.result ≡ Err Memory
-    → IsUnchanged first (state g.S.Store h) in
-    let it : P last = λ clean is.
-    let start = at_start g.S.Store c.args.sql.now c.args.connection.now mid last c.requires.query
-    c.in-Ok.ensures.begun c.check_rows_left.ensures.survives clean in
-    unchanged_then first (state g.S.Store mid) (state g.S.Store last) start.1
-    (c.check_rows_left.ensures.memory clean start.0 is) in
-    carry P c.connection-1.given.0 last eq it
+returns-in-Ok-clause-memory g c = grind (arith, at_start, unchanged_then, carry)
 
 pub returns-in-Ok-clause-refused : goal.returns-in-Ok-clause-refused
 returns-in-Ok-clause-refused g c =

@@ -1,10 +1,9 @@
-use Rattle.std.proofs.Common.{Ok}
+use Rattle.std.proofs.Common.{Ok, arith}
 use Rattle.sql_steps.specs.Within.Steps.{Then}
 use Rattle.sql_steps.proofs.Stepping.{steps_then, steps_weaker}
 use Rattle.register_core.specs.KeptReply.{IsKeptReply}
 use Rattle.register_store.specs.TableChanges.{Makes, AreRightAt, HasKeys, with_keys_advanced, with_recorded}
 use Rattle.register_store.specs.Change.{with_change}
-use Rattle.register_store.specs.AcceptedRequest.{CanTake, with_request}
 use Rattle.register_store.proofs.Requests.{makes_request}
 use Rattle.register_store.proofs.accepted_request.AcceptedRequestWork.run.Goals as goal
 
@@ -22,9 +21,4 @@ returns-clause-made g c =
     let two = steps_then (λ _. Moves) (λ _. Changes) a b d c.in_ok-advance_due.field-0 (Ok c.in_ok-write_change.field-0)
     c.in_ok-advance_due.ensures.made c.in_ok-write_change.ensures.made in
     let all = steps_then (λ _. Then Moves Changes) (λ _. Records) a d e c.in_ok-write_change.field-0
-    c.record_request.result two c.record_request.ensures.made in
-    steps_weaker (λ _. Then (Then Moves Changes) Records)
-    (λ _. Makes (CanTake work.keys work.latest kept) (with_request work.keys work.change.now kept)) a e
-    c.record_request.result
-    (λ _ old new. makes_request work.keys work.latest c.key_count_after_change-keys.result work.change.now kept
-    c.key_count_after_change-keys.ensures old new) all
+    c.record_request.result two c.record_request.ensures.made in search (arith, steps_weaker, makes_request)

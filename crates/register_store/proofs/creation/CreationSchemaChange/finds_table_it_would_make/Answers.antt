@@ -1,4 +1,4 @@
-use Rattle.std.proofs.Common.{Bool, true, false, Ok, subst, rules, arith}
+use Rattle.std.proofs.Common.{Bool, true, Ok, subst, rules, arith}
 use Rattle.sqlite.specs.Effect.{Database}
 use Rattle.sqlite.specs.Held.{state}
 use Rattle.sql_steps.specs.Steps.{StepsBy}
@@ -20,11 +20,7 @@ loop-table-preserved g c = record {
 }
 
 pub returns-clause-answer : goal.returns-clause-answer
-returns-clause-answer g c =
-    steps_as (λ (_ : Unit {0}). LacksFirst c.loop-table.table-index) (Answers HasTable)
-    (state g.S.Store c.args.tx.now.conn.now) (state g.S.Store c.loop-table.tx.conn.now) tt false
-    (λ old new lacks. ((λ there. lacks.none there.0 (let low = placed_low there.0 in omega arith) there.1), lacks.same))
-    c.loop-table.invariant.so_far
+returns-clause-answer g c = search (arith, steps_as, placed_low)
 
 pub returns-then-branch-clause-answer : goal.returns-then-branch-clause-answer
 returns-then-branch-clause-answer g c =

@@ -16,11 +16,7 @@ pub returns-in_default-index_of_key_number-clause-refused : goal.returns-in_defa
 returns-in_default-index_of_key_number-clause-refused c result first rows taken =
     let key = c.in-Some.shown.key in
     let none : key ≡ 0 = c.in_default-index_of_key_number.ensures in
-    one_odd ShowsName (IsListed first.custodians.items) rows c.args.row.now (λ entry shows.
-    let same =
-    ap (λ (e : KeyName). e.key)
-    (one_name c.args.row.now entry (key_name key c.in-Some.shown.name) shows c.in-Some.ensures) in
-    not_listed first.custodians.items entry (λ within. let low = within.0 in omega (arith, low, same, none)))
+    one_odd ShowsName (IsListed first.custodians.items) rows c.args.row.now (search (arith, one_name, not_listed))
 
 pub returns-then-at-len-clause-refused : goal.returns-then-at-len-clause-refused
 returns-then-at-len-clause-refused c result first rows taken =
@@ -32,8 +28,7 @@ returns-then-at-len-clause-refused c result first rows taken =
     ap (λ (e : KeyName). e.key)
     (one_name c.args.row.now entry (key_name key c.in-Some.shown.name) shows c.in-Some.ensures) in
     not_listed first.custodians.items entry
-    (λ within. let high = within.1 in let past = c.if-at-len.true in let len = c.len.ensures in omega
-    (arith, high, same, at, past, len, lists)))
+    (search arith))
 
 pub returns-clause-taken : goal.returns-clause-taken
 returns-clause-taken c result first rows taken =
@@ -74,8 +69,7 @@ returns-clause-refused c result first rows taken =
     let there : list_at first.custodians.items key ≡ Some c.index.result.now =
     ap (λ lists. list_at lists key) (sym taken.0) ∙ seen in
     let own : listed.names ≡ c.index.result.now = let e = sym listed.there ∙ there in cc in
-    let among : is_among name c.deref.result.now ≡ true =
-    ap (is_among name) (c.deref.ensures.value ∙ ap (λ v. v.items) (sym own)) ∙ listed.among in
+    let among : is_among name c.deref.result.now ≡ true = cc in
     let off : c.contains.result ≡ false = cc in
     let told : c.contains.result ≡ is_among name c.deref.result.now = c.contains.ensures.value in
     absurd (let e = sym off ∙ told ∙ among in cc))

@@ -28,19 +28,7 @@ returns-then-at-len-clause-refused c result first rows taken =
     let owners = ap length taken.1 in
     let lists = taken.2.counted in
     not_there first.most first.owners.items c.args.self.now.custodians.items rows c.args.row.now taken.2 key
-    c.in-Some.ensures.key (λ within.
-    elim c.then-at-len.branch [
-      | then-at-len-via-then-at-len w ↦ let full = w.if-at-len.true in let len = c.len.ensures in omega (
-        arith,
-        at,
-        within.1,
-        full,
-        len,
-        owners,
-      )
-      | then-at-len-via-else-at-len+then-at-len-2 w ↦ let full = w.if-at-len-2.true in
-          let len = w.len-else-at-len.ensures in omega (arith, at, within.1, full, len, lists)
-    ])
+    c.in-Some.ensures.key (search (arith, then-at-len-via-then-at-len, then-at-len-via-else-at-len+then-at-len-2))
 
 pub returns-then-len-self-clause-refused : goal.returns-then-len-self-clause-refused
 returns-then-len-self-clause-refused c result first rows taken =
@@ -88,8 +76,7 @@ returns-clause-taken c result first rows taken =
       a,
       b,
     )) taken.2.kept c.index.ensures in
-    let room : length (names_at key entries) < first.most = let a = c.if-len-self.false in let b =
-    c.len-2.ensures in omega (arith, ap length names, a, b, taken.0) in
+    let room : length (names_at key entries) < first.most = search arith in
     let may : MayBeCustodian first.owners.items (key_name key name) = record {
       owner = seen;
       there = subst (λ owners. owner_at owners key ≡ Some seen) taken.1 owns;

@@ -1,8 +1,5 @@
-use Rattle.std.proofs.Common.{◌+◌, ap, subst, arith}
-use Rattle.register_core.specs.declared.key.Key.{Key}
+use Rattle.std.proofs.Common.{ap, arith}
 use Rattle.register_store.specs.declared.found.Found.{Found}
-use Rattle.register_store.specs.CheckedTables.{ShowsNumbered}
-use Rattle.register_store.specs.OpeningChecks.{IsSoundAt}
 use Rattle.register_store.proofs.KeysChecked.{keys_full, keys_more, keys_odd}
 use Rattle.register_store.proofs.key_check.KeyCheckRowCheck.take_row.Goals as goal
 
@@ -17,17 +14,7 @@ pub returns-in_default-clause-refused : goal.returns-in_default-clause-refused
 returns-in_default-clause-refused c result first rows taken =
     let self = c.args.self.now in
     keys_odd first.found self.count self.owners.items rows c.args.row.now taken.1
-    (subst (λ (f : Found). (k : Key) → ShowsNumbered c.args.row.now (self.count + 1, k)
-    → ¬ IsSoundAt f.version f.latest k) taken.0 c.in_default.ensures)
+    (search arith)
 
 pub returns-clause-taken : goal.returns-clause-taken
-returns-clause-taken c result first rows taken =
-    let self = c.args.self.now in
-    let k = c.in-Some.key in
-    let same = ap (λ (f : Found). f.keys) taken.0 in (
-      taken.0,
-      keys_more first.found self.count self.owners.items rows c.args.row.now taken.1
-          (let room = c.if-self.false in omega (arith, room, same)) k c.in-Some.ensures.0
-          (subst (λ (f : Found). IsSoundAt f.version f.latest k) taken.0 c.in-Some.ensures.1) c.push.new.self.items
-          c.in_ok-push.ensures.items,
-    )
+returns-clause-taken c result first rows taken = search (arith, keys_more)

@@ -1,4 +1,4 @@
-use Rattle.std.proofs.Common.{◌≡◌, true, false, sym, subst}
+use Rattle.std.proofs.Common.{◌≡◌, true, subst, arith}
 use Rattle.register_store.specs.declared.found.Found.{Found}
 use Rattle.register_store.specs.CheckedTables.{ShowsKept, mark_of}
 use Rattle.register_store.specs.OpeningChecks.{IsReplyOf}
@@ -19,9 +19,4 @@ returns-clause-taken c result first rows taken =
 
 pub returns-clause-refused : goal.returns-clause-refused
 returns-clause-refused c result first rows taken =
-    one_odd ShowsKept (IsReplyOf (mark_of first.found)) rows c.args.row.now (λ k shows is.
-    let same = one_kept c.args.row.now k c.in-Some.kept shows c.in-Some.ensures in
-    let own = subst (λ (f : Found). IsReplyOf (mark_of f) c.in-Some.kept) (sym taken.0) (subst (IsReplyOf (mark_of first.found)) same is) in
-    let passed = c.is_reply_of_found_register.ensures.1 own in
-    let off : c.is_reply_of_found_register.result ≡ false = cc in
-    absurd (cc))
+    one_odd ShowsKept (IsReplyOf (mark_of first.found)) rows c.args.row.now (search (arith, one_kept))

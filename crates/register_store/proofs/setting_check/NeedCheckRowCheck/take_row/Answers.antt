@@ -1,4 +1,4 @@
-use Rattle.std.proofs.Common.{◌≡◌, true, false, sym, subst}
+use Rattle.std.proofs.Common.{◌≡◌, true, subst, arith}
 use Rattle.register_store.specs.declared.found.Found.{Found}
 use Rattle.register_store.specs.CheckedTables.{ShowsKeyNeed, counts_of}
 use Rattle.register_store.specs.Within.CheckedRows.{key_need}
@@ -28,10 +28,4 @@ returns-clause-taken c result first rows taken =
 pub returns-clause-refused : goal.returns-clause-refused
 returns-clause-refused c result first rows taken =
     let set = key_need c.in-Some.shown.key c.in-Some.shown.need in
-    one_odd ShowsKeyNeed (IsNeedOf (counts_of first.found)) rows c.args.row.now (λ other shows is.
-    let same = one_need c.args.row.now other set shows c.in-Some.ensures in
-    let own = subst (λ (f : Found). IsNeedOf (counts_of f) set) (sym taken.0)
-    (subst (IsNeedOf (counts_of first.found)) same is) in
-    let passed = c.is_need_of_counted_key.ensures.1 own in
-    let off : c.is_need_of_counted_key.result ≡ false = cc in
-    absurd (cc))
+    one_odd ShowsKeyNeed (IsNeedOf (counts_of first.found)) rows c.args.row.now (search (arith, one_need))
