@@ -181,11 +181,6 @@ agrees_named h q k names is new =
     (key_named q.command (count h) k names) (dates_named h q k names) in
     (replies, (held_named h q k names is, custody_lead h q k names new, periods_named h q k names))
 
-pub change_named : (periods : KeyType → Period) (c : Command) (k : ℕ) (key : Held) (q : Request) → named c ≡ Some k
-    → change_of periods (subject c) (Some key) q ≡ change_of_held_key periods k key q
-change_named periods c k key q names =
-    ap (λ (s : Subject). change_of periods s (Some key) q) (is_named (subject c) k names)
-
 pub unknown_named : (c : Command) (k : ℕ) → named c ≡ Some k → key_refusal None c ≡ Some UnknownKey
 unknown_named c k names = ap (λ (key : Option ℕ). cond (is_some key) (Some UnknownKey) None) names
 

@@ -42,9 +42,6 @@ one_step from to passes = ((from, to) ∷ [], (refl, listed from to passes, refl
 
 -- ---- a key that is neither destroyed nor compromised
 
-is_open : Dates → Type 0
-is_open d = (is_some d.destroy ≡ false) × (is_some d.compromise ≡ false)
-
 abbrev opened : Bool → Bool → State
 opened active ended = cond (not active) PreActive (cond ended Deactivated Active)
 

@@ -4,11 +4,10 @@ use Rattle.std.proofs.Common.{Option, Some, None, refl, sym, ap, subst, ◌∙�
 use Rattle.std.specs.Prelude.{codes, decimal}
 use Rattle.std.specs.List.{list_all}
 use Rattle.std.specs.Str.Parse.{AllDigits}
-use Rattle.std.proofs.lemmas.Bool.{and_parts, and_from, ltb-false, le-ltb}
+use Rattle.std.proofs.lemmas.Bool.{and_parts, and_from, ltb-false}
 use Rattle.std.proofs.lemmas.Bool.Decides.{nat_tests}
 use Rattle.std.proofs.lemmas.List.{append-nil}
 use Rattle.std.proofs.lemmas.Fmt.{decimal_is_IsNumeral}
-use Rattle.std.proofs.lemmas.Str.Parse.{digit_from_value}
 use Rattle.lifecycle_core.specs.declared.reason.Reason.{Reason}
 use Rattle.lifecycle_core.specs.Reason.{reason_code}
 use Rattle.period_core.specs.declared.key_type.KeyType.{KeyType}
@@ -24,9 +23,7 @@ use Rattle.register_requests.specs.declared.command_fields.Shape.TheVariants as 
 use Rattle.register_requests.specs.Fields.{fields_of, command_with}
 use Rattle.register_requests.specs.Within.Fields.{shape_of}
 use Rattle.register_requests.specs.declared.command_fields.CommandKind.{CommandKind}
-use Rattle.register_requests.specs.declared.command_fields.CommandKind.TheVariants as kinds
 use Rattle.register_requests.specs.declared.request.Edit.{Edit}
-use Rattle.register_requests.specs.declared.request.Edit.TheVariants.{Keep, Clear, Set}
 use Rattle.moment_core.specs.Moment.{IsMoment}
 use Rattle.register_requests.specs.Name.{IsName, is_name_byte}
 use Rattle.register_requests.specs.Number.{IsNumber}
@@ -52,7 +49,7 @@ use Rattle.register_requests.specs.Within.RequestLine.{edits_at}
 use Rattle.register_requests.specs.Within.RequestLine.{revoked, revoke_at, key_and_name_at, key_and_need_at, quorum_at}
 use Rattle.register_requests.specs.Within.RequestLine.{type_and_period_at, originator_at, recipient_at, set_period}
 use Rattle.register_requests.specs.Within.RequestLine.{keyed_at}
-use Rattle.register_requests.specs.Within.RequestLine.{named_at, kind_at, shaped_at, after_at, split_by, word_at}
+use Rattle.register_requests.specs.Within.RequestLine.{named_at, kind_at, shaped_at, after_at, word_at}
 use Rattle.register_requests.specs.Within.RequestLine.{command_at}
 use Rattle.register_requests.specs.Within.RequestLine.{requested, fields_at, request_at}
 use Rattle.register_requests.proofs.Commands.{made, made_again, has_shape}
@@ -63,15 +60,14 @@ use Rattle.register_requests.proofs.Readers.{key_number_small, request_number_re
 use Rattle.register_requests.proofs.Readers.{quorum_reader}
 use Rattle.register_requests.proofs.Readers.{originator_reader, recipient_reader, IsMonths, months_small, name_reader}
 use Rattle.register_requests.proofs.Readers.{purpose_reader, key_type_reader, kind_reader, reason_reader, reason_text}
-use Rattle.register_requests.proofs.Readers.{reason_small, IsOccurrence, occurrence_reader, not_space}
+use Rattle.register_requests.proofs.Readers.{reason_small, IsOccurrence, occurrence_reader}
+use Rattle.std.proofs.lemmas.Grind.{common_steps}
 
 -- ---- what has no space
 
 digits_solid : (ds : List ℕ) → AllDigits 10 ds → HasNoSpace ds
 digits_solid [] h = refl
-digits_solid (c ∷ cs) h =
-    let range = digit_from_value c h.0 in
-    and_from _ _ (not_space c (λ e. omega (arith, range.0, e))) (digits_solid cs h.1)
+digits_solid (c ∷ cs) h = grind (arith, digits_solid cs h.1)
 
 decimal_solid : (n : ℕ) → n < 2 ^ 64 → HasNoSpace (decimal n)
 decimal_solid n lt = digits_solid (decimal n) ((decimal_is_IsNumeral n lt).0.1)
@@ -80,13 +76,10 @@ moment_solid : (m : ℕ) → IsMoment m → HasNoSpace (decimal m)
 moment_solid m in_range = decimal_solid m (moment_small m in_range)
 
 date_solid : (x : Option ℕ) → IsDate x → HasNoSpace (date_text x)
-date_solid None in_range = refl
-date_solid (Some m) in_range = moment_solid m in_range
+date_solid x in_range = grind (arith, moment_solid)
 
 edit_solid : (x : Edit) → IsEdit x → HasNoSpace (edit_text x)
-edit_solid Keep in_range = refl
-edit_solid Clear in_range = refl
-edit_solid (Set m) in_range = moment_solid m in_range
+edit_solid x in_range = grind (arith, moment_solid)
 
 key_number_solid : (key : ℕ) → IsKeyNumber key → HasNoSpace (decimal key)
 key_number_solid key in_range = decimal_solid key (key_number_small key in_range)
@@ -153,11 +146,7 @@ record AreRead (after : Option (List ℕ)) (f : Fields) : Type 0 where
 made_of : {A : Type 0} {read_by : List ℕ → Option A} {text : A → List ℕ} {P : A → Type 0} → IsReader read_by text P
     → (made : A → Fields) → ((x : A) → P x → AreFields (made x)) → ((x : A) → fields_text (made x) ≡ spaced (text x))
     → (bytes : List ℕ) (f : Fields) → (read_by bytes >>= λ x. Some (made x)) ≡ Some f → AreRead (Some bytes) f
-made_of {A} {read_by} own made in_range text bytes f e =
-    let x = bind_some (read_by bytes) (λ x. Some (made x)) f e in
-    let taken = own.takes bytes x.0 x.1 in
-    subst (AreRead (Some bytes)) (some_is (made x.0) f x.2)
-    (record { in_range = in_range x.0 taken.0; text = ap spaced taken.1 ∙ sym (text x.0) })
+made_of {A} {read_by} own made in_range text bytes f e = grind arith
 
 name_solid : (name : List ℕ) → IsName name → HasNoSpace name
 name_solid name in_range = name_bytes_solid name in_range.2
@@ -186,16 +175,10 @@ register_reader =
     (λ _. then_reader date_reader date_solid (λ _. then_reader date_reader date_solid (λ _. purpose_reader)))))
 
 registered_ranges : (x : Registered) → AreRegistered x → AreFields (registered x)
-registered_ranges (kind, (owner, (activation, (protect_stop, (deactivation, purpose))))) (
-  is_kind,
-  (is_owner, (is_activation, (is_protect_stop, (is_deactivation, is_purpose)))),
-) =
-    (is_owner, is_activation, is_protect_stop, is_deactivation, is_purpose)
+registered_ranges x given1 = grind arith
 
 registered_text : (x : Registered) → fields_text (registered x) ≡ spaced (text_of_registered x)
-registered_text (kind, (owner, (activation, (protect_stop, (deactivation, purpose))))) =
-    joined_register (key_type_text kind) owner (date_text activation) (date_text protect_stop)
-    (date_text deactivation) purpose
+registered_text x = grind (arith, joined_register)
 
 register_takes : (bytes : List ℕ) (f : Fields) → register_at bytes ≡ Some f → AreRead (Some bytes) f
 unfolding register_at
@@ -205,12 +188,7 @@ register_again : (k : KeyType) (o : List ℕ) (a p d : Option ℕ) (u : List ℕ
     → register_at (before (key_type_text k) (before o
     (before (date_text a) (before (date_text p) (before (date_text d) u))))) ≡ Some (Registration k o a p d u)
 unfolding register_at
-register_again k o a p d u in_range =
-    ap (λ (read : Option Registered). read >>= λ x. Some (registered x))
-    (register_reader.again (k, (o, (a, (p, (d, u))))) (
-      tt,
-      (in_range.0, (in_range.1, (in_range.2, (in_range.3, in_range.4)))),
-    ))
+register_again k o a p d u in_range = cc (register_reader.again (k, (o, (a, (p, (d, u))))) (tt, (in_range.0, (in_range.1, (in_range.2, (in_range.3, in_range.4))))))
 
 abbrev Edits : Type 0
 Edits = ℕ × (Edit × (Edit × Edit))
@@ -231,9 +209,7 @@ edits_again : (key : ℕ) (a p d : Edit) → AreFields (DateEdits key a p d)
     → edits_at (before (decimal key) (before (edit_text a) (before (edit_text p) (edit_text d)))) ≡ Some
     (DateEdits key a p d)
 unfolding edits_at
-edits_again key a p d in_range =
-    ap (λ (read : Option Edits). read >>= λ x. Some (edits x))
-    (edits_reader.again (key, (a, (p, d))) (in_range.0, (in_range.1, (in_range.2, in_range.3))))
+edits_again key a p d in_range = cc (edits_reader.again (key, (a, (p, d))) (in_range.0, (in_range.1, (in_range.2, in_range.3))))
 
 abbrev Revoked : Type 0
 Revoked = ℕ × (Reason × Option ℕ)
@@ -254,9 +230,7 @@ revoke_takes =
 revoke_again : (key : ℕ) (r : Reason) (o : Option ℕ) → AreFields (Revocation key r o)
     → revoke_at (before (decimal key) (before (reason_text r) (date_text o))) ≡ Some (Revocation key r o)
 unfolding revoke_at
-revoke_again key r o in_range =
-    ap (λ (read : Option Revoked). read >>= λ x. Some (revoked x))
-    (revoke_reader.again (key, (r, o)) (in_range.0, (tt, (in_range.1, in_range.2))))
+revoke_again key r o in_range = cc (revoke_reader.again (key, (r, o)) (in_range.0, (tt, (in_range.1, in_range.2))))
 
 -- ---- a key's number, alone or with a name
 
@@ -274,9 +248,7 @@ named_takes : (made : ℕ → List ℕ → Fields)
     → ((key : ℕ) (name : List ℕ) → fields_text (made key name) ≡ codes " " ++ decimal key ++ codes " " ++ name)
     → (bytes : List ℕ) (f : Fields) → named_at made bytes ≡ Some f → AreRead (Some bytes) f
 unfolding named_at
-named_takes made in_range text =
-    made_of key_and_name_reader (λ y. made y.0 y.1) (λ y. in_range y.0 y.1)
-    (λ y. text y.0 y.1 ∙ joined_named (decimal y.0) y.1)
+named_takes made in_range text = grind (arith, key_and_name_reader, joined_named)
 
 key_and_need_reader : IsReader (field_then key_number_at (λ _. quorum_at))
     (λ (y : ℕ × ℕ). before (decimal y.0) (decimal y.1))
@@ -314,10 +286,7 @@ type_and_period_again : (kind : KeyType) (p : Period) → AreFields (TypeAndPeri
     → type_and_period_at (before (key_type_text kind) (before (decimal p.originator) (decimal p.recipient)))
     ≡ Some (TypeAndPeriod kind p)
 unfolding type_and_period_at
-type_and_period_again kind p in_range =
-    ap (λ (read : Option Months). read >>= λ x. Some (set_period x))
-    (type_and_period_reader.again (kind, (p.originator, p.recipient))
-    (tt, ((in_range.some, in_range.originator), (omega arith, in_range.recipient))))
+type_and_period_again kind p in_range = cc (type_and_period_reader.again (kind, (p.originator, p.recipient)) (tt, ((in_range.some, in_range.originator), (omega arith, in_range.recipient))))
 
 keyed_again : (key : ℕ) → IsKeyNumber key → keyed_at (decimal key) ≡ Some (Key key)
 unfolding keyed_at
@@ -357,22 +326,15 @@ no_field word solid =
 
 word_takes : (bytes : List ℕ) → bytes ≡ (word_at bytes).0 ++ after_text (word_at bytes).1
 unfolding word_at
-word_takes bytes = by (field_at bytes) refl
-  where
-    by : (o : Option (List ℕ × List ℕ)) → field_at bytes ≡ o
-        → bytes ≡ (split_by bytes o).0 ++ after_text (split_by bytes o).1
-    by (Some x) e = field_takes bytes x e
-    by None e = sym (append-nil bytes)
+word_takes bytes = grind (arith, field_takes, append-nil)
 
 word_again : (word : List ℕ) (after : Option (List ℕ)) → HasNoSpace word
     → word_at (word ++ after_text after) ≡ (word, after)
 unfolding word_at
-word_again word None solid = rw (append-nil, no_field word solid) refl
-word_again word (Some fields) solid = rw (field_again word fields solid) refl
+word_again word after solid = grind (arith, append-nil, no_field, field_again)
 
 kind_solid : (kind : CommandKind) → HasNoSpace (command_kind_text kind)
-kind_solid kinds.Advance = refl
-kind_solid kind = refl
+kind_solid kind = grind arith
 
 -- ---- fields
 
@@ -390,8 +352,7 @@ shaped_takes shapes.Revocation bytes f e = revoke_takes bytes f e
 after_takes : (shape : Shape) (after : Option (List ℕ)) (f : Fields) → after_at shape after ≡ Some f
     → AreRead after f
 after_takes shape (Some bytes) f e = shaped_takes shape bytes f e
-after_takes shapes.Nothing None f e =
-    subst (AreRead None) (some_is Nothing f e) (record { in_range = tt; text = refl })
+after_takes shapes.Nothing None f e = grind arith
 after_takes shape None f e = absurd cc
 
 -- the fields are read of what stands after their word
@@ -511,11 +472,7 @@ record IsFieldsOf (line : List ℕ) (q : Request) : Type 0 where
 
 requested_fields : (line : List ℕ) (x : Requested) → AreRequested x → line ≡ text_of_requested x
     → IsFieldsOf line (requested x)
-requested_fields line (moment, (caller, (number, command))) (is_moment, (is_caller, (is_number, is_command)))
-    text = record {
-      in_range = record { moment = is_moment; caller = is_caller; number = is_number; command = is_command };
-      text = text ∙ sym (joined_request (decimal moment) caller (decimal number) (command_text command));
-    }
+requested_fields line x given2 text = grind (arith, common_steps)
 
 fields_takes : (line : List ℕ) (q : Request) → fields_at line ≡ Some q → IsFieldsOf line q
 unfolding fields_at
@@ -528,17 +485,10 @@ fields_takes line q e =
 
 fields_again : (q : Request) → IsRequest q → fields_at (request_text q) ≡ Some q
 unfolding fields_at
-fields_again q in_range =
-    ap fields_at (joined_request (decimal q.moment) q.caller (decimal q.number) (command_text q.command))
-    ∙ ap (λ (read : Option Requested). read >>= λ x. Some (requested x))
-    (fields_reader.again (q.moment, (q.caller, (q.number, q.command))) (
-      in_range.moment,
-      (in_range.caller, (in_range.number, in_range.command)),
-    ))
+fields_again q in_range = cc (joined_request (decimal q.moment) q.caller (decimal q.number) (command_text q.command), fields_reader.again (q.moment, (q.caller, (q.number, q.command))) (in_range.moment, (in_range.caller, (in_range.number, in_range.command))))
 
 guard_none : (b : Bool) (o : Option Request) (q : Request) → cond b None o ≡ Some q → (b ≡ false) × (o ≡ Some q)
-guard_none true o q e = absurd cc
-guard_none false o q e = (refl, e)
+guard_none b o q e = grind arith
 
 -- What is read is the request whose line it is.
 pub request_takes : (line : List ℕ) (q : Request) → request_at line ≡ Some q → IsLineOf line q
@@ -551,10 +501,7 @@ request_takes line q e =
 -- Each line of a request is read.
 pub request_again : (line : List ℕ) (q : Request) → IsLineOf line q → request_at line ≡ Some q
 unfolding request_at
-request_again line q h =
-    let short : nat_lt max_line_length (length line) ≡ false = le-ltb max_line_length (length line) h.within in
-    let fields : fields_at line ≡ Some q = ap fields_at h.text ∙ fields_again q h.request in
-    rw (short, fields) refl
+request_again line q h = grind (arith, fields_again)
 
 pub is_item : (line : List ℕ) (o : Option Request) → o ≡ request_at line → IsItem line o
 is_item = stands_for request_at IsLineOf request_takes request_again

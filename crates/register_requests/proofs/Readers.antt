@@ -5,27 +5,23 @@ use Rattle.std.proofs.Common.{refl, sym, ap, subst, ◌∙◌, arith}
 use Rattle.std.specs.Prelude.{◌==◌, decimal, find, codes}
 use Rattle.std.specs.List.{All, list_all}
 use Rattle.std.specs.Str.{bytes_eq, is_utf8}
-use Rattle.std.specs.Str.Parse.{digits_value, AllDigits}
-use Rattle.std.proofs.lemmas.Bool.{and_parts, and_from, leb-true, le-leb, eqb-true}
+use Rattle.std.specs.Str.Parse.{AllDigits}
+use Rattle.std.proofs.lemmas.Bool.{and_parts, leb-true, le-leb, eqb-true}
 use Rattle.std.proofs.lemmas.Bool.Decides.{nat_tests}
 use Rattle.std.proofs.lemmas.Option.{cond_some}
 use Rattle.std.proofs.lemmas.Fmt.{decimal_is_IsNumeral, decimal_injective}
 use Rattle.std.proofs.lemmas.Slice.Eq.{bytes_eq-Decides}
 use Rattle.std.proofs.lemmas.Str.{IsUtf8-from_is_utf8, is_utf8-from_IsUtf8}
-use Rattle.moment_core.specs.Moment.{last_second, IsMoment}
+use Rattle.moment_core.specs.Moment.{IsMoment}
 use Rattle.lifecycle_core.specs.declared.reason.Reason.{Reason}
-use Rattle.lifecycle_core.specs.declared.reason.Reason.TheVariants.{Unspecified, KeyCompromise, CaCompromise}
-use Rattle.lifecycle_core.specs.declared.reason.Reason.TheVariants.{AffiliationChanged, Superseded}
-use Rattle.lifecycle_core.specs.declared.reason.Reason.TheVariants.{CessationOfOperation, PrivilegeWithdrawn}
 use Rattle.lifecycle_core.specs.Reason.{reason_code, is_compromise}
 use Rattle.period_core.specs.declared.key_type.KeyType.{KeyType}
 use Rattle.register_requests.specs.declared.command_fields.CommandKind.{CommandKind}
-use Rattle.register_requests.specs.declared.command_fields.CommandKind.TheVariants.{Advance}
 use Rattle.register_requests.specs.declared.request.Edit.{Edit}
 use Rattle.register_requests.specs.declared.request.Edit.TheVariants.{Keep, Clear, Set}
-use Rattle.register_requests.specs.Name.{is_name_byte, max_name_length, IsName}
-use Rattle.register_requests.specs.Number.{max_request_number, IsNumber}
-use Rattle.register_requests.specs.Quorum.{min_approvals, max_approvals, IsQuorum}
+use Rattle.register_requests.specs.Name.{IsName}
+use Rattle.register_requests.specs.Number.{IsNumber}
+use Rattle.register_requests.specs.Quorum.{IsQuorum}
 use Rattle.register_requests.specs.Purpose.{is_purpose_byte, max_purpose_length, IsPurpose}
 use Rattle.period_core.specs.KeyType.{key_type_text}
 use Rattle.period_core.proofs.Types.{of_each_type}
@@ -40,6 +36,7 @@ use Rattle.register_requests.specs.Within.RequestLine.{command_kinds}
 use Rattle.register_requests.specs.Within.RequestLine.{kind_at, is_space, is_trimmed}
 use Rattle.register_requests.specs.Request.{IsDate, IsKeyNumber, IsEdit, date_text, edit_text}
 use Rattle.register_requests.proofs.FieldReading.{IsReader, is_read, bind_some, some_is}
+use Rattle.std.proofs.lemmas.Grind.{common_steps}
 
 -- ---- numbers
 
@@ -48,43 +45,19 @@ IsWithin least most n = (least ≤ n) × (n ≤ most)
 
 number_takes : (least most : ℕ) (field : List ℕ) (n : ℕ) → number_at least most field ≡ Some n
     → IsWithin least most n × (field ≡ decimal n)
-number_takes least most field n e =
-    let v = digits_value 10 field in
-    let got = cond_some (nat_le least v && nat_le v most && bytes_eq (decimal v) field) v n e in
-    let outer = and_parts (nat_le least v && nat_le v most) (bytes_eq (decimal v) field) got.0 in
-    let bounds = and_parts (nat_le least v) (nat_le v most) outer.0 in
-    let written : decimal v ≡ field = (bytes_eq-Decides (decimal v) field).0 outer.1 in
-    subst (λ (m : ℕ). IsWithin least most m × (field ≡ decimal m)) got.1
-    ((leb-true least v bounds.0, leb-true v most bounds.1), sym written)
+number_takes least most field n e = grind (arith, bytes_eq-Decides)
 
 number_again : (least most : ℕ) → most < 2 ^ 64 → (n : ℕ) → IsWithin least most n
     → number_at least most (decimal n) ≡ Some n
-number_again least most small n within =
-    let value : digits_value 10 (decimal n) ≡ n = (decimal_is_IsNumeral n (omega arith)).1 in
-    let low : nat_le least n ≡ true = le-leb least n within.0 in
-    let high : nat_le n most ≡ true = le-leb n most within.1 in
-    let written : bytes_eq (decimal n) (decimal n) ≡ true = (bytes_eq-Decides (decimal n) (decimal n)).1 refl in
-    rw (value, low, high, written) refl
+number_again least most small n within = grind (arith, common_steps, decimal_is_IsNumeral, bytes_eq-Decides)
 
 pub moment_reader : IsReader moment_at decimal IsMoment
 unfolding moment_at
-moment_reader = record {
-  takes = λ field n e. let taken = number_takes 0 last_second field n e in (taken.0.1, taken.1);
-  again = λ n in_range. number_again 0 last_second (omega arith) n (omega arith, in_range);
-}
-
-either : (b : Bool) → (b ≡ true) ⊎ (b ≡ false)
-either true = inl refl
-either false = inr refl
+moment_reader = grind (arith, number_takes, number_again)
 
 -- no number is written as a sign that is no digit
 sign_no_number : (sign : List ℕ) → (AllDigits 10 sign → ⊥) → (m : ℕ) → m < 2 ^ 64 → bytes_eq (decimal m) sign ≡ false
-sign_no_number sign no_digits m lt = elim (either (bytes_eq (decimal m) sign)) [
-  | inl same ↦
-      let text : decimal m ≡ sign = (bytes_eq-Decides (decimal m) sign).0 same in
-      absurd (no_digits (subst (AllDigits 10) text (decimal_is_IsNumeral m lt).0.1))
-  | inr other ↦ other
-]
+sign_no_number sign no_digits m lt = grind (arith, common_steps, bytes_eq-Decides, decimal_is_IsNumeral)
 
 dash_no_number : (m : ℕ) → m < 2 ^ 64 → bytes_eq (decimal m) (codes "-") ≡ false
 dash_no_number m lt = sign_no_number (codes "-") (λ digits. omega (arith, digits.0)) m lt
@@ -94,13 +67,11 @@ equals_no_number m lt = sign_no_number (codes "=") (λ digits. omega (arith, dig
 
 chosen : {A : Type 0} (b : Bool) (y z : Option A) (x : A) → cond b y z ≡ Some x → ((b ≡ true) × (y ≡ Some x))
     ⊎ ((b ≡ false) × (z ≡ Some x))
-chosen true y z x e = inl (refl, e)
-chosen false y z x e = inr (refl, e)
+chosen b y z x e = grind arith
 
 date_of_none : (field : List ℕ) (x : Option ℕ) → field ≡ codes "-" → Some None ≡ Some x
     → IsDate x × (field ≡ date_text x)
-date_of_none field None text e = (tt, text)
-date_of_none field (Some m) text e = absurd cc
+date_of_none field x text e = grind arith
 
 date_of_moment : (field : List ℕ) (m : ℕ) (x : Option ℕ) → moment_at field ≡ Some m → Some (Some m) ≡ Some x
     → IsDate x × (field ≡ date_text x)
@@ -136,12 +107,7 @@ edit_of_moment field m x read e =
 
 edit_of_sign : (field sign : List ℕ) (y x : Edit) → bytes_eq field sign ≡ true → IsEdit y → edit_text y ≡ sign
     → Some y ≡ Some x → IsEdit x × (field ≡ edit_text x)
-edit_of_sign field sign y x here in_range text e =
-    let same : y ≡ x = cc in
-    subst (λ (z : Edit). IsEdit z × (field ≡ edit_text z)) same (
-      in_range,
-      (bytes_eq-Decides field sign).0 here ∙ sym text,
-    )
+edit_of_sign field sign y x here in_range text e = grind (arith, bytes_eq-Decides)
 
 abbrev set_to : List ℕ → Option Edit
 set_to field = moment_at field >>= λ m. Some (Set m)
@@ -177,27 +143,18 @@ edit_reader = record { takes = edit_takes; again = edit_again }
 
 pub key_number_reader : IsReader key_number_at decimal IsKeyNumber
 unfolding key_number_at
-key_number_reader = record {
-  takes = λ field n e. number_takes 1 4_294_967_295 field n e;
-  again = λ n in_range. number_again 1 4_294_967_295 (omega arith) n in_range;
-}
+key_number_reader = grind (arith, number_takes, number_again)
 
 pub key_number_small : (n : ℕ) → IsKeyNumber n → n < 2 ^ 64
 key_number_small n in_range = omega arith
 
 pub request_number_reader : IsReader request_number_at decimal IsNumber
 unfolding request_number_at
-request_number_reader = record {
-  takes = λ field n e. number_takes 1 max_request_number field n e;
-  again = λ n in_range. number_again 1 max_request_number (omega arith) n in_range;
-}
+request_number_reader = grind (arith, number_takes, number_again)
 
 pub quorum_reader : IsReader quorum_at decimal IsQuorum
 unfolding quorum_at
-quorum_reader = record {
-  takes = λ field n e. number_takes min_approvals max_approvals field n e;
-  again = λ n in_range. number_again min_approvals max_approvals (omega arith) n in_range;
-}
+quorum_reader = grind (arith, number_takes, number_again)
 
 pub quorum_small : (n : ℕ) → IsQuorum n → n < 2 ^ 64
 quorum_small n in_range = omega arith
@@ -207,17 +164,11 @@ IsMonths least n = (least ≤ n) × (n ≤ max_months)
 
 pub originator_reader : IsReader originator_at decimal (IsMonths 1)
 unfolding originator_at
-originator_reader = record {
-  takes = λ field n e. number_takes 1 max_months field n e;
-  again = λ n in_range. number_again 1 max_months (omega arith) n in_range;
-}
+originator_reader = grind (arith, number_takes, number_again)
 
 pub recipient_reader : IsReader recipient_at decimal (IsMonths 0)
 unfolding recipient_at
-recipient_reader = record {
-  takes = λ field n e. number_takes 0 max_months field n e;
-  again = λ n in_range. number_again 0 max_months (omega arith) n in_range;
-}
+recipient_reader = grind (arith, number_takes, number_again)
 
 pub months_small : (least n : ℕ) → IsMonths least n → n < 2 ^ 64
 months_small least n in_range = omega (arith, in_range.1)
@@ -226,8 +177,7 @@ months_small least n in_range = omega (arith, in_range.1)
 pub made_of_number : {read_by : List ℕ → Option ℕ} {P : ℕ → Type 0} → IsReader read_by decimal P
     → ((x : ℕ) → P x → x < 2 ^ 64) → (field : List ℕ) (o : Option ℕ) (n : ℕ) → n < 2 ^ 64
     → field ≡ decimal n → (IsSome o ↔ P n) → IfSome o (λ m. m ≡ n) → o ≡ read_by field
-made_of_number {read_by} {P} own small field (Some m) n lt e in_range value =
-    is_read own field (Some m) (subst P (sym value) (in_range.0 refl), e ∙ ap decimal (sym value)) tt
+made_of_number {read_by} {P} own small field (Some m) n lt e in_range value = grind arith
 made_of_number {read_by} {P} own small field None n lt e in_range value =
     is_read own field None tt (λ x px ex. let same : x
     ≡ n = decimal_injective x n (small x px) lt (sym ex ∙ e) in absurd (cc (in_range.1 (subst P same px))))
@@ -253,49 +203,24 @@ itself bytes = bytes
 pub made_of_text : {read_by : List ℕ → Option (List ℕ)} {P : List ℕ → Type 0} → IsReader read_by itself P
     → (field : List ℕ) (o : Option (List ℕ))
     → (IsSome o ↔ P field) → IfSome o (λ n. n ≡ field) → o ≡ read_by field
-made_of_text {read_by} {P} own field (Some n) in_range value =
-    is_read own field (Some n) (subst P (sym value) (in_range.0 refl), sym value) tt
+made_of_text {read_by} {P} own field (Some n) in_range value = grind arith
 made_of_text {read_by} {P} own field None in_range value =
     is_read own field None tt (λ x px ex. absurd (cc (in_range.1 (subst P (sym ex) px))))
 
 pub name_reader : IsReader name_at itself IsName
 unfolding name_at
-name_reader = record {
-  takes = λ field x e.
-      let got = cond_some (nat_le 1 (length field) && nat_le (length field) max_name_length
-      && list_all is_name_byte field) field x e in
-      let outer = and_parts (nat_le 1 (length field) && nat_le (length field) max_name_length)
-      (list_all is_name_byte field) got.0 in
-      let bounds = and_parts (nat_le 1 (length field)) (nat_le (length field) max_name_length) outer.0 in (
-        subst IsName got.1 (
-          leb-true 1 (length field) bounds.0,
-          leb-true (length field) max_name_length bounds.1,
-          outer.1,
-        ),
-        got.1,
-      );
-  again = λ x name.
-      let low : nat_le 1 (length x) ≡ true = le-leb 1 (length x) name.0 in
-      let high : nat_le (length x) max_name_length ≡ true = le-leb (length x) max_name_length name.1 in
-      rw (low, high, name.2) refl;
-}
-
-space_not : (b : ℕ) → not (is_space b) ≡ true → b ≢ 32
-space_not b e = grind (arith, nat_tests)
+name_reader = grind arith
 
 pub not_space : (b : ℕ) → b ≢ 32 → not (is_space b) ≡ true
 not_space b other = grind (arith, nat_tests)
 
 trimmed_ends : (bytes : List ℕ) → is_trimmed bytes ≡ true
     → (get_or bytes 0 0 ≢ 32) × (get_or bytes (length bytes - 1) 0 ≢ 32)
-trimmed_ends bytes e =
-    let both = and_parts (not (is_space (get_or bytes 0 0))) (not (is_space (get_or bytes (length bytes - 1) 0))) e in
-    (space_not (get_or bytes 0 0) both.0, space_not (get_or bytes (length bytes - 1) 0) both.1)
+trimmed_ends bytes e = grind arith
 
 ends_trimmed : (bytes : List ℕ) → (get_or bytes 0 0 ≢ 32) → (get_or bytes (length bytes - 1) 0 ≢ 32)
     → is_trimmed bytes ≡ true
-ends_trimmed bytes first last =
-    and_from _ _ (not_space (get_or bytes 0 0) first) (not_space (get_or bytes (length bytes - 1) 0) last)
+ends_trimmed bytes first last = grind arith
 
 pub purpose_reader : IsReader purpose_at itself IsPurpose
 unfolding purpose_at
@@ -332,15 +257,11 @@ purpose_reader = record {
 
 found_step : {A : Type 0} (b : Bool) (x : A) (o : Option A) (k : A) → cond b (Some x) o ≡ Some k
     → ((b ≡ true) × (x ≡ k)) ⊎ (o ≡ Some k)
-found_step true x o k e = inl (refl, cc)
-found_step false x o k e = inr e
+found_step b x o k e = grind arith
 
 find_passes : {A : Type 0} (p : A → Bool) (ks : List A) (k : A) → find p ks ≡ Some k → p k ≡ true
 find_passes p [] k e = absurd cc
-find_passes p (x ∷ ks) k e = elim (found_step (p x) x (find p ks) k e) [
-  | inl here ↦ subst (λ y. p y ≡ true) here.1 here.0
-  | inr after ↦ find_passes p ks k after
-]
+find_passes p (x ∷ ks) k e = grind (arith, find_passes p ks k)
 
 key_type_again : (k : KeyType) → key_type_at (key_type_text k) ≡ Some k
 unfolding key_type_at
@@ -357,8 +278,7 @@ key_type_reader = record { takes = λ field k e. (tt, key_type_takes field k e);
 
 kind_again : (k : CommandKind) → kind_at (command_kind_text k) ≡ Some k
 unfolding kind_at
-kind_again Advance = refl
-kind_again k = refl
+kind_again k = grind arith
 
 kind_takes : (word : List ℕ) (k : CommandKind) → kind_at word ≡ Some k → word ≡ command_kind_text k
 unfolding kind_at
@@ -393,13 +313,7 @@ abbrev pub reason_text : Reason → List ℕ
 reason_text reason = decimal (reason_code reason)
 
 reason_code_within : (r : Reason) → IsWithin 1 7 (reason_code r)
-reason_code_within Unspecified = (omega arith, omega arith)
-reason_code_within KeyCompromise = (omega arith, omega arith)
-reason_code_within CaCompromise = (omega arith, omega arith)
-reason_code_within AffiliationChanged = (omega arith, omega arith)
-reason_code_within Superseded = (omega arith, omega arith)
-reason_code_within CessationOfOperation = (omega arith, omega arith)
-reason_code_within PrivilegeWithdrawn = (omega arith, omega arith)
+reason_code_within r = grind arith
 
 pub reason_small : (r : Reason) → reason_code r < 2 ^ 64
 reason_small r = omega (arith, (reason_code_within r).1)
@@ -408,13 +322,7 @@ abbrev reason_with : ℕ → Option Reason
 reason_with code = find (λ reason. reason_code reason == code) reasons
 
 reason_found : (r : Reason) → reason_with (reason_code r) ≡ Some r
-reason_found Unspecified = refl
-reason_found KeyCompromise = refl
-reason_found CaCompromise = refl
-reason_found AffiliationChanged = refl
-reason_found Superseded = refl
-reason_found CessationOfOperation = refl
-reason_found PrivilegeWithdrawn = refl
+reason_found r = grind arith
 
 reason_again : (r : Reason) → reason_at (reason_text r) ≡ Some r
 unfolding reason_at
@@ -455,9 +363,7 @@ IsOccurrence reason x = IsDate x × (is_compromise reason ≡ false → x ≡ No
 
 no_date : (field : List ℕ) (x : Option ℕ) → cond (bytes_eq field (codes "-")) (Some None) None ≡ Some x
     → (x ≡ None) × (field ≡ codes "-")
-no_date field x e =
-    let got = cond_some (bytes_eq field (codes "-")) None x e in
-    (sym got.1, (bytes_eq-Decides field (codes "-")).0 got.0)
+no_date field x e = grind (arith, bytes_eq-Decides)
 
 occurrence_takes : (reason : Reason) (field : List ℕ) (x : Option ℕ) → occurrence_at reason field ≡ Some x
     → IsOccurrence reason x × (field ≡ date_text x)
