@@ -1,5 +1,5 @@
 -- Laws of the custody of keys, over lawful histories.
-use Rattle.std.proofs.Common.{◌≡◌, ℕ, ◌<◌, ◌≤◌, Bool, true, false, cond, List, [], ◌∷◌, ◌++◌, Option, None, Some}
+use Rattle.std.proofs.Common.{◌≡◌, ℕ, ◌<◌, ◌≤◌, Bool, false, cond, List, [], ◌∷◌, ◌++◌, Option, None, Some}
 use Rattle.std.proofs.Common.{refl, sym, ap, ◌∙◌, length, arith, IsSome, ◌⊎◌, inl, inr}
 use Rattle.std.specs.Prelude.{nat_eq, nat_lt, is_some}
 use Rattle.std.proofs.lemmas.Bool.{ltb-false}
@@ -82,8 +82,7 @@ IsDestruction c = (n : ℕ) × (c ≡ Destroy n)
 
 revoked_same : (b : Bool) (d : Dates) (t : ℕ) (occurrence : Option ℕ)
     → (cond b (compromised t occurrence d) (deactivated t d)).destroy ≡ d.destroy
-revoked_same true d t occurrence = refl
-revoked_same false d t occurrence = refl
+revoked_same b d t occurrence = grind arith
 
 destroy_same : (p : Period) (d : Dates) (t k : ℕ) (c : Command) → named c ≡ Some k
     → IsDestruction c ⊎ ((dates_after p d t c).destroy ≡ d.destroy)

@@ -20,8 +20,7 @@ use Rattle.register_core.proofs.DateSteps.{nothing_moves, IsSound, sound_by, Ste
 
 sound_as : (period other_period : Period) (d other : Dates) → other_period ≡ period → other ≡ d
     → IsSound period d → IsSound other_period other
-sound_as period other_period d other same_period same sound =
-    subst (λ (p : Period). IsSound p other) (sym same_period) (subst (IsSound period) (sym same) sound)
+sound_as period other_period d other same_period same sound = grind arith
 
 -- the dates that the key is registered with
 pub made_sound : (h : List Request) (q : Request) (k : ℕ) → IsMade h q k

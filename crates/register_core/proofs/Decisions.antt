@@ -1,30 +1,27 @@
 -- What an accepted request changes is what the history with it at its end says of its key and of its custody.
-use Rattle.std.proofs.Common.{◌≡◌, ℕ, ◌+◌, ◌≤◌, nat_le, Bool, true, false, ◌&&◌, cond, List, [], ◌∷◌, ◌++◌, Option}
+use Rattle.std.proofs.Common.{◌≡◌, ℕ, ◌+◌, ◌≤◌, nat_le, Bool, true, ◌&&◌, cond, List, [], ◌∷◌, ◌++◌, Option}
 use Rattle.std.proofs.Common.{None, Some, refl, sym, ap, subst, ◌∙◌, arith}
-use Rattle.std.proofs.Math.Nat.{add-zero}
 use Rattle.std.specs.Prelude.{unwrap_or, is_some}
 use Rattle.std.specs.Option.{option_map, option_and_then}
 use Rattle.std.proofs.lemmas.Bool.{le-leb}
 use Rattle.lifecycle_core.specs.declared.dates.Dates.{Dates}
 use Rattle.lifecycle_core.specs.State.{state_at}
 use Rattle.period_core.specs.declared.key_type.KeyType.{KeyType}
-use Rattle.period_core.specs.Period.{Period}
 use Rattle.period_core.specs.Fitting.{dates_with_defaults}
 use Rattle.register_requests.specs.declared.request.Request.{Request}
 use Rattle.register_requests.specs.declared.request.Command.{Command}
 use Rattle.register_requests.specs.declared.request.Command.TheVariants.{Advance, SetPeriod}
-use Rattle.register_core.specs.Settings.{TypePeriod, periods_after, all_periods}
+use Rattle.register_core.specs.Settings.{periods_after, all_periods}
 use Rattle.register_core.proofs.Settled.{periods_next}
 use Rattle.register_core.specs.declared.reply.Reply.{Reply}
-use Rattle.register_core.specs.declared.reply.Refusal.TheVariants.{UnknownKey, AlreadyCustodian, AlreadyApproved}
+use Rattle.register_core.specs.declared.reply.Refusal.TheVariants.{UnknownKey}
 use Rattle.register_core.specs.declared.view.Held.{Held}
 use Rattle.register_core.specs.declared.change.Change.{Change}
 use Rattle.register_core.specs.declared.change.Change.TheVariants as change
 use Rattle.register_core.specs.History.{latest, count, period, type, dates, owner}
 use Rattle.register_requests.specs.Subject.{Registration, Subject, Makes, Names, NoKey, subject, named_by, key_by}
 use Rattle.register_requests.specs.Subject.{key_of, named}
-use Rattle.register_requests.specs.Within.Subject.{count_by, made_by}
-use Rattle.register_requests.proofs.Subjects.{is_named}
+use Rattle.register_requests.specs.Within.Subject.{count_by}
 use Rattle.register_core.specs.Effect.{given_dates, dates_after, owner_after, row_with_dates_at}
 use Rattle.register_core.specs.Custody.{custodians, approvals, need, held}
 use Rattle.register_core.specs.KeptReply.{reply}
@@ -37,7 +34,7 @@ use Rattle.register_core.specs.Decision.{reply_to, Stands, LeadsTo}
 use Rattle.register_core.proofs.Histories.{latest_grows, count_grows, key_named, kind_named, owner_named, dates_named}
 use Rattle.register_core.proofs.Histories.{kind_made, owner_made, dates_made}
 use Rattle.register_core.proofs.Refusals.{IsPassed, passes}
-use Rattle.register_core.proofs.CustodyLeads.{not_refused, IsNew, nobody_changes, custody_lead}
+use Rattle.register_core.proofs.CustodyLeads.{IsNew, nobody_changes, custody_lead}
 
 -- ---- a key as it stands
 
@@ -62,7 +59,15 @@ module _ (needed : ℕ) (cs approving : List (List ℕ)) where
   -- a key with this type, this owner and these dates at the moment t
   abbrev standing_so : KeyType → List ℕ → Dates → ℕ → Held
   standing_so kind by d t =
-      record { kind = kind; owner = by; row = row_with_dates_at d t; need = needed; custodians = cs; approvals = approving }
+      record {
+        kind =
+            kind;
+        owner = by;
+        row = row_with_dates_at d t;
+        need = needed;
+        custodians = cs;
+        approvals = approving;
+      }
 
   abbrev assembled : Bool → KeyType → List ℕ → Dates → ℕ → Option Held
   assembled is kind by d t = cond is (Some (standing_so kind by d t)) None
@@ -79,20 +84,15 @@ module _ (needed : ℕ) (cs approving : List (List ℕ)) where
       ∙ ap (λ (x : ℕ). assembled true other_kind other_by other_dates x) e5
 
 some_shown : {X : Type 0} (is : Bool) (x y : X) → Some x ≡ cond is (Some y) None → (is ≡ true) × (x ≡ y)
-some_shown true x y e = (refl, cc)
-some_shown false x y e = cc
+some_shown is x y e = grind arith
 
 -- the key that a history holds is there, and stands so
 pub held_stands : (h : List Request) (k : ℕ) (key : Held) → Some key ≡ held h k
     → (is_there h k ≡ true) × (key ≡ standing h k)
 held_stands h k key e = some_shown (is_there h k) key (standing h k) e
 
-none_made : (c : Command) (k : ℕ) → named c ≡ Some k → made_by c ≡ 0
-none_made c k names = ap count_by (is_named (subject c) k names)
-
 pub count_named : (h : List Request) (q : Request) (k : ℕ) → named q.command ≡ Some k → count (h ++ q ∷ []) ≡ count h
-count_named h q k names =
-    count_grows h q ∙ ap (λ (n : ℕ). count h + n) (none_made q.command k names) ∙ add-zero (count h)
+count_named h q k names = grind (arith, count_grows)
 
 pub held_named : (h : List Request) (q : Request) (k : ℕ) → named q.command ≡ Some k → is_there h k ≡ true →
     Stands (h ++ q ∷ []) k (type h k) (owner_after (owner h k) q.command)
@@ -135,28 +135,17 @@ replied h q key = record {
 reply_of_key : (h : List Request) (q : Request) (k : ℕ) (d : Dates) → key_of (count h) q.command ≡ Some k
     → dates (h ++ q ∷ []) k ≡ d →
     record { key = k; state = Some (row_with_dates_at d q.moment).state; moment = q.moment } ≡ reply h q
-reply_of_key h q k d is same =
-    sym (ap (replied h q) is
-    ∙ ap (λ (e : Dates). record { key = k; state = Some (state_at e q.moment); moment = q.moment }) same)
+reply_of_key h q k d is same = cc
 
 -- ---- periods that stay
 
--- a command about a key sets no period
-sets_none : (c : Command) (s : Subject) → subject c ≡ s → (s ≡ NoKey → ⊥) → (sets : List TypePeriod)
-    → periods_after sets c ≡ sets
-sets_none (SetPeriod kind period) s is keyed sets = absurd (keyed (sym is))
-sets_none c s is keyed sets = refl
-
 periods_made : (h : List Request) (q : Request) (r : Registration) → subject q.command ≡ Makes r
     → all_periods (h ++ q ∷ []) ≡ all_periods h
-periods_made h q r makes =
-    periods_next h q ∙ sets_none q.command (Makes r) makes (λ e. absurd cc) (all_periods h)
+periods_made h q r makes = grind (arith, periods_next)
 
 periods_named : (h : List Request) (q : Request) (k : ℕ) → named q.command ≡ Some k
     → all_periods (h ++ q ∷ []) ≡ all_periods h
-periods_named h q k names =
-    periods_next h q ∙ sets_none q.command (Names k) (is_named (subject q.command) k names) (λ e. absurd cc)
-    (all_periods h)
+periods_named h q k names = grind (arith, periods_next)
 
 -- ---- changes
 
@@ -175,28 +164,18 @@ agrees_made h q r makes =
 
 agrees_named : (h : List Request) (q : Request) (k : ℕ) → named q.command ≡ Some k → is_there h k ≡ true → IsNew h q k →
     Agrees h q (change_of_held_key (period h) k (standing h k) q)
-agrees_named h q k names is new =
-    let replies =
-    reply_of_key h q k (dates_after (period h (type h k)) (dates h k) q.moment q.command)
-    (key_named q.command (count h) k names) (dates_named h q k names) in
-    (replies, (held_named h q k names is, custody_lead h q k names new, periods_named h q k names))
+agrees_named h q k names is new = search (reply_of_key, key_named, dates_named, held_named, custody_lead, periods_named)
 
 pub unknown_named : (c : Command) (k : ℕ) → named c ≡ Some k → key_refusal None c ≡ Some UnknownKey
 unknown_named c k names = ap (λ (key : Option ℕ). cond (is_some key) (Some UnknownKey) None) names
 
 pub new_names : (h : List Request) (q : Request) (k : ℕ) → already_custodian (Some (standing h k)) q.command ≡ None
     → already_approved (Some (standing h k)) q.caller q.command ≡ None → IsNew h q k
-new_names h q k custodian approval = record {
-  custodian = λ name is_added. not_refused _ AlreadyCustodian
-      (ap (already_custodian (Some (standing h k))) (sym is_added) ∙ custodian);
-  approval = λ is_approval. not_refused _ AlreadyApproved
-      (ap (already_approved (Some (standing h k)) q.caller) (sym is_approval) ∙ approval);
-}
+new_names h q k custodian approval = grind arith
 
 agrees_key : (h : List Request) (q : Request) (k : ℕ) (key : Option Held) → named q.command ≡ Some k → key ≡ held h k
     → IsPassed current (latest h) (count h) (period h) key q → Agrees h q (change_of (period h) (Names k) key q)
-agrees_key h q k None names is passed =
-    let refused = unknown_named q.command k names in let known = passed.known in absurd cc
+agrees_key h q k None names is passed = cc
 agrees_key h q k (Some key) names is passed =
     let stands = held_stands h k key is in
     let same : change_of_held_key (period h) k key q ≡ change_of_held_key (period h) k (standing h k) q =
@@ -233,9 +212,7 @@ agrees_by h q NoKey key is view passed = agrees_without h q q.command refl is
 
 pub accepted_agrees : (h : List Request) (q : Request) → judgement h q ≡ None
     → Agrees h q (change_by_request (period h) (named_key h q.command) q)
-accepted_agrees h q accepted =
-    agrees_by h q (subject q.command) (named_key h q.command) refl refl
-    (passes current (latest h) (count h) (period h) (named_key h q.command) q accepted)
+accepted_agrees h q accepted = search (agrees_by, passes)
 
 -- so do as many keys and a change that are these
 pub agrees_as : (h : List Request) (q : Request) (keys : ℕ) (change : Change) → keys ≡ count h

@@ -8,7 +8,7 @@ use Rattle.register_requests.specs.declared.request.Request.{Request}
 use Rattle.register_requests.specs.Request.{IsRequest}
 use Rattle.register_requests.specs.declared.version.Version.{Version}
 use Rattle.register_requests.specs.Version.{current}
-use Rattle.register_core.specs.Verdict.{Verdict, Accepts, Repeats, Refuses, verdict, verdict_in, judgement, is_accepted}
+use Rattle.register_core.specs.Verdict.{Verdict, Accepts, verdict, verdict_in, judgement, is_accepted}
 use Rattle.register_core.proofs.Verdicts.{judged}
 use Rattle.register_core.specs.Fold.{history_after, history_after_in, history_in, items, IsLawful, IsLawfulIn}
 use Rattle.register_core.specs.Laws.{IsAccepted}
@@ -31,13 +31,10 @@ all_weaker P Q weaker [] all = tt
 all_weaker P Q weaker (x ∷ xs) all = (weaker x all.0, all_weaker P Q weaker xs all.1)
 
 either : (b : Bool) → (b ≡ true) ⊎ (b ≡ false)
-either true = inl refl
-either false = inr refl
+either b = grind arith
 
 from_check : (v : Verdict) → is_accepted v ≡ true → v ≡ Accepts
-from_check Accepts e = refl
-from_check (Repeats first) e = absurd cc
-from_check (Refuses refusal) e = absurd cc
+from_check v e = grind arith
 
 -- ---- in any version
 

@@ -2,7 +2,7 @@
 use Rattle.std.proofs.Common.{◌≡◌, ◌⊎◌, inl, inr, ℕ, ◌+◌, ◌≤◌, Bool, true, false, cond, List, [], ◌∷◌, ◌++◌, Option}
 use Rattle.std.proofs.Common.{None, Some, refl, sym, ap, ◌∙◌, arith}
 use Rattle.std.specs.Option.{option_and_then}
-use Rattle.std.proofs.lemmas.Bool.{and_parts, leb-true, ltb-false}
+use Rattle.std.proofs.lemmas.Bool.{and_parts, leb-true}
 use Rattle.std.proofs.lemmas.Bool.Decides.{eqb_tells}
 use Rattle.lifecycle_core.specs.declared.dates.Dates.{Dates}
 use Rattle.lifecycle_core.specs.State.{state_at}
@@ -22,7 +22,7 @@ use Rattle.register_core.specs.Verdict.{named_key, judgement}
 use Rattle.register_requests.specs.Version.{current}
 use Rattle.register_core.specs.CustodyRefusal.{owner_custodian, approvals_missing}
 use Rattle.register_core.proofs.Histories.{count_grows, dates_made}
-use Rattle.register_core.proofs.CustodyLeads.{not_refused, IsNew}
+use Rattle.register_core.proofs.CustodyLeads.{IsNew}
 use Rattle.register_core.proofs.Refusals.{passes}
 use Rattle.register_core.proofs.Decisions.{standing, is_there, unknown_named, new_names}
 
@@ -42,16 +42,13 @@ pub record IsOn (h : List Request) (q : Request) (k : ℕ) : Type 0 where
   pub new : IsNew h q k
 
 right_state : (b : Bool) (refusal : Refusal) → cond b None (Some refusal) ≡ None → b ≡ true
-right_state true refusal e = refl
-right_state false refusal e = absurd cc
+right_state b refusal e = grind arith
 
 abbrev judged : List Request → Request → Option Held → Option Refusal
 judged h q key = judge (latest h) (count h) (period h) key q
 
 pub not_after : (h : List Request) (q : Request) → judgement h q ≡ None → latest h ≤ q.moment
-not_after h q accepted =
-    ltb-false _ _
-    (not_refused _ _ (passes current (latest h) (count h) (period h) (named_key h q.command) q accepted).in_time)
+not_after h q accepted = grind arith
 
 on_there : (h : List Request) (q : Request) (k : ℕ) → named q.command ≡ Some k → is_there h k ≡ true
     → judged h q (Some (standing h k)) ≡ None → IsOn h q k
@@ -114,10 +111,7 @@ Concerns h q k = IsMade h q k ⊎ IsOn h q k ⊎ IsOther h q k
 -- a subject that is not key k leaves the number of keys
 apart_from : (h : List Request) (q : Request) (s : Subject) (k : ℕ) → subject q.command ≡ s
     → is_key k (key_by (count h) s) ≡ false → k ≤ count h → IsOther h q k
-apart_from h q s k is other high = record {
-  high = high;
-  other = ap (λ (x : Subject). is_key k (key_by (count h) x)) is ∙ other;
-}
+apart_from h q s k is other high = grind arith
 
 pub which : (h : List Request) (q : Request) (k : ℕ) → judgement h q ≡ None → k ≤ count (h ++ q ∷ []) → Concerns h q k
 which h q k accepted high = by (subject q.command) refl

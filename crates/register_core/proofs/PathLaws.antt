@@ -1,8 +1,7 @@
 -- Each accepted request takes each key along the standard's transitions.
-use Rattle.std.proofs.Common.{◌≡◌, ℕ, ◌+◌, ◌≤◌, Bool, cond, List, [], ◌∷◌, ◌++◌, Option, None, Some, sym, ap, subst}
+use Rattle.std.proofs.Common.{◌≡◌, ℕ, ◌+◌, ◌≤◌, List, [], ◌∷◌, ◌++◌, Option, None, Some, sym, ap, subst}
 use Rattle.std.proofs.Common.{arith, inl, inr}
 use Rattle.std.specs.Prelude.{is_some}
-use Rattle.std.proofs.lemmas.Bool.{le-leb, lt-leb}
 use Rattle.lifecycle_core.specs.declared.state.State.{State}
 use Rattle.lifecycle_core.specs.declared.dates.Dates.{Dates}
 use Rattle.lifecycle_core.specs.State.{state_at}
@@ -23,15 +22,11 @@ use Rattle.register_core.proofs.PathSteps.{then, path_made, path_named}
 -- key k is there: its state before is that of its dates at the latest moment
 from_there : (h : List Request) (k : ℕ) (to : Option State) → k ≤ count h
     → Leads (Some (state_at (dates h k) (latest h))) to → Leads (state_of_key h k) to
-from_there h k to high path =
-    subst (λ (b : Bool). Leads (cond b (Some (state_at (dates h k) (latest h))) None) to)
-    (sym (le-leb k (count h) high)) path
+from_there h k to high path = grind arith
 
 from_none : (h : List Request) (k : ℕ) (to : Option State) → k ≡ count h + 1 → Leads None to
     → Leads (state_of_key h k) to
-from_none h k to next path =
-    subst (λ (b : Bool). Leads (cond b (Some (state_at (dates h k) (latest h))) None) to)
-    (sym (lt-leb k (count h) (omega (arith, next)))) path
+from_none h k to next path = grind arith
 
 made_path : (h : List Request) (q : Request) (k : ℕ) → IsMade h q k
     → Leads (state_of_key h k) (Some (state_at (dates (h ++ q ∷ []) k) q.moment))

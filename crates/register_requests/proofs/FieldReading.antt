@@ -79,12 +79,12 @@ field_again xs rest solid = grind (arith, prefix_len-append, length-append, drop
 pub as_takes : {A : Type 0} {read_by : List ℕ → Option A} {text : A → List ℕ} {P : A → Type 0}
     → IsReader read_by text P → (bytes : List ℕ) (y : A × List ℕ)
     → field_as read_by bytes ≡ Some y → P y.0 × (bytes ≡ text y.0 ++ (32 ∷ y.1))
-as_takes {A} {read_by} {text} {P} own bytes y e = grind (arith, field_takes)
+as_takes own bytes y e = grind (arith, field_takes)
 
 pub as_again : {A : Type 0} {read_by : List ℕ → Option A} {text : A → List ℕ} {P : A → Type 0}
     → IsReader read_by text P → (x : A) (rest : List ℕ)
     → P x → HasNoSpace (text x) → field_as read_by (text x ++ (32 ∷ rest)) ≡ Some (x, rest)
-as_again {A} {read_by} {text} {P} own x rest in_range solid = grind (arith, field_again)
+as_again own x rest in_range solid = grind (arith, field_again)
 
 -- a field, and what another reader reads after its space, are read exactly where they were written
 pub then_reader : {A B : Type 0} {read_by : List ℕ → Option A} {text : A → List ℕ} {P : A → Type 0} {read_after : A
@@ -93,4 +93,4 @@ pub then_reader : {A B : Type 0} {read_by : List ℕ → Option A} {text : A →
     → ((x : A) → IsReader (read_after x) text_after (Q x))
     → IsReader (field_then read_by read_after) (λ (y : A × B). text y.0 ++ (32 ∷ text_after y.1))
     (λ (y : A × B). P y.0 × Q y.0 y.1)
-then_reader {A} {B} {read_by} {text} {P} {read_after} {text_after} {Q} own solid after = grind (arith, bind_some, as_takes, as_again)
+then_reader own solid after = grind (arith, bind_some, as_takes, as_again)

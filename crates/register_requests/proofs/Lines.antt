@@ -188,7 +188,9 @@ register_again : (k : KeyType) (o : List ℕ) (a p d : Option ℕ) (u : List ℕ
     → register_at (before (key_type_text k) (before o
     (before (date_text a) (before (date_text p) (before (date_text d) u))))) ≡ Some (Registration k o a p d u)
 unfolding register_at
-register_again k o a p d u in_range = cc (register_reader.again (k, (o, (a, (p, (d, u))))) (tt, (in_range.0, (in_range.1, (in_range.2, (in_range.3, in_range.4))))))
+register_again k o a p d u in_range =
+    cc (register_reader.again (k, (o, (a, (p, (d, u))))) (tt, (in_range.0, (in_range.1, (in_range.2, (in_range.3,
+    in_range.4))))))
 
 abbrev Edits : Type 0
 Edits = ℕ × (Edit × (Edit × Edit))
@@ -209,7 +211,8 @@ edits_again : (key : ℕ) (a p d : Edit) → AreFields (DateEdits key a p d)
     → edits_at (before (decimal key) (before (edit_text a) (before (edit_text p) (edit_text d)))) ≡ Some
     (DateEdits key a p d)
 unfolding edits_at
-edits_again key a p d in_range = cc (edits_reader.again (key, (a, (p, d))) (in_range.0, (in_range.1, (in_range.2, in_range.3))))
+edits_again key a p d in_range =
+    cc (edits_reader.again (key, (a, (p, d))) (in_range.0, (in_range.1, (in_range.2, in_range.3))))
 
 abbrev Revoked : Type 0
 Revoked = ℕ × (Reason × Option ℕ)
@@ -286,7 +289,9 @@ type_and_period_again : (kind : KeyType) (p : Period) → AreFields (TypeAndPeri
     → type_and_period_at (before (key_type_text kind) (before (decimal p.originator) (decimal p.recipient)))
     ≡ Some (TypeAndPeriod kind p)
 unfolding type_and_period_at
-type_and_period_again kind p in_range = cc (type_and_period_reader.again (kind, (p.originator, p.recipient)) (tt, ((in_range.some, in_range.originator), (omega arith, in_range.recipient))))
+type_and_period_again kind p in_range =
+    cc (type_and_period_reader.again (kind, (p.originator, p.recipient)) (tt, ((in_range.some, in_range.originator),
+    (omega arith, in_range.recipient))))
 
 keyed_again : (key : ℕ) → IsKeyNumber key → keyed_at (decimal key) ≡ Some (Key key)
 unfolding keyed_at
@@ -485,7 +490,10 @@ fields_takes line q e =
 
 fields_again : (q : Request) → IsRequest q → fields_at (request_text q) ≡ Some q
 unfolding fields_at
-fields_again q in_range = cc (joined_request (decimal q.moment) q.caller (decimal q.number) (command_text q.command), fields_reader.again (q.moment, (q.caller, (q.number, q.command))) (in_range.moment, (in_range.caller, (in_range.number, in_range.command))))
+fields_again q in_range =
+    cc (joined_request (decimal q.moment) q.caller (decimal q.number) (command_text q.command),
+    fields_reader.again (q.moment, (q.caller, (q.number, q.command))) (in_range.moment, (in_range.caller,
+    (in_range.number, in_range.command))))
 
 guard_none : (b : Bool) (o : Option Request) (q : Request) → cond b None o ≡ Some q → (b ≡ false) × (o ≡ Some q)
 guard_none b o q e = grind arith

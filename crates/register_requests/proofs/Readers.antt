@@ -211,9 +211,6 @@ pub name_reader : IsReader name_at itself IsName
 unfolding name_at
 name_reader = grind arith
 
-pub not_space : (b : ℕ) → b ≢ 32 → not (is_space b) ≡ true
-not_space b other = grind (arith, nat_tests)
-
 trimmed_ends : (bytes : List ℕ) → is_trimmed bytes ≡ true
     → (get_or bytes 0 0 ≢ 32) × (get_or bytes (length bytes - 1) 0 ≢ 32)
 trimmed_ends bytes e = grind arith
