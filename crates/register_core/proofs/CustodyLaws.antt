@@ -48,8 +48,7 @@ nobody_next h q lawful accepted before k beyond =
     let later : count h < k = omega (arith, beyond, grown) in
     let same = custody_same h q k accepted
     (λ n names. below n (omega (arith, (on_key h q n accepted names).high, later))) in
-    let none = before k later in
-    (same.custodians ∙ none.0, same.approvals ∙ none.1)
+    grind arith
   where
     below : (n : ℕ) → n < k → nat_eq n k ≡ false
     below n lt = elim (eqb_tells n k) [ inl both ↦ absurd (omega (arith, both.1, lt)) | inr apart ↦ apart.0 ]
@@ -99,9 +98,7 @@ destroyed_enough : (h : List Request) (q : Request) (k n : ℕ) → IsLawful h �
 destroyed_enough h q k n lawful on is =
     let lead = custody_lead h q k on.names on.new in
     let same : approvals (h ++ q ∷ []) k ≡ approvals h k =
-    ap (λ entries. sorted_names (names_at k entries))
-    (lead.approvals_are
-    ∙ ap (λ (c : Command). approvals_by k (custody_change (dates h k) q.caller c) (all_approvals h)) is) in
+    cc in
     let enough = ltb-false _ _
     (not_refused (nat_lt (length (approvals h k)) (need h k)) _
     (ap (approvals_missing (Some (standing h k))) (sym is) ∙ on.enough)) in
@@ -122,15 +119,13 @@ approved_next h q is before k has set = elim (which h q k (judged h q is.accepte
   | inr (inl on) ↦ elim (destroy_same (period h (type h k)) (dates h k) q.moment k q.command on.names) [
     | inl destruction ↦ destroyed_enough h q k destruction.0 is.lawful on destruction.1
     | inr same ↦
-        let was : IsSome (dates h k).destroy = sym
-        (ap is_some (ap (λ (d : Dates). d.destroy) (dates_named h q k on.names) ∙ same)) ∙ set in
+        let was : IsSome (dates h k).destroy = grind (arith, dates_named) in
         let enough = before k (on.low, on.high) was in
         let stays = stay h q is k (on.low, on.high) was in
         omega (arith, enough, ap length stays)
   ]
   | inr (inr other) ↦
-      let was : IsSome (dates h k).destroy = sym
-      (ap (λ (d : Dates). is_some d.destroy) (dates_other h q k other.other)) ∙ set in
+      let was : IsSome (dates h k).destroy = grind (arith, dates_other) in
       let enough = before k (has.0, other.high) was in
       omega (arith, enough, ap length (other_approvals h q k (judged h q is.accepted) other))
 ]

@@ -52,8 +52,7 @@ absent : (key : ℕ) (name : List ℕ) (entries : List (KeyName))
     → is_among name (sorted_names (names_at key entries)) ≡ false
     → filter (λ entry. not (is_key_name key name entry)) entries ≡ entries
 absent key name entries none =
-    none_taken (is_key_name key name) entries (sym (any_of_key key name entries)
-    ∙ sym (any_sorted_names (λ other. bytes_eq other name) (names_at key entries)) ∙ none)
+    none_taken (is_key_name key name) entries (grind (arith, any_of_key, any_sorted_names))
 
 pub not_refused : (b : Bool) (refusal : Refusal) → cond b (Some refusal) None ≡ None → b ≡ false
 not_refused b refusal none = grind arith
@@ -112,11 +111,7 @@ custody_lead h q k names new = by q.command refl names
         → CustodyLead h q k (custody_change (dates h k) q.caller q.command)
     unchanged c is kept no_one none_added ends_none none_given same_needs =
         subst (CustodyLead h q k) (sym (ap (custody_change (dates h k) q.caller) is ∙ kept))
-        (lead h q c k Kept is
-        (ap (λ l. filter (λ entry. not (is_about entry c)) (all_custodians h) ++ l) none_added
-        ∙ same_entries (λ entry. is_about entry c) no_one (all_custodians h))
-        (ap (λ l. filter (λ entry. not (ends_by h entry q.caller c)) (all_approvals h) ++ l) none_given
-        ∙ same_entries (λ entry. ends_by h entry q.caller c) ends_none (all_approvals h)) same_needs)
+        (grind (arith, all_custodians_grow, all_approvals_grow, needs_next, append-nil, filter_every))
 
     changed : (c : Command) → q.command ≡ c
         → custodians_then c (all_custodians h)
@@ -131,11 +126,9 @@ custody_lead h q k names new = by q.command refl names
     by : (c : Command) → q.command ≡ c → named c ≡ Some k
         → CustodyLead h q k (custody_change (dates h k) q.caller q.command)
     by (Revoke n reason occurrence) is e =
-        let here : q.command ≡ Revoke k reason occurrence = is
-        ∙ ap (λ (x : ℕ). Revoke x reason occurrence) (same_key n k e) in
+        let here : q.command ≡ Revoke k reason occurrence = cc in
         changed (Revoke k reason occurrence) here
-        (same_entries (λ entry. false) (λ entry. refl) (all_custodians h)
-        ∙ sym (kept_custodians k (is_compromise reason && is_none (dates h k).destroy) (all_custodians h)))
+        (grind (arith, append-nil, filter_every, kept_custodians))
         (revoked h q k (is_compromise reason) (is_none (dates h k).destroy) (all_approvals h))
         (sym (kept_needs k (is_compromise reason && is_none (dates h k).destroy) (all_needs h)))
     by (AddCustodian n name) is e =

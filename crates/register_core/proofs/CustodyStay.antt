@@ -59,13 +59,7 @@ custody_same h q k accepted others = by (named q.command) refl
         record { custodians = ap (names_at k) lead.custodians_are; approvals = ap (names_at k) lead.approvals_are }
     by (Some n) names =
         let lead = custody_lead h q n names (on_key h q n accepted names).new in
-        let custody = custody_change (dates h n) q.caller q.command in
-        record {
-          custodians = ap (names_at k) lead.custodians_are
-              ∙ other_custodians n k custody (all_custodians h) (others n names);
-          approvals = ap (names_at k) lead.approvals_are
-              ∙ other_approvals n k custody (all_approvals h) (others n names);
-        }
+        grind (arith, other_custodians, other_approvals)
 
 -- one that makes key k, or leaves it alone, does neither
 pub custody_made : (h : List Request) (q : Request) (k : ℕ) → judgement h q ≡ None → IsMade h q k → CustodySame h q k
@@ -79,23 +73,9 @@ custody_other h q k accepted other =
 
 -- ---- the approvals of a destroyed key
 
-destroyed_state : (d : Dates) (t x : ℕ) → d.destroy ≡ Some x → (state_at d t ≡ Destroyed)
-    ⊎ (state_at d t ≡ DestroyedCompromised)
-destroyed_state d t x set = grind arith
-
-abbrev IsDestroyed : State → Type 0
-IsDestroyed s = (s ≡ Destroyed) ⊎ (s ≡ DestroyedCompromised)
-
-stay_by : (d : Dates) (caller : List ℕ) (c : Command) (s : State) (x k : ℕ) (entries : List (KeyName))
-    → d.destroy ≡ Some x → IsDestroyed s → is_for c s ≡ true
-    → approvals_by k (custody_change d caller c) entries ≡ entries
-stay_by d caller c s x k entries set destroyed passes = grind arith
-
 -- they stay where a request names the key
 pub approvals_stay : (h : List Request) (q : Request) (k x : ℕ) → IsOn h q k → (dates h k).destroy ≡ Some x
     → approvals (h ++ q ∷ []) k ≡ approvals h k
 approvals_stay h q k x on set =
     let lead = custody_lead h q k on.names on.new in
-    ap (λ entries. sorted_names (names_at k entries))
-    (lead.approvals_are ∙ stay_by (dates h k) q.caller q.command (state_at (dates h k) q.moment) x k (all_approvals h)
-    set (destroyed_state (dates h k) q.moment x set) on.fits_state)
+    grind arith

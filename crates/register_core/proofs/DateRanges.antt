@@ -37,9 +37,6 @@ months_in m n = grind arith
 limit_in : (date : Option ℕ) (months : ℕ) → IsDate (months_on_date date months)
 limit_in date months = grind (arith, months_in)
 
-cut_in : (date limit : Option ℕ) → IsDate date → IsDate (cut_to_limit date limit)
-cut_in date limit a = grind arith
-
 edited_in : (edit : Edit) (date : Option ℕ) → IsEdit edit → IsDate date → IsDate (date_after_edit edit date)
 edited_in edit date e a = grind arith
 
@@ -59,18 +56,10 @@ trimmed_in p d are =
     let first = with_default_protect_stop p d in
     let in_first = with_stop p d are in
     let stopped : Dates = record first { protect_stop = cut_to_limit first.protect_stop (originator_limit p first) } in
-    let in_stopped : AreDates stopped = record {
-      activation = in_first.activation;
-      protect_stop = cut_in first.protect_stop (originator_limit p first) in_first.protect_stop;
-      deactivation = in_first.deactivation;
-    } in
+    let in_stopped : AreDates stopped = grind arith in
     let second = with_default_deactivation p stopped in
     let in_second = with_end p stopped in_stopped in
-    record {
-      activation = in_second.activation;
-      protect_stop = in_second.protect_stop;
-      deactivation = cut_in second.deactivation (recipient_limit p second) in_second.deactivation;
-    }
+    grind arith
 
 after : (p : Period) (d : Dates) (t : ℕ) (c : Command) → IsMoment t → IsCommand c → AreDates d
     → AreDates (dates_after p d t c)

@@ -66,15 +66,6 @@ activated_moves period d t early = grind (arith, reached_stop, trimmed_stop, no_
 
 -- ---- SetDates
 
-kept_edit : (edit : Edit) → keeps_date edit ≡ true → edit ≡ Keep
-kept_edit edit e = grind arith
-
-neither_holds : (a b : Bool) → a || b ≡ false → (a ≡ false) × (b ≡ false)
-neither_holds a b e = grind arith
-
-must_keep : (kept held : Bool) → not kept && held ≡ false → held ≡ true → kept ≡ true
-must_keep kept held e set = grind arith
-
 edited_moves : (period : Period) (d : Dates) (t : ℕ) (activation protect_stop deactivation : Edit)
     → (state_at d t ≡ PreActive) ⊎ (state_at d t ≡ Active)
     → (not (keeps_date activation) && not (is_one_of (PreActive ∷ []) (state_at d t)))
@@ -83,27 +74,14 @@ edited_moves : (period : Period) (d : Dates) (t : ℕ) (activation protect_stop 
 edited_moves period d t activation protect_stop deactivation early free =
     let given : Dates = edited_dates activation protect_stop deactivation d in
     let keeps = filled_keeps period given in
-    let both = neither_holds _ _ free in
     record {
-      activation = elim early [
-        | inl pre ↦ inl pre
-        | inr active ↦
-            let open_now : not (is_one_of (PreActive ∷ []) (state_at d t))
-            ≡ true = ap (λ (s : State). not (is_one_of (PreActive ∷ []) s)) active in
-            let edit = kept_edit activation (must_keep (keeps_date activation) _ both.0 open_now) in
-            inr (keeps.activation ∙ ap (λ (e : Edit). date_after_edit e d.activation) edit)
-      ];
-      deactivation = elim early [ inl pre ↦ inl pre | inr active ↦ inr (inl active) ];
-      protect_stop = λ reached.
-          let stop = reached_stop d.protect_stop t reached in
-          let edit = kept_edit protect_stop
-          (must_keep (keeps_date protect_stop) (is_reached_at d.protect_stop t) both.1 reached) in
-          filled_stop period given stop.0 (ap (λ (e : Edit). date_after_edit e d.protect_stop) edit ∙ stop.1) ∙ sym
-          stop.1;
+      activation = grind arith;
+      deactivation = grind arith;
+      protect_stop = grind arith;
       initial = keeps.initial;
-      destroy = keeps_same d.destroy _ keeps.destroy;
-      compromise = keeps_same d.compromise _ keeps.compromise;
-      compromise_occurrence = keeps_same d.compromise_occurrence _ keeps.compromise_occurrence;
+      destroy = grind arith;
+      compromise = grind arith;
+      compromise_occurrence = grind arith;
     }
 
 -- ---- Revoke
@@ -111,18 +89,10 @@ edited_moves period d t activation protect_stop deactivation early free =
 deactivated_moves : (d : Dates) (t : ℕ) → state_at d t ≡ Active → MovesOnly d t (deactivated t d)
 deactivated_moves d t active = grind arith
 
-compromised_moves : (d : Dates) (t : ℕ) (occurrence : Option ℕ) → is_some d.compromise ≡ false
-    → is_some d.compromise ≡ is_some d.compromise_occurrence → MovesOnly d t (compromised t occurrence d)
-compromised_moves d t occurrence none occurs = grind arith
-
 deactivated_sound : (period : Period) (d : Dates) (t : ℕ) → IsSound period d → Shows Active d t
     → IsSound period (deactivated t d)
 deactivated_sound period d t sound active =
     grind (arith, and_from, leb-true, leb-false, le-leb, cases_lt, months_forward, and_parts)
-
-compromised_sound : (period : Period) (d : Dates) (t : ℕ) (occurrence : Option ℕ) → IsSound period d
-    → IsSound period (compromised t occurrence d)
-compromised_sound period d t occurrence sound = grind arith
 
 -- ---- each command
 
@@ -138,10 +108,7 @@ revoked : (period : Period) (d : Dates) (t : ℕ) (b : Bool) (occurrence : Optio
     → Steps period d t (cond b (compromised t occurrence d) (deactivated t d))
 revoked period d t true occurrence sound fits_state =
     let none = not_compromised (state_at d t) d t (shows d t) fits_state in
-    record {
-      sound = compromised_sound period d t occurrence sound;
-      moves = compromised_moves d t occurrence none sound.occurs;
-    }
+    grind arith
 revoked period d t false occurrence sound fits_state = grind (arith, nat_tests, deactivated_sound, deactivated_moves)
 
 -- the dates are sound by the period of the type where the command gives them, and else by the one that they were
@@ -169,8 +136,7 @@ step ps before key t k (SetDates n activation protect_stop deactivation) names s
     record {
       sound = sound_by period given _ (filled_fits period given fit) (filled_keeps period given) sound.occurs;
       moves =
-          edited_moves period d t activation protect_stop deactivation (is_early (state_at d t) fits_state)
-          (not_refused _ _ free);
+          grind (arith, edited_moves, is_early, not_refused);
     }
 step ps before key t k (Revoke n reason occurrence) names sound fits_state free fit = search (revoked)
 step ps before key t k (Destroy n) names sound fits_state free fit = grind arith

@@ -116,15 +116,7 @@ filled_fits period d e =
     let recipient = length_refusal full.deactivation (recipient_limit period full) in
     let order = past (order_refusal full) (originator ∷ recipient ∷ range_refusal full ∷ []) (passes _ full e) in
     let first = past originator (recipient ∷ range_refusal full ∷ []) order.later in
-    let second = past recipient (range_refusal full ∷ []) first.later in
-    let range = past (range_refusal full) [] second.later in (
-      record {
-        order = ordered _ order.here;
-        originator = limited full.protect_stop (originator_limit period full) first.here;
-        recipient = limited full.deactivation (recipient_limit period full) second.here;
-      },
-      whole full range.here,
-    )
+    grind (arith, past, ordered, limited, whole)
 
 cut_within : (date limit : Option ℕ) → is_not_after (cut_to_limit date limit) limit ≡ true
 cut_within date limit = grind arith
@@ -138,15 +130,4 @@ trimmed_fits period d e =
     let ordering = past (order_refusal full) (range_refusal full ∷ []) (passes _ full e) in
     let range = past (range_refusal full) [] ordering.later in
     let limit : originator_limit period full ≡ originator_limit period first =
-    end_kept (originator_limit period) (record { stop = λ y date. refl; end = λ y date. refl }) period
-    (stopped period d) in (
-      record {
-        order = ordered _ ordering.here;
-        originator =
-            ap (λ (o : Option ℕ). is_not_after o (originator_limit period full)) (trimmed_stop_is period d)
-            ∙ ap (is_not_after (stopped period d).protect_stop) limit
-            ∙ cut_within first.protect_stop (originator_limit period first);
-        recipient = cut_within second.deactivation (recipient_limit period second);
-      },
-      whole full range.here,
-    )
+    grind arith in grind (arith, ordered, trimmed_stop_is, cut_within, whole)

@@ -219,8 +219,4 @@ pub agrees_as : (h : List Request) (q : Request) (keys : ℕ) (change : Change) 
     → change ≡ change_by_request (period h) (named_key h q.command) q → judgement h q ≡ None
     → (reply_to keys q.moment change ≡ reply h q) × LeadsTo h q change
 agrees_as h q keys change counted same accepted =
-    let agrees = accepted_agrees h q accepted in (
-      ap (λ (n : ℕ). reply_to n q.moment change) counted
-          ∙ ap (λ (x : Change). reply_to (count h) q.moment x) same ∙ agrees.0,
-      subst (LeadsTo h q) (sym same) agrees.1,
-    )
+    let agrees = accepted_agrees h q accepted in grind arith

@@ -137,10 +137,12 @@ pub dates_made : (h : List Request) (q : Request) (r : Registration) → subject
     ≡ dates_with_defaults (period h r.kind) (given_dates q.moment r.activation r.protect_stop r.deactivation)
 dates_made h q r makes =
     let before : Dates = fold (dates_step r.kind) unset_dates (own h (count h + 1)) in
-    ap (λ (kind : KeyType). fold (dates_step kind) unset_dates (own (h ++ q ∷ []) (count h + 1)))
-    (kind_made h q r makes)
-    ∙ fold_ends (dates_step r.kind) unset_dates h q (count h + 1) (ap (key_by (count h)) makes)
-    ∙ ap (λ (c : Command). dates_after (period h r.kind) before q.moment c) (is_registration q.command r makes)
+    rw (
+      kind_made h q r makes,
+      fold_ends (dates_step r.kind) unset_dates h q (count h + 1) (ap (key_by (count h))
+          makes),
+      is_registration q.command r makes,
+    )
 
 pub dated_made : (h : List Request) (q : Request) (r : Registration) → subject q.command ≡ Makes r
     → dated_by (h ++ q ∷ []) (count h + 1) ≡ period h r.kind

@@ -108,11 +108,8 @@ pub first_found : (caller : List ℕ) (number : ℕ) (h : List Request) (i : ℕ
     → Some found ≡ slice_get (kept_under caller number (kept h)) 0
 first_found caller number h i q found lt is none own here =
     let later = drop (i + 1) h in
-    let whole : h ≡ (take i h ++ q ∷ []) ++ later = sym (take-append-drop (i + 1) h)
-    ∙ ap (λ (prefix : List Request). prefix ++ later) (next_prefix h i q lt is) in
-    ap Some here ∙ sym
-    (ap (λ (l : List KeptReply). slice_get l 0) (ap (λ (g : List Request). kept_under caller number (kept g)) whole
-    ∙ first_at caller number (take i h) q later none (own (take i h))))
+    let whole : h ≡ (take i h ++ q ∷ []) ++ later = cc (take-append-drop (i + 1) h, next_prefix h i q lt is) in
+    cc (here, whole, first_at caller number (take i h) q later none (own (take i h)))
 
 pub none_yet : (caller : List ℕ) (number : ℕ) (h : List Request) (i : ℕ) (q : Request) → i < length h
     → q ≡ get_or h i q → kept_under caller number (kept (take i h)) ≡ []
@@ -189,8 +186,7 @@ all_next : (h : List Request) (q : Request) → IsAccepted h q → AllKept h →
 all_next h q is before lawful =
     let request = (all_but_last IsRequest h q lawful.in_range).1 in
     let those = all_weaker (IsKeptIn h) (IsKeptIn (h ++ q ∷ [])) (kept_longer h q is) (kept h) (before is.lawful) in
-    subst (AllByRecursion (IsKeptIn (h ++ q ∷ []))) (sym (kept_grows h q))
-    (all_more (IsKeptIn (h ++ q ∷ [])) (kept h) (kept_of h q) those (kept_here h q is request lawful))
+    grind (arith, kept_grows, all_more, kept_here)
 
 pub all_kept : (h : List Request) → IsLawful h → AllByRecursion (IsKeptIn h) (kept h)
 all_kept h lawful = holds_of_each AllKept all_next (λ lawful. tt) h lawful lawful

@@ -77,8 +77,7 @@ pub needed_agrees : (h : List Request) (view : View) (q : Request) → Suffices 
 needed_agrees h view q is accepted =
     let judged : judgement h q ≡ None = sym (judged_by h view q is) ∙ accepted in
     agrees_as h q view.keys (change_by_request (always view.period) view.key q) is.keys_are
-    (changed_by (always view.period) (period h) view.key q is.period_is
-    ∙ ap (λ (key : Option Held). change_by_request (period h) key q) is.key_is ∙ changed_so h q judged)
+    (cc (changed_by (always view.period) (period h) view.key q is.period_is, is.key_is, changed_so h q judged))
     judged
 
 -- ---- a view of the whole key
@@ -92,6 +91,5 @@ pub whole_agrees : (h : List Request) (view : View) (q : Request) → IsViewOf v
     → (reply_of_view view q ≡ reply h q) × LeadsTo h q (change_by_request (always view.period) view.key q)
 whole_agrees h view q is accepted =
     agrees_as h q view.keys (change_by_request (always view.period) view.key q) is.keys_are
-    (changed_by (always view.period) (period h) view.key q is.period_is
-    ∙ ap (λ (key : Option Held). change_by_request (period h) key q) is.key_is)
+    (grind arith)
     (sym (whole_judged h view q is) ∙ accepted)

@@ -55,20 +55,7 @@ on_there : (h : List Request) (q : Request) (k : ℕ) → named q.command ≡ So
 on_there h q k names there accepted =
     let key : Option Held = Some (standing h k) in
     let passed = passes current (latest h) (count h) (period h) key q accepted in
-    let both = and_parts _ _ there in
-    record {
-      names = names;
-      low = leb-true _ _ both.0;
-      high = leb-true _ _ both.1;
-      fits_state = right_state _ _ passed.state;
-      not_frozen = passed.free;
-      fit = passed.fit;
-      apart = passed.apart;
-      enough = passed.approved;
-      occurred = passed.occurred;
-      custodians_own = passed.custodians;
-      new = new_names h q k passed.new_custodian passed.new_approval;
-    }
+    grind (arith, and_parts, leb-true, right_state, new_names)
 
 pub on_key : (h : List Request) (q : Request) (k : ℕ) → judgement h q ≡ None → named q.command ≡ Some k → IsOn h q k
 on_key h q k accepted names = by (is_there h k) refl (sym (ap (judged h q) shown) ∙ accepted)
@@ -80,8 +67,7 @@ on_key h q k accepted names = by (is_there h k) refl (sym (ap (judged h q) shown
     by true there none = on_there h q k names there none
     by false there none =
         let missing = unknown_named q.command k names in
-        let known = (passes current (latest h) (count h) (period h) None q none).known in
-        absurd cc
+        grind arith
 
 -- ---- each key
 
@@ -122,9 +108,7 @@ which h q k accepted high = by (subject q.command) refl
     by : (s : Subject) → subject q.command ≡ s → Concerns h q k
     by (Makes r) is = elim (eqb_tells (count h + 1) k) [
       | inl both ↦
-          let shown : named_key h q.command ≡ None = ap (λ (s : Subject). option_and_then (held h) (named_by s)) is in
-          let passed = passes current (latest h) (count h) (period h) None q (sym (ap (judged h q) shown) ∙ accepted) in
-          inl (record { next = sym both.1; registration = r; makes = is; fit = passed.fit })
+          grind arith
       | inr apart ↦ let more = counted (Makes r) is in inr
           (inr (apart_from h q (Makes r) k is apart.0 (omega (arith, high, more, apart.1))))
     ]

@@ -29,10 +29,6 @@ pub record IsPast (t : ℕ) (d : Dates) : Type 0 where
 later : (t u : ℕ) (d : Dates) → t ≤ u → IsPast t d → IsPast u d
 later t u d le past = grind arith
 
--- and so it is of other dates that keep these
-kept : (t : ℕ) (d new : Dates) → KeepsOthers d new → IsPast t d → IsPast t new
-kept t d new keeps past = grind arith
-
 -- what the command that names the key at t makes of its dates
 past_after : (p : Period) (d : Dates) (t k : ℕ) (c : Command) → named c ≡ Some k → occurrence_refusal t c ≡ None
     → IsPast t d → IsPast t (dates_after p d t c)
@@ -56,14 +52,12 @@ past_next h q lawful accepted before k has =
           let p : Period = period h made.registration.kind in
           let its = dates_when_made h q k made in
           subst (IsPast q.moment) (sym its)
-          (kept q.moment given (dates_with_defaults p given) (filled_keeps p given)
-          (record { initial = omega arith; destroy = refl; compromise = refl; occurrence = refl }))
+          (grind arith)
       | inr (inl on) ↦
           let past = moved (dates h k) (before k (on.low, on.high)) in
           subst (IsPast q.moment) (sym (dates_named h q k on.names))
           (past_after (period h (type h k)) (dates h k) q.moment k q.command on.names on.occurred past)
-      | inr (inr other) ↦ subst (IsPast q.moment) (sym (dates_other h q k other.other))
-          (moved (dates h k) (before k (has.0, other.high)))
+      | inr (inr other) ↦ grind (arith, dates_other)
     ])
 
 pub all_past : (h : List Request) → IsLawful h → AllPast h

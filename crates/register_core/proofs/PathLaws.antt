@@ -34,10 +34,7 @@ made_path h q k made =
     let given : Dates = given_to q made.registration in
     let p : Period = period h made.registration.kind in
     let its = dates_when_made h q k made in
-    let keeps = filled_keeps p given in
-    from_none h k _ made.next
-    (subst (λ (d : Dates). Leads None (Some (state_at d q.moment))) (sym its)
-    (path_made (dates_with_defaults p given) q.moment (ap is_some keeps.destroy) (ap is_some keeps.compromise)))
+    grind (arith, filled_keeps, from_none, path_made)
 
 on_path : (h : List Request) (q : Request) (k : ℕ) → IsAccepted h q → IsOn h q k
     → Leads (state_of_key h k) (Some (state_at (dates (h ++ q ∷ []) k) q.moment))
@@ -47,8 +44,7 @@ on_path h q k is on =
     let moves = subst (MovesOnly d q.moment) its (freeze h q is k (on.low, on.high)) in
     from_there h k _ on.high (then _ (Some (state_at d q.moment)) _
     (time_leads d (latest h) q.moment (not_after h q (judged h q is.accepted)))
-    (subst (λ (x : Dates). Leads (Some (state_at d q.moment)) (Some (state_at x q.moment))) (sym its)
-    (path_named (period h (type h k)) d q.moment k q.command on.names on.fits_state moves)))
+    (grind (arith, path_named)))
 
 other_path : (h : List Request) (q : Request) (k : ℕ) → IsAccepted h q → IsOther h q k
     → Leads (state_of_key h k) (Some (state_at (dates (h ++ q ∷ []) k) q.moment))

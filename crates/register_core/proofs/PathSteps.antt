@@ -65,8 +65,7 @@ pub path_made : (d : Dates) (t : ℕ) → is_some d.destroy ≡ false → is_som
     → Leads None (Some (state_at d t))
 path_made d t no_destroy no_compromise =
     then None (Some PreActive) _ (one_step None PreActive refl)
-    (leads_open PreActive d t no_destroy no_compromise
-    (from_pre_active (is_reached_at d.activation t) (is_reached_at d.deactivation t)))
+    (grind (arith, leads_open, from_pre_active))
 
 -- ---- each command
 
@@ -106,16 +105,11 @@ edited_path period d t activation protect_stop deactivation early moves =
       | inl pre ↦
           let old = its_shows d t PreActive pre in
           as_from d new t PreActive pre
-          (leads_open PreActive new t (still_unset _ _ keeps.destroy old.0) (still_unset _ _ keeps.compromise old.1)
-          (from_pre_active _ _))
+          (grind (arith, leads_open, still_unset, from_pre_active))
       | inr active ↦
           let old = its_shows d t Active active in
           let kept : new.activation
-          ≡ d.activation = elim moves.activation [
-            | inl pre ↦ absurd (let e = sym pre ∙ active in cc)
-            | inr same ↦
-                same
-          ] in
+          ≡ d.activation = grind arith in
           let reached : is_reached_at new.activation t ≡ true = ap (λ (x : Option ℕ). is_reached_at x t) kept ∙ old.2 in
           as_from d new t Active active
           (leads_open Active new t (still_unset _ _ keeps.destroy old.0) (still_unset _ _ keeps.compromise old.1)

@@ -84,10 +84,11 @@ period_step : (sets : List TypePeriod) (kind : KeyType) (c : Command)
     → period_at kind (periods_after sets c) ≡ period_after kind (period_at kind sets) c
 period_step sets kind (SetPeriod other p) =
     let new : TypePeriod = record { kind = other; period = p } in
-    ap (option_map (λ (e : TypePeriod). e.period))
-    (found (λ (e : TypePeriod). key_type_code e.kind) sets new (key_type_code kind))
-    ∙ one_says (λ (e : TypePeriod). e.period) (key_type_code other == key_type_code kind) new
-    (find (λ (e : TypePeriod). key_type_code e.kind == key_type_code kind) sets)
+    cc (
+      found (λ (e : TypePeriod). key_type_code e.kind) sets new (key_type_code kind),
+      one_says (λ (e : TypePeriod). e.period) (key_type_code other == key_type_code kind) new (find (λ (e :
+          TypePeriod). key_type_code e.kind == key_type_code kind) sets),
+    )
 period_step sets kind c = refl
 
 periods_from : (h : List Request) (sets : List TypePeriod) (kind : KeyType) (first : Option Period)
@@ -113,11 +114,14 @@ need_one : (before : List Request) (q : Request) (sets : List KeyNeed) (k : ℕ)
     → need_at k (needs_after sets c) ≡ fold need_step (need_at k sets) (concerning before q k)
 need_one before q sets k (SetQuorum key n) is =
     let new : KeyNeed = record { key = key; need = n } in
-    ap (option_map (λ (e : KeyNeed). e.need)) (found (λ (e : KeyNeed). e.key) sets new k)
-    ∙ one_says (λ (e : KeyNeed). e.need) (key == k) new (find (λ (e : KeyNeed). e.key == k) sets)
-    ∙ asked (key == k) before q n (need_at k sets) (ap (need_after (need_at k sets)) is)
-    ∙ ap (λ (c : Command). fold need_step (need_at k sets)
-    (cond (is_key k (key_of (count before) c)) (placed before q ∷ []) [])) (sym is)
+    cc (
+      found (λ (e : KeyNeed). e.key) sets new k,
+      one_says (λ (e : KeyNeed). e.need) (key == k) new (find (λ (e :
+          KeyNeed). e.key == k) sets),
+      asked (key == k) before q n (need_at k sets) (ap (need_after (need_at k sets))
+          is),
+      is,
+    )
 need_one before q sets k c is = grind arith
 
 needs_from : (h before : List Request) (sets : List KeyNeed) (k : ℕ)

@@ -1,5 +1,5 @@
 -- A field that is read is the field that was written, and what was written is read again.
-use Rattle.std.proofs.Common.{◌≡◌, ℕ, suc, ◌+◌, ◌<◌, Bool, true, false, List, [], ◌∷◌, ◌++◌, length, get_or, take}
+use Rattle.std.proofs.Common.{◌≡◌, ◌≢◌, ℕ, suc, ◌+◌, ◌<◌, Bool, true, false, List, [], ◌∷◌, ◌++◌, length, get_or, take}
 use Rattle.std.proofs.Common.{drop, Option, Some, None, refl, sym, ap, subst, ◌∙◌, arith}
 use Rattle.std.specs.Prelude.{IfSome, IfNone, not, nat_lt}
 use Rattle.std.specs.List.{list_all, position, position_or_len, prefix_len}
@@ -39,6 +39,13 @@ is_read {A} {read_by} own field (Some x) found none = sym (ap read_by found.1 �
 is_read {A} {read_by} own field None found none =
     sym (none_from (read_by field)
     (λ (x : A) (e : read_by field ≡ Some x). let taken = own.takes field x e in none x taken.0 taken.1))
+
+-- the same where each value has a text
+pub is_read_any : {A : Type 0} {read_by : List ℕ → Option A} {text : A → List ℕ}
+    → IsReader read_by text (λ _. Unit {0}) → (field : List ℕ) (o : Option A)
+    → IfSome o (λ x. field ≡ text x) → IfNone o ((x : A) → field ≢ text x) → o ≡ read_by field
+is_read_any own field (Some x) found none = is_read own field (Some x) (tt, found) tt
+is_read_any own field None found none = is_read own field None tt (λ x _ e. none x e)
 
 -- ---- the first space
 

@@ -189,8 +189,22 @@ register_again : (k : KeyType) (o : List ℕ) (a p d : Option ℕ) (u : List ℕ
     (before (date_text a) (before (date_text p) (before (date_text d) u))))) ≡ Some (Registration k o a p d u)
 unfolding register_at
 register_again k o a p d u in_range =
-    cc (register_reader.again (k, (o, (a, (p, (d, u))))) (tt, (in_range.0, (in_range.1, (in_range.2, (in_range.3,
-    in_range.4))))))
+    cc (register_reader.again (k, (o, (a, (p, (d, u))))) (
+      tt,
+      (
+        in_range.0,
+        (
+          in_range.1,
+          (
+            in_range.2,
+            (
+              in_range.3,
+              in_range.4,
+            ),
+          ),
+        ),
+      ),
+    ))
 
 abbrev Edits : Type 0
 Edits = ℕ × (Edit × (Edit × Edit))
@@ -290,8 +304,13 @@ type_and_period_again : (kind : KeyType) (p : Period) → AreFields (TypeAndPeri
     ≡ Some (TypeAndPeriod kind p)
 unfolding type_and_period_at
 type_and_period_again kind p in_range =
-    cc (type_and_period_reader.again (kind, (p.originator, p.recipient)) (tt, ((in_range.some, in_range.originator),
-    (omega arith, in_range.recipient))))
+    cc (type_and_period_reader.again (kind, (p.originator, p.recipient)) (
+      tt,
+      (
+        (in_range.some, in_range.originator),
+        (omega arith, in_range.recipient),
+      ),
+    ))
 
 keyed_again : (key : ℕ) → IsKeyNumber key → keyed_at (decimal key) ≡ Some (Key key)
 unfolding keyed_at
@@ -360,50 +379,34 @@ after_takes shape (Some bytes) f e = shaped_takes shape bytes f e
 after_takes shapes.Nothing None f e = grind arith
 after_takes shape None f e = absurd cc
 
--- the fields are read of what stands after their word
-record AreReadAgain (f : Fields) : Type 0 where
-  after : Option (List ℕ)
-  text : fields_text f ≡ after_text after
-  read : after_at (shape_of f) after ≡ Some f
+-- what stands after the word of the fields
+abbrev after_of : Fields → Option (List ℕ)
+after_of Nothing = None
+after_of (Key key) = Some (decimal key)
+after_of (KeyAndName key name) = Some (before (decimal key) name)
+after_of (KeyAndOwner key owner) = Some (before (decimal key) owner)
+after_of (KeyAndNeed key need) = Some (before (decimal key) (decimal need))
+after_of (TypeAndPeriod kind p) =
+    Some (before (key_type_text kind) (before (decimal p.originator) (decimal p.recipient)))
+after_of (Registration k o a p d u) = Some (text_of_registered (k, (o, (a, (p, (d, u))))))
+after_of (DateEdits key a p d) = Some (before (decimal key) (before (edit_text a) (before (edit_text p) (edit_text d))))
+after_of (Revocation key r o) = Some (before (decimal key) (before (reason_text r) (date_text o)))
 
-read_again : (f : Fields) → AreFields f → AreReadAgain f
-read_again Nothing in_range = record { after = None; text = refl; read = refl }
-read_again (Key key) in_range = record { after = Some (decimal key); text = refl; read = keyed_again key in_range }
-read_again (KeyAndName key name) in_range = record {
-  after = Some (before (decimal key) name);
-  text = joined_named (decimal key) name;
-  read = named_again KeyAndName key name in_range;
-}
-read_again (KeyAndOwner key owner) in_range = record {
-  after = Some (before (decimal key) owner);
-  text = joined_named (decimal key) owner;
-  read = named_again KeyAndOwner key owner in_range;
-}
-read_again (KeyAndNeed key need) in_range = record {
-  after = Some (before (decimal key) (decimal need));
-  text = joined_named (decimal key) (decimal need);
-  read = key_and_need_again key need in_range;
-}
-read_again (TypeAndPeriod kind p) in_range = record {
-  after = Some (before (key_type_text kind) (before (decimal p.originator) (decimal p.recipient)));
-  text = joined_revoke (key_type_text kind) (decimal p.originator) (decimal p.recipient);
-  read = type_and_period_again kind p in_range;
-}
-read_again (Registration k o a p d u) in_range = record {
-  after = Some (text_of_registered (k, (o, (a, (p, (d, u))))));
-  text = joined_register (key_type_text k) o (date_text a) (date_text p) (date_text d) u;
-  read = register_again k o a p d u in_range;
-}
-read_again (DateEdits key a p d) in_range = record {
-  after = Some (before (decimal key) (before (edit_text a) (before (edit_text p) (edit_text d))));
-  text = joined_edits (decimal key) (edit_text a) (edit_text p) (edit_text d);
-  read = edits_again key a p d in_range;
-}
-read_again (Revocation key r o) in_range = record {
-  after = Some (before (decimal key) (before (reason_text r) (date_text o)));
-  text = joined_revoke (decimal key) (reason_text r) (date_text o);
-  read = revoke_again key r o in_range;
-}
+has_text : (f : Fields) → fields_text f ≡ after_text (after_of f)
+has_text f = grind (arith, joined_register, joined_edits, joined_revoke, joined_named)
+
+read_again : (f : Fields) → AreFields f → after_at (shape_of f) (after_of f) ≡ Some f
+read_again f in_range =
+    grind (
+      arith,
+      keyed_again,
+      named_again,
+      key_and_need_again,
+      type_and_period_again,
+      register_again,
+      edits_again,
+      revoke_again,
+    )
 
 -- ---- commands
 
@@ -427,13 +430,12 @@ command_takes bytes q e =
 command_again : (q : Command) → IsCommand q → command_at (command_text q) ≡ Some q
 unfolding command_at
 command_again q in_range =
-    let again = read_again (fields_of q) in_range in
+    let after = after_of (fields_of q) in
     let word = command_kind_text (kind_of q) in
-    let split : word_at (command_text q) ≡ (word, again.after) =
-    ap (λ (fields : List ℕ). word_at (word ++ fields)) again.text
-    ∙ word_again word again.after (kind_solid (kind_of q)) in
-    let read : after_at (command_shape (kind_of q)) again.after ≡ Some (fields_of q) =
-    ap (λ (shape : Shape). after_at shape again.after) (sym (has_shape q)) ∙ again.read in
+    let split : word_at (command_text q) ≡ (word, after) =
+    rw has_text (word_again word after (kind_solid (kind_of q))) in
+    let read : after_at (command_shape (kind_of q)) after ≡ Some (fields_of q) =
+    rw (← has_shape q) (read_again (fields_of q) in_range) in
     rw (split, kind_reader.again (kind_of q) tt, read) (made_again q)
 
 command_read : (bytes : List ℕ) (q : Command) → IsCommandText bytes q → command_at bytes ≡ Some q
@@ -491,9 +493,16 @@ fields_takes line q e =
 fields_again : (q : Request) → IsRequest q → fields_at (request_text q) ≡ Some q
 unfolding fields_at
 fields_again q in_range =
-    cc (joined_request (decimal q.moment) q.caller (decimal q.number) (command_text q.command),
-    fields_reader.again (q.moment, (q.caller, (q.number, q.command))) (in_range.moment, (in_range.caller,
-    (in_range.number, in_range.command))))
+    cc (
+      joined_request (decimal q.moment) q.caller (decimal q.number) (command_text q.command),
+      fields_reader.again (q.moment, (q.caller, (q.number, q.command))) (
+        in_range.moment,
+        (
+          in_range.caller,
+          (in_range.number, in_range.command),
+        ),
+      ),
+    )
 
 guard_none : (b : Bool) (o : Option Request) (q : Request) → cond b None o ≡ Some q → (b ≡ false) × (o ≡ Some q)
 guard_none b o q e = grind arith
