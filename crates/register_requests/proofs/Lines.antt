@@ -90,14 +90,9 @@ request_number_solid n in_range = decimal_solid n (request_number_small n in_ran
 reason_solid : (reason : Reason) → HasNoSpace (reason_text reason)
 reason_solid reason = decimal_solid (reason_code reason) (reason_small reason)
 
-name_byte_solid : (b : ℕ) → is_name_byte b ≡ true → not (is_space b) ≡ true
-name_byte_solid b h = grind (arith, nat_tests)
-
 name_bytes_solid : (bytes : List ℕ) → list_all is_name_byte bytes ≡ true → HasNoSpace bytes
 name_bytes_solid [] h = refl
-name_bytes_solid (b ∷ bytes) h =
-    let both = and_parts (is_name_byte b) (list_all is_name_byte bytes) h in
-    and_from _ _ (name_byte_solid b both.0) (name_bytes_solid bytes both.1)
+name_bytes_solid (b ∷ bytes) h = grind (arith, nat_tests, name_bytes_solid bytes)
 
 key_type_solid : (k : KeyType) → HasNoSpace (key_type_text k)
 key_type_solid = of_each_type (λ k. HasNoSpace (key_type_text k)) refl refl refl refl refl refl refl
@@ -175,7 +170,7 @@ register_reader =
     (λ _. then_reader date_reader date_solid (λ _. then_reader date_reader date_solid (λ _. purpose_reader)))))
 
 registered_ranges : (x : Registered) → AreRegistered x → AreFields (registered x)
-registered_ranges x given1 = grind arith
+registered_ranges x in_range = grind arith
 
 registered_text : (x : Registered) → fields_text (registered x) ≡ spaced (text_of_registered x)
 registered_text x = grind (arith, joined_register)
@@ -188,23 +183,7 @@ register_again : (k : KeyType) (o : List ℕ) (a p d : Option ℕ) (u : List ℕ
     → register_at (before (key_type_text k) (before o
     (before (date_text a) (before (date_text p) (before (date_text d) u))))) ≡ Some (Registration k o a p d u)
 unfolding register_at
-register_again k o a p d u in_range =
-    cc (register_reader.again (k, (o, (a, (p, (d, u))))) (
-      tt,
-      (
-        in_range.0,
-        (
-          in_range.1,
-          (
-            in_range.2,
-            (
-              in_range.3,
-              in_range.4,
-            ),
-          ),
-        ),
-      ),
-    ))
+register_again k o a p d u in_range = grind (arith, register_reader.again (k, (o, (a, (p, (d, u))))))
 
 abbrev Edits : Type 0
 Edits = ℕ × (Edit × (Edit × Edit))
@@ -304,13 +283,7 @@ type_and_period_again : (kind : KeyType) (p : Period) → AreFields (TypeAndPeri
     ≡ Some (TypeAndPeriod kind p)
 unfolding type_and_period_at
 type_and_period_again kind p in_range =
-    cc (type_and_period_reader.again (kind, (p.originator, p.recipient)) (
-      tt,
-      (
-        (in_range.some, in_range.originator),
-        (omega arith, in_range.recipient),
-      ),
-    ))
+    grind (arith, type_and_period_reader.again (kind, (p.originator, p.recipient)))
 
 keyed_again : (key : ℕ) → IsKeyNumber key → keyed_at (decimal key) ≡ Some (Key key)
 unfolding keyed_at
@@ -395,18 +368,10 @@ after_of (Revocation key r o) = Some (before (decimal key) (before (reason_text 
 has_text : (f : Fields) → fields_text f ≡ after_text (after_of f)
 has_text f = grind (arith, joined_register, joined_edits, joined_revoke, joined_named)
 
+ruleset keyed_fields_again = (keyed_again, named_again, key_and_need_again, edits_again, revoke_again)
+
 read_again : (f : Fields) → AreFields f → after_at (shape_of f) (after_of f) ≡ Some f
-read_again f in_range =
-    grind (
-      arith,
-      keyed_again,
-      named_again,
-      key_and_need_again,
-      type_and_period_again,
-      register_again,
-      edits_again,
-      revoke_again,
-    )
+read_again f in_range = grind (arith, keyed_fields_again, type_and_period_again, register_again)
 
 -- ---- commands
 
@@ -418,14 +383,8 @@ command_takes bytes q e =
     let fields = bind_some (after_at (command_shape kind.0) word.1) (command_with kind.0) q kind.2 in
     let taken = after_takes (command_shape kind.0) word.1 fields.0 fields.1 in
     let of = made fields.0 kind.0 q fields.2 in
-    let text = command_kind_text (kind_of q) in
-    let word_is : word.0 ≡ text =
-    (kind_reader.takes word.0 kind.0 kind.1).1 ∙ ap command_kind_text (sym of.kind_is) in
-    let split : bytes ≡ text ++ after_text word.1 =
-    word_takes bytes ∙ ap (λ (w : List ℕ). w ++ after_text word.1) word_is in (
-      subst AreFields (sym of.fields_are) taken.in_range,
-      split ∙ ap (λ (after : List ℕ). text ++ after) (taken.text ∙ ap fields_text (sym of.fields_are)),
-    )
+    let text = kind_reader.takes word.0 kind.0 kind.1 in
+    (rw of.fields_are taken.in_range, cc (word_takes bytes))
 
 command_again : (q : Command) → IsCommand q → command_at (command_text q) ≡ Some q
 unfolding command_at
@@ -479,7 +438,7 @@ record IsFieldsOf (line : List ℕ) (q : Request) : Type 0 where
 
 requested_fields : (line : List ℕ) (x : Requested) → AreRequested x → line ≡ text_of_requested x
     → IsFieldsOf line (requested x)
-requested_fields line x given2 text = grind (arith, common_steps)
+requested_fields line x in_range text = grind (arith, common_steps)
 
 fields_takes : (line : List ℕ) (q : Request) → fields_at line ≡ Some q → IsFieldsOf line q
 unfolding fields_at
@@ -493,16 +452,7 @@ fields_takes line q e =
 fields_again : (q : Request) → IsRequest q → fields_at (request_text q) ≡ Some q
 unfolding fields_at
 fields_again q in_range =
-    cc (
-      joined_request (decimal q.moment) q.caller (decimal q.number) (command_text q.command),
-      fields_reader.again (q.moment, (q.caller, (q.number, q.command))) (
-        in_range.moment,
-        (
-          in_range.caller,
-          (in_range.number, in_range.command),
-        ),
-      ),
-    )
+    grind (arith, joined_request, fields_reader.again (q.moment, (q.caller, (q.number, q.command))))
 
 guard_none : (b : Bool) (o : Option Request) (q : Request) → cond b None o ≡ Some q → (b ≡ false) × (o ≡ Some q)
 guard_none b o q e = grind arith

@@ -65,76 +65,26 @@ dash_no_number m lt = sign_no_number (codes "-") (λ digits. omega (arith, digit
 equals_no_number : (m : ℕ) → m < 2 ^ 64 → bytes_eq (decimal m) (codes "=") ≡ false
 equals_no_number m lt = sign_no_number (codes "=") (λ digits. omega (arith, digits.0)) m lt
 
-chosen : {A : Type 0} (b : Bool) (y z : Option A) (x : A) → cond b y z ≡ Some x → ((b ≡ true) × (y ≡ Some x))
-    ⊎ ((b ≡ false) × (z ≡ Some x))
-chosen b y z x e = grind arith
-
-date_of_none : (field : List ℕ) (x : Option ℕ) → field ≡ codes "-" → Some None ≡ Some x
-    → IsDate x × (field ≡ date_text x)
-date_of_none field x text e = grind arith
-
-date_of_moment : (field : List ℕ) (m : ℕ) (x : Option ℕ) → moment_at field ≡ Some m → Some (Some m) ≡ Some x
-    → IsDate x × (field ≡ date_text x)
-date_of_moment field m None read e = absurd cc
-date_of_moment field m (Some n) read e =
-    let same : m ≡ n = cc in
-    subst (λ (k : ℕ). IsMoment k × (field ≡ decimal k)) same (moment_reader.takes field m read)
-
 date_takes : (field : List ℕ) (x : Option ℕ) → date_at field ≡ Some x → IsDate x × (field ≡ date_text x)
-unfolding date_at
-date_takes field x e =
-    elim (chosen (bytes_eq field (codes "-")) (Some None) (moment_at field >>= λ m. Some (Some m)) x e) [
-      | inl none ↦ date_of_none field x ((bytes_eq-Decides field (codes "-")).0 none.0) none.1
-      | inr some ↦ let m =
-          bind_some (moment_at field) (λ m. Some (Some m)) x some.1 in date_of_moment field m.0 x m.1 m.2
-    ]
+unfolding date_at moment_at
+date_takes field x e = grind (arith, bytes_eq-Decides)
 
 date_again : (x : Option ℕ) → IsDate x → date_at (date_text x) ≡ Some x
 unfolding date_at
-date_again None in_range = refl
-date_again (Some m) in_range = rw (dash_no_number m (omega (arith, in_range)), moment_reader.again m in_range) refl
+date_again x in_range = grind (arith, dash_no_number, moment_reader)
 
 pub date_reader : IsReader date_at date_text IsDate
 date_reader = record { takes = date_takes; again = date_again }
 
 -- ---- edits
 
-edit_of_moment : (field : List ℕ) (m : ℕ) (x : Edit) → moment_at field ≡ Some m → Some (Set m) ≡ Some x
-    → IsEdit x × (field ≡ edit_text x)
-edit_of_moment field m x read e =
-    let same : Set m ≡ x = cc in
-    subst (λ (y : Edit). IsEdit y × (field ≡ edit_text y)) same (moment_reader.takes field m read)
-
-edit_of_sign : (field sign : List ℕ) (y x : Edit) → bytes_eq field sign ≡ true → IsEdit y → edit_text y ≡ sign
-    → Some y ≡ Some x → IsEdit x × (field ≡ edit_text x)
-edit_of_sign field sign y x here in_range text e = grind (arith, bytes_eq-Decides)
-
-abbrev set_to : List ℕ → Option Edit
-set_to field = moment_at field >>= λ m. Some (Set m)
-
 edit_takes : (field : List ℕ) (x : Edit) → edit_at field ≡ Some x → IsEdit x × (field ≡ edit_text x)
-unfolding edit_at
-edit_takes field x e =
-    elim (chosen (bytes_eq field (codes "=")) (Some Keep)
-    (cond (bytes_eq field (codes "-")) (Some Clear) (set_to field)) x e) [
-      | inl keep ↦ edit_of_sign field (codes "=") Keep x keep.0 tt refl keep.1
-      | inr other ↦ elim (chosen (bytes_eq field (codes "-")) (Some Clear) (set_to field) x other.1) [
-        | inl clear ↦ edit_of_sign field (codes "-") Clear x clear.0 tt refl clear.1
-        | inr some ↦ let m =
-            bind_some (moment_at field) (λ m. Some (Set m)) x some.1 in edit_of_moment field m.0 x m.1 m.2
-      ]
-    ]
+unfolding edit_at moment_at
+edit_takes field x e = grind (arith, bytes_eq-Decides)
 
 edit_again : (x : Edit) → IsEdit x → edit_at (edit_text x) ≡ Some x
 unfolding edit_at
-edit_again Keep in_range = refl
-edit_again Clear in_range = refl
-edit_again (Set m) in_range =
-    rw (
-      equals_no_number m (omega (arith, in_range)),
-      dash_no_number m (omega (arith, in_range)),
-      moment_reader.again m in_range,
-    ) refl
+edit_again x in_range = grind (arith, equals_no_number, dash_no_number, moment_reader)
 
 pub edit_reader : IsReader edit_at edit_text IsEdit
 edit_reader = record { takes = edit_takes; again = edit_again }
@@ -211,50 +161,11 @@ pub name_reader : IsReader name_at itself IsName
 unfolding name_at
 name_reader = grind arith
 
-trimmed_ends : (bytes : List ℕ) → is_trimmed bytes ≡ true
-    → (get_or bytes 0 0 ≢ 32) × (get_or bytes (length bytes - 1) 0 ≢ 32)
-trimmed_ends bytes e = grind arith
-
-ends_trimmed : (bytes : List ℕ) → (get_or bytes 0 0 ≢ 32) → (get_or bytes (length bytes - 1) 0 ≢ 32)
-    → is_trimmed bytes ≡ true
-ends_trimmed bytes first last = grind arith
-
 pub purpose_reader : IsReader purpose_at itself IsPurpose
 unfolding purpose_at
-purpose_reader = record {
-  takes = λ bytes x e.
-      let n = length bytes in
-      let got = cond_some (nat_le 1 n && nat_le n max_purpose_length && is_utf8 bytes
-      && list_all is_purpose_byte bytes && is_trimmed bytes) bytes x e in
-      let p4 = and_parts (nat_le 1 n && nat_le n max_purpose_length && is_utf8 bytes
-      && list_all is_purpose_byte bytes) (is_trimmed bytes) got.0 in
-      let p3 = and_parts (nat_le 1 n && nat_le n max_purpose_length && is_utf8 bytes) (list_all is_purpose_byte bytes)
-      p4.0 in
-      let p2 = and_parts (nat_le 1 n && nat_le n max_purpose_length) (is_utf8 bytes) p3.0 in
-      let p1 = and_parts (nat_le 1 n) (nat_le n max_purpose_length) p2.0 in
-      let ends = trimmed_ends bytes p4.1 in
-      let whole : IsPurpose bytes = record {
-        some = leb-true 1 n p1.0;
-        within = leb-true n max_purpose_length p1.1;
-        utf8 = IsUtf8-from_is_utf8 bytes p2.1;
-        printable = p3.1;
-        first = ends.0;
-        last = ends.1;
-      } in
-      (subst IsPurpose got.1 whole, got.1);
-  again = λ x purpose.
-      let low : nat_le 1 (length x) ≡ true = le-leb 1 (length x) purpose.some in
-      let high : nat_le (length x) max_purpose_length ≡ true = le-leb (length x) max_purpose_length purpose.within in
-      let utf8 : is_utf8 x ≡ true = is_utf8-from_IsUtf8 x purpose.utf8 in
-      let ends : is_trimmed x ≡ true = ends_trimmed x purpose.first purpose.last in
-      rw (low, high, utf8, purpose.printable, ends) refl;
-}
+purpose_reader = grind (arith, IsUtf8-from_is_utf8, is_utf8-from_IsUtf8)
 
 -- ---- types of keys, kinds of commands and reasons
-
-found_step : {A : Type 0} (b : Bool) (x : A) (o : Option A) (k : A) → cond b (Some x) o ≡ Some k
-    → ((b ≡ true) × (x ≡ k)) ⊎ (o ≡ Some k)
-found_step b x o k e = grind arith
 
 find_passes : {A : Type 0} (p : A → Bool) (ks : List A) (k : A) → find p ks ≡ Some k → p k ≡ true
 find_passes p [] k e = absurd cc
@@ -294,10 +205,8 @@ same_kind j k e = some_is j k (sym (kind_again j) ∙ ap kind_at e ∙ kind_agai
 holds_of_found : {A : Type 0} (P : A → Type 0) (p : A → Bool) (xs : List A) (k : A) → All P xs → find p xs ≡ Some k
     → P k
 holds_of_found P p [] k all e = absurd cc
-holds_of_found P p (x ∷ xs) k all e = elim (found_step (p x) x (find p xs) k e) [
-  | inl here ↦ subst P here.1 (all 0 x (omega arith))
-  | inr after ↦ holds_of_found P p xs k (λ i d lt. all (suc i) d (omega arith)) after
-]
+holds_of_found P p (x ∷ xs) k all e =
+    grind (arith, all 0 x (omega arith), holds_of_found P p xs k (λ i d lt. all (suc i) d (omega arith)))
 
 -- What holds of each kind in the list holds of each kind.
 pub each_kind : (P : CommandKind → Type 0) → All P command_kinds → (k : CommandKind) → P k
@@ -327,12 +236,7 @@ reason_again r = rw (number_again 1 7 (omega arith) (reason_code r) (reason_code
 
 reason_takes : (field : List ℕ) (r : Reason) → reason_at field ≡ Some r → field ≡ reason_text r
 unfolding reason_at
-reason_takes field r e =
-    let code = bind_some (number_at 1 7 field) reason_with r e in
-    let same : reason_code r
-    ≡ code.0 = eqb-true (reason_code r) code.0
-    (find_passes (λ reason. reason_code reason == code.0) reasons r code.2) in
-    (number_takes 1 7 field code.0 code.1).1 ∙ ap decimal (sym same)
+reason_takes field r e = grind (arith, bind_some, eqb-true, find_passes, number_takes)
 
 pub reason_reader : IsReader reason_at reason_text (λ _. Unit {0})
 reason_reader = record { takes = λ field r e. (tt, reason_takes field r e); again = λ r _. reason_again r }
@@ -358,32 +262,15 @@ no_code field none =
 abbrev pub IsOccurrence : Reason → Option ℕ → Type 0
 IsOccurrence reason x = IsDate x × (is_compromise reason ≡ false → x ≡ None)
 
-no_date : (field : List ℕ) (x : Option ℕ) → cond (bytes_eq field (codes "-")) (Some None) None ≡ Some x
-    → (x ≡ None) × (field ≡ codes "-")
-no_date field x e = grind (arith, bytes_eq-Decides)
-
 occurrence_takes : (reason : Reason) (field : List ℕ) (x : Option ℕ) → occurrence_at reason field ≡ Some x
     → IsOccurrence reason x × (field ≡ date_text x)
 unfolding occurrence_at
-occurrence_takes reason field x e =
-    elim (chosen (is_compromise reason) (date_at field) (cond (bytes_eq field (codes "-")) (Some None) None) x e) [
-      | inl dated ↦ let taken = date_reader.takes field x dated.1 in (
-        (taken.0, λ other. absurd (cc (dated.0, other))),
-        taken.1,
-      )
-      | inr other ↦ let none = no_date field x other.1 in
-          subst (λ (y : Option ℕ). IsOccurrence reason y × (field ≡ date_text y)) (sym none.0) ((tt, λ _. refl), none.1)
-    ]
-
-occurrence_by : (b : Bool) (x : Option ℕ) → IsDate x → (b ≡ false → x ≡ None)
-    → cond b (date_at (date_text x)) (cond (bytes_eq (date_text x) (codes "-")) (Some None) None) ≡ Some x
-occurrence_by true x in_range none = date_reader.again x in_range
-occurrence_by false x in_range none = rw (none refl) refl
+occurrence_takes reason field x e = grind (arith, bytes_eq-Decides, date_reader)
 
 occurrence_again : (reason : Reason) (x : Option ℕ) → IsOccurrence reason x
     → occurrence_at reason (date_text x) ≡ Some x
 unfolding occurrence_at
-occurrence_again reason x h = occurrence_by (is_compromise reason) x h.0 h.1
+occurrence_again reason x h = grind (arith, date_reader)
 
 pub occurrence_reader : (reason : Reason) → IsReader (occurrence_at reason) date_text (IsOccurrence reason)
 occurrence_reader reason = record { takes = occurrence_takes reason; again = occurrence_again reason }
