@@ -79,30 +79,15 @@ stay h q is k has set = elim (which h q k (judged h q is.accepted) (omega (arith
 abbrev IsDestruction : Command → Type 0
 IsDestruction c = (n : ℕ) × (c ≡ Destroy n)
 
-revoked_same : (b : Bool) (d : Dates) (t : ℕ) (occurrence : Option ℕ)
-    → (cond b (compromised t occurrence d) (deactivated t d)).destroy ≡ d.destroy
-revoked_same b d t occurrence = grind arith
-
 destroy_same : (p : Period) (d : Dates) (t k : ℕ) (c : Command) → named c ≡ Some k
     → IsDestruction c ⊎ ((dates_after p d t c).destroy ≡ d.destroy)
-destroy_same p d t k (Registers of_kind owner activation protect_stop deactivation purpose) names = absurd cc
-destroy_same p d t k (Activate n) names = inr (trimmed_keeps p (record d { activation = Some t })).destroy
-destroy_same p d t k (SetDates n activation protect_stop deactivation) names =
-    inr (filled_keeps p (edited_dates activation protect_stop deactivation d)).destroy
-destroy_same p d t k (Revoke n reason occurrence) names = inr (revoked_same (is_compromise reason) d t occurrence)
-destroy_same p d t k (Destroy n) names = inl (n, refl)
-destroy_same p d t k c names = inr refl
+destroy_same p d t k c names = grind arith
 
 destroyed_enough : (h : List Request) (q : Request) (k n : ℕ) → IsLawful h → IsOn h q k → q.command ≡ Destroy n
     → min_approvals ≤ length (approvals (h ++ q ∷ []) k)
 destroyed_enough h q k n lawful on is =
     let lead = custody_lead h q k on.names on.new in
-    let same : approvals (h ++ q ∷ []) k ≡ approvals h k =
-    cc in
-    let enough = ltb-false _ _
-    (not_refused (nat_lt (length (approvals h k)) (need h k)) _
-    (ap (approvals_missing (Some (standing h k))) (sym is) ∙ on.enough)) in
-    omega (arith, (need_in_range h lawful.in_range k).0, enough, ap length same)
+    grind (arith, need_in_range)
 
 abbrev AllApproved : List Request → Type 0
 AllApproved h = (k : ℕ) → HasKey h k → IsSome (dates h k).destroy → min_approvals ≤ length (approvals h k)

@@ -52,14 +52,7 @@ filled_in : (p : Period) (d : Dates) → AreDates d → AreDates (dates_with_def
 filled_in p d are = with_end p (with_default_protect_stop p d) (with_stop p d are)
 
 trimmed_in : (p : Period) (d : Dates) → AreDates d → AreDates (defaulted_dates_cut_to_limits p d)
-trimmed_in p d are =
-    let first = with_default_protect_stop p d in
-    let in_first = with_stop p d are in
-    let stopped : Dates = record first { protect_stop = cut_to_limit first.protect_stop (originator_limit p first) } in
-    let in_stopped : AreDates stopped = grind arith in
-    let second = with_default_deactivation p stopped in
-    let in_second = with_end p stopped in_stopped in
-    grind arith
+trimmed_in p d are = grind (arith, limit_in)
 
 after : (p : Period) (d : Dates) (t : ℕ) (c : Command) → IsMoment t → IsCommand c → AreDates d
     → AreDates (dates_after p d t c)

@@ -35,9 +35,6 @@ use Rattle.std.proofs.lemmas.Bool.Decides.{nat_tests}
 
 -- ---- dates that stay
 
-keeps_same : (old new : Option ℕ) → new ≡ old → KeepsDate old new
-keeps_same old new same = grind arith
-
 pub nothing_moves : (d : Dates) (t : ℕ) → MovesOnly d t d
 nothing_moves d t = grind arith
 
@@ -106,9 +103,7 @@ same_step period d t sound = record { sound = sound; moves = nothing_moves d t }
 revoked : (period : Period) (d : Dates) (t : ℕ) (b : Bool) (occurrence : Option ℕ) → IsSound period d
     → is_one_of (cond b before_compromise (Active ∷ [])) (state_at d t) ≡ true
     → Steps period d t (cond b (compromised t occurrence d) (deactivated t d))
-revoked period d t true occurrence sound fits_state =
-    let none = not_compromised (state_at d t) d t (shows d t) fits_state in
-    grind arith
+revoked period d t true occurrence sound fits_state = grind arith
 revoked period d t false occurrence sound fits_state = grind (arith, nat_tests, deactivated_sound, deactivated_moves)
 
 -- the dates are sound by the period of the type where the command gives them, and else by the one that they were
@@ -119,24 +114,18 @@ pub step : (ps : KeyType → Period) (before : Period) (key : Held) (t k : ℕ) 
     → dates_refusal ps (Some key) t c ≡ None
     → Steps (cond (sets_dates c) (ps key.kind) before) key.row.dates t (dates_after (ps key.kind) key.row.dates t c)
 step ps before key t k (Registers kind owner activation protect_stop deactivation purpose) names sound fits_state free
-    fit =
-    absurd cc
+    fit = cc
 step ps before key t k (Activate n) names sound fits_state free fit =
-    let period : Period = ps key.kind in
-    let d : Dates = key.row.dates in
-    let given : Dates = record d { activation = Some t } in
+    let given : Dates = record key.row.dates { activation = Some t } in
     record {
-      sound = sound_by period given _ (trimmed_fits period given fit) (trimmed_keeps period given) sound.occurs;
-      moves = activated_moves period d t (is_pre_active (state_at d t) fits_state);
+      sound = sound_by _ given _ (trimmed_fits _ given fit) (trimmed_keeps _ given) sound.occurs;
+      moves = activated_moves _ _ t (is_pre_active _ fits_state);
     }
 step ps before key t k (SetDates n activation protect_stop deactivation) names sound fits_state free fit =
-    let period : Period = ps key.kind in
-    let d : Dates = key.row.dates in
-    let given : Dates = edited_dates activation protect_stop deactivation d in
+    let given : Dates = edited_dates activation protect_stop deactivation key.row.dates in
     record {
-      sound = sound_by period given _ (filled_fits period given fit) (filled_keeps period given) sound.occurs;
-      moves =
-          grind (arith, edited_moves, is_early, not_refused);
+      sound = sound_by _ given _ (filled_fits _ given fit) (filled_keeps _ given) sound.occurs;
+      moves = grind (arith, edited_moves, is_early, not_refused);
     }
 step ps before key t k (Revoke n reason occurrence) names sound fits_state free fit = search (revoked)
 step ps before key t k (Destroy n) names sound fits_state free fit = grind arith

@@ -40,16 +40,6 @@ stopped period d =
     let first = with_default_protect_stop period d in
     record first { protect_stop = cut_to_limit first.protect_stop (originator_limit period first) }
 
-trimmed_kept : {X : Type 0} (f : Dates → X) → IsApart f → (period : Period) (d : Dates)
-    → f (defaulted_dates_cut_to_limits period d) ≡ f d
-trimmed_kept f apart period d =
-    cc (
-      apart.end (with_default_deactivation period (stopped period d)) _,
-      end_kept f apart period (stopped period d),
-      apart.stop (with_default_protect_stop period d) _,
-      stop_kept f apart period d,
-    )
-
 -- the dates that no date set by hand moves
 pub record KeepsOthers (old new : Dates) : Type 0 where
   pub activation : new.activation ≡ old.activation
@@ -73,8 +63,7 @@ pub filled_keeps : (period : Period) (d : Dates) → KeepsOthers d (dates_with_d
 filled_keeps period d = keeps_by d (dates_with_defaults period d) (λ X f apart. filled_kept f apart period d)
 
 pub trimmed_keeps : (period : Period) (d : Dates) → KeepsOthers d (defaulted_dates_cut_to_limits period d)
-trimmed_keeps period d =
-    keeps_by d (defaulted_dates_cut_to_limits period d) (λ X f apart. trimmed_kept f apart period d)
+trimmed_keeps period d = grind arith
 
 pub filled_stop : (period : Period) (d : Dates) (x : ℕ) → d.protect_stop ≡ Some x
     → (dates_with_defaults period d).protect_stop ≡ Some x

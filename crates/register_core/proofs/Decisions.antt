@@ -124,14 +124,6 @@ held_made h q r makes =
 
 -- ---- replies
 
--- the reply to a request whose key is this one
-abbrev replied : List Request → Request → Option ℕ → Reply
-replied h q key = record {
-  key = unwrap_or key 0;
-  state = option_map (λ k. state_at (dates (h ++ q ∷ []) k) q.moment) key;
-  moment = q.moment;
-}
-
 reply_of_key : (h : List Request) (q : Request) (k : ℕ) (d : Dates) → key_of (count h) q.command ≡ Some k
     → dates (h ++ q ∷ []) k ≡ d →
     record { key = k; state = Some (row_with_dates_at d q.moment).state; moment = q.moment } ≡ reply h q
@@ -178,26 +170,14 @@ agrees_key : (h : List Request) (q : Request) (k : ℕ) (key : Option Held) → 
 agrees_key h q k None names is passed = cc
 agrees_key h q k (Some key) names is passed =
     let stands = held_stands h k key is in
-    let same : change_of_held_key (period h) k key q ≡ change_of_held_key (period h) k (standing h k) q =
-    ap (λ (x : Held). change_of_held_key (period h) k x q) stands.1 in
-    let custodian : already_custodian (Some (standing h k)) q.command
-    ≡ None = ap (λ (x : Held). already_custodian (Some x) q.command) (sym stands.1) ∙ passed.new_custodian in
-    let approval : already_approved (Some (standing h k)) q.caller q.command
-    ≡ None = ap (λ (x : Held). already_approved (Some x) q.caller q.command) (sym stands.1) ∙ passed.new_approval in
-    let new = new_names h q k custodian approval in
-    subst (Agrees h q) (sym same) (agrees_named h q k names stands.0 new)
+    let new = new_names h q k (rw stands.1 at passed.new_custodian) (rw stands.1 at passed.new_approval) in
+    rw stands.1 (agrees_named h q k names stands.0 new)
 
 -- a command about no key
 agrees_without : (h : List Request) (q : Request) (c : Command) → q.command ≡ c → subject c ≡ NoKey
     → Agrees h q (change_without_key c)
-agrees_without h q (SetPeriod kind period) is none = (
-  sym (ap (λ (c : Command). replied h q (key_of (count h) c)) is),
-  (nobody_changes h q 0 (ap named is), periods_next h q ∙ ap (periods_after (all_periods h)) is),
-)
-agrees_without h q Advance is none = (
-  sym (ap (λ (c : Command). replied h q (key_of (count h) c)) is),
-  (nobody_changes h q 0 (ap named is), periods_next h q ∙ ap (periods_after (all_periods h)) is),
-)
+agrees_without h q (SetPeriod kind period) is none = (cc, (nobody_changes h q 0 (rw is refl), cc (periods_next h q)))
+agrees_without h q Advance is none = (cc, (nobody_changes h q 0 (rw is refl), cc (periods_next h q)))
 agrees_without h q c is none = absurd cc
 
 agrees_by : (h : List Request) (q : Request) (s : Subject) (key : Option Held) → subject q.command ≡ s

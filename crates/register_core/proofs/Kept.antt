@@ -86,13 +86,13 @@ history_extends : (items : List (Option Request)) (h : List Request)
 history_extends [] h = ([], sym (append-nil h))
 history_extends (None ∷ items) h = history_extends items h
 history_extends (Some q ∷ items) h =
-    by (is_accepted (verdict h q)) (history_extends items (h ++ q ∷ [])) (history_extends items h)
-  where
-    by : (b : Bool) → (later : List Request) × (history (h ++ q ∷ []) items ≡ (h ++ q ∷ []) ++ later)
-        → (later : List Request) × (history h items ≡ h ++ later)
-        → (later : List Request) × (history (cond b (h ++ q ∷ []) h) items ≡ h ++ later)
-    by true more same = (q ∷ more.0, more.1 ∙ append_assoc h (q ∷ []) more.0)
-    by false more same = same
+    elim (is_accepted (verdict h q)) as (λ b. (later : List Request) × (history (cond b (h ++ q ∷ []) h) items ≡ h ++
+    later)) [
+      | true ↦
+          let more = history_extends items (h ++ q ∷ []) in
+          (q ∷ more.0, more.1 ∙ append_assoc h (q ∷ []) more.0)
+      | false ↦ history_extends items h
+    ]
 
 -- what is kept of a request is the first under its caller and number, where nothing is before it
 pub first_at : (caller : List ℕ) (number : ℕ) (prefix : List Request) (q : Request) (later : List Request)
@@ -127,12 +127,9 @@ repeats_after h q later accepted = grind (arith, bytes_eq-Decides, Decides-eqb, 
 first_under : (h : List Request) (q : Request) → IsAccepted h q → (items : List (Option Request))
     → (more : List KeptReply) × (kept_under q.caller q.number (kept (history (h ++ q ∷ []) items)) ≡ kept_of h q ∷ more)
 first_under h q is items =
-    let extends = history_extends items (h ++ q ∷ []) in
-    let own : is_under q.caller q.number (kept_of h q)
-    ≡ true = rw ((bytes_eq-Decides q.caller q.caller).1 refl, (Decides-eqb q.number q.number).1 refl) in (
-      _,
-      ap (λ (g : List Request). kept_under q.caller q.number (kept g)) extends.1
-          ∙ first_at q.caller q.number h q extends.0 (is_new h q is.accepted) own,
+    let extends = history_extends items (h ++ q ∷ []) in (
+      kept_under q.caller q.number (kept_from (h ++ q ∷ []) extends.0),
+      grind (arith, bytes_eq-Decides, Decides-eqb, first_at, is_new),
     )
 
 -- it decides on a request of the same caller and number

@@ -25,6 +25,7 @@ use Rattle.register_core.proofs.Histories.{count_grows, dates_made}
 use Rattle.register_core.proofs.CustodyLeads.{IsNew}
 use Rattle.register_core.proofs.Refusals.{passes}
 use Rattle.register_core.proofs.Decisions.{standing, is_there, unknown_named, new_names}
+use Rattle.std.proofs.lemmas.Bool.Decides.{nat_tests}
 
 -- ---- an accepted request that names key k
 
@@ -58,16 +59,7 @@ on_there h q k names there accepted =
     grind (arith, and_parts, leb-true, right_state, new_names)
 
 pub on_key : (h : List Request) (q : Request) (k : ℕ) → judgement h q ≡ None → named q.command ≡ Some k → IsOn h q k
-on_key h q k accepted names = by (is_there h k) refl (sym (ap (judged h q) shown) ∙ accepted)
-  where
-    shown : named_key h q.command ≡ held h k
-    shown = ap (λ (n : Option ℕ). option_and_then (held h) n) names
-
-    by : (b : Bool) → is_there h k ≡ b → judged h q (cond b (Some (standing h k)) None) ≡ None → IsOn h q k
-    by true there none = on_there h q k names there none
-    by false there none =
-        let missing = unknown_named q.command k names in
-        grind arith
+on_key h q k accepted names = grind (arith, nat_tests, is_there, standing, on_there, unknown_named)
 
 -- ---- each key
 

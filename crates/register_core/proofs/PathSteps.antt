@@ -136,11 +136,11 @@ revoked_path d t false occurrence fits_state = deactivated_path d t (is_active (
 
 pub path_named : (period : Period) (d : Dates) (t k : ℕ) (c : Command) → named c ≡ Some k
     → is_for c (state_at d t) ≡ true → MovesOnly d t (dates_after period d t c) → Goes d t (dates_after period d t c)
-path_named period d t k (Registers of_kind owner activation protect_stop deactivation purpose) names fits_state moves =
-    absurd cc
+path_named period d t k (Registers of_kind owner activation protect_stop deactivation purpose) names fits_state moves
+    = cc
 path_named period d t k (Activate n) names fits_state moves = grind (arith, activated_path)
 path_named period d t k (SetDates n activation protect_stop deactivation) names fits_state moves =
-    edited_path period d t activation protect_stop deactivation (is_early (state_at d t) fits_state) moves
+    grind (arith, edited_path, is_early)
 path_named period d t k (Revoke n reason occurrence) names fits_state moves = search (revoked_path)
 path_named period d t k (Destroy n) names fits_state moves = destroyed_by (state_at d t) d t (shows d t) fits_state
 path_named period d t k c names fits_state moves = stays _
