@@ -1,24 +1,16 @@
 -- Who stays as they were: the custody of other keys, and the approvals of a key that is destroyed.
 use Rattle.std.proofs.Common.{◌≡◌, ℕ, Bool, true, false, List, [], ◌∷◌, ◌++◌, filter, Option}
-use Rattle.std.proofs.Common.{None, Some, refl, sym, ap, ◌∙◌, ◌⊎◌}
+use Rattle.std.proofs.Common.{None, Some, refl, sym, ap, ◌∙◌}
 use Rattle.std.specs.Prelude.{nat_eq}
 use Rattle.std.proofs.lemmas.List.{append-nil}
-use Rattle.lifecycle_core.specs.declared.state.State.{State}
-use Rattle.lifecycle_core.specs.declared.state.State.TheVariants.{Destroyed, DestroyedCompromised}
-use Rattle.lifecycle_core.specs.declared.dates.Dates.{Dates}
-use Rattle.lifecycle_core.specs.State.{state_at}
 use Rattle.register_requests.specs.declared.request.Request.{Request}
-use Rattle.register_requests.specs.declared.request.Command.{Command}
 use Rattle.register_core.specs.declared.change.CustodyChange.{CustodyChange}
 use Rattle.register_core.specs.KeyName.{KeyName, key_name, is_at, names_at}
-use Rattle.register_core.specs.Names.{sorted_names}
 use Rattle.register_core.specs.History.{count, dates}
 use Rattle.register_core.specs.Custody.{all_custodians, all_approvals, approvals}
-use Rattle.register_requests.specs.CommandRule.{is_for}
 use Rattle.register_core.specs.Verdict.{judgement}
 use Rattle.register_requests.specs.Subject.{named_by, is_key, named}
 use Rattle.register_core.specs.Decision.{custodians_by, approvals_by}
-use Rattle.register_core.specs.Effect.{custody_change}
 use Rattle.register_core.proofs.Histories.{key_named}
 use Rattle.register_core.proofs.CustodyLeads.{nobody_changes, custody_lead}
 use Rattle.register_core.proofs.Walks.{names_joined}

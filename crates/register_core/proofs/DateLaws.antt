@@ -1,22 +1,20 @@
 -- The dates of each key over lawful histories: they fit, and move only where they may.
-use Rattle.std.proofs.Common.{◌≡◌, ℕ, cond, List, [], ◌∷◌, ◌++◌, None, refl, sym, ap, subst, ◌∙◌, arith, inl, inr}
+use Rattle.std.proofs.Common.{◌≡◌, ℕ, cond, List, [], ◌∷◌, ◌++◌, None, sym, ap, subst, ◌∙◌, arith, inl, inr}
 use Rattle.lifecycle_core.specs.declared.dates.Dates.{Dates}
 use Rattle.period_core.specs.Period.{Period}
-use Rattle.period_core.specs.Fitting.{dates_with_defaults}
 use Rattle.register_requests.specs.declared.request.Request.{Request}
 use Rattle.register_core.specs.History.{period, type, dates, dated_by}
 use Rattle.register_core.specs.Effect.{dates_after, sets_dates}
-use Rattle.register_core.specs.Verdict.{dates_refusal, judgement}
+use Rattle.register_core.specs.Verdict.{judgement}
 use Rattle.register_core.specs.Fold.{IsLawful}
 use Rattle.register_core.specs.Laws.{IsAccepted, HasKey, MovesOnly}
 use Rattle.register_core.proofs.Verdicts.{judged}
 use Rattle.register_core.proofs.Histories.{count_grows, dates_other, dated_other, dates_named, dated_named, dated_made}
-use Rattle.register_requests.proofs.Subjects.{is_registration}
 use Rattle.register_core.proofs.Decisions.{standing}
 use Rattle.register_core.proofs.Lawful.{lawful_holds}
 use Rattle.register_core.proofs.OnKey.{IsOn, IsMade, dates_when_made, given_to, which}
-use Rattle.register_core.proofs.Dating.{filled_keeps, filled_fits}
-use Rattle.register_core.proofs.DateSteps.{nothing_moves, IsSound, sound_by, Steps, step}
+use Rattle.register_core.proofs.Dating.{filled_fits}
+use Rattle.register_core.proofs.DateSteps.{nothing_moves, IsSound, Steps, step}
 
 sound_as : (period other_period : Period) (d other : Dates) → other_period ≡ period → other ≡ d
     → IsSound period d → IsSound other_period other

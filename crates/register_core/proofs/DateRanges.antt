@@ -7,8 +7,8 @@ use Rattle.std.proofs.lemmas.List.Sums.{fold-append}
 use Rattle.lifecycle_core.specs.declared.dates.Dates.{Dates}
 use Rattle.moment_core.specs.Calendar.{months_after}
 use Rattle.moment_core.specs.Moment.{IsMoment}
-use Rattle.period_core.specs.Fitting.{cut_to_limit, dates_with_defaults, months_on_date, originator_limit}
-use Rattle.period_core.specs.Fitting.{recipient_limit, defaulted_dates_cut_to_limits, with_default_deactivation}
+use Rattle.period_core.specs.Fitting.{dates_with_defaults, months_on_date}
+use Rattle.period_core.specs.Fitting.{defaulted_dates_cut_to_limits, with_default_deactivation}
 use Rattle.period_core.specs.Fitting.{with_default_protect_stop}
 use Rattle.period_core.specs.Period.{Period}
 use Rattle.register_requests.specs.declared.request.Command.{Command}

@@ -1,9 +1,8 @@
 -- What an accepted command makes of the dates of its key: they stay sound, and move only where they may.
 use Rattle.std.proofs.Common.{◌≡◌, ℕ, ◌≤◌, Bool, true, false, not, ◌&&◌, ◌||◌, cond, [], ◌∷◌, Option, None, Some}
-use Rattle.std.proofs.Common.{sym, ap, ◌∙◌, arith, ◌⊎◌, inl, inr, IsTrue}
+use Rattle.std.proofs.Common.{arith, ◌⊎◌, IsTrue}
 use Rattle.std.specs.Prelude.{is_some}
 use Rattle.std.proofs.lemmas.Bool.{le-leb, leb-true, leb-false, and_parts, and_from, cases_lt}
-use Rattle.lifecycle_core.specs.declared.state.State.{State}
 use Rattle.lifecycle_core.specs.declared.state.State.TheVariants.{PreActive, Active}
 use Rattle.lifecycle_core.specs.declared.dates.Dates.{Dates}
 use Rattle.lifecycle_core.specs.State.{state_at, is_reached_at}
@@ -11,15 +10,14 @@ use Rattle.moment_core.specs.Calendar.{months_after}
 use Rattle.moment_core.proofs.Forward.{months_forward}
 use Rattle.period_core.specs.declared.key_type.KeyType.{KeyType}
 use Rattle.period_core.specs.Period.{Period}
-use Rattle.period_core.specs.Fitting.{Fits, KeepsDate, cut_to_limit, dates_with_defaults}
+use Rattle.period_core.specs.Fitting.{Fits, cut_to_limit, dates_with_defaults}
 use Rattle.period_core.specs.Fitting.{defaulted_dates_cut_to_limits}
 use Rattle.register_requests.specs.declared.request.Command.{Command}
 use Rattle.register_requests.specs.declared.request.Command.TheVariants.{Register as Registers, Activate, SetDates}
 use Rattle.register_requests.specs.declared.request.Command.TheVariants.{Revoke, Destroy}
 use Rattle.register_requests.specs.declared.request.Edit.{Edit}
-use Rattle.register_requests.specs.declared.request.Edit.TheVariants.{Keep}
 use Rattle.register_core.specs.declared.view.Held.{Held}
-use Rattle.register_core.specs.Effect.{date_after_edit, edited_dates, compromised, deactivated}
+use Rattle.register_core.specs.Effect.{edited_dates, compromised, deactivated}
 use Rattle.register_core.specs.Effect.{dates_after}
 use Rattle.register_core.specs.Effect.{sets_dates}
 use Rattle.register_requests.specs.CommandRule.{before_compromise, is_one_of, is_for}
@@ -27,10 +25,9 @@ use Rattle.register_core.specs.Verdict.{keeps_date, freeze_refusal, dates_refusa
 use Rattle.register_requests.specs.Subject.{named}
 use Rattle.register_core.specs.Laws.{MovesOnly}
 use Rattle.register_core.proofs.CustodyLeads.{not_refused}
-use Rattle.register_core.proofs.Dating.{KeepsOthers, IsWhole, filled_keeps, trimmed_keeps, filled_stop, trimmed_stop}
+use Rattle.register_core.proofs.Dating.{KeepsOthers, IsWhole, filled_keeps, trimmed_keeps, trimmed_stop}
 use Rattle.register_core.proofs.Dating.{filled_fits, trimmed_fits}
-use Rattle.register_core.proofs.Showing.{Shows, shows, is_pre_active, is_early}
-use Rattle.register_core.proofs.Showing.{not_compromised}
+use Rattle.register_core.proofs.Showing.{Shows, is_pre_active, is_early}
 use Rattle.std.proofs.lemmas.Bool.Decides.{nat_tests}
 
 -- ---- dates that stay

@@ -1,6 +1,6 @@
 -- A decision on what a request needs of its key is the decision on that key as it stands.
 use Rattle.std.proofs.Common.{◌≡◌, ℕ, List, Option, None}
-use Rattle.std.proofs.Common.{IfSome, refl, sym, ap, ◌∙◌}
+use Rattle.std.proofs.Common.{IfSome, refl, sym, ◌∙◌}
 use Rattle.period_core.specs.declared.key_type.KeyType.{KeyType}
 use Rattle.period_core.specs.Period.{Period}
 use Rattle.register_requests.specs.declared.request.Request.{Request}

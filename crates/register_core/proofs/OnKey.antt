@@ -1,7 +1,6 @@
 -- What is known where a request is accepted, of the key that it makes, names or leaves alone.
 use Rattle.std.proofs.Common.{◌≡◌, ◌⊎◌, inl, inr, ℕ, ◌+◌, ◌≤◌, Bool, true, false, cond, List, [], ◌∷◌, ◌++◌, Option}
-use Rattle.std.proofs.Common.{None, Some, refl, sym, ap, ◌∙◌, arith}
-use Rattle.std.specs.Option.{option_and_then}
+use Rattle.std.proofs.Common.{None, Some, refl, ap, ◌∙◌, arith}
 use Rattle.std.proofs.lemmas.Bool.{and_parts, leb-true}
 use Rattle.std.proofs.lemmas.Bool.Decides.{eqb_tells}
 use Rattle.lifecycle_core.specs.declared.dates.Dates.{Dates}
@@ -15,10 +14,9 @@ use Rattle.register_core.specs.History.{latest, count, period, dates}
 use Rattle.register_requests.specs.Subject.{Registration, Subject, Makes, Names, NoKey, subject, named_by, key_by}
 use Rattle.register_requests.specs.Subject.{key_of, is_key, named}
 use Rattle.register_requests.specs.Within.Subject.{count_by}
-use Rattle.register_core.specs.Custody.{held}
 use Rattle.register_requests.specs.CommandRule.{is_for}
 use Rattle.register_core.specs.Verdict.{custodian_refusal, freeze_refusal, dates_refusal, occurrence_refusal, judge}
-use Rattle.register_core.specs.Verdict.{named_key, judgement}
+use Rattle.register_core.specs.Verdict.{judgement}
 use Rattle.register_requests.specs.Version.{current}
 use Rattle.register_core.specs.CustodyRefusal.{owner_custodian, approvals_missing}
 use Rattle.register_core.proofs.Histories.{count_grows, dates_made}

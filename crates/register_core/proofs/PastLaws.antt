@@ -1,9 +1,9 @@
 -- What was done to a key of a lawful history is not later than the latest moment.
 use Rattle.std.proofs.Common.{◌≡◌, ℕ, ◌≤◌, List, [], ◌∷◌, ◌++◌, None, Some, IsTrue}
-use Rattle.std.proofs.Common.{refl, sym, subst, arith, inl, inr}
+use Rattle.std.proofs.Common.{sym, subst, arith, inl, inr}
 use Rattle.lifecycle_core.specs.declared.dates.Dates.{Dates}
 use Rattle.period_core.specs.Period.{Period}
-use Rattle.period_core.specs.Fitting.{is_not_after, dates_with_defaults}
+use Rattle.period_core.specs.Fitting.{is_not_after}
 use Rattle.register_requests.specs.declared.request.Request.{Request}
 use Rattle.register_requests.specs.declared.request.Command.{Command}
 use Rattle.register_requests.specs.declared.request.Command.TheVariants.{Register as Registers, Activate, SetDates}
@@ -15,7 +15,6 @@ use Rattle.register_core.specs.Verdict.{occurrence_refusal, judgement}
 use Rattle.register_core.specs.Fold.{IsLawful}
 use Rattle.register_core.specs.Laws.{HasKey}
 use Rattle.register_core.proofs.Histories.{latest_grows, dates_other, dates_named}
-use Rattle.register_core.proofs.Dating.{KeepsOthers, filled_keeps}
 use Rattle.register_core.proofs.Lawful.{lawful_holds}
 use Rattle.register_core.proofs.OnKey.{dates_when_made, given_to, not_after, which}
 

@@ -1,16 +1,14 @@
 -- Each accepted request takes each key along the standard's transitions.
-use Rattle.std.proofs.Common.{◌≡◌, ℕ, ◌+◌, ◌≤◌, List, [], ◌∷◌, ◌++◌, Option, None, Some, sym, ap, subst}
+use Rattle.std.proofs.Common.{◌≡◌, ℕ, ◌+◌, ◌≤◌, List, [], ◌∷◌, ◌++◌, Option, None, Some, sym, subst}
 use Rattle.std.proofs.Common.{arith, inl, inr}
-use Rattle.std.specs.Prelude.{is_some}
 use Rattle.lifecycle_core.specs.declared.state.State.{State}
 use Rattle.lifecycle_core.specs.declared.dates.Dates.{Dates}
 use Rattle.lifecycle_core.specs.State.{state_at}
 use Rattle.lifecycle_core.specs.Transition.{Leads}
 use Rattle.lifecycle_core.proofs.Transitions.{time_leads}
 use Rattle.period_core.specs.Period.{Period}
-use Rattle.period_core.specs.Fitting.{dates_with_defaults}
 use Rattle.register_requests.specs.declared.request.Request.{Request}
-use Rattle.register_core.specs.History.{latest, count, type, period, dates}
+use Rattle.register_core.specs.History.{latest, count, period, dates}
 use Rattle.register_core.specs.Laws.{IsAccepted, HasKey, MovesOnly, state_of_key}
 use Rattle.register_core.proofs.Verdicts.{judged}
 use Rattle.register_core.proofs.Histories.{dates_other, dates_named}

@@ -13,13 +13,12 @@ use Rattle.period_core.specs.declared.key_type.KeyType.{KeyType}
 use Rattle.period_core.specs.KeyType.{key_type_code}
 use Rattle.period_core.specs.Period.{Period}
 use Rattle.register_core.specs.Effect.{need_after, period_after}
-use Rattle.register_core.specs.History.{Placed, count, own_from, set_period}
+use Rattle.register_core.specs.History.{Placed, own_from, set_period}
 use Rattle.register_core.specs.Custody.{set_need, need}
 use Rattle.register_requests.specs.Quorum.{min_approvals, IsQuorum}
 use Rattle.register_requests.specs.Request.{IsRequest}
 use Rattle.register_core.specs.Settings.{KeyNeed, TypePeriod, needs_after, all_needs, need_at}
 use Rattle.register_core.specs.Settings.{periods_after, all_periods, period_at}
-use Rattle.register_requests.specs.Subject.{is_key, key_of}
 use Rattle.register_core.proofs.Histories.{concerning, placed}
 
 abbrev need_step : Option ℕ → Placed → Option ℕ

@@ -1,10 +1,10 @@
 -- What is read is the request whose line it is, and each line of a request is read.
-use Rattle.std.proofs.Common.{◌≡◌, ℕ, ◌<◌, ◌^◌, nat_lt, Bool, true, false, not, cond, List, [], ◌∷◌, ◌++◌, length}
+use Rattle.std.proofs.Common.{◌≡◌, ℕ, ◌<◌, ◌^◌, nat_lt, Bool, true, false, cond, List, [], ◌∷◌, ◌++◌, length}
 use Rattle.std.proofs.Common.{Option, Some, None, refl, sym, ap, subst, ◌∙◌, append_assoc, arith}
 use Rattle.std.specs.Prelude.{codes, decimal}
 use Rattle.std.specs.List.{list_all}
 use Rattle.std.specs.Str.Parse.{AllDigits}
-use Rattle.std.proofs.lemmas.Bool.{and_parts, and_from, ltb-false}
+use Rattle.std.proofs.lemmas.Bool.{and_parts, ltb-false}
 use Rattle.std.proofs.lemmas.Bool.Decides.{nat_tests}
 use Rattle.std.proofs.lemmas.List.{append-nil}
 use Rattle.std.proofs.lemmas.Fmt.{decimal_is_IsNumeral}
@@ -40,7 +40,7 @@ use Rattle.register_requests.specs.Request.{IsLineOf, StandsFor, IsItem, date_te
 use Rattle.register_requests.specs.Request.{command_text}
 use Rattle.register_requests.specs.Request.{request_text}
 use Rattle.register_requests.specs.CommandText.{IsCommandText, IsCommandItem}
-use Rattle.register_requests.specs.Within.RequestLine.{◌>>=◌, is_space, field_at, field_then, moment_at, date_at}
+use Rattle.register_requests.specs.Within.RequestLine.{◌>>=◌, field_at, field_then, moment_at, date_at}
 use Rattle.register_requests.specs.Within.RequestLine.{edit_at}
 use Rattle.register_requests.specs.RequestLine.{key_number_at, request_number_at}
 use Rattle.register_requests.specs.Within.RequestLine.{reason_at, occurrence_at, name_at}

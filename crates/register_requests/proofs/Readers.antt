@@ -1,14 +1,12 @@
 -- Each field's reader reads exactly the texts of its values, and finds what the code finds.
-use Rattle.std.proofs.Common.{◌≡◌, ◌≢◌, ℕ, suc, ◌-◌, ◌<◌, ◌≤◌, ◌^◌, nat_le, Bool, true, false, not, ◌&&◌, cond, List}
-use Rattle.std.proofs.Common.{[], ◌∷◌, length, get_or, Option, Some, None, IfSome, IfNone, IsSome, ◌↔◌, ◌⊎◌, inl, inr}
+use Rattle.std.proofs.Common.{◌≡◌, ◌≢◌, ℕ, suc, ◌<◌, ◌≤◌, ◌^◌, Bool, true, false, List}
+use Rattle.std.proofs.Common.{[], ◌∷◌, Option, Some, None, IfSome, IfNone, IsSome, ◌↔◌, ◌⊎◌, inl, inr}
 use Rattle.std.proofs.Common.{refl, sym, ap, subst, ◌∙◌, arith}
 use Rattle.std.specs.Prelude.{◌==◌, decimal, find, codes}
-use Rattle.std.specs.List.{All, list_all}
-use Rattle.std.specs.Str.{bytes_eq, is_utf8}
+use Rattle.std.specs.List.{All}
+use Rattle.std.specs.Str.{bytes_eq}
 use Rattle.std.specs.Str.Parse.{AllDigits}
-use Rattle.std.proofs.lemmas.Bool.{and_parts, leb-true, le-leb, eqb-true}
-use Rattle.std.proofs.lemmas.Bool.Decides.{nat_tests}
-use Rattle.std.proofs.lemmas.Option.{cond_some}
+use Rattle.std.proofs.lemmas.Bool.{eqb-true}
 use Rattle.std.proofs.lemmas.Fmt.{decimal_is_IsNumeral, decimal_injective}
 use Rattle.std.proofs.lemmas.Slice.Eq.{bytes_eq-Decides}
 use Rattle.std.proofs.lemmas.Str.{IsUtf8-from_is_utf8, is_utf8-from_IsUtf8}
@@ -18,22 +16,21 @@ use Rattle.lifecycle_core.specs.Reason.{reason_code, is_compromise}
 use Rattle.period_core.specs.declared.key_type.KeyType.{KeyType}
 use Rattle.register_requests.specs.declared.command_fields.CommandKind.{CommandKind}
 use Rattle.register_requests.specs.declared.request.Edit.{Edit}
-use Rattle.register_requests.specs.declared.request.Edit.TheVariants.{Keep, Clear, Set}
 use Rattle.register_requests.specs.Name.{IsName}
 use Rattle.register_requests.specs.Number.{IsNumber}
 use Rattle.register_requests.specs.Quorum.{IsQuorum}
-use Rattle.register_requests.specs.Purpose.{is_purpose_byte, max_purpose_length, IsPurpose}
+use Rattle.register_requests.specs.Purpose.{IsPurpose}
 use Rattle.period_core.specs.KeyType.{key_type_text}
 use Rattle.period_core.proofs.Types.{of_each_type}
 use Rattle.period_core.specs.Period.{max_months}
 use Rattle.register_requests.specs.CommandKind.{command_kind_text}
 use Rattle.register_requests.specs.RequestLine.{number_at, key_number_at}
-use Rattle.register_requests.specs.Within.RequestLine.{◌>>=◌, moment_at, date_at, edit_at, reasons}
+use Rattle.register_requests.specs.Within.RequestLine.{moment_at, date_at, edit_at, reasons}
 use Rattle.register_requests.specs.RequestLine.{request_number_at}
 use Rattle.register_requests.specs.Within.RequestLine.{reason_at, occurrence_at, quorum_at, originator_at}
 use Rattle.register_requests.specs.Within.RequestLine.{recipient_at, name_at, purpose_at, key_types, key_type_at}
 use Rattle.register_requests.specs.Within.RequestLine.{command_kinds}
-use Rattle.register_requests.specs.Within.RequestLine.{kind_at, is_space, is_trimmed}
+use Rattle.register_requests.specs.Within.RequestLine.{kind_at}
 use Rattle.register_requests.specs.Request.{IsDate, IsKeyNumber, IsEdit, date_text, edit_text}
 use Rattle.register_requests.proofs.FieldReading.{IsReader, is_read, bind_some, some_is}
 use Rattle.std.proofs.lemmas.Grind.{common_steps}

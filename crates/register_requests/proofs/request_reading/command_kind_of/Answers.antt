@@ -1,7 +1,3 @@
-use Rattle.std.proofs.Common.{◌≡◌, ◌≢◌, List, Option, Some, None, IfSome, IfNone, ℕ}
-use Rattle.register_requests.specs.declared.command_fields.CommandKind.{CommandKind}
-use Rattle.register_requests.specs.CommandKind.{command_kind_text}
-use Rattle.register_requests.specs.Within.RequestLine.{kind_at}
 use Rattle.register_requests.proofs.FieldReading.{is_read_any}
 use Rattle.register_requests.proofs.Readers.{kind_reader}
 use Rattle.register_requests.proofs.request_reading.command_kind_of.Goals as goal

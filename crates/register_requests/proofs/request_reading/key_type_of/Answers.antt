@@ -1,7 +1,3 @@
-use Rattle.std.proofs.Common.{◌≡◌, ◌≢◌, List, Option, Some, None, IfSome, IfNone, ℕ}
-use Rattle.period_core.specs.declared.key_type.KeyType.{KeyType}
-use Rattle.period_core.specs.KeyType.{key_type_text}
-use Rattle.register_requests.specs.Within.RequestLine.{key_type_at}
 use Rattle.register_requests.proofs.FieldReading.{is_read_any}
 use Rattle.register_requests.proofs.Readers.{key_type_reader}
 use Rattle.register_requests.proofs.request_reading.key_type_of.Goals as goal
