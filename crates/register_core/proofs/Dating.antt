@@ -65,10 +65,6 @@ filled_keeps period d = keeps_by d (dates_with_defaults period d) (λ X f apart.
 pub trimmed_keeps : (period : Period) (d : Dates) → KeepsOthers d (defaulted_dates_cut_to_limits period d)
 trimmed_keeps period d = grind arith
 
-pub filled_stop : (period : Period) (d : Dates) (x : ℕ) → d.protect_stop ≡ Some x
-    → (dates_with_defaults period d).protect_stop ≡ Some x
-filled_stop period d x set = grind arith
-
 -- Trim's Protect Stop
 trimmed_stop_is : (period : Period) (d : Dates)
     → (defaulted_dates_cut_to_limits period d).protect_stop ≡ (stopped period d).protect_stop

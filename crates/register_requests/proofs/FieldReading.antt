@@ -55,23 +55,11 @@ HasNoSpace bytes = list_all (λ b. not (is_space b)) bytes ≡ true
 prefix_len-append : (q : ℕ → Bool) (xs : List ℕ) (b : ℕ) (rest : List ℕ) → list_all q xs ≡ true → q b ≡ false
     → prefix_len q (xs ++ (b ∷ rest)) ≡ length xs
 prefix_len-append q [] b rest all other = rw other refl
-prefix_len-append q (x ∷ xs) b rest all other =
-    let both = and_parts (q x) (list_all q xs) all in
-    rw both.0 (omega (arith, prefix_len-append q xs b rest both.1 other))
+prefix_len-append q (x ∷ xs) b rest all other = grind (arith, prefix_len-append q xs b rest)
 
 pub field_takes : (bytes : List ℕ) (x : List ℕ × List ℕ) → field_at bytes ≡ Some x → bytes ≡ x.0 ++ (32 ∷ x.1)
 unfolding field_at
-field_takes bytes x e =
-    let place = position_or_len is_space bytes in
-    let a = bind_some (position is_space bytes) (λ i. Some (take i bytes, drop (i + 1) bytes)) x e in
-    let got = cond_some (nat_lt place (length bytes)) place a.0 a.1 in
-    let lt : place < length bytes = ltb-true _ _ got.0 in
-    let space : get_or bytes place 0 ≡ 32 = eqb-true _ _ (passes_at_first is_space bytes 0 lt) in
-    let parts : bytes ≡ take place bytes ++ (32 ∷ drop (place + 1) bytes) = split_at_first is_space bytes 0 lt
-    ∙ ap (λ (b : ℕ). take place bytes ++ (b ∷ drop (place + 1) bytes)) space in
-    let made : List ℕ × List ℕ = (take place bytes, drop (place + 1) bytes) in
-    subst (λ (y : List ℕ × List ℕ). bytes ≡ y.0 ++ (32 ∷ y.1))
-    (some_is made x (ap (λ (i : ℕ). given (take i bytes, drop (i + 1) bytes)) got.1 ∙ a.2)) parts
+field_takes bytes x e = grind (arith, split_at_first is_space bytes 0, passes_at_first is_space bytes 0)
 
 drop_suc : (xs : List ℕ) (b : ℕ) (rest : List ℕ) → drop (suc (length xs)) (xs ++ (b ∷ rest)) ≡ rest
 drop_suc [] b rest = refl

@@ -95,7 +95,7 @@ name_bytes_solid [] h = refl
 name_bytes_solid (b ∷ bytes) h = grind (arith, nat_tests, name_bytes_solid bytes)
 
 key_type_solid : (k : KeyType) → HasNoSpace (key_type_text k)
-key_type_solid = of_each_type (λ k. HasNoSpace (key_type_text k)) refl refl refl refl refl refl refl
+key_type_solid k = grind arith
 
 -- ---- texts, as fields with what stands after them
 
@@ -196,9 +196,7 @@ edits_reader = then_reader key_number_reader key_number_solid
 
 edits_take : (bytes : List ℕ) (f : Fields) → edits_at bytes ≡ Some f → AreRead (Some bytes) f
 unfolding edits_at
-edits_take =
-    made_of edits_reader edits (λ x h. (h.0, h.1.0, h.1.1.0, h.1.1.1))
-    (λ x. joined_edits (decimal x.0) (edit_text x.1.0) (edit_text x.1.1.0) (edit_text x.1.1.1))
+edits_take = made_of edits_reader edits (λ x h. (h.0, h.1.0, h.1.1.0, h.1.1.1)) (λ x. grind (arith, joined_edits))
 
 edits_again : (key : ℕ) (a p d : Edit) → AreFields (DateEdits key a p d)
     → edits_at (before (decimal key) (before (edit_text a) (before (edit_text p) (edit_text d)))) ≡ Some
@@ -219,9 +217,7 @@ revoke_reader =
 
 revoke_takes : (bytes : List ℕ) (f : Fields) → revoke_at bytes ≡ Some f → AreRead (Some bytes) f
 unfolding revoke_at
-revoke_takes =
-    made_of revoke_reader revoked (λ x h. (h.0, h.1.1.0, h.1.1.1))
-    (λ x. joined_revoke (decimal x.0) (reason_text x.1.0) (date_text x.1.1))
+revoke_takes = made_of revoke_reader revoked (λ x h. (h.0, h.1.1.0, h.1.1.1)) (λ x. grind (arith, joined_revoke))
 
 revoke_again : (key : ℕ) (r : Reason) (o : Option ℕ) → AreFields (Revocation key r o)
     → revoke_at (before (decimal key) (before (reason_text r) (date_text o))) ≡ Some (Revocation key r o)
@@ -253,8 +249,7 @@ key_and_need_reader = then_reader key_number_reader key_number_solid (λ _. quor
 
 key_and_need_takes : (bytes : List ℕ) (f : Fields) → key_and_need_at bytes ≡ Some f → AreRead (Some bytes) f
 unfolding key_and_need_at
-key_and_need_takes =
-    made_of key_and_need_reader (λ y. KeyAndNeed y.0 y.1) (λ y h. h) (λ y. joined_named (decimal y.0) (decimal y.1))
+key_and_need_takes = made_of key_and_need_reader (λ y. KeyAndNeed y.0 y.1) (λ y h. h) (λ y. grind (arith, joined_named))
 
 key_and_need_again : (key need : ℕ) → AreFields (KeyAndNeed key need)
     → key_and_need_at (before (decimal key) (decimal need)) ≡ Some (KeyAndNeed key need)
@@ -274,9 +269,7 @@ type_and_period_reader =
 type_and_period_takes : (bytes : List ℕ) (f : Fields) → type_and_period_at bytes ≡ Some f → AreRead (Some bytes) f
 unfolding type_and_period_at
 type_and_period_takes =
-    made_of type_and_period_reader set_period
-    (λ x h. record { some = h.1.0.0; originator = h.1.0.1; recipient = h.1.1.1 })
-    (λ x. joined_revoke (key_type_text x.0) (decimal x.1.0) (decimal x.1.1))
+    made_of type_and_period_reader set_period (λ x h. grind arith) (λ x. grind (arith, joined_revoke))
 
 type_and_period_again : (kind : KeyType) (p : Period) → AreFields (TypeAndPeriod kind p)
     → type_and_period_at (before (key_type_text kind) (before (decimal p.originator) (decimal p.recipient)))
@@ -389,13 +382,7 @@ command_takes bytes q e =
 command_again : (q : Command) → IsCommand q → command_at (command_text q) ≡ Some q
 unfolding command_at
 command_again q in_range =
-    let after = after_of (fields_of q) in
-    let word = command_kind_text (kind_of q) in
-    let split : word_at (command_text q) ≡ (word, after) =
-    rw has_text (word_again word after (kind_solid (kind_of q))) in
-    let read : after_at (command_shape (kind_of q)) after ≡ Some (fields_of q) =
-    rw (← has_shape q) (read_again (fields_of q) in_range) in
-    rw (split, kind_reader.again (kind_of q) tt, read) (made_again q)
+    grind (arith, has_text, word_again, kind_solid, kind_reader, read_again, has_shape, made_again)
 
 command_read : (bytes : List ℕ) (q : Command) → IsCommandText bytes q → command_at bytes ≡ Some q
 command_read bytes q h = ap command_at h.1 ∙ command_again q h.0

@@ -13,9 +13,7 @@ is_name_byte_ascii b h = grind (arith, nat_tests)
 
 ascii_from_name_bytes : (bytes : List ℕ) → list_all is_name_byte bytes ≡ true → IsAscii bytes
 ascii_from_name_bytes [] h = IsAscii-nil
-ascii_from_name_bytes (b ∷ bytes) h =
-    let both = and_parts _ _ h in
-    IsAscii-cons b bytes (is_name_byte_ascii b both.0) (ascii_from_name_bytes bytes both.1)
+ascii_from_name_bytes (b ∷ bytes) h = grind (arith, IsAscii-cons, is_name_byte_ascii, ascii_from_name_bytes bytes)
 
 pub ascii_from_name : (bytes : List ℕ) → IsName bytes → IsAscii bytes
 ascii_from_name bytes name = ascii_from_name_bytes bytes name.2

@@ -126,8 +126,7 @@ pub made_of_number : {read_by : List ℕ → Option ℕ} {P : ℕ → Type 0} �
     → field ≡ decimal n → (IsSome o ↔ P n) → IfSome o (λ m. m ≡ n) → o ≡ read_by field
 made_of_number {read_by} {P} own small field (Some m) n lt e in_range value = grind arith
 made_of_number {read_by} {P} own small field None n lt e in_range value =
-    is_read own field None tt (λ x px ex. let same : x
-    ≡ n = decimal_injective x n (small x px) lt (sym ex ∙ e) in absurd (cc (in_range.1 (subst P same px))))
+    is_read own field None tt (grind (arith, decimal_injective))
 
 -- no number is in the field
 pub no_number : {read_by : List ℕ → Option ℕ} {P : ℕ → Type 0} → IsReader read_by decimal P
@@ -170,7 +169,7 @@ find_passes p (x ∷ ks) k e = grind (arith, find_passes p ks k)
 
 key_type_again : (k : KeyType) → key_type_at (key_type_text k) ≡ Some k
 unfolding key_type_at
-key_type_again = of_each_type (λ k. key_type_at (key_type_text k) ≡ Some k) refl refl refl refl refl refl refl
+key_type_again k = grind arith
 
 key_type_takes : (field : List ℕ) (k : KeyType) → key_type_at field ≡ Some k → field ≡ key_type_text k
 unfolding key_type_at
@@ -242,10 +241,7 @@ reason_reader = record { takes = λ field r e. (tt, reason_takes field r e); aga
 pub made_of_code : (field : List ℕ) (o : Option Reason) (n : ℕ) → n < 2 ^ 64 → field ≡ decimal n
     → IfSome o (λ r. reason_code r ≡ n) → IfNone o ((n < 1) ⊎ (7 < n)) → o ≡ reason_at field
 made_of_code field (Some r) n lt e found none = is_read reason_reader field (Some r) (tt, e ∙ ap decimal (sym found)) tt
-made_of_code field None n lt e found none = is_read reason_reader field None tt (λ r _ ex.
-    let within = reason_code_within r in
-    let same : reason_code r ≡ n = decimal_injective (reason_code r) n (omega (arith, within.1)) lt (sym ex ∙ e) in
-    elim none [ inl low ↦ omega (arith, low, same, within.0) | inr high ↦ omega (arith, high, same, within.1) ])
+made_of_code field None n lt e found none = is_read reason_reader field None tt (grind (arith, decimal_injective))
 
 -- no number is in the field, and so no reason
 pub no_code : (field : List ℕ) → ((n : ℕ) → n < 2 ^ 64 → field ≢ decimal n) → None ≡ reason_at field
