@@ -89,12 +89,9 @@ AllApproved h = (k : ℕ) → HasKey h k → IsSome (dates h k).destroy → min_
 approved_next : (h : List Request) (q : Request) → IsAccepted h q → AllApproved h → AllApproved (h ++ q ∷ [])
 approved_next h q is before k has set = elim (which h q k (judged h q is.accepted) has.1) [
   | inl made ↦
-      let given : Dates = given_to q made.registration in
-      let p : Period = period h made.registration.kind in
       let its = dates_when_made h q k made in
-      let none : is_some (dates (h ++ q ∷ []) k).destroy ≡ false =
-      ap (λ (d : Dates). is_some d.destroy) its ∙ ap is_some (filled_keeps p given).destroy in
-      absurd (let e = sym none ∙ set in cc)
+      let keeps = filled_keeps (period h made.registration.kind) (given_to q made.registration) in
+      absurd (cc)
   | inr (inl on) ↦ elim (destroy_same (period h (type h k)) (dates h k) q.moment k q.command on.names) [
     | inl destruction ↦ destroyed_enough h q k destruction.0 is.lawful on destruction.1
     | inr same ↦

@@ -97,21 +97,12 @@ kept_custodians k ends entries = grind arith
 kept_needs : (k : ℕ) (ends : Bool) (sets : List KeyNeed) → needs_by k (cond ends ApprovalsEnded Kept) sets ≡ sets
 kept_needs k ends sets = grind arith
 
-same_key : (n k : ℕ) → ◌≡◌ {A = Option ℕ} (Some n) (Some k) → n ≡ k
-same_key n k e = cc
-
 pub custody_lead : (h : List Request) (q : Request) (k : ℕ) → named q.command ≡ Some k → IsNew h q k
     → CustodyLead h q k (custody_change (dates h k) q.caller q.command)
 custody_lead h q k names new = by q.command refl names
   where
-    unchanged : (c : Command) → q.command ≡ c → custody_change (dates h k) q.caller c ≡ Kept
-        → ((entry : KeyName) → is_about entry c ≡ false) → added_by c ≡ []
-        → ((entry : KeyName) → ends_by h entry q.caller c ≡ false) → approved_by q.caller c ≡ []
-        → needs_after (all_needs h) c ≡ all_needs h
-        → CustodyLead h q k (custody_change (dates h k) q.caller q.command)
-    unchanged c is kept no_one none_added ends_none none_given same_needs =
-        subst (CustodyLead h q k) (sym (ap (custody_change (dates h k) q.caller) is ∙ kept))
-        (grind (arith, all_custodians_grow, all_approvals_grow, needs_next, append-nil, filter_every))
+    stays : (entries : List (KeyName)) → filter (λ entry. not false) entries ++ [] ≡ entries
+    stays entries = same_entries (λ entry. false) (λ entry. refl) entries
 
     changed : (c : Command) → q.command ≡ c
         → custodians_then c (all_custodians h)
@@ -126,30 +117,18 @@ custody_lead h q k names new = by q.command refl names
     by : (c : Command) → q.command ≡ c → named c ≡ Some k
         → CustodyLead h q k (custody_change (dates h k) q.caller q.command)
     by (Revoke n reason occurrence) is e =
-        let here : q.command ≡ Revoke k reason occurrence = cc in
-        changed (Revoke k reason occurrence) here
-        (grind (arith, append-nil, filter_every, kept_custodians))
+        changed (Revoke k reason occurrence) (cc) (grind (arith, append-nil, filter_every, kept_custodians))
         (revoked h q k (is_compromise reason) (is_none (dates h k).destroy) (all_approvals h))
         (sym (kept_needs k (is_compromise reason && is_none (dates h k).destroy) (all_needs h)))
     by (AddCustodian n name) is e =
-        let here : q.command ≡ AddCustodian k name = is ∙ ap (λ (x : ℕ). AddCustodian x name) (same_key n k e) in
-        changed (AddCustodian k name) here
-        (ap (λ l. l ++ key_name k name ∷ []) (absent k name (all_custodians h) (new.custodian name here)))
-        (same_entries (λ entry. false) (λ entry. refl) (all_approvals h)) refl
-    by (RemoveCustodian n name) is e =
-        let here : q.command ≡ RemoveCustodian k name = is ∙ ap (λ (x : ℕ). RemoveCustodian x name) (same_key n k e) in
-        changed (RemoveCustodian k name) here (append-nil _) (append-nil _) refl
+        let here : q.command ≡ AddCustodian k name = cc in
+        let new_name = absent k name (all_custodians h) (new.custodian name here) in
+        changed (AddCustodian k name) here (ap (λ l. l ++ key_name k name ∷ []) new_name) (stays _) refl
+    by (RemoveCustodian n name) is e = changed (RemoveCustodian k name) (cc) (append-nil _) (append-nil _) refl
     by (Approve n) is e =
-        let here : q.command ≡ Approve k = is ∙ ap (λ (x : ℕ). Approve x) (same_key n k e) in
-        changed (Approve k) here
-        (same_entries (λ entry. false) (λ entry. refl) (all_custodians h))
-        (ap (λ l. l ++ key_name k q.caller ∷ []) (absent k q.caller (all_approvals h) (new.approval here))) refl
-    by (Withdraw n) is e =
-        let here : q.command ≡ Withdraw k = is ∙ ap (λ (x : ℕ). Withdraw x) (same_key n k e) in
-        changed (Withdraw k) here (same_entries (λ entry. false) (λ entry. refl) (all_custodians h)) (append-nil _) refl
-    by (SetQuorum n need) is e =
-        let here : q.command ≡ SetQuorum k need = is ∙ ap (λ (x : ℕ). SetQuorum x need) (same_key n k e) in
-        changed (SetQuorum k need) here
-        (same_entries (λ entry. false) (λ entry. refl) (all_custodians h))
-        (same_entries (λ entry. false) (λ entry. refl) (all_approvals h)) refl
-    by c is e = unchanged c is refl (λ entry. refl) refl (λ entry. refl) refl refl
+        let here : q.command ≡ Approve k = cc in
+        let new_name = absent k q.caller (all_approvals h) (new.approval here) in
+        changed (Approve k) here (stays _) (ap (λ l. l ++ key_name k q.caller ∷ []) new_name) refl
+    by (Withdraw n) is e = changed (Withdraw k) (cc) (stays _) (append-nil _) refl
+    by (SetQuorum n need) is e = changed (SetQuorum k need) (cc) (stays _) (stays _) refl
+    by c is e = changed c is (stays _) (stays _) refl

@@ -53,34 +53,6 @@ is_there h k = nat_le 1 k && nat_le k (count h)
 pub there : (h : List Request) (k : ℕ) → 1 ≤ k → k ≤ count h → is_there h k ≡ true
 there h k low high = ap (λ (b : Bool). b && nat_le k (count h)) (le-leb 1 k low) ∙ le-leb k (count h) high
 
-module _ (needed : ℕ) (cs approving : List (List ℕ)) where
-  -- a key with this type, this owner and these dates at the moment t
-  abbrev standing_so : KeyType → List ℕ → Dates → ℕ → Held
-  standing_so kind by d t =
-      record {
-        kind =
-            kind;
-        owner = by;
-        row = row_with_dates_at d t;
-        need = needed;
-        custodians = cs;
-        approvals = approving;
-      }
-
-  abbrev assembled : Bool → KeyType → List ℕ → Dates → ℕ → Option Held
-  assembled is kind by d t = cond is (Some (standing_so kind by d t)) None
-
-  assembled_same : (is : Bool) (kind other_kind : KeyType) (by other_by : List ℕ) (d other_dates : Dates)
-      (t other_t : ℕ) →
-      is ≡ true → kind ≡ other_kind → by ≡ other_by → d ≡ other_dates → t ≡ other_t →
-      assembled is kind by d t ≡ Some (standing_so other_kind other_by other_dates other_t)
-  assembled_same is kind other_kind by other_by d other_dates t other_t e1 e2 e3 e4 e5 =
-      ap (λ (b : Bool). assembled b kind by d t) e1
-      ∙ ap (λ (x : KeyType). assembled true x by d t) e2
-      ∙ ap (λ (x : List ℕ). assembled true other_kind x d t) e3
-      ∙ ap (λ (x : Dates). assembled true other_kind other_by x t) e4
-      ∙ ap (λ (x : ℕ). assembled true other_kind other_by other_dates x) e5
-
 some_shown : {X : Type 0} (is : Bool) (x y : X) → Some x ≡ cond is (Some y) None → (is ≡ true) × (x ≡ y)
 some_shown is x y e = grind arith
 
@@ -96,29 +68,20 @@ pub held_named : (h : List Request) (q : Request) (k : ℕ) → named q.command 
     Stands (h ++ q ∷ []) k (type h k) (owner_after (owner h k) q.command)
     (row_with_dates_at (dates_after (period h (type h k)) (dates h k) q.moment q.command) q.moment)
 held_named h q k names is =
-    let all = h ++ q ∷ [] in
-    assembled_same (need all k) (custodians all k) (approvals all k) (is_there all k) (type all k) (type h k)
-    (owner all k) (owner_after (owner h k) q.command)
-    (dates all k) (dates_after (period h (type h k)) (dates h k) q.moment q.command) (latest all) q.moment
-    (ap (λ (n : ℕ). nat_le 1 k && nat_le k n) (count_named h q k names) ∙ is)
-    (kind_named h q k names) (owner_named h q k names) (dates_named h q k names) (latest_grows h q)
+    cc (
+      count_named h q k names,
+      kind_named h q k names,
+      owner_named h q k names,
+      dates_named h q k names,
+      latest_grows h q,
+    )
 
 pub held_made : (h : List Request) (q : Request) (r : Registration) → subject q.command ≡ Makes r →
     let key = registered_key (period h) q.moment r in Stands (h ++ q ∷ []) (count h + 1) key.kind key.owner key.row
 held_made h q r makes =
-    let all = h ++ q ∷ [] in
-    let k = count h + 1 in
-    let counted : count all ≡ k = count_grows h q ∙ ap (λ (s : Subject). count h + count_by s) makes in
-    assembled_same (need all k) (custodians all k) (approvals all k) (is_there all k) (type all k) r.kind
-    (owner all k) r.owner
-    (dates all k)
-    (dates_with_defaults (period h r.kind) (given_dates q.moment r.activation r.protect_stop r.deactivation))
-    (latest all) q.moment
-    (there all k (omega arith) (omega (arith, counted)))
-    (kind_made h q r makes)
-    (owner_made h q r makes)
-    (dates_made h q r makes)
-    (latest_grows h q)
+    let counted : count (h ++ q ∷ []) ≡ count h + 1 = count_grows h q ∙ ap (λ s. count h + count_by s) makes in
+    let is = there (h ++ q ∷ []) (count h + 1) (omega arith) (omega (arith, counted)) in
+    cc (is, kind_made h q r makes, owner_made h q r makes, dates_made h q r makes, latest_grows h q)
 
 -- ---- replies
 

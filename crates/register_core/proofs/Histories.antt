@@ -139,8 +139,7 @@ dates_made h q r makes =
     let before : Dates = fold (dates_step r.kind) unset_dates (own h (count h + 1)) in
     rw (
       kind_made h q r makes,
-      fold_ends (dates_step r.kind) unset_dates h q (count h + 1) (ap (key_by (count h))
-          makes),
+      fold_ends (dates_step r.kind) unset_dates h q (count h + 1) (cc),
       is_registration q.command r makes,
     )
 

@@ -89,8 +89,7 @@ history_extends (Some q ∷ items) h =
     elim (is_accepted (verdict h q)) as (λ b. (later : List Request) × (history (cond b (h ++ q ∷ []) h) items ≡ h ++
     later)) [
       | true ↦
-          let more = history_extends items (h ++ q ∷ []) in
-          (q ∷ more.0, more.1 ∙ append_assoc h (q ∷ []) more.0)
+          grind (arith, append_assoc, history_extends items (h ++ q ∷ []))
       | false ↦ history_extends items h
     ]
 

@@ -92,19 +92,13 @@ apart_from h q s k is other high = grind arith
 pub which : (h : List Request) (q : Request) (k : ℕ) → judgement h q ≡ None → k ≤ count (h ++ q ∷ []) → Concerns h q k
 which h q k accepted high = by (subject q.command) refl
   where
-    counted : (s : Subject) → subject q.command ≡ s → count (h ++ q ∷ []) ≡ count h + count_by s
-    counted s is = count_grows h q ∙ ap (λ (x : Subject). count h + count_by x) is
-
     by : (s : Subject) → subject q.command ≡ s → Concerns h q k
     by (Makes r) is = elim (eqb_tells (count h + 1) k) [
-      | inl both ↦
-          grind arith
-      | inr apart ↦ let more = counted (Makes r) is in inr
-          (inr (apart_from h q (Makes r) k is apart.0 (omega (arith, high, more, apart.1))))
+      | inl both ↦ grind arith
+      | inr apart ↦ inr (inr (apart_from h q (Makes r) k is apart.0 (grind (arith, count_grows))))
     ]
     by (Names n) is = elim (eqb_tells n k) [
-      | inl both ↦ inr (inl (on_key h q k accepted (ap named_by is ∙ ap (λ (x : ℕ). Some x) both.1)))
-      | inr apart ↦ let more = counted (Names n) is in inr
-          (inr (apart_from h q (Names n) k is apart.0 (omega (arith, high, more))))
+      | inl both ↦ inr (inl (on_key h q k accepted (cc)))
+      | inr apart ↦ inr (inr (apart_from h q (Names n) k is apart.0 (grind (arith, count_grows))))
     ]
-    by NoKey is = let more = counted NoKey is in inr (inr (apart_from h q NoKey k is refl (omega (arith, high, more))))
+    by NoKey is = inr (inr (apart_from h q NoKey k is refl (grind (arith, count_grows))))

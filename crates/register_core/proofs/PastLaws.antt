@@ -45,17 +45,11 @@ past_next : (h : List Request) (q : Request) → IsLawful h → judgement h q �
 past_next h q lawful accepted before k has =
     let moved : (d : Dates) → IsPast (latest h) d
     → IsPast q.moment d = λ d. later (latest h) q.moment d (not_after h q accepted) in
-    subst (λ (t : ℕ). IsPast t (dates (h ++ q ∷ []) k)) (sym (latest_grows h q)) (elim (which h q k accepted has.1) [
-      | inl made ↦
-          let given : Dates = given_to q made.registration in
-          let p : Period = period h made.registration.kind in
-          let its = dates_when_made h q k made in
-          subst (IsPast q.moment) (sym its)
-          (grind arith)
+    rw latest_grows (elim (which h q k accepted has.1) [
+      | inl made ↦ rw (dates_when_made h q k made) (grind arith)
       | inr (inl on) ↦
-          let past = moved (dates h k) (before k (on.low, on.high)) in
-          subst (IsPast q.moment) (sym (dates_named h q k on.names))
-          (past_after (period h (type h k)) (dates h k) q.moment k q.command on.names on.occurred past)
+          rw (dates_named h q k on.names)
+          (past_after _ _ q.moment k q.command on.names on.occurred (moved _ (before k (on.low, on.high))))
       | inr (inr other) ↦ grind (arith, dates_other)
     ])
 

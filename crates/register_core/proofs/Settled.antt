@@ -117,8 +117,7 @@ need_one before q sets k (SetQuorum key n) is =
       found (λ (e : KeyNeed). e.key) sets new k,
       one_says (λ (e : KeyNeed). e.need) (key == k) new (find (λ (e :
           KeyNeed). e.key == k) sets),
-      asked (key == k) before q n (need_at k sets) (ap (need_after (need_at k sets))
-          is),
+      asked (key == k) before q n (need_at k sets) (cc),
       is,
     )
 need_one before q sets k c is = grind arith
