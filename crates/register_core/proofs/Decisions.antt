@@ -51,15 +51,12 @@ abbrev pub is_there : List Request → ℕ → Bool
 is_there h k = nat_le 1 k && nat_le k (count h)
 
 pub there : (h : List Request) (k : ℕ) → 1 ≤ k → k ≤ count h → is_there h k ≡ true
-there h k low high = ap (λ (b : Bool). b && nat_le k (count h)) (le-leb 1 k low) ∙ le-leb k (count h) high
-
-some_shown : {X : Type 0} (is : Bool) (x y : X) → Some x ≡ cond is (Some y) None → (is ≡ true) × (x ≡ y)
-some_shown is x y e = grind arith
+there h k low high = grind arith
 
 -- the key that a history holds is there, and stands so
 pub held_stands : (h : List Request) (k : ℕ) (key : Held) → Some key ≡ held h k
     → (is_there h k ≡ true) × (key ≡ standing h k)
-held_stands h k key e = some_shown (is_there h k) key (standing h k) e
+held_stands h k key e = grind arith
 
 pub count_named : (h : List Request) (q : Request) (k : ℕ) → named q.command ≡ Some k → count (h ++ q ∷ []) ≡ count h
 count_named h q k names = grind (arith, count_grows)

@@ -77,30 +77,21 @@ module _ (version : Version) where
   few_after : (h : List Request) (q : Request) (k : ℕ) (c : Command)
       → too_many_custodians version (Some (standing h k)) c ≡ None → IsFew k (all_custodians h)
       → IsFew k (custodians_by k (custody_change (dates h k) q.caller c) (all_custodians h))
-  few_after h q k (Revoke key reason occurrence) free few =
-      subst (IsFew k) (sym (kept_custodians k (is_compromise reason && is_none (dates h k).destroy) (all_custodians
-      h))) few
+  few_after h q k (Revoke key reason occurrence) free few = grind (arith, kept_custodians)
   few_after h q k (AddCustodian key name) free few =
       let space = leb-false _ _ (not_refused _ _ free) in
-      omega (
-        arith,
-        space,
-        sorted_length (names_at k (all_custodians h)),
-        one_more k (all_custodians h) (key_name k name),
-      )
-  few_after h q k (RemoveCustodian key name) free few =
-      omega (arith, few, fewer k (λ entry. not (is_key_name k name entry)) (all_custodians h))
+      grind (arith, sorted_length, one_more)
+  few_after h q k (RemoveCustodian key name) free few = grind (arith, fewer)
   few_after h q k c free few = few
 
   -- there is room on the key that the request names
   on_room : (h : List Request) (q : Request) (k : ℕ) → IsOn h q k → judgement_in version h q ≡ None
       → too_many_custodians version (Some (standing h k)) q.command ≡ None
   on_room h q k on passed =
-      let key : named_key h q.command ≡ Some (standing h k) =
-      ap (λ (n : Option ℕ). option_and_then (held h) n) on.names
-      ∙ ap (λ b. cond b (Some (standing h k)) None) (there h k on.low on.high) in
-      subst (λ o. too_many_custodians version o q.command ≡ None) key
-      (passes version (latest h) (count h) (period h) (named_key h q.command) q passed).room
+      cc (
+        there h k on.low on.high,
+        (passes version (latest h) (count h) (period h) (named_key h q.command) q passed).room,
+      )
 
   abbrev AllFew : List Request → Type 0
   AllFew h = (k : ℕ) → k ≤ count h → IsFew k (all_custodians h)

@@ -33,18 +33,11 @@ module _ (kind : KeyType) where
   own_there : (before later : List Request) → set_period (before ++ later) kind ≡ None
       → period before kind ≡ periods kind
   own_there before later none =
-      ap (λ (o : Option Period). unwrap_or o (periods kind))
-      (none_before kind (set_period before kind) later (sym (fold-append (step kind) None before later) ∙ none))
+      cc (none_before kind (set_period before kind) later (sym (fold-append (step kind) None before later) ∙ none))
 
   dated_once : (before later : List Request) (q : Request) (k : ℕ) (start : Period) → start ≡ periods kind
       → set_period (before ++ later) kind ≡ None → fold dated start (concerning before q k) ≡ periods kind
-  dated_once before later q k start own none =
-      by (is_key k (key_of (count before) q.command)) (sets_dates q.command) refl
-    where
-      by : (b c : Bool) → sets_dates q.command ≡ c → fold dated start (cond b (placed before q ∷ []) []) ≡ periods kind
-      by true true is = ap (λ d. cond d (period before kind) start) is ∙ own_there before later none
-      by true false is = ap (λ d. cond d (period before kind) start) is ∙ own
-      by false c is = own
+  dated_once before later q k start own none = grind (arith, own_there before later none)
 
   dated_from : (later before : List Request) (k : ℕ) (start : Period) → start ≡ periods kind
       → set_period (before ++ later) kind ≡ None → fold dated start (own_from before later k) ≡ periods kind
@@ -52,7 +45,7 @@ module _ (kind : KeyType) where
   dated_from (q ∷ later) before k start own none =
       fold-append dated start (concerning before q k) (own_from (before ++ q ∷ []) later k)
       ∙ dated_from later (before ++ q ∷ []) k _ (dated_once before (q ∷ later) q k start own none)
-      (subst (λ (h : List Request). set_period h kind ≡ None) (sym (append_assoc before (q ∷ []) later)) none)
+      (rw append_assoc none)
 
 -- dates that fit are not long
 fitting : (p : Period) (d : Dates) → Fits p d → is_either_use_too_long p d ≡ false
