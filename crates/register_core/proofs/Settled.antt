@@ -6,6 +6,7 @@ use Rattle.std.specs.List.{AllByRecursion}
 use Rattle.std.specs.Option.{option_map}
 use Rattle.std.proofs.lemmas.Bool.{cases_Bool, eq-eqb, eqb-true}
 use Rattle.std.proofs.lemmas.List.Sums.{fold-append}
+use Rattle.std.proofs.lemmas.Bool.Decides.{nat_tests}
 use Rattle.register_requests.specs.declared.request.Request.{Request}
 use Rattle.register_requests.specs.declared.request.Command.{Command}
 use Rattle.register_requests.specs.declared.request.Command.TheVariants.{SetPeriod, SetQuorum}
@@ -42,40 +43,7 @@ module _ {A : Type 0} (key : A → ℕ) where
       → find (λ (e : A). key e == k) (set_in sets new)
       ≡ cond (key new == k) (Some new) (find (λ (e : A). key e == k) sets)
   found [] new k = refl
-  found (x ∷ xs) new k = elim (cases_Bool (key x == key new)) [
-    | inl same ↦
-        let at : (key x == k) ≡ (key new == k) = ap (λ (n : ℕ). n == k) (eqb-true _ _ same) in
-        ap (λ (b : Bool). find (λ (e : A). key e == k) (cond (not b) (x ∷ kept) kept ++ new ∷ [])) same
-        ∙ found xs new k ∙ gone (key new == k) (Some new) (Some x) (find (λ (e : A). key e == k) xs)
-        ∙ ap (λ (b : Bool). cond (key new == k) (Some new) (cond b (Some x) (find (λ (e : A). key e == k) xs)))
-        (sym at)
-    | inr other ↦
-        ap (λ (b : Bool). find (λ (e : A). key e == k) (cond (not b) (x ∷ kept) kept ++ new ∷ [])) other
-        ∙ ap (λ (o : Option A). cond (key x == k) (Some x) o) (found xs new k)
-        ∙ turned (key x == k) (key new == k)
-        (λ here there.
-        let both : (key x == key new) ≡ true = eq-eqb _ _ (eqb-true _ _ here ∙ sym (eqb-true _ _ there)) in
-        sym both ∙ other)
-        (Some x) (Some new) (find (λ (e : A). key e == k) xs)
-  ]
-    where
-      kept : List A
-      kept = filter (λ (e : A). not (key e == key new)) xs
-
-      gone : {O : Type 0} (b : Bool) (a c o : O) → cond b a o ≡ cond b a (cond b c o)
-      gone true a c o = refl
-      gone false a c o = refl
-
-      turned : {O : Type 0} (b c : Bool) → (b ≡ true → c ≡ true → true ≡ false) → (x n o : O)
-          → cond b x (cond c n o) ≡ cond c n (cond b x o)
-      turned true true never x n o = absurd (let none = never refl refl in cc)
-      turned true false never x n o = refl
-      turned false c never x n o = refl
-
--- what the one of two says that is there
-one_says : {E X : Type 0} (says : E → X) (b : Bool) (e : E) (o : Option E)
-    → option_map says (cond b (Some e) o) ≡ cond b (Some (says e)) (option_map says o)
-one_says says b e o = grind arith
+  found (x ∷ xs) new k = grind (arith, nat_tests, found xs new k)
 
 -- ---- the period of a type
 
@@ -83,11 +51,8 @@ period_step : (sets : List TypePeriod) (kind : KeyType) (c : Command)
     → period_at kind (periods_after sets c) ≡ period_after kind (period_at kind sets) c
 period_step sets kind (SetPeriod other p) =
     let new : TypePeriod = record { kind = other; period = p } in
-    cc (
-      found (λ (e : TypePeriod). key_type_code e.kind) sets new (key_type_code kind),
-      one_says (λ (e : TypePeriod). e.period) (key_type_code other == key_type_code kind) new (find (λ (e :
-          TypePeriod). key_type_code e.kind == key_type_code kind) sets),
-    )
+    let is = found (λ (e : TypePeriod). key_type_code e.kind) sets new (key_type_code kind) in
+    grind arith
 period_step sets kind c = refl
 
 periods_from : (h : List Request) (sets : List TypePeriod) (kind : KeyType) (first : Option Period)
@@ -113,13 +78,8 @@ need_one : (before : List Request) (q : Request) (sets : List KeyNeed) (k : ℕ)
     → need_at k (needs_after sets c) ≡ fold need_step (need_at k sets) (concerning before q k)
 need_one before q sets k (SetQuorum key n) is =
     let new : KeyNeed = record { key = key; need = n } in
-    cc (
-      found (λ (e : KeyNeed). e.key) sets new k,
-      one_says (λ (e : KeyNeed). e.need) (key == k) new (find (λ (e :
-          KeyNeed). e.key == k) sets),
-      asked (key == k) before q n (need_at k sets) (cc),
-      is,
-    )
+    let found_is = found (λ (e : KeyNeed). e.key) sets new k in
+    grind (arith, asked)
 need_one before q sets k c is = grind arith
 
 needs_from : (h before : List Request) (sets : List KeyNeed) (k : ℕ)
