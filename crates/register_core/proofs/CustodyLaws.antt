@@ -1,7 +1,7 @@
 -- Laws of the custody of keys, over lawful histories.
 use Rattle.std.proofs.Common.{◌≡◌, ℕ, ◌<◌, ◌≤◌, false, List, [], ◌∷◌, ◌++◌, Option, None, Some}
-use Rattle.std.proofs.Common.{refl, sym, ap, ◌∙◌, length, arith, IsSome, ◌⊎◌, inl, inr}
-use Rattle.std.specs.Prelude.{nat_eq, is_some}
+use Rattle.std.proofs.Common.{refl, ap, length, arith, IsSome, ◌⊎◌, inl, inr}
+use Rattle.std.specs.Prelude.{nat_eq}
 use Rattle.std.proofs.lemmas.Bool.Decides.{eqb_tells}
 use Rattle.lifecycle_core.specs.declared.dates.Dates.{Dates}
 use Rattle.period_core.specs.Period.{Period}

@@ -3,9 +3,7 @@ use Rattle.std.proofs.Common.{◌≡◌, ℕ, ◌+◌, ◌≤◌, nat_le, Bool, 
 use Rattle.std.proofs.Common.{None, Some, refl, ap, ◌∙◌, arith}
 use Rattle.std.specs.Prelude.{is_some}
 use Rattle.std.specs.Option.{option_and_then}
-use Rattle.std.proofs.lemmas.Bool.{le-leb}
 use Rattle.lifecycle_core.specs.declared.dates.Dates.{Dates}
-use Rattle.period_core.specs.declared.key_type.KeyType.{KeyType}
 use Rattle.period_core.specs.Fitting.{dates_with_defaults}
 use Rattle.register_requests.specs.declared.request.Request.{Request}
 use Rattle.register_requests.specs.declared.request.Command.{Command}

@@ -1,22 +1,19 @@
 -- A lawful history has no more keys than the register takes, and no key of it more custodians than its version allows.
-use Rattle.std.proofs.Common.{◌≡◌, ℕ, ◌+◌, ◌≤◌, suc, Bool, not, ◌&&◌, cond, List, [], ◌∷◌, ◌++◌, length}
-use Rattle.std.proofs.Common.{filter, Option, None, Some, refl, sym, ap, subst, ◌∙◌, arith, inl, inr}
-use Rattle.std.specs.Prelude.{is_none}
-use Rattle.std.specs.Option.{option_and_then}
+use Rattle.std.proofs.Common.{◌≡◌, ℕ, ◌+◌, ◌≤◌, suc, Bool, List, [], ◌∷◌, ◌++◌, length}
+use Rattle.std.proofs.Common.{filter, None, Some, refl, sym, ap, subst, ◌∙◌, arith, inl, inr}
 use Rattle.std.proofs.lemmas.Bool.{leb-false, cases_lt}
 use Rattle.std.proofs.lemmas.List.{length-append}
-use Rattle.lifecycle_core.specs.Reason.{is_compromise}
 use Rattle.register_requests.specs.declared.request.Request.{Request}
 use Rattle.register_requests.specs.declared.version.Version.{Version}
 use Rattle.register_requests.specs.declared.request.Command.{Command}
 use Rattle.register_requests.specs.declared.request.Command.TheVariants.{Revoke, AddCustodian}
 use Rattle.register_requests.specs.declared.request.Command.TheVariants.{RemoveCustodian}
-use Rattle.register_core.specs.KeyName.{KeyName, key_name, is_key_name, names_at}
+use Rattle.register_core.specs.KeyName.{KeyName, names_at}
 use Rattle.register_core.specs.Names.{with_name, sorted_names}
 use Rattle.register_core.specs.History.{latest, count, period, dates}
 use Rattle.register_requests.specs.Within.Subject.{made_by}
 use Rattle.register_core.specs.Effect.{custody_change}
-use Rattle.register_core.specs.Custody.{all_custodians, custodians, held}
+use Rattle.register_core.specs.Custody.{all_custodians, custodians}
 use Rattle.register_core.specs.Verdict.{Accepts, max_keys, limit_refusal, named_key, judgement, judgement_in}
 use Rattle.register_core.specs.Verdict.{verdict_in}
 use Rattle.register_core.specs.CustodyRefusal.{too_many_custodians}

@@ -11,9 +11,8 @@ use Rattle.register_core.specs.declared.reply.Refusal.{Refusal}
 use Rattle.register_core.specs.declared.view.Held.{Held}
 use Rattle.register_core.specs.Effect.{given_dates}
 use Rattle.register_core.specs.History.{latest, count, period, dates}
-use Rattle.register_requests.specs.Subject.{Registration, Subject, Makes, Names, NoKey, subject, named_by, key_by}
+use Rattle.register_requests.specs.Subject.{Registration, Subject, Makes, Names, NoKey, subject, key_by}
 use Rattle.register_requests.specs.Subject.{key_of, is_key, named}
-use Rattle.register_requests.specs.Within.Subject.{count_by}
 use Rattle.register_requests.specs.CommandRule.{is_for}
 use Rattle.register_core.specs.Verdict.{custodian_refusal, freeze_refusal, dates_refusal, occurrence_refusal, judge}
 use Rattle.register_core.specs.Verdict.{judgement}

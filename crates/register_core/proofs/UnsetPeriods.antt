@@ -1,7 +1,7 @@
 -- Where the office set no period of a type, its keys' dates were all set by the type's own.
-use Rattle.std.proofs.Common.{◌≡◌, ℕ, Bool, true, false, cond, List, [], ◌∷◌, ◌++◌, Option, None}
-use Rattle.std.proofs.Common.{Some, refl, sym, ap, subst, ◌∙◌, append_assoc}
-use Rattle.std.specs.Prelude.{fold, unwrap_or}
+use Rattle.std.proofs.Common.{◌≡◌, ℕ, false, cond, List, [], ◌∷◌, ◌++◌, Option, None}
+use Rattle.std.proofs.Common.{Some, refl, sym, subst, ◌∙◌, append_assoc}
+use Rattle.std.specs.Prelude.{fold}
 use Rattle.std.proofs.lemmas.List.Sums.{fold-append}
 use Rattle.period_core.specs.declared.key_type.KeyType.{KeyType}
 use Rattle.period_core.specs.Period.{Period, periods}
@@ -10,10 +10,9 @@ use Rattle.lifecycle_core.specs.declared.dates.Dates.{Dates}
 use Rattle.register_requests.specs.declared.request.Request.{Request}
 use Rattle.register_core.specs.Effect.{period_after, sets_dates}
 use Rattle.register_core.specs.Fold.{IsLawful}
-use Rattle.register_core.specs.History.{Placed, count, dates, own_from, period, set_period, type}
+use Rattle.register_core.specs.History.{Placed, dates, own_from, period, set_period, type}
 use Rattle.register_core.specs.Laws.{HasKey}
-use Rattle.register_requests.specs.Subject.{is_key, key_of}
-use Rattle.register_core.proofs.Histories.{concerning, placed}
+use Rattle.register_core.proofs.Histories.{concerning}
 use Rattle.register_core.proofs.DateLaws.{all_sound}
 use Rattle.std.proofs.Common.{arith}
 

@@ -20,7 +20,7 @@ use Rattle.register_requests.specs.declared.command_fields.Fields.TheVariants.{T
 use Rattle.register_requests.specs.declared.command_fields.Fields.TheVariants.{Revocation}
 use Rattle.register_requests.specs.declared.command_fields.Shape.{Shape}
 use Rattle.register_requests.specs.declared.command_fields.Shape.TheVariants as shapes
-use Rattle.register_requests.specs.Fields.{fields_of, command_with}
+use Rattle.register_requests.specs.Fields.{command_with}
 use Rattle.register_requests.specs.Within.Fields.{shape_of}
 use Rattle.register_requests.specs.declared.command_fields.CommandKind.{CommandKind}
 use Rattle.register_requests.specs.declared.request.Edit.{Edit}
@@ -30,10 +30,8 @@ use Rattle.register_requests.specs.Number.{IsNumber}
 use Rattle.register_requests.specs.Purpose.{IsPurpose}
 use Rattle.register_requests.specs.Quorum.{IsQuorum}
 use Rattle.period_core.specs.KeyType.{key_type_text}
-use Rattle.period_core.proofs.Types.{of_each_type}
 use Rattle.period_core.specs.Period.{Period}
 use Rattle.register_requests.specs.CommandKind.{command_kind_text, command_shape}
-use Rattle.register_requests.specs.CommandRule.{kind_of}
 use Rattle.register_requests.specs.Request.{max_line_length, AreFields, IsCommand, IsDate, IsEdit, IsKeyNumber}
 use Rattle.register_requests.specs.Request.{IsRequest}
 use Rattle.register_requests.specs.Request.{IsLineOf, StandsFor, IsItem, date_text, edit_text, fields_text}

@@ -1,7 +1,7 @@
 -- Each field's reader reads exactly the texts of its values, and finds what the code finds.
 use Rattle.std.proofs.Common.{◌≡◌, ◌≢◌, ℕ, suc, ◌<◌, ◌≤◌, ◌^◌, Bool, true, false, List}
-use Rattle.std.proofs.Common.{[], ◌∷◌, Option, Some, None, IfSome, IfNone, IsSome, ◌↔◌, ◌⊎◌, inl, inr}
-use Rattle.std.proofs.Common.{refl, sym, ap, subst, ◌∙◌, arith}
+use Rattle.std.proofs.Common.{[], ◌∷◌, Option, Some, None, IfSome, IfNone, IsSome, ◌↔◌, ◌⊎◌}
+use Rattle.std.proofs.Common.{sym, ap, subst, ◌∙◌, arith}
 use Rattle.std.specs.Prelude.{◌==◌, decimal, find, codes}
 use Rattle.std.specs.List.{All}
 use Rattle.std.specs.Str.{bytes_eq}
@@ -21,7 +21,6 @@ use Rattle.register_requests.specs.Number.{IsNumber}
 use Rattle.register_requests.specs.Quorum.{IsQuorum}
 use Rattle.register_requests.specs.Purpose.{IsPurpose}
 use Rattle.period_core.specs.KeyType.{key_type_text}
-use Rattle.period_core.proofs.Types.{of_each_type}
 use Rattle.period_core.specs.Period.{max_months}
 use Rattle.register_requests.specs.CommandKind.{command_kind_text}
 use Rattle.register_requests.specs.RequestLine.{number_at, key_number_at}
