@@ -1,34 +1,28 @@
 -- Laws of the custody of keys, over lawful histories.
-use Rattle.std.proofs.Common.{◌≡◌, ℕ, ◌<◌, ◌≤◌, Bool, true, false, cond, List, [], ◌∷◌, ◌++◌, Option, None, Some}
-use Rattle.std.proofs.Common.{refl, sym, ap, ◌∙◌, length, arith, IsSome, ◌⊎◌, inl, inr}
-use Rattle.std.specs.Prelude.{nat_eq, nat_lt, is_some}
-use Rattle.std.proofs.lemmas.Bool.{ltb-false}
+use Rattle.std.proofs.Common.{◌≡◌, ℕ, ◌<◌, ◌≤◌, false, List, [], ◌∷◌, ◌++◌, Option, None, Some}
+use Rattle.std.proofs.Common.{refl, ap, length, arith, IsSome, ◌⊎◌, inl, inr}
+use Rattle.std.specs.Prelude.{nat_eq}
 use Rattle.std.proofs.lemmas.Bool.Decides.{eqb_tells}
 use Rattle.lifecycle_core.specs.declared.dates.Dates.{Dates}
-use Rattle.lifecycle_core.specs.Reason.{is_compromise}
 use Rattle.period_core.specs.Period.{Period}
 use Rattle.register_requests.specs.declared.request.Request.{Request}
 use Rattle.register_requests.specs.declared.request.Command.{Command}
-use Rattle.register_requests.specs.declared.request.Command.TheVariants.{Register as Registers, Activate, SetDates}
-use Rattle.register_requests.specs.declared.request.Command.TheVariants.{Revoke, Destroy}
+use Rattle.register_requests.specs.declared.request.Command.TheVariants.{Destroy}
 use Rattle.register_core.specs.KeyName.{names_at}
 use Rattle.register_core.specs.Names.{sorted_names}
 use Rattle.register_core.specs.History.{count, type, period, dates}
 use Rattle.register_requests.specs.Subject.{named}
-use Rattle.register_core.specs.Effect.{edited_dates, compromised, deactivated, dates_after, custody_change}
-use Rattle.register_core.specs.Custody.{all_custodians, all_approvals, approvals, need}
+use Rattle.register_core.specs.Effect.{dates_after}
+use Rattle.register_core.specs.Custody.{all_custodians, all_approvals, approvals}
 use Rattle.register_requests.specs.Quorum.{min_approvals}
 use Rattle.register_core.proofs.Settled.{need_in_range}
 use Rattle.register_core.specs.Verdict.{judgement}
-use Rattle.register_core.specs.CustodyRefusal.{approvals_missing}
 use Rattle.register_core.specs.Fold.{IsLawful}
 use Rattle.register_core.specs.Laws.{IsAccepted, HasKey}
-use Rattle.register_core.specs.Decision.{approvals_by}
 use Rattle.register_core.proofs.Verdicts.{judged}
 use Rattle.register_core.proofs.Histories.{count_grows, dates_named, dates_other}
-use Rattle.register_core.proofs.Dating.{filled_keeps, trimmed_keeps}
-use Rattle.register_core.proofs.Decisions.{standing}
-use Rattle.register_core.proofs.CustodyLeads.{not_refused, custody_lead}
+use Rattle.register_core.proofs.Dating.{filled_keeps}
+use Rattle.register_core.proofs.CustodyLeads.{custody_lead}
 use Rattle.register_core.proofs.Lawful.{holds_of_each, lawful_holds}
 use Rattle.register_core.proofs.OnKey.{IsOn, IsOther, dates_when_made, given_to, on_key, which}
 use Rattle.register_core.proofs.CustodyStay.{custody_same, custody_other, approvals_stay}
@@ -48,8 +42,7 @@ nobody_next h q lawful accepted before k beyond =
     let later : count h < k = omega (arith, beyond, grown) in
     let same = custody_same h q k accepted
     (λ n names. below n (omega (arith, (on_key h q n accepted names).high, later))) in
-    let none = before k later in
-    (same.custodians ∙ none.0, same.approvals ∙ none.1)
+    grind arith
   where
     below : (n : ℕ) → n < k → nat_eq n k ≡ false
     below n lt = elim (eqb_tells n k) [ inl both ↦ absurd (omega (arith, both.1, lt)) | inr apart ↦ apart.0 ]
@@ -80,33 +73,15 @@ stay h q is k has set = elim (which h q k (judged h q is.accepted) (omega (arith
 abbrev IsDestruction : Command → Type 0
 IsDestruction c = (n : ℕ) × (c ≡ Destroy n)
 
-revoked_same : (b : Bool) (d : Dates) (t : ℕ) (occurrence : Option ℕ)
-    → (cond b (compromised t occurrence d) (deactivated t d)).destroy ≡ d.destroy
-revoked_same true d t occurrence = refl
-revoked_same false d t occurrence = refl
-
 destroy_same : (p : Period) (d : Dates) (t k : ℕ) (c : Command) → named c ≡ Some k
     → IsDestruction c ⊎ ((dates_after p d t c).destroy ≡ d.destroy)
-destroy_same p d t k (Registers of_kind owner activation protect_stop deactivation purpose) names = absurd cc
-destroy_same p d t k (Activate n) names = inr (trimmed_keeps p (record d { activation = Some t })).destroy
-destroy_same p d t k (SetDates n activation protect_stop deactivation) names =
-    inr (filled_keeps p (edited_dates activation protect_stop deactivation d)).destroy
-destroy_same p d t k (Revoke n reason occurrence) names = inr (revoked_same (is_compromise reason) d t occurrence)
-destroy_same p d t k (Destroy n) names = inl (n, refl)
-destroy_same p d t k c names = inr refl
+destroy_same p d t k c names = grind arith
 
 destroyed_enough : (h : List Request) (q : Request) (k n : ℕ) → IsLawful h → IsOn h q k → q.command ≡ Destroy n
     → min_approvals ≤ length (approvals (h ++ q ∷ []) k)
 destroyed_enough h q k n lawful on is =
     let lead = custody_lead h q k on.names on.new in
-    let same : approvals (h ++ q ∷ []) k ≡ approvals h k =
-    ap (λ entries. sorted_names (names_at k entries))
-    (lead.approvals_are
-    ∙ ap (λ (c : Command). approvals_by k (custody_change (dates h k) q.caller c) (all_approvals h)) is) in
-    let enough = ltb-false _ _
-    (not_refused (nat_lt (length (approvals h k)) (need h k)) _
-    (ap (approvals_missing (Some (standing h k))) (sym is) ∙ on.enough)) in
-    omega (arith, (need_in_range h lawful.in_range k).0, enough, ap length same)
+    grind (arith, need_in_range)
 
 abbrev AllApproved : List Request → Type 0
 AllApproved h = (k : ℕ) → HasKey h k → IsSome (dates h k).destroy → min_approvals ≤ length (approvals h k)
@@ -114,24 +89,19 @@ AllApproved h = (k : ℕ) → HasKey h k → IsSome (dates h k).destroy → min_
 approved_next : (h : List Request) (q : Request) → IsAccepted h q → AllApproved h → AllApproved (h ++ q ∷ [])
 approved_next h q is before k has set = elim (which h q k (judged h q is.accepted) has.1) [
   | inl made ↦
-      let given : Dates = given_to q made.registration in
-      let p : Period = period h made.registration.kind in
       let its = dates_when_made h q k made in
-      let none : is_some (dates (h ++ q ∷ []) k).destroy ≡ false =
-      ap (λ (d : Dates). is_some d.destroy) its ∙ ap is_some (filled_keeps p given).destroy in
-      absurd (let e = sym none ∙ set in cc)
+      let keeps = filled_keeps (period h made.registration.kind) (given_to q made.registration) in
+      absurd (cc)
   | inr (inl on) ↦ elim (destroy_same (period h (type h k)) (dates h k) q.moment k q.command on.names) [
     | inl destruction ↦ destroyed_enough h q k destruction.0 is.lawful on destruction.1
     | inr same ↦
-        let was : IsSome (dates h k).destroy = sym
-        (ap is_some (ap (λ (d : Dates). d.destroy) (dates_named h q k on.names) ∙ same)) ∙ set in
+        let was : IsSome (dates h k).destroy = grind (arith, dates_named) in
         let enough = before k (on.low, on.high) was in
         let stays = stay h q is k (on.low, on.high) was in
         omega (arith, enough, ap length stays)
   ]
   | inr (inr other) ↦
-      let was : IsSome (dates h k).destroy = sym
-      (ap (λ (d : Dates). is_some d.destroy) (dates_other h q k other.other)) ∙ set in
+      let was : IsSome (dates h k).destroy = grind (arith, dates_other) in
       let enough = before k (has.0, other.high) was in
       omega (arith, enough, ap length (other_approvals h q k (judged h q is.accepted) other))
 ]

@@ -1,17 +1,15 @@
 -- What an accepted request makes of the custody of its key is what the history with it at its end says.
-use Rattle.std.proofs.Common.{◌≡◌, ℕ, Bool, true, false, not, ◌&&◌, ◌||◌, cond, List, [], ◌∷◌, ◌++◌, filter, map}
-use Rattle.std.proofs.Common.{Option, None, Some, refl, sym, ap, subst, ◌∙◌, is_gt}
+use Rattle.std.proofs.Common.{◌≡◌, ℕ, Bool, false, not, ◌&&◌, ◌||◌, cond, List, [], ◌∷◌, ◌++◌, filter}
+use Rattle.std.proofs.Common.{None, Some, refl, sym, ap, subst}
 use Rattle.std.specs.Prelude.{is_none}
 use Rattle.std.specs.List.{list_any}
 use Rattle.std.specs.Str.{bytes_eq}
-use Rattle.std.specs.Ordering.{nat_cmp}
-use Rattle.std.specs.Cmp.Lexicographic.{slice_cmp}
 use Rattle.std.proofs.lemmas.List.{append-nil}
 use Rattle.lifecycle_core.specs.Reason.{is_compromise}
 use Rattle.register_requests.specs.declared.request.Request.{Request}
 use Rattle.register_requests.specs.declared.request.Command.{Command}
 use Rattle.register_requests.specs.declared.request.Command.TheVariants.{Revoke, AddCustodian, RemoveCustodian, Approve}
-use Rattle.register_requests.specs.declared.request.Command.TheVariants.{Withdraw, Advance, SetPeriod, SetQuorum}
+use Rattle.register_requests.specs.declared.request.Command.TheVariants.{Withdraw, SetQuorum}
 use Rattle.register_core.specs.declared.reply.Refusal.{Refusal}
 use Rattle.register_core.specs.declared.change.CustodyChange.{CustodyChange}
 use Rattle.register_core.specs.declared.change.CustodyChange.TheVariants.{Kept, ApprovalsEnded}
@@ -27,62 +25,37 @@ use Rattle.register_core.specs.Settings.{KeyNeed, needs_after, all_needs}
 use Rattle.register_core.specs.Effect.{custody_change}
 use Rattle.register_core.proofs.Settled.{needs_next}
 use Rattle.register_core.proofs.CustodyGrow.{filter_every, all_custodians_grow, all_approvals_grow}
+use Rattle.std.proofs.Common.{arith}
 
 -- ---- a name that is not among those of the key
 
 pub any_with : (p : List ℕ → Bool) (name : List ℕ) (names : List (List ℕ)) → list_any p (with_name name names)
     ≡ p name || list_any p names
 any_with p name [] = refl
-any_with p name (first ∷ others) =
-    elim (is_gt (slice_cmp nat_cmp name first)) as (λ b. list_any p
-    (cond b (first ∷ with_name name others) (name ∷ first ∷ others)) ≡ p name || (p first || list_any p others)) [
-      | true ↦ ap (λ (b : Bool). p first || b) (any_with p name others) ∙ swapped (p first) (p name) (list_any p others)
-      | false ↦ refl
-    ]
-  where
-    swapped : (a b c : Bool) → a || (b || c) ≡ b || (a || c)
-    swapped true true c = refl
-    swapped true false c = refl
-    swapped false b c = refl
+any_with p name (first ∷ others) = grind (arith, any_with p name others)
 
 pub any_sorted_names : (p : List ℕ → Bool) (names : List (List ℕ)) → list_any p (sorted_names names) ≡ list_any p names
 any_sorted_names p [] = refl
-any_sorted_names p (name ∷ others) = any_with p name (sorted_names others)
-    ∙ ap (λ (b : Bool). p name || b) (any_sorted_names p others)
+any_sorted_names p (name ∷ others) = simp (any_with, any_sorted_names p others)
 
 pub any_of_key : (key : ℕ) (name : List ℕ) (entries : List (KeyName))
     → list_any (λ other. bytes_eq other name) (names_at key entries) ≡ list_any (is_key_name key name) entries
 any_of_key key name [] = refl
-any_of_key key name (entry ∷ entries) = by (is_at key entry) (any_of_key key name entries)
-  where
-    by : (b : Bool) → list_any (λ other. bytes_eq other name) (names_at key entries)
-        ≡ list_any (is_key_name key name) entries
-        → list_any (λ other. bytes_eq other name)
-        (map (λ (p : KeyName). p.name) (cond b (entry ∷ filter (is_at key) entries) (filter (is_at key) entries)))
-        ≡ (b && bytes_eq entry.name name) || list_any (is_key_name key name) entries
-    by true same = ap (λ (x : Bool). bytes_eq entry.name name || x) same
-    by false same = same
+any_of_key key name (entry ∷ entries) = grind (arith, any_of_key key name entries)
 
 none_taken : {X : Type 0} (p : X → Bool) (xs : List X) → list_any p xs ≡ false → filter (λ x. not (p x)) xs ≡ xs
 none_taken p [] none = refl
-none_taken p (x ∷ xs) none = by (p x) none (none_taken p xs)
-  where
-    by : (b : Bool) → b || list_any p xs ≡ false → (list_any p xs ≡ false → filter (λ y. not (p y)) xs ≡ xs)
-        → cond (not b) (x ∷ filter (λ y. not (p y)) xs) (filter (λ y. not (p y)) xs) ≡ x ∷ xs
-    by true e rest = absurd cc
-    by false e rest = ap (λ l. x ∷ l) (rest e)
+none_taken p (x ∷ xs) none = grind (arith, none_taken p xs)
 
 -- nothing of the entries goes where the name is not among those of its key
 absent : (key : ℕ) (name : List ℕ) (entries : List (KeyName))
     → is_among name (sorted_names (names_at key entries)) ≡ false
     → filter (λ entry. not (is_key_name key name entry)) entries ≡ entries
 absent key name entries none =
-    none_taken (is_key_name key name) entries (sym (any_of_key key name entries)
-    ∙ sym (any_sorted_names (λ other. bytes_eq other name) (names_at key entries)) ∙ none)
+    none_taken (is_key_name key name) entries (grind (arith, any_of_key, any_sorted_names))
 
 pub not_refused : (b : Bool) (refusal : Refusal) → cond b (Some refusal) None ≡ None → b ≡ false
-not_refused true refusal none = absurd cc
-not_refused false refusal none = refl
+not_refused b refusal none = grind arith
 
 -- ---- by command
 
@@ -100,102 +73,36 @@ approvals_then h caller c entries = filter (λ entry. not (ends_by h entry calle
 
 same_entries : (p : KeyName → Bool) → ((entry : KeyName) → p entry ≡ false) → (entries : List (KeyName))
     → filter (λ entry. not (p entry)) entries ++ [] ≡ entries
-same_entries p none entries = append-nil _
-    ∙ filter_every (λ entry. not (p entry)) (λ entry. ap not (none entry)) entries
+same_entries p none entries = grind (arith, append-nil, filter_every)
 
 lead : (h : List Request) (q : Request) (c : Command) (key : ℕ) (custody : CustodyChange) → q.command ≡ c
     → custodians_then c (all_custodians h) ≡ custodians_by key custody (all_custodians h)
     → approvals_then h q.caller c (all_approvals h) ≡ approvals_by key custody (all_approvals h)
     → needs_after (all_needs h) c ≡ needs_by key custody (all_needs h) → CustodyLead h q key custody
-lead h q c key custody is cs given needs = record {
-  custodians_are = all_custodians_grow h q ∙ ap (λ (x : Command). custodians_then x (all_custodians h)) is ∙ cs;
-  approvals_are = all_approvals_grow h q ∙ ap (λ (x : Command). approvals_then h q.caller x (all_approvals h)) is
-      ∙ given;
-  needs_are = needs_next h q ∙ ap (needs_after (all_needs h)) is ∙ needs;
-}
-
--- the command leaves the custodians and the approvals
-record LeavesNames (h : List Request) (caller : List ℕ) (c : Command) : Type 0 where
-  about : (entry : KeyName) → is_about entry c ≡ false
-  added : added_by c ≡ []
-  ends : (entry : KeyName) → ends_by h entry caller c ≡ false
-  approved : approved_by caller c ≡ []
-  needs : (sets : List KeyNeed) → needs_after sets c ≡ sets
-
--- One that names no key does. The last row has every command that names one, and every other that does not.
-leaves : (h : List Request) (caller : List ℕ) (c : Command) → named c ≡ None → LeavesNames h caller c
-leaves h caller Advance none =
-    record { about = λ entry. refl; added = refl; ends = λ entry. refl; approved = refl; needs = λ sets. refl }
-leaves h caller (SetPeriod kind period) none =
-    record { about = λ entry. refl; added = refl; ends = λ entry. refl; approved = refl; needs = λ sets. refl }
-leaves h caller c none =
-    record { about = λ entry. cc; added = cc; ends = λ entry. cc; approved = cc; needs = λ sets. cc }
-
-left : (p : KeyName → Bool) (more entries : List (KeyName)) → ((entry : KeyName) → p entry ≡ false) → more ≡ []
-    → filter (λ entry. not (p entry)) entries ++ more ≡ entries
-left p more entries none is =
-    ap (λ (added : List (KeyName)). filter (λ entry. not (p entry)) entries ++ added) is ∙ same_entries p none entries
+lead h q c key custody is cs given needs = grind (arith, all_custodians_grow, all_approvals_grow, needs_next)
 
 pub nobody_changes : (h : List Request) (q : Request) (key : ℕ) → named q.command ≡ None → CustodyLead h q key Kept
 nobody_changes h q key none =
-    let c = q.command in
-    let leaving = leaves h q.caller c none in
-    lead h q c key Kept refl (left (λ entry. is_about entry c) (added_by c) (all_custodians h) leaving.about
-    leaving.added)
-    (left (λ entry. ends_by h entry q.caller c) (approved_by q.caller c) (all_approvals h) leaving.ends
-    leaving.approved) (leaving.needs (all_needs h))
-
-and_both : (a b c : Bool) → b && c ≡ true → a && b && c ≡ a
-and_both true b c both = both
-and_both false b c both = refl
-
-and_not : (a b c : Bool) → b && c ≡ false → a && b && c ≡ false
-and_not true b c both = both
-and_not false b c both = refl
-
-filter_same : {X : Type 0} (p r : X → Bool) → ((x : X) → p x ≡ r x) → (xs : List X) → filter p xs ≡ filter r xs
-filter_same p r same [] = refl
-filter_same p r same (x ∷ xs) = ap (λ (b : Bool). cond b (x ∷ filter p xs) (filter p xs)) (same x)
-    ∙ ap (λ l. cond (r x) (x ∷ l) l) (filter_same p r same xs)
+    grind (arith, all_custodians_grow, all_approvals_grow, needs_next, append-nil, filter_every)
 
 revoked : (h : List Request) (q : Request) (k : ℕ) (compromise kept : Bool) (entries : List (KeyName))
     → filter (λ entry. not (is_at k entry && compromise && kept)) entries ++ []
     ≡ approvals_by k (cond (compromise && kept) ApprovalsEnded Kept) entries
-revoked h q k true true entries = append-nil _
-    ∙ filter_same _ _ (λ entry. ap not (and_both (is_at k entry) true true refl)) entries
-revoked h q k true false entries =
-    same_entries (λ entry. is_at k entry && true && false) (λ entry. and_not (is_at k entry) true false refl) entries
-revoked h q k false kept entries =
-    same_entries (λ entry. is_at k entry && false && kept) (λ entry. and_not (is_at k entry) false kept refl) entries
+revoked h q k compromise kept entries = grind (arith, append-nil, filter_every)
 
 pub kept_custodians : (k : ℕ) (ends : Bool) (entries : List (KeyName))
     → custodians_by k (cond ends ApprovalsEnded Kept) entries ≡ entries
-kept_custodians k true entries = refl
-kept_custodians k false entries = refl
+kept_custodians k ends entries = grind arith
 
 kept_needs : (k : ℕ) (ends : Bool) (sets : List KeyNeed) → needs_by k (cond ends ApprovalsEnded Kept) sets ≡ sets
-kept_needs k true sets = refl
-kept_needs k false sets = refl
-
-same_key : (n k : ℕ) → ◌≡◌ {A = Option ℕ} (Some n) (Some k) → n ≡ k
-same_key n k e = cc
+kept_needs k ends sets = grind arith
 
 pub custody_lead : (h : List Request) (q : Request) (k : ℕ) → named q.command ≡ Some k → IsNew h q k
     → CustodyLead h q k (custody_change (dates h k) q.caller q.command)
 custody_lead h q k names new = by q.command refl names
   where
-    unchanged : (c : Command) → q.command ≡ c → custody_change (dates h k) q.caller c ≡ Kept
-        → ((entry : KeyName) → is_about entry c ≡ false) → added_by c ≡ []
-        → ((entry : KeyName) → ends_by h entry q.caller c ≡ false) → approved_by q.caller c ≡ []
-        → needs_after (all_needs h) c ≡ all_needs h
-        → CustodyLead h q k (custody_change (dates h k) q.caller q.command)
-    unchanged c is kept no_one none_added ends_none none_given same_needs =
-        subst (CustodyLead h q k) (sym (ap (custody_change (dates h k) q.caller) is ∙ kept))
-        (lead h q c k Kept is
-        (ap (λ l. filter (λ entry. not (is_about entry c)) (all_custodians h) ++ l) none_added
-        ∙ same_entries (λ entry. is_about entry c) no_one (all_custodians h))
-        (ap (λ l. filter (λ entry. not (ends_by h entry q.caller c)) (all_approvals h) ++ l) none_given
-        ∙ same_entries (λ entry. ends_by h entry q.caller c) ends_none (all_approvals h)) same_needs)
+    stays : (entries : List (KeyName)) → filter (λ entry. not false) entries ++ [] ≡ entries
+    stays entries = same_entries (λ entry. false) (λ entry. refl) entries
 
     changed : (c : Command) → q.command ≡ c
         → custodians_then c (all_custodians h)
@@ -210,32 +117,18 @@ custody_lead h q k names new = by q.command refl names
     by : (c : Command) → q.command ≡ c → named c ≡ Some k
         → CustodyLead h q k (custody_change (dates h k) q.caller q.command)
     by (Revoke n reason occurrence) is e =
-        let here : q.command ≡ Revoke k reason occurrence = is
-        ∙ ap (λ (x : ℕ). Revoke x reason occurrence) (same_key n k e) in
-        changed (Revoke k reason occurrence) here
-        (same_entries (λ entry. false) (λ entry. refl) (all_custodians h)
-        ∙ sym (kept_custodians k (is_compromise reason && is_none (dates h k).destroy) (all_custodians h)))
+        changed (Revoke k reason occurrence) (cc) (grind (arith, append-nil, filter_every, kept_custodians))
         (revoked h q k (is_compromise reason) (is_none (dates h k).destroy) (all_approvals h))
         (sym (kept_needs k (is_compromise reason && is_none (dates h k).destroy) (all_needs h)))
     by (AddCustodian n name) is e =
-        let here : q.command ≡ AddCustodian k name = is ∙ ap (λ (x : ℕ). AddCustodian x name) (same_key n k e) in
-        changed (AddCustodian k name) here
-        (ap (λ l. l ++ key_name k name ∷ []) (absent k name (all_custodians h) (new.custodian name here)))
-        (same_entries (λ entry. false) (λ entry. refl) (all_approvals h)) refl
-    by (RemoveCustodian n name) is e =
-        let here : q.command ≡ RemoveCustodian k name = is ∙ ap (λ (x : ℕ). RemoveCustodian x name) (same_key n k e) in
-        changed (RemoveCustodian k name) here (append-nil _) (append-nil _) refl
+        let here : q.command ≡ AddCustodian k name = cc in
+        let new_name = absent k name (all_custodians h) (new.custodian name here) in
+        changed (AddCustodian k name) here (ap (λ l. l ++ key_name k name ∷ []) new_name) (stays _) refl
+    by (RemoveCustodian n name) is e = changed (RemoveCustodian k name) (cc) (append-nil _) (append-nil _) refl
     by (Approve n) is e =
-        let here : q.command ≡ Approve k = is ∙ ap (λ (x : ℕ). Approve x) (same_key n k e) in
-        changed (Approve k) here
-        (same_entries (λ entry. false) (λ entry. refl) (all_custodians h))
-        (ap (λ l. l ++ key_name k q.caller ∷ []) (absent k q.caller (all_approvals h) (new.approval here))) refl
-    by (Withdraw n) is e =
-        let here : q.command ≡ Withdraw k = is ∙ ap (λ (x : ℕ). Withdraw x) (same_key n k e) in
-        changed (Withdraw k) here (same_entries (λ entry. false) (λ entry. refl) (all_custodians h)) (append-nil _) refl
-    by (SetQuorum n need) is e =
-        let here : q.command ≡ SetQuorum k need = is ∙ ap (λ (x : ℕ). SetQuorum x need) (same_key n k e) in
-        changed (SetQuorum k need) here
-        (same_entries (λ entry. false) (λ entry. refl) (all_custodians h))
-        (same_entries (λ entry. false) (λ entry. refl) (all_approvals h)) refl
-    by c is e = unchanged c is refl (λ entry. refl) refl (λ entry. refl) refl refl
+        let here : q.command ≡ Approve k = cc in
+        let new_name = absent k q.caller (all_approvals h) (new.approval here) in
+        changed (Approve k) here (stays _) (ap (λ l. l ++ key_name k q.caller ∷ []) new_name) refl
+    by (Withdraw n) is e = changed (Withdraw k) (cc) (stays _) (append-nil _) refl
+    by (SetQuorum n need) is e = changed (SetQuorum k need) (cc) (stays _) (stays _) refl
+    by c is e = changed c is (stays _) (stays _) refl

@@ -1,27 +1,24 @@
 -- The dates of each key over lawful histories: they fit, and move only where they may.
-use Rattle.std.proofs.Common.{◌≡◌, ℕ, cond, List, [], ◌∷◌, ◌++◌, None, refl, sym, ap, subst, ◌∙◌, arith, inl, inr}
+use Rattle.std.proofs.Common.{◌≡◌, ℕ, cond, List, [], ◌∷◌, ◌++◌, None, sym, ap, subst, ◌∙◌, arith, inl, inr}
 use Rattle.lifecycle_core.specs.declared.dates.Dates.{Dates}
 use Rattle.period_core.specs.Period.{Period}
-use Rattle.period_core.specs.Fitting.{dates_with_defaults}
 use Rattle.register_requests.specs.declared.request.Request.{Request}
 use Rattle.register_core.specs.History.{period, type, dates, dated_by}
 use Rattle.register_core.specs.Effect.{dates_after, sets_dates}
-use Rattle.register_core.specs.Verdict.{dates_refusal, judgement}
+use Rattle.register_core.specs.Verdict.{judgement}
 use Rattle.register_core.specs.Fold.{IsLawful}
 use Rattle.register_core.specs.Laws.{IsAccepted, HasKey, MovesOnly}
 use Rattle.register_core.proofs.Verdicts.{judged}
 use Rattle.register_core.proofs.Histories.{count_grows, dates_other, dated_other, dates_named, dated_named, dated_made}
-use Rattle.register_requests.proofs.Subjects.{is_registration}
 use Rattle.register_core.proofs.Decisions.{standing}
 use Rattle.register_core.proofs.Lawful.{lawful_holds}
 use Rattle.register_core.proofs.OnKey.{IsOn, IsMade, dates_when_made, given_to, which}
-use Rattle.register_core.proofs.Dating.{filled_keeps, filled_fits}
-use Rattle.register_core.proofs.DateSteps.{nothing_moves, IsSound, sound_by, Steps, step}
+use Rattle.register_core.proofs.Dating.{filled_fits}
+use Rattle.register_core.proofs.DateSteps.{nothing_moves, IsSound, Steps, step}
 
 sound_as : (period other_period : Period) (d other : Dates) → other_period ≡ period → other ≡ d
     → IsSound period d → IsSound other_period other
-sound_as period other_period d other same_period same sound =
-    subst (λ (p : Period). IsSound p other) (sym same_period) (subst (IsSound period) (sym same) sound)
+sound_as period other_period d other same_period same sound = grind arith
 
 -- the dates that the key is registered with
 pub made_sound : (h : List Request) (q : Request) (k : ℕ) → IsMade h q k
@@ -31,12 +28,10 @@ made_sound h q k made =
     let given : Dates = given_to q r in
     let span : Period = period h r.kind in
     let fit =
-    filled_fits span given (sym (ap (dates_refusal (period h) None q.moment) (is_registration q.command r made.makes))
-    ∙ made.fit) in
+    filled_fits span given (grind arith) in
     let set = ap (dated_by (h ++ q ∷ [])) made.next ∙ dated_made h q r made.makes in
     let its = dates_when_made h q k made in
-    sound_as span _ (dates_with_defaults span given) _ set its
-    (sound_by span given (dates_with_defaults span given) fit (filled_keeps span given) refl)
+    grind arith
 
 -- what the request makes of the dates of the key that it names
 on_steps : (h : List Request) (q : Request) (k : ℕ) → IsOn h q k → IsSound (dated_by h k) (dates h k)
@@ -52,12 +47,9 @@ sound_next : (h : List Request) (q : Request) → IsLawful h → judgement h q �
 sound_next h q lawful accepted before k has = elim (which h q k accepted has.1) [
   | inl made ↦ made_sound h q k made
   | inr (inl on) ↦
-      let steps = on_steps h q k on (before k (on.low, on.high)) in
-      sound_as (cond (sets_dates q.command) (period h (type h k)) (dated_by h k)) _ _ _ (dated_named h q k on.names)
-      (dates_named h q k on.names) steps.sound
+      grind (arith, on_steps, sound_as, dated_named, dates_named)
   | inr (inr other) ↦
-      sound_as (dated_by h k) _ (dates h k) _ (dated_other h q k other.other) (dates_other h q k other.other)
-      (before k (has.0, other.high))
+      grind (arith, dated_other, dates_other)
 ]
 
 pub all_sound : (h : List Request) → IsLawful h → AllSound h
@@ -73,6 +65,5 @@ freeze h q is k has = elim (which h q k (judged h q is.accepted) (omega (arith, 
   | inr (inl on) ↦
       let steps = on_steps h q k on (all_sound h is.lawful k has) in
       subst (MovesOnly (dates h k) q.moment) (sym (dates_named h q k on.names)) steps.moves
-  | inr (inr other) ↦ subst (MovesOnly (dates h k) q.moment) (sym (dates_other h q k other.other))
-      (nothing_moves (dates h k) q.moment)
+  | inr (inr other) ↦ grind (arith, dates_other, nothing_moves)
 ]

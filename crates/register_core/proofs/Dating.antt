@@ -1,13 +1,12 @@
 -- What Fill and Trim make of dates: which they keep, and that dates which they do not refuse fit.
-use Rattle.std.proofs.Common.{◌≡◌, ℕ, nat_le, Bool, true, false, ◌&&◌, ◌||◌, cond, [], ◌∷◌, Option, None, Some, refl}
-use Rattle.std.proofs.Common.{ap, ◌∙◌, arith}
-use Rattle.std.specs.Prelude.{nat_lt, min, is_some, is_none}
-use Rattle.std.proofs.lemmas.Bool.{ltb-false, le-leb}
+use Rattle.std.proofs.Common.{◌≡◌, ℕ, Bool, true, ◌&&◌, cond, [], ◌∷◌, Option, None, Some, refl}
+use Rattle.std.proofs.Common.{◌∙◌, arith}
+use Rattle.std.specs.Prelude.{is_some, is_none}
 use Rattle.lifecycle_core.specs.declared.dates.Dates.{Dates}
 use Rattle.period_core.specs.Period.{Period}
 use Rattle.period_core.specs.declared.date_fitting.DateRefusal.{DateRefusal}
-use Rattle.period_core.specs.declared.date_fitting.DateRefusal.TheVariants.{DateOrder, PeriodTooLong, DateRange}
-use Rattle.period_core.specs.Fitting.{is_not_after, originator_limit, recipient_limit, Fits, earlier_of}
+use Rattle.period_core.specs.declared.date_fitting.DateRefusal.TheVariants.{DateOrder}
+use Rattle.period_core.specs.Fitting.{is_not_after, originator_limit, recipient_limit, Fits}
 use Rattle.period_core.specs.Fitting.{with_default_protect_stop, with_default_deactivation, cut_to_limit}
 use Rattle.period_core.specs.Fitting.{dates_with_defaults, defaulted_dates_cut_to_limits}
 use Rattle.period_core.specs.Fitting.{length_refusal, order_refusal, range_refusal, unless_refused, fill_of, trim_of}
@@ -17,8 +16,7 @@ use Rattle.register_core.proofs.Filling.{past}
 -- ---- what they keep
 
 kept : {X : Type 0} (f : Dates → X) (b : Bool) (x y : Dates) → f x ≡ f y → f (cond b x y) ≡ f y
-kept f true x y same = same
-kept f false x y same = refl
+kept f b x y same = grind arith
 
 -- what looks at neither Protect Stop nor Deactivation
 record IsApart {X : Type 0} (f : Dates → X) : Type 0 where
@@ -41,14 +39,6 @@ abbrev stopped : Period → Dates → Dates
 stopped period d =
     let first = with_default_protect_stop period d in
     record first { protect_stop = cut_to_limit first.protect_stop (originator_limit period first) }
-
-trimmed_kept : {X : Type 0} (f : Dates → X) → IsApart f → (period : Period) (d : Dates)
-    → f (defaulted_dates_cut_to_limits period d) ≡ f d
-trimmed_kept f apart period d =
-    apart.end (with_default_deactivation period (stopped period d)) _
-    ∙ end_kept f apart period (stopped period d)
-    ∙ apart.stop (with_default_protect_stop period d) _
-    ∙ stop_kept f apart period d
 
 -- the dates that no date set by hand moves
 pub record KeepsOthers (old new : Dates) : Type 0 where
@@ -73,49 +63,16 @@ pub filled_keeps : (period : Period) (d : Dates) → KeepsOthers d (dates_with_d
 filled_keeps period d = keeps_by d (dates_with_defaults period d) (λ X f apart. filled_kept f apart period d)
 
 pub trimmed_keeps : (period : Period) (d : Dates) → KeepsOthers d (defaulted_dates_cut_to_limits period d)
-trimmed_keeps period d = keeps_by d (defaulted_dates_cut_to_limits period d) (λ X f apart. trimmed_kept f apart period d)
-
-never_empty : (b : Bool) (o : Option ℕ) (x : ℕ) → o ≡ Some x → b && is_none o ≡ false
-never_empty true None x set = absurd cc
-never_empty true (Some y) x set = refl
-never_empty false o x set = refl
-
--- a Protect Stop that is set is no default
-given_stop : (period : Period) (d : Dates) (x : ℕ) → d.protect_stop ≡ Some x
-    → (with_default_protect_stop period d).protect_stop ≡ Some x
-given_stop period d x set =
-    by (is_some d.activation && is_none d.protect_stop) (never_empty (is_some d.activation) d.protect_stop x set)
-  where
-    by : (b : Bool) → b ≡ false
-        → (cond b (record d { protect_stop = earlier_of (originator_limit period d) d.deactivation }) d).protect_stop
-        ≡ Some x
-    by true e = absurd cc
-    by false e = set
-
-pub filled_stop : (period : Period) (d : Dates) (x : ℕ) → d.protect_stop ≡ Some x
-    → (dates_with_defaults period d).protect_stop ≡ Some x
-filled_stop period d x set =
-    kept (λ (y : Dates). y.protect_stop)
-    (is_some (with_default_protect_stop period d).activation
-    && is_none (with_default_protect_stop period d).deactivation) _
-    (with_default_protect_stop period d) refl
-    ∙ given_stop period d x set
+trimmed_keeps period d = grind arith
 
 -- Trim's Protect Stop
 trimmed_stop_is : (period : Period) (d : Dates)
     → (defaulted_dates_cut_to_limits period d).protect_stop ≡ (stopped period d).protect_stop
-trimmed_stop_is period d =
-    kept (λ (y : Dates). y.protect_stop)
-    (is_some (stopped period d).activation && is_none (stopped period d).deactivation) _ (stopped period d) refl
+trimmed_stop_is period d = grind arith
 
 pub trimmed_stop : (period : Period) (d : Dates) (x : ℕ) → d.protect_stop ≡ Some x
     → (defaulted_dates_cut_to_limits period d).protect_stop ≡ cut_to_limit (Some x) (originator_limit period d)
-trimmed_stop period d x set =
-    trimmed_stop_is period d
-    ∙ ap (λ (o : Option ℕ). cut_to_limit o (originator_limit period (with_default_protect_stop period d)))
-    (given_stop period d x set)
-    ∙ ap (λ (o : Option ℕ). cut_to_limit (Some x) o)
-    (stop_kept (originator_limit period) (record { stop = λ y date. refl; end = λ y date. refl }) period d)
+trimmed_stop period d x set = grind arith
 
 -- ---- that they fit
 
@@ -125,43 +82,16 @@ pub record IsWhole (d : Dates) : Type 0 where
   pub deactivation : is_some d.activation ≡ true → is_some d.deactivation ≡ true
 
 passes : (refusal : Option DateRefusal) (d : Dates) → refused_dates (unless_refused refusal d) ≡ None → refusal ≡ None
-passes None d e = refl
-passes (Some refusal) d e = absurd cc
+passes refusal d e = grind arith
 
 ordered : (b : Bool) → ◌≡◌ {A = Option DateRefusal} (cond b None (Some DateOrder)) None → b ≡ true
-ordered true e = refl
-ordered false e = absurd cc
-
-ranged : (b : Bool) → ◌≡◌ {A = Option DateRefusal} (cond b (Some DateRange) None) None → b ≡ false
-ranged true e = absurd cc
-ranged false e = refl
+ordered b e = grind arith
 
 limited : (date limit : Option ℕ) → length_refusal date limit ≡ None → is_not_after date limit ≡ true
-limited None limit e = refl
-limited (Some date) None e = refl
-limited (Some date) (Some limit) e = by (nat_lt limit date) refl e
-  where
-    by : (b : Bool) → nat_lt limit date ≡ b
-        → ◌≡◌ {A = Option DateRefusal} (cond b (Some (PeriodTooLong limit)) None) None → nat_le date limit ≡ true
-    by true lt e = absurd cc
-    by false le e = le-leb date limit (ltb-false _ _ le)
-
-some_first : (a : Bool) (p x : Option ℕ) → a && (is_none p || is_none x) ≡ false → a ≡ true → is_some p ≡ true
-some_first true (Some p) x e set = refl
-some_first true None x e set = absurd cc
-some_first false p x e set = absurd cc
-
-some_second : (a : Bool) (p x : Option ℕ) → a && (is_none p || is_none x) ≡ false → a ≡ true → is_some x ≡ true
-some_second true p (Some x) e set = refl
-some_second true None None e set = absurd cc
-some_second true (Some p) None e set = absurd cc
-some_second false p x e set = absurd cc
+limited date limit e = grind arith
 
 whole : (d : Dates) → range_refusal d ≡ None → IsWhole d
-whole d e = record {
-  protect_stop = some_first (is_some d.activation) d.protect_stop d.deactivation (ranged _ e);
-  deactivation = some_second (is_some d.activation) d.protect_stop d.deactivation (ranged _ e);
-}
+whole d e = grind arith
 
 pub filled_fits : (period : Period) (d : Dates) → refused_dates (fill_of period d) ≡ None
     → Fits period (dates_with_defaults period d) × IsWhole (dates_with_defaults period d)
@@ -171,20 +101,10 @@ filled_fits period d e =
     let recipient = length_refusal full.deactivation (recipient_limit period full) in
     let order = past (order_refusal full) (originator ∷ recipient ∷ range_refusal full ∷ []) (passes _ full e) in
     let first = past originator (recipient ∷ range_refusal full ∷ []) order.later in
-    let second = past recipient (range_refusal full ∷ []) first.later in
-    let range = past (range_refusal full) [] second.later in (
-      record {
-        order = ordered _ order.here;
-        originator = limited full.protect_stop (originator_limit period full) first.here;
-        recipient = limited full.deactivation (recipient_limit period full) second.here;
-      },
-      whole full range.here,
-    )
+    grind (arith, past, ordered, limited, whole)
 
 cut_within : (date limit : Option ℕ) → is_not_after (cut_to_limit date limit) limit ≡ true
-cut_within None limit = refl
-cut_within (Some date) None = refl
-cut_within (Some date) (Some limit) = le-leb (min date limit) limit (omega arith)
+cut_within date limit = grind arith
 
 pub trimmed_fits : (period : Period) (d : Dates) → refused_dates (trim_of period d) ≡ None
     → Fits period (defaulted_dates_cut_to_limits period d) × IsWhole (defaulted_dates_cut_to_limits period d)
@@ -195,15 +115,4 @@ trimmed_fits period d e =
     let ordering = past (order_refusal full) (range_refusal full ∷ []) (passes _ full e) in
     let range = past (range_refusal full) [] ordering.later in
     let limit : originator_limit period full ≡ originator_limit period first =
-    end_kept (originator_limit period) (record { stop = λ y date. refl; end = λ y date. refl }) period
-    (stopped period d) in (
-      record {
-        order = ordered _ ordering.here;
-        originator =
-            ap (λ (o : Option ℕ). is_not_after o (originator_limit period full)) (trimmed_stop_is period d)
-            ∙ ap (is_not_after (stopped period d).protect_stop) limit
-            ∙ cut_within first.protect_stop (originator_limit period first);
-        recipient = cut_within second.deactivation (recipient_limit period second);
-      },
-      whole full range.here,
-    )
+    grind arith in grind (arith, ordered, trimmed_stop_is, cut_within, whole)

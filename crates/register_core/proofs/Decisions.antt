@@ -1,30 +1,23 @@
 -- What an accepted request changes is what the history with it at its end says of its key and of its custody.
-use Rattle.std.proofs.Common.{◌≡◌, ℕ, ◌+◌, ◌≤◌, nat_le, Bool, true, false, ◌&&◌, cond, List, [], ◌∷◌, ◌++◌, Option}
-use Rattle.std.proofs.Common.{None, Some, refl, sym, ap, subst, ◌∙◌, arith}
-use Rattle.std.proofs.Math.Nat.{add-zero}
-use Rattle.std.specs.Prelude.{unwrap_or, is_some}
-use Rattle.std.specs.Option.{option_map, option_and_then}
-use Rattle.std.proofs.lemmas.Bool.{le-leb}
+use Rattle.std.proofs.Common.{◌≡◌, ℕ, ◌+◌, ◌≤◌, nat_le, Bool, true, ◌&&◌, cond, List, [], ◌∷◌, ◌++◌, Option}
+use Rattle.std.proofs.Common.{None, Some, refl, ap, ◌∙◌, arith}
+use Rattle.std.specs.Prelude.{is_some}
+use Rattle.std.specs.Option.{option_and_then}
 use Rattle.lifecycle_core.specs.declared.dates.Dates.{Dates}
-use Rattle.lifecycle_core.specs.State.{state_at}
-use Rattle.period_core.specs.declared.key_type.KeyType.{KeyType}
-use Rattle.period_core.specs.Period.{Period}
 use Rattle.period_core.specs.Fitting.{dates_with_defaults}
 use Rattle.register_requests.specs.declared.request.Request.{Request}
 use Rattle.register_requests.specs.declared.request.Command.{Command}
 use Rattle.register_requests.specs.declared.request.Command.TheVariants.{Advance, SetPeriod}
-use Rattle.register_core.specs.Settings.{TypePeriod, periods_after, all_periods}
+use Rattle.register_core.specs.Settings.{all_periods}
 use Rattle.register_core.proofs.Settled.{periods_next}
-use Rattle.register_core.specs.declared.reply.Reply.{Reply}
-use Rattle.register_core.specs.declared.reply.Refusal.TheVariants.{UnknownKey, AlreadyCustodian, AlreadyApproved}
+use Rattle.register_core.specs.declared.reply.Refusal.TheVariants.{UnknownKey}
 use Rattle.register_core.specs.declared.view.Held.{Held}
 use Rattle.register_core.specs.declared.change.Change.{Change}
 use Rattle.register_core.specs.declared.change.Change.TheVariants as change
 use Rattle.register_core.specs.History.{latest, count, period, type, dates, owner}
 use Rattle.register_requests.specs.Subject.{Registration, Subject, Makes, Names, NoKey, subject, named_by, key_by}
 use Rattle.register_requests.specs.Subject.{key_of, named}
-use Rattle.register_requests.specs.Within.Subject.{count_by, made_by}
-use Rattle.register_requests.proofs.Subjects.{is_named}
+use Rattle.register_requests.specs.Within.Subject.{count_by}
 use Rattle.register_core.specs.Effect.{given_dates, dates_after, owner_after, row_with_dates_at}
 use Rattle.register_core.specs.Custody.{custodians, approvals, need, held}
 use Rattle.register_core.specs.KeptReply.{reply}
@@ -37,7 +30,7 @@ use Rattle.register_core.specs.Decision.{reply_to, Stands, LeadsTo}
 use Rattle.register_core.proofs.Histories.{latest_grows, count_grows, key_named, kind_named, owner_named, dates_named}
 use Rattle.register_core.proofs.Histories.{kind_made, owner_made, dates_made}
 use Rattle.register_core.proofs.Refusals.{IsPassed, passes}
-use Rattle.register_core.proofs.CustodyLeads.{not_refused, IsNew, nobody_changes, custody_lead}
+use Rattle.register_core.proofs.CustodyLeads.{IsNew, nobody_changes, custody_lead}
 
 -- ---- a key as it stands
 
@@ -56,107 +49,51 @@ abbrev pub is_there : List Request → ℕ → Bool
 is_there h k = nat_le 1 k && nat_le k (count h)
 
 pub there : (h : List Request) (k : ℕ) → 1 ≤ k → k ≤ count h → is_there h k ≡ true
-there h k low high = ap (λ (b : Bool). b && nat_le k (count h)) (le-leb 1 k low) ∙ le-leb k (count h) high
-
-module _ (needed : ℕ) (cs approving : List (List ℕ)) where
-  -- a key with this type, this owner and these dates at the moment t
-  abbrev standing_so : KeyType → List ℕ → Dates → ℕ → Held
-  standing_so kind by d t =
-      record { kind = kind; owner = by; row = row_with_dates_at d t; need = needed; custodians = cs; approvals = approving }
-
-  abbrev assembled : Bool → KeyType → List ℕ → Dates → ℕ → Option Held
-  assembled is kind by d t = cond is (Some (standing_so kind by d t)) None
-
-  assembled_same : (is : Bool) (kind other_kind : KeyType) (by other_by : List ℕ) (d other_dates : Dates)
-      (t other_t : ℕ) →
-      is ≡ true → kind ≡ other_kind → by ≡ other_by → d ≡ other_dates → t ≡ other_t →
-      assembled is kind by d t ≡ Some (standing_so other_kind other_by other_dates other_t)
-  assembled_same is kind other_kind by other_by d other_dates t other_t e1 e2 e3 e4 e5 =
-      ap (λ (b : Bool). assembled b kind by d t) e1
-      ∙ ap (λ (x : KeyType). assembled true x by d t) e2
-      ∙ ap (λ (x : List ℕ). assembled true other_kind x d t) e3
-      ∙ ap (λ (x : Dates). assembled true other_kind other_by x t) e4
-      ∙ ap (λ (x : ℕ). assembled true other_kind other_by other_dates x) e5
-
-some_shown : {X : Type 0} (is : Bool) (x y : X) → Some x ≡ cond is (Some y) None → (is ≡ true) × (x ≡ y)
-some_shown true x y e = (refl, cc)
-some_shown false x y e = cc
+there h k low high = grind arith
 
 -- the key that a history holds is there, and stands so
 pub held_stands : (h : List Request) (k : ℕ) (key : Held) → Some key ≡ held h k
     → (is_there h k ≡ true) × (key ≡ standing h k)
-held_stands h k key e = some_shown (is_there h k) key (standing h k) e
-
-none_made : (c : Command) (k : ℕ) → named c ≡ Some k → made_by c ≡ 0
-none_made c k names = ap count_by (is_named (subject c) k names)
+held_stands h k key e = grind arith
 
 pub count_named : (h : List Request) (q : Request) (k : ℕ) → named q.command ≡ Some k → count (h ++ q ∷ []) ≡ count h
-count_named h q k names =
-    count_grows h q ∙ ap (λ (n : ℕ). count h + n) (none_made q.command k names) ∙ add-zero (count h)
+count_named h q k names = grind (arith, count_grows)
 
 pub held_named : (h : List Request) (q : Request) (k : ℕ) → named q.command ≡ Some k → is_there h k ≡ true →
     Stands (h ++ q ∷ []) k (type h k) (owner_after (owner h k) q.command)
     (row_with_dates_at (dates_after (period h (type h k)) (dates h k) q.moment q.command) q.moment)
 held_named h q k names is =
-    let all = h ++ q ∷ [] in
-    assembled_same (need all k) (custodians all k) (approvals all k) (is_there all k) (type all k) (type h k)
-    (owner all k) (owner_after (owner h k) q.command)
-    (dates all k) (dates_after (period h (type h k)) (dates h k) q.moment q.command) (latest all) q.moment
-    (ap (λ (n : ℕ). nat_le 1 k && nat_le k n) (count_named h q k names) ∙ is)
-    (kind_named h q k names) (owner_named h q k names) (dates_named h q k names) (latest_grows h q)
+    cc (
+      count_named h q k names,
+      kind_named h q k names,
+      owner_named h q k names,
+      dates_named h q k names,
+      latest_grows h q,
+    )
 
 pub held_made : (h : List Request) (q : Request) (r : Registration) → subject q.command ≡ Makes r →
     let key = registered_key (period h) q.moment r in Stands (h ++ q ∷ []) (count h + 1) key.kind key.owner key.row
 held_made h q r makes =
-    let all = h ++ q ∷ [] in
-    let k = count h + 1 in
-    let counted : count all ≡ k = count_grows h q ∙ ap (λ (s : Subject). count h + count_by s) makes in
-    assembled_same (need all k) (custodians all k) (approvals all k) (is_there all k) (type all k) r.kind
-    (owner all k) r.owner
-    (dates all k)
-    (dates_with_defaults (period h r.kind) (given_dates q.moment r.activation r.protect_stop r.deactivation))
-    (latest all) q.moment
-    (there all k (omega arith) (omega (arith, counted)))
-    (kind_made h q r makes)
-    (owner_made h q r makes)
-    (dates_made h q r makes)
-    (latest_grows h q)
+    let counted : count (h ++ q ∷ []) ≡ count h + 1 = count_grows h q ∙ ap (λ s. count h + count_by s) makes in
+    let is = there (h ++ q ∷ []) (count h + 1) (omega arith) (omega (arith, counted)) in
+    cc (is, kind_made h q r makes, owner_made h q r makes, dates_made h q r makes, latest_grows h q)
 
 -- ---- replies
-
--- the reply to a request whose key is this one
-abbrev replied : List Request → Request → Option ℕ → Reply
-replied h q key = record {
-  key = unwrap_or key 0;
-  state = option_map (λ k. state_at (dates (h ++ q ∷ []) k) q.moment) key;
-  moment = q.moment;
-}
 
 reply_of_key : (h : List Request) (q : Request) (k : ℕ) (d : Dates) → key_of (count h) q.command ≡ Some k
     → dates (h ++ q ∷ []) k ≡ d →
     record { key = k; state = Some (row_with_dates_at d q.moment).state; moment = q.moment } ≡ reply h q
-reply_of_key h q k d is same =
-    sym (ap (replied h q) is
-    ∙ ap (λ (e : Dates). record { key = k; state = Some (state_at e q.moment); moment = q.moment }) same)
+reply_of_key h q k d is same = cc
 
 -- ---- periods that stay
 
--- a command about a key sets no period
-sets_none : (c : Command) (s : Subject) → subject c ≡ s → (s ≡ NoKey → ⊥) → (sets : List TypePeriod)
-    → periods_after sets c ≡ sets
-sets_none (SetPeriod kind period) s is keyed sets = absurd (keyed (sym is))
-sets_none c s is keyed sets = refl
-
 periods_made : (h : List Request) (q : Request) (r : Registration) → subject q.command ≡ Makes r
     → all_periods (h ++ q ∷ []) ≡ all_periods h
-periods_made h q r makes =
-    periods_next h q ∙ sets_none q.command (Makes r) makes (λ e. absurd cc) (all_periods h)
+periods_made h q r makes = grind (arith, periods_next)
 
 periods_named : (h : List Request) (q : Request) (k : ℕ) → named q.command ≡ Some k
     → all_periods (h ++ q ∷ []) ≡ all_periods h
-periods_named h q k names =
-    periods_next h q ∙ sets_none q.command (Names k) (is_named (subject q.command) k names) (λ e. absurd cc)
-    (all_periods h)
+periods_named h q k names = grind (arith, periods_next)
 
 -- ---- changes
 
@@ -175,55 +112,28 @@ agrees_made h q r makes =
 
 agrees_named : (h : List Request) (q : Request) (k : ℕ) → named q.command ≡ Some k → is_there h k ≡ true → IsNew h q k →
     Agrees h q (change_of_held_key (period h) k (standing h k) q)
-agrees_named h q k names is new =
-    let replies =
-    reply_of_key h q k (dates_after (period h (type h k)) (dates h k) q.moment q.command)
-    (key_named q.command (count h) k names) (dates_named h q k names) in
-    (replies, (held_named h q k names is, custody_lead h q k names new, periods_named h q k names))
-
-pub change_named : (periods : KeyType → Period) (c : Command) (k : ℕ) (key : Held) (q : Request) → named c ≡ Some k
-    → change_of periods (subject c) (Some key) q ≡ change_of_held_key periods k key q
-change_named periods c k key q names =
-    ap (λ (s : Subject). change_of periods s (Some key) q) (is_named (subject c) k names)
+agrees_named h q k names is new = search (reply_of_key, key_named, dates_named, held_named, custody_lead, periods_named)
 
 pub unknown_named : (c : Command) (k : ℕ) → named c ≡ Some k → key_refusal None c ≡ Some UnknownKey
 unknown_named c k names = ap (λ (key : Option ℕ). cond (is_some key) (Some UnknownKey) None) names
 
 pub new_names : (h : List Request) (q : Request) (k : ℕ) → already_custodian (Some (standing h k)) q.command ≡ None
     → already_approved (Some (standing h k)) q.caller q.command ≡ None → IsNew h q k
-new_names h q k custodian approval = record {
-  custodian = λ name is_added. not_refused _ AlreadyCustodian
-      (ap (already_custodian (Some (standing h k))) (sym is_added) ∙ custodian);
-  approval = λ is_approval. not_refused _ AlreadyApproved
-      (ap (already_approved (Some (standing h k)) q.caller) (sym is_approval) ∙ approval);
-}
+new_names h q k custodian approval = grind arith
 
 agrees_key : (h : List Request) (q : Request) (k : ℕ) (key : Option Held) → named q.command ≡ Some k → key ≡ held h k
     → IsPassed current (latest h) (count h) (period h) key q → Agrees h q (change_of (period h) (Names k) key q)
-agrees_key h q k None names is passed =
-    let refused = unknown_named q.command k names in let known = passed.known in absurd cc
+agrees_key h q k None names is passed = cc
 agrees_key h q k (Some key) names is passed =
     let stands = held_stands h k key is in
-    let same : change_of_held_key (period h) k key q ≡ change_of_held_key (period h) k (standing h k) q =
-    ap (λ (x : Held). change_of_held_key (period h) k x q) stands.1 in
-    let custodian : already_custodian (Some (standing h k)) q.command
-    ≡ None = ap (λ (x : Held). already_custodian (Some x) q.command) (sym stands.1) ∙ passed.new_custodian in
-    let approval : already_approved (Some (standing h k)) q.caller q.command
-    ≡ None = ap (λ (x : Held). already_approved (Some x) q.caller q.command) (sym stands.1) ∙ passed.new_approval in
-    let new = new_names h q k custodian approval in
-    subst (Agrees h q) (sym same) (agrees_named h q k names stands.0 new)
+    let new = new_names h q k (rw stands.1 at passed.new_custodian) (rw stands.1 at passed.new_approval) in
+    rw stands.1 (agrees_named h q k names stands.0 new)
 
 -- a command about no key
 agrees_without : (h : List Request) (q : Request) (c : Command) → q.command ≡ c → subject c ≡ NoKey
     → Agrees h q (change_without_key c)
-agrees_without h q (SetPeriod kind period) is none = (
-  sym (ap (λ (c : Command). replied h q (key_of (count h) c)) is),
-  (nobody_changes h q 0 (ap named is), periods_next h q ∙ ap (periods_after (all_periods h)) is),
-)
-agrees_without h q Advance is none = (
-  sym (ap (λ (c : Command). replied h q (key_of (count h) c)) is),
-  (nobody_changes h q 0 (ap named is), periods_next h q ∙ ap (periods_after (all_periods h)) is),
-)
+agrees_without h q (SetPeriod kind period) is none = (cc, (nobody_changes h q 0 (rw is refl), cc (periods_next h q)))
+agrees_without h q Advance is none = (cc, (nobody_changes h q 0 (rw is refl), cc (periods_next h q)))
 agrees_without h q c is none = absurd cc
 
 agrees_by : (h : List Request) (q : Request) (s : Subject) (key : Option Held) → subject q.command ≡ s
@@ -238,17 +148,11 @@ agrees_by h q NoKey key is view passed = agrees_without h q q.command refl is
 
 pub accepted_agrees : (h : List Request) (q : Request) → judgement h q ≡ None
     → Agrees h q (change_by_request (period h) (named_key h q.command) q)
-accepted_agrees h q accepted =
-    agrees_by h q (subject q.command) (named_key h q.command) refl refl
-    (passes current (latest h) (count h) (period h) (named_key h q.command) q accepted)
+accepted_agrees h q accepted = search (agrees_by, passes)
 
 -- so do as many keys and a change that are these
 pub agrees_as : (h : List Request) (q : Request) (keys : ℕ) (change : Change) → keys ≡ count h
     → change ≡ change_by_request (period h) (named_key h q.command) q → judgement h q ≡ None
     → (reply_to keys q.moment change ≡ reply h q) × LeadsTo h q change
 agrees_as h q keys change counted same accepted =
-    let agrees = accepted_agrees h q accepted in (
-      ap (λ (n : ℕ). reply_to n q.moment change) counted
-          ∙ ap (λ (x : Change). reply_to (count h) q.moment x) same ∙ agrees.0,
-      subst (LeadsTo h q) (sym same) agrees.1,
-    )
+    let agrees = accepted_agrees h q accepted in grind arith

@@ -1,9 +1,8 @@
 -- No more approve of a key's destruction than a key may have custodians.
-use Rattle.std.proofs.Common.{◌≡◌, ℕ, ◌≤◌, suc, Bool, true, false, not, ◌||◌, cond, List, [], ◌∷◌, length, filter}
-use Rattle.std.proofs.Common.{refl, sym, ap, ◌∙◌, arith}
+use Rattle.std.proofs.Common.{◌≡◌, ℕ, ◌≤◌, suc, Bool, true, false, not, List, [], ◌∷◌, length, filter}
+use Rattle.std.proofs.Common.{ap, ◌∙◌, arith}
 use Rattle.std.specs.Str.{bytes_eq}
 use Rattle.std.proofs.lemmas.Slice.Eq.{bytes_eq-Decides}
-use Rattle.std.proofs.lemmas.Bool.{or_left, or_right}
 use Rattle.std.proofs.lemmas.List.Sums.{length-filter, count_by-le-length}
 use Rattle.std.proofs.lemmas.Map.Views.{any-filter_same}
 use Rattle.register_requests.specs.declared.request.Request.{Request}
@@ -28,15 +27,7 @@ is_other name other = not (bytes_eq other name)
 taken_out : (name : List ℕ) (names : List (List ℕ)) → is_among name names ≡ true
     → suc (length (filter (is_other name) names)) ≤ length names
 taken_out name [] there = absurd cc
-taken_out name (other ∷ names) there = by (bytes_eq other name) there (taken_out name names)
-  where
-    rest : List (List ℕ)
-    rest = filter (is_other name) names
-
-    by : (b : Bool) → b || is_among name names ≡ true → (is_among name names ≡ true → suc (length rest) ≤ length names)
-        → suc (length (cond (not b) (other ∷ rest) rest)) ≤ suc (length names)
-    by true there less = omega (arith, length-filter (is_other name) names, count_by-le-length (is_other name) names)
-    by false there less = omega (arith, less there)
+taken_out name (other ∷ names) there = grind (arith, length-filter, count_by-le-length, taken_out name names)
 
 -- another stays
 stays : (name other : List ℕ) (names : List (List ℕ)) → bytes_eq other name ≡ false
@@ -45,27 +36,12 @@ stays name other names apart =
     any-filter_same (λ one. bytes_eq one other) (is_other name) true
     (λ one is. ap (λ (x : List ℕ). not (bytes_eq x name)) ((bytes_eq-Decides one other).0 is) ∙ ap not apart) names
 
--- a name that is among names which this one is not among is another
-another : (name other : List ℕ) (names : List (List ℕ)) → is_among name names ≡ false → is_among other names ≡ true
-    → bytes_eq other name ≡ false
-another name other names none there = by (bytes_eq other name) refl
-  where
-    by : (b : Bool) → bytes_eq other name ≡ b → bytes_eq other name ≡ false
-    by true is =
-        absurd (let f = sym none ∙ ap (λ (x : List ℕ). is_among x names) (sym ((bytes_eq-Decides other name).0 is))
-        ∙ there in cc)
-    by false is = is
-
 -- different names, each of them among others, are no more than those
 no_more : (names others : List (List ℕ)) → AreDifferent names
     → ((name : List ℕ) → is_among name names ≡ true → is_among name others ≡ true) → length names ≤ length others
 no_more [] others apart within = omega arith
 no_more (name ∷ names) others apart within =
-    let itself : bytes_eq name name ≡ true = (bytes_eq-Decides name name).1 refl in
-    let there : is_among name others ≡ true = within name (or_left _ _ itself) in
-    let less = no_more names (filter (is_other name) others) apart.1
-    (λ other is. stays name other others (another name other names apart.0 is) ∙ within other (or_right _ _ is)) in
-    omega (arith, taken_out name others there, less)
+    grind (arith, bytes_eq-Decides, stays, taken_out, no_more names (filter (is_other name) others) apart.1)
 
 -- ---- approvals, in any version
 

@@ -1,24 +1,19 @@
 -- A lawful history has no more keys than the register takes, and no key of it more custodians than its version allows.
-use Rattle.std.proofs.Common.{◌≡◌, ℕ, ◌+◌, ◌≤◌, suc, Bool, true, false, not, ◌&&◌, cond, List, [], ◌∷◌, ◌++◌, length}
-use Rattle.std.proofs.Common.{filter, map, Option, None, Some, refl, sym, ap, subst, ◌∙◌, arith, inl, inr, is_gt}
-use Rattle.std.specs.Prelude.{is_none}
-use Rattle.std.specs.Option.{option_and_then}
-use Rattle.std.specs.Ordering.{nat_cmp}
-use Rattle.std.specs.Cmp.Lexicographic.{slice_cmp}
+use Rattle.std.proofs.Common.{◌≡◌, ℕ, ◌+◌, ◌≤◌, suc, Bool, List, [], ◌∷◌, ◌++◌, length}
+use Rattle.std.proofs.Common.{filter, None, Some, refl, sym, ap, subst, ◌∙◌, arith, inl, inr}
 use Rattle.std.proofs.lemmas.Bool.{leb-false, cases_lt}
 use Rattle.std.proofs.lemmas.List.{length-append}
-use Rattle.lifecycle_core.specs.Reason.{is_compromise}
 use Rattle.register_requests.specs.declared.request.Request.{Request}
 use Rattle.register_requests.specs.declared.version.Version.{Version}
 use Rattle.register_requests.specs.declared.request.Command.{Command}
-use Rattle.register_requests.specs.declared.request.Command.TheVariants.{Register as Registers, Revoke, AddCustodian}
+use Rattle.register_requests.specs.declared.request.Command.TheVariants.{Revoke, AddCustodian}
 use Rattle.register_requests.specs.declared.request.Command.TheVariants.{RemoveCustodian}
-use Rattle.register_core.specs.KeyName.{KeyName, key_name, is_key_name, is_at, names_at}
+use Rattle.register_core.specs.KeyName.{KeyName, names_at}
 use Rattle.register_core.specs.Names.{with_name, sorted_names}
 use Rattle.register_core.specs.History.{latest, count, period, dates}
 use Rattle.register_requests.specs.Within.Subject.{made_by}
 use Rattle.register_core.specs.Effect.{custody_change}
-use Rattle.register_core.specs.Custody.{all_custodians, custodians, held}
+use Rattle.register_core.specs.Custody.{all_custodians, custodians}
 use Rattle.register_core.specs.Verdict.{Accepts, max_keys, limit_refusal, named_key, judgement, judgement_in}
 use Rattle.register_core.specs.Verdict.{verdict_in}
 use Rattle.register_core.specs.CustodyRefusal.{too_many_custodians}
@@ -40,10 +35,10 @@ use Rattle.register_core.proofs.Versions.{lawful_still, still}
 -- ---- keys
 
 room : (keys : ℕ) (c : Command) → limit_refusal keys c ≡ None → keys ≤ max_keys → keys + made_by c ≤ max_keys
-room keys (Registers kind owner activation protect_stop deactivation purpose) free few = omega (arith, leb-false _ _ (not_refused _ _ free))
-room keys c free few = omega (arith, few)
+room keys c free few = grind arith
 
-keys_next : (h : List Request) (q : Request) → IsLawful h → judgement h q ≡ None → count h ≤ max_keys → count (h ++ q ∷ []) ≤ max_keys
+keys_next : (h : List Request) (q : Request) → IsLawful h → judgement h q ≡ None → count h ≤ max_keys → count (h ++ q
+    ∷ []) ≤ max_keys
 keys_next h q lawful accepted few =
     let free = (passes current (latest h) (count h) (period h) (named_key h q.command) q accepted).numbered in
     omega (arith, room (count h) q.command free few, count_grows h q)
@@ -55,40 +50,20 @@ few_keys h lawful = lawful_holds (λ h. count h ≤ max_keys) keys_next (omega a
 
 with_length : (name : List ℕ) (names : List (List ℕ)) → length (with_name name names) ≡ suc (length names)
 with_length name [] = refl
-with_length name (first ∷ others) =
-    elim (is_gt (slice_cmp nat_cmp name first)) as (λ b. length (cond b (first ∷ with_name name others) (name ∷ first ∷ others)) ≡ suc (suc (length others))) [
-      | true ↦ ap suc (with_length name others)
-      | false ↦ refl
-    ]
+with_length name (first ∷ others) = grind (arith, with_length name others)
 
 pub sorted_length : (names : List (List ℕ)) → length (sorted_names names) ≡ length names
 sorted_length [] = refl
 sorted_length (name ∷ others) = with_length name (sorted_names others) ∙ ap suc (sorted_length others)
 
-fewer : (k : ℕ) (p : KeyName → Bool) (entries : List KeyName) → length (names_at k (filter p entries)) ≤ length (names_at k entries)
+fewer : (k : ℕ) (p : KeyName → Bool) (entries : List KeyName) → length (names_at k (filter p entries)) ≤ length
+    (names_at k entries)
 fewer k p [] = omega arith
-fewer k p (entry ∷ entries) = by (p entry) (is_at k entry) refl (fewer k p entries)
-  where
-    rest : List KeyName
-    rest = filter p entries
+fewer k p (entry ∷ entries) = grind (arith, fewer k p entries)
 
-    by : (b here : Bool) → is_at k entry ≡ here → length (names_at k rest) ≤ length (names_at k entries)
-        → length (names_at k (cond b (entry ∷ rest) rest)) ≤ length (map (λ (x : KeyName). x.name) (cond here (entry ∷ filter (is_at k) entries) (filter (is_at k) entries)))
-    by true true at less = omega (arith, less, ap (λ (b : Bool). length (map (λ (x : KeyName). x.name) (cond b (entry ∷ filter (is_at k) rest) (filter (is_at k) rest)))) at)
-    by true false at less = omega (arith, less, ap (λ (b : Bool). length (map (λ (x : KeyName). x.name) (cond b (entry ∷ filter (is_at k) rest) (filter (is_at k) rest)))) at)
-    by false true at less = omega (arith, less)
-    by false false at less = less
-
-one_at_most : (k : ℕ) (entry : KeyName) → length (names_at k (entry ∷ [])) ≤ 1
-one_at_most k entry = by (is_at k entry)
-  where
-    by : (b : Bool) → length (map (λ (x : KeyName). x.name) (cond b (entry ∷ []) [])) ≤ 1
-    by true = omega arith
-    by false = omega arith
-
-one_more : (k : ℕ) (entries : List KeyName) (entry : KeyName) → length (names_at k (entries ++ entry ∷ [])) ≤ length (names_at k entries) + 1
-one_more k entries entry =
-    omega (arith, ap length (names_joined k entries (entry ∷ [])), length-append (names_at k entries) (names_at k (entry ∷ [])), one_at_most k entry)
+one_more : (k : ℕ) (entries : List KeyName) (entry : KeyName) → length (names_at k (entries ++ entry ∷ [])) ≤ length
+    (names_at k entries) + 1
+one_more k entries entry = grind (arith, names_joined, length-append)
 
 -- ---- custodians, in any version
 
@@ -99,24 +74,21 @@ module _ (version : Version) where
   few_after : (h : List Request) (q : Request) (k : ℕ) (c : Command)
       → too_many_custodians version (Some (standing h k)) c ≡ None → IsFew k (all_custodians h)
       → IsFew k (custodians_by k (custody_change (dates h k) q.caller c) (all_custodians h))
-  few_after h q k (Revoke key reason occurrence) free few =
-      subst (IsFew k) (sym (kept_custodians k (is_compromise reason && is_none (dates h k).destroy) (all_custodians h))) few
+  few_after h q k (Revoke key reason occurrence) free few = grind (arith, kept_custodians)
   few_after h q k (AddCustodian key name) free few =
       let space = leb-false _ _ (not_refused _ _ free) in
-      omega (arith, space, sorted_length (names_at k (all_custodians h)), one_more k (all_custodians h) (key_name k name))
-  few_after h q k (RemoveCustodian key name) free few =
-      omega (arith, few, fewer k (λ entry. not (is_key_name k name entry)) (all_custodians h))
+      grind (arith, sorted_length, one_more)
+  few_after h q k (RemoveCustodian key name) free few = grind (arith, fewer)
   few_after h q k c free few = few
 
   -- there is room on the key that the request names
   on_room : (h : List Request) (q : Request) (k : ℕ) → IsOn h q k → judgement_in version h q ≡ None
       → too_many_custodians version (Some (standing h k)) q.command ≡ None
   on_room h q k on passed =
-      let key : named_key h q.command ≡ Some (standing h k) =
-      ap (λ (n : Option ℕ). option_and_then (held h) n) on.names
-      ∙ ap (λ b. cond b (Some (standing h k)) None) (there h k on.low on.high) in
-      subst (λ o. too_many_custodians version o q.command ≡ None) key
-      (passes version (latest h) (count h) (period h) (named_key h q.command) q passed).room
+      cc (
+        there h k on.low on.high,
+        (passes version (latest h) (count h) (period h) (named_key h q.command) q passed).room,
+      )
 
   abbrev AllFew : List Request → Type 0
   AllFew h = (k : ℕ) → k ≤ count h → IsFew k (all_custodians h)

@@ -1,61 +1,48 @@
 -- What is kept of a history with one request more, and of a lawful one.
-use Rattle.std.proofs.Common.{◌≡◌, ◌≤◌, ◌<◌, ℕ, ◌+◌, Bool, true, false, ◌&&◌, cond, List, [], ◌∷◌, ◌++◌, length}
-use Rattle.std.proofs.Common.{get_or, take, drop, slice_get, Option, None, Some, refl, sym, ap, subst, ◌∙◌, arith}
+use Rattle.std.proofs.Common.{◌≡◌, ◌≤◌, ◌<◌, ℕ, ◌+◌, true, false, ◌&&◌, cond, List, [], ◌∷◌, ◌++◌, length}
+use Rattle.std.proofs.Common.{get_or, take, drop, slice_get, Option, None, Some, refl, sym, ap, arith}
 use Rattle.std.proofs.Common.{append_assoc}
 use Rattle.std.specs.List.{AllByRecursion}
 use Rattle.std.specs.Prelude.{nat_eq, unwrap_or}
 use Rattle.std.specs.Option.{option_map}
 use Rattle.std.specs.Str.{bytes_eq}
-use Rattle.std.proofs.lemmas.Bool.{lt-ltb, and_parts}
 use Rattle.std.proofs.lemmas.Bool.Decides.{Decides-eqb}
 use Rattle.std.proofs.lemmas.List.{append-nil, length-append, take-append-drop}
 use Rattle.std.proofs.lemmas.List.Elements.{filter-append}
 use Rattle.std.proofs.lemmas.Slice.Eq.{bytes_eq-Decides}
-use Rattle.moment_core.specs.Moment.{IsMoment}
 use Rattle.lifecycle_core.specs.declared.state.State.{State}
-use Rattle.lifecycle_core.specs.State.{state_at}
 use Rattle.register_core.specs.declared.change.Change.{Change}
-use Rattle.register_core.specs.declared.change.Change.TheVariants.{Made, Nothing}
-use Rattle.register_core.specs.declared.change.Change.TheVariants as change
 use Rattle.register_core.specs.declared.kept_reply.KeptReply.{KeptReply}
 use Rattle.period_core.specs.declared.key_type.KeyType.{KeyType}
 use Rattle.period_core.specs.Period.{Period}
 use Rattle.register_requests.specs.declared.request.Request.{Request}
 use Rattle.register_requests.specs.declared.request.Command.{Command}
-use Rattle.register_requests.specs.declared.request.Command.TheVariants.{SetPeriod}
 use Rattle.register_core.specs.declared.reply.Reply.{Reply}
 use Rattle.register_core.specs.declared.view.Held.{Held}
 use Rattle.register_core.specs.declared.view.View.{View}
 use Rattle.register_core.specs.Decision.{change_of, change_by_request, change_without_key, reply_to, reply_of_view}
 use Rattle.register_core.specs.declared.reply.Refusal.TheVariants.{RequestReused}
 use Rattle.register_core.specs.Fold.{IsLawful, history}
-use Rattle.register_core.specs.History.{count, dates}
 use Rattle.register_core.specs.KeptReply.{reply, kept_with, kept_of, kept_from, kept, is_under, kept_under}
 use Rattle.register_core.specs.KeptReply.{fits_by, IsKeptReply}
 use Rattle.register_core.specs.Laws.{IsAccepted, IsKeptIn, sent_under}
-use Rattle.register_requests.specs.Request.{IsRequest, IsKeyNumber, max_key_number, command_text}
-use Rattle.register_requests.specs.Subject.{Subject, Makes, Names, NoKey, subject, named, named_by, key_by}
+use Rattle.register_requests.specs.Request.{IsRequest, max_key_number}
+use Rattle.register_requests.specs.Subject.{Subject, Makes, Names, NoKey, named_by, key_by}
 use Rattle.register_requests.specs.Within.Subject.{count_by}
-use Rattle.register_requests.specs.Version.{current}
-use Rattle.register_core.specs.Verdict.{Accepts, Repeats, Refuses, max_keys, always, judge, judge_view, verdict}
+use Rattle.register_core.specs.Verdict.{Accepts, Repeats, Refuses, max_keys, always, judge_view, verdict}
 use Rattle.register_core.specs.Verdict.{is_accepted, is_same_command, repeated}
-use Rattle.register_core.proofs.Decisions.{unknown_named}
 use Rattle.register_core.proofs.FewLaws.{few_keys}
 use Rattle.register_core.proofs.Histories.{count_grows, latest_grows, next_prefix}
 use Rattle.register_core.proofs.Lawful.{holds_of_each, all_more, all_but_last, all_weaker}
-use Rattle.register_core.proofs.OnKey.{on_key, not_after}
-use Rattle.register_requests.proofs.Ranges.{named_in_range}
-use Rattle.register_core.proofs.Refusals.{passes}
+use Rattle.register_core.proofs.OnKey.{not_after}
 use Rattle.register_core.proofs.Verdicts.{is_new, judged, verdict_again}
+use Rattle.std.proofs.lemmas.Bool.Decides.{nat_tests}
 
 -- what is kept of later requests stands after what is kept of those before
 pub kept_append : (before h later : List Request)
     → kept_from before (h ++ later) ≡ kept_from before h ++ kept_from (before ++ h) later
 kept_append before [] later = ap (λ (l : List Request). kept_from l later) (sym (append-nil before))
-kept_append before (q ∷ h) later =
-    ap (λ (l : List KeptReply). kept_of before q ∷ l)
-    (kept_append (before ++ q ∷ []) h later
-    ∙ ap (λ (l : List Request). kept_from (before ++ q ∷ []) h ++ kept_from l later) (append_assoc before (q ∷ []) h))
+kept_append before (q ∷ h) later = simp (append_assoc, kept_append (before ++ q ∷ []) h later)
 
 pub kept_grows : (h : List Request) (q : Request) → kept (h ++ q ∷ []) ≡ kept h ++ kept_of h q ∷ []
 kept_grows h q = kept_append [] h (q ∷ [])
@@ -66,23 +53,12 @@ kept_grows h q = kept_append [] h (q ∷ [])
 kept_for_each : (caller : List ℕ) (number : ℕ) (before h : List Request)
     → length (kept_under caller number (kept_from before h)) ≡ length (sent_under caller number h)
 kept_for_each caller number before [] = refl
-kept_for_each caller number before (q ∷ h) =
-    by (bytes_eq q.caller caller && nat_eq q.number number) (kept_for_each caller number (before ++ q ∷ []) h)
-  where
-    by : (b : Bool) → length (kept_under caller number (kept_from (before ++ q ∷ []) h))
-        ≡ length (sent_under caller number h)
-        → length (cond b (kept_of before q ∷ kept_under caller number (kept_from (before ++ q ∷ []) h))
-        (kept_under caller number (kept_from (before ++ q ∷ []) h)))
-        ≡ length (cond b (q ∷ sent_under caller number h) (sent_under caller number h))
-    by true same = omega (arith, same)
-    by false same = same
+kept_for_each caller number before (q ∷ h) = grind (arith, kept_for_each caller number (before ++ q ∷ []) h)
 
 -- what is under a caller and a number has these
 own_under : (caller : List ℕ) (number : ℕ) (q : Request) → (bytes_eq q.caller caller && nat_eq q.number number) ≡ true
     → (q.caller ≡ caller) × (q.number ≡ number)
-own_under caller number q e =
-    let both = and_parts (bytes_eq q.caller caller) (nat_eq q.number number) e in
-    ((bytes_eq-Decides q.caller caller).0 both.0, (Decides-eqb q.number number).0 both.1)
+own_under caller number q e = grind (arith, bytes_eq-Decides)
 
 abbrev OneUnder : List Request → Type 0
 OneUnder h = (caller : List ℕ) (number : ℕ) → length (kept_under caller number (kept h)) ≤ 1
@@ -90,32 +66,10 @@ OneUnder h = (caller : List ℕ) (number : ℕ) → length (kept_under caller nu
 under_grows : (caller : List ℕ) (number : ℕ) (h : List Request) (q : Request)
     → kept_under caller number (kept (h ++ q ∷ [])) ≡ kept_under caller number (kept h)
     ++ kept_under caller number (kept_of h q ∷ [])
-under_grows caller number h q =
-    ap (kept_under caller number) (kept_grows h q) ∙ filter-append (is_under caller number) (kept h) (kept_of h q ∷ [])
+under_grows caller number h q = simp (kept_grows, filter-append)
 
 one_next : (h : List Request) (q : Request) → IsAccepted h q → OneUnder h → OneUnder (h ++ q ∷ [])
-one_next h q is one caller number = by (is_under caller number (kept_of h q)) refl
-  where
-    grown : length (kept_under caller number (kept (h ++ q ∷ [])))
-        ≡ length (kept_under caller number (kept h)) + length (kept_under caller number (kept_of h q ∷ []))
-    grown =
-        ap length (under_grows caller number h q)
-        ∙ length-append (kept_under caller number (kept h)) (kept_under caller number (kept_of h q ∷ []))
-
-    by : (b : Bool) → is_under caller number (kept_of h q) ≡ b
-        → length (kept_under caller number (kept (h ++ q ∷ []))) ≤ 1
-    by true e =
-        let own = own_under caller number q e in
-        let none : length (kept_under caller number (kept h)) ≡ 0 =
-        ap (λ (c : List ℕ). length (kept_under c number (kept h))) (sym own.0)
-        ∙ ap (λ (n : ℕ). length (kept_under q.caller n (kept h))) (sym own.1) ∙ ap length (is_new h q is.accepted) in
-        let last : length (kept_under caller number (kept_of h q ∷ []))
-        ≡ 1 = ap (λ (b : Bool). length (cond b (kept_of h q ∷ []) [])) e in
-        omega (arith, grown, none, last)
-    by false e =
-        let last : length (kept_under caller number (kept_of h q ∷ []))
-        ≡ 0 = ap (λ (b : Bool). length (cond b (kept_of h q ∷ []) [])) e in
-        omega (arith, grown, one caller number, last)
+one_next h q is one caller number = grind (arith, under_grows, length-append, own_under)
 
 pub one_kept : (h : List Request) → IsLawful h → OneUnder h
 one_kept h lawful = holds_of_each OneUnder one_next (λ caller number. omega arith) h lawful
@@ -132,28 +86,19 @@ history_extends : (items : List (Option Request)) (h : List Request)
 history_extends [] h = ([], sym (append-nil h))
 history_extends (None ∷ items) h = history_extends items h
 history_extends (Some q ∷ items) h =
-    by (is_accepted (verdict h q)) (history_extends items (h ++ q ∷ [])) (history_extends items h)
-  where
-    by : (b : Bool) → (later : List Request) × (history (h ++ q ∷ []) items ≡ (h ++ q ∷ []) ++ later)
-        → (later : List Request) × (history h items ≡ h ++ later)
-        → (later : List Request) × (history (cond b (h ++ q ∷ []) h) items ≡ h ++ later)
-    by true more same = (q ∷ more.0, more.1 ∙ append_assoc h (q ∷ []) more.0)
-    by false more same = same
+    elim (is_accepted (verdict h q)) as (λ b. (later : List Request) × (history (cond b (h ++ q ∷ []) h) items ≡ h ++
+    later)) [
+      | true ↦
+          grind (arith, append_assoc, history_extends items (h ++ q ∷ []))
+      | false ↦ history_extends items h
+    ]
 
 -- what is kept of a request is the first under its caller and number, where nothing is before it
 pub first_at : (caller : List ℕ) (number : ℕ) (prefix : List Request) (q : Request) (later : List Request)
     → kept_under caller number (kept prefix) ≡ [] → is_under caller number (kept_of prefix q) ≡ true
     → kept_under caller number (kept ((prefix ++ q ∷ []) ++ later))
     ≡ kept_of prefix q ∷ kept_under caller number (kept_from (prefix ++ q ∷ []) later)
-first_at caller number prefix q later none own =
-    let rest = kept_from (prefix ++ q ∷ []) later in
-    ap (kept_under caller number) (kept_append [] (prefix ++ q ∷ []) later
-    ∙ ap (λ (l : List KeptReply). l ++ rest) (kept_grows prefix q))
-    ∙ filter-append (is_under caller number) (kept prefix ++ kept_of prefix q ∷ []) rest
-    ∙ ap (λ (l : List KeptReply). l ++ kept_under caller number rest)
-    (filter-append (is_under caller number) (kept prefix) (kept_of prefix q ∷ [])
-    ∙ ap (λ (l : List KeptReply). l ++ kept_under caller number (kept_of prefix q ∷ [])) none
-    ∙ ap (λ (b : Bool). cond b (kept_of prefix q ∷ []) []) own)
+first_at caller number prefix q later none own = grind (arith, kept_append, filter-append)
 
 -- a search through a history, from its first request on, finds it
 pub first_found : (caller : List ℕ) (number : ℕ) (h : List Request) (i : ℕ) (q : Request) (found : KeptReply)
@@ -162,44 +107,28 @@ pub first_found : (caller : List ℕ) (number : ℕ) (h : List Request) (i : ℕ
     → Some found ≡ slice_get (kept_under caller number (kept h)) 0
 first_found caller number h i q found lt is none own here =
     let later = drop (i + 1) h in
-    let whole : h ≡ (take i h ++ q ∷ []) ++ later = sym (take-append-drop (i + 1) h)
-    ∙ ap (λ (prefix : List Request). prefix ++ later) (next_prefix h i q lt is) in
-    ap Some here ∙ sym
-    (ap (λ (l : List KeptReply). slice_get l 0) (ap (λ (g : List Request). kept_under caller number (kept g)) whole
-    ∙ first_at caller number (take i h) q later none (own (take i h))))
+    let whole : h ≡ (take i h ++ q ∷ []) ++ later = cc (take-append-drop (i + 1) h, next_prefix h i q lt is) in
+    cc (here, whole, first_at caller number (take i h) q later none (own (take i h)))
 
 pub none_yet : (caller : List ℕ) (number : ℕ) (h : List Request) (i : ℕ) (q : Request) → i < length h
     → q ≡ get_or h i q → kept_under caller number (kept (take i h)) ≡ []
     → ((before : List Request) → is_under caller number (kept_of before q) ≡ false)
     → kept_under caller number (kept (take (i + 1) h)) ≡ []
 none_yet caller number h i q lt is none other =
-    ap (λ (g : List Request). kept_under caller number (kept g)) (next_prefix h i q lt is)
-    ∙ under_grows caller number (take i h) q
-    ∙ ap (λ (l : List KeptReply). l ++ kept_under caller number (kept_of (take i h) q ∷ [])) none
-    ∙ ap (λ (b : Bool). cond b (kept_of (take i h) q ∷ []) []) (other (take i h))
+    cc (next_prefix h i q lt is, under_grows caller number (take i h) q, none, other (take i h))
 
 -- so a request that is accepted after some repeats its reply after those with it, and whatever later ones
 pub repeats_after : (h : List Request) (q : Request) (later : List Request) → verdict h q ≡ Accepts
     → verdict ((h ++ q ∷ []) ++ later) q ≡ Repeats (reply h q)
-repeats_after h q later accepted =
-    let own : is_under q.caller q.number (kept_of h q)
-    ≡ true = rw ((bytes_eq-Decides q.caller q.caller).1 refl, (Decides-eqb q.number q.number).1 refl) in
-    let same : is_same_command q.command q.command
-    ≡ true = (bytes_eq-Decides (command_text q.command) (command_text q.command)).1 refl in
-    verdict_again ((h ++ q ∷ []) ++ later) q (kept_of h q) _
-    (first_at q.caller q.number h q later (is_new h q accepted) own)
-    ∙ ap (λ (b : Bool). cond b (Repeats (reply h q)) (Refuses RequestReused)) same
+repeats_after h q later accepted = grind (arith, bytes_eq-Decides, Decides-eqb, first_at, is_new)
 
 -- so it is of an accepted request, whatever comes later
 first_under : (h : List Request) (q : Request) → IsAccepted h q → (items : List (Option Request))
     → (more : List KeptReply) × (kept_under q.caller q.number (kept (history (h ++ q ∷ []) items)) ≡ kept_of h q ∷ more)
 first_under h q is items =
-    let extends = history_extends items (h ++ q ∷ []) in
-    let own : is_under q.caller q.number (kept_of h q)
-    ≡ true = rw ((bytes_eq-Decides q.caller q.caller).1 refl, (Decides-eqb q.number q.number).1 refl) in (
-      _,
-      ap (λ (g : List Request). kept_under q.caller q.number (kept g)) extends.1
-          ∙ first_at q.caller q.number h q extends.0 (is_new h q is.accepted) own,
+    let extends = history_extends items (h ++ q ∷ []) in (
+      kept_under q.caller q.number (kept_from (h ++ q ∷ []) extends.0),
+      grind (arith, bytes_eq-Decides, Decides-eqb, first_at, is_new),
     )
 
 -- it decides on a request of the same caller and number
@@ -212,17 +141,12 @@ decided_by_first h q is items t c =
 
 pub repeats : (h : List Request) (q : Request) → IsAccepted h q → (items : List (Option Request)) (t : ℕ)
     → verdict (history (h ++ q ∷ []) items) (record q { moment = t }) ≡ Repeats (reply h q)
-repeats h q is items t =
-    let same : is_same_command q.command q.command
-    ≡ true = (bytes_eq-Decides (command_text q.command) (command_text q.command)).1 refl in
-    decided_by_first h q is items t q.command
-    ∙ ap (λ (b : Bool). cond b (Repeats (reply h q)) (Refuses RequestReused)) same
+repeats h q is items t = grind (arith, bytes_eq-Decides, decided_by_first)
 
 pub reuses : (h : List Request) (q : Request) → IsAccepted h q → (items : List (Option Request)) (t : ℕ) (c : Command)
     → is_same_command q.command c ≡ false
     → verdict (history (h ++ q ∷ []) items) (record q { moment = t; command = c }) ≡ Refuses RequestReused
-reuses h q is items t c other =
-    decided_by_first h q is items t c ∙ ap (λ (b : Bool). cond b (Repeats (reply h q)) (Refuses RequestReused)) other
+reuses h q is items t c other = grind (arith, decided_by_first)
 
 -- ---- ranges
 
@@ -236,48 +160,20 @@ reply_about keys state_of t s = record {
 
 is_whole_about : (keys : ℕ) (state_of : ℕ → State) (t : ℕ) (s : Subject)
     → ((k : ℕ) → named_by s ≡ Some k → (1 ≤ k) × (k ≤ keys)) → fits_by s (reply_about keys state_of t s) ≡ true
-is_whole_about keys state_of t (Makes r) there = ap (λ (b : Bool). b && true) (lt-ltb 0 (keys + 1) (omega arith))
-is_whole_about keys state_of t (Names k) there =
-    ap (λ (b : Bool). b && true) (lt-ltb 0 k (let at = there k refl in omega (arith, at.0)))
-is_whole_about keys state_of t NoKey there = refl
+is_whole_about keys state_of t s there = grind arith
 
 key_about : (keys : ℕ) (s : Subject) → ((k : ℕ) → named_by s ≡ Some k → (1 ≤ k) × (k ≤ keys))
     → unwrap_or (key_by keys s) 0 ≤ keys + count_by s
-key_about keys (Makes r) there = omega arith
-key_about keys (Names k) there = let at = there k refl in omega (arith, at.1)
-key_about keys NoKey there = omega arith
+key_about keys s there = grind arith
 
 pub kept_here : (h : List Request) (q : Request) → IsAccepted h q → IsRequest q → IsLawful (h ++ q ∷ [])
     → IsKeptIn (h ++ q ∷ []) (kept_of h q)
 kept_here h q is request lawful =
-    let there : (k : ℕ) → named q.command ≡ Some k
-    → (1 ≤ k) × (k ≤ count h) = λ k names. let on = on_key h q k (judged h q is.accepted) names in (
-      on.low,
-      on.high,
-    ) in
-    let key : (reply h q).key
-    ≤ count (h ++ q ∷ []) = omega (arith, key_about (count h) (subject q.command) there, count_grows h q) in
-    record {
-      in_range = record {
-        caller = request.caller;
-        number = request.number;
-        command = request.command;
-        key = omega (arith, key, few_keys (h ++ q ∷ []) lawful);
-        moment = request.moment;
-        whole = is_whole_about (count h) (λ k. state_at (dates (h ++ q ∷ []) k) q.moment) q.moment (subject q.command)
-            there;
-      };
-      moment = omega (arith, latest_grows h q);
-      key = key;
-    }
+    grind (arith, nat_tests, judged, key_about, count_grows, few_keys, is_whole_about, latest_grows)
 
 kept_longer : (h : List Request) (q : Request) → IsAccepted h q → (k : KeptReply) → IsKeptIn h k
     → IsKeptIn (h ++ q ∷ []) k
-kept_longer h q is k within = record {
-  in_range = within.in_range;
-  moment = omega (arith, within.moment, not_after h q (judged h q is.accepted), latest_grows h q);
-  key = omega (arith, within.key, count_grows h q);
-}
+kept_longer h q is k within = grind (arith, not_after, judged, latest_grows, count_grows)
 
 abbrev AllKept : List Request → Type 0
 AllKept h = IsLawful h → AllByRecursion (IsKeptIn h) (kept h)
@@ -286,29 +182,20 @@ all_next : (h : List Request) (q : Request) → IsAccepted h q → AllKept h →
 all_next h q is before lawful =
     let request = (all_but_last IsRequest h q lawful.in_range).1 in
     let those = all_weaker (IsKeptIn h) (IsKeptIn (h ++ q ∷ [])) (kept_longer h q is) (kept h) (before is.lawful) in
-    subst (AllByRecursion (IsKeptIn (h ++ q ∷ []))) (sym (kept_grows h q))
-    (all_more (IsKeptIn (h ++ q ∷ [])) (kept h) (kept_of h q) those (kept_here h q is request lawful))
+    grind (arith, kept_grows, all_more, kept_here)
 
 pub all_kept : (h : List Request) → IsLawful h → AllByRecursion (IsKeptIn h) (kept h)
 all_kept h lawful = holds_of_each AllKept all_next (λ lawful. tt) h lawful lawful
 
 -- ---- the reply of a decision
 
-without_whole : (keys t : ℕ) (c : Command) → fits_by NoKey (reply_to keys t (change_without_key c)) ≡ true
-without_whole keys t (SetPeriod kind period) = refl
-without_whole keys t c = refl
-
 without_key : (keys t : ℕ) (c : Command) → (reply_to keys t (change_without_key c)).key ≡ 0
-without_key keys t (SetPeriod kind period) = refl
-without_key keys t c = refl
+without_key keys t c = grind arith
 
 whole_decided : (keys t : ℕ) (ps : KeyType → Period) (key : Option Held) (q : Request) (s : Subject)
     → ((k : ℕ) → named_by s ≡ Some k → 1 ≤ k) → (key ≡ None → named_by s ≡ None)
     → fits_by s (reply_to keys t (change_of ps s key q)) ≡ true
-whole_decided keys t ps key q (Makes r) low known = ap (λ (b : Bool). b && true) (lt-ltb 0 (keys + 1) (omega arith))
-whole_decided keys t ps (Some held) q (Names k) low known = ap (λ (b : Bool). b && true) (lt-ltb 0 k (low k refl))
-whole_decided keys t ps None q (Names k) low known = absurd (let none = known refl in cc)
-whole_decided keys t ps key q NoKey low known = without_whole keys t q.command
+whole_decided keys t ps key q s low known = grind arith
 
 key_decided : (keys t : ℕ) (ps : KeyType → Period) (key : Option Held) (q : Request) (s : Subject) → keys ≤ max_keys
     → ((k : ℕ) → named_by s ≡ Some k → k ≤ max_key_number)
@@ -319,42 +206,12 @@ key_decided keys t ps None q (Names k) few high = omega arith
 key_decided keys t ps key q NoKey few high = omega (arith, without_key keys t q.command)
 
 moment_decided : (keys t : ℕ) (change : Change) → (reply_to keys t change).moment ≡ t
-moment_decided keys t (Made key) = refl
-moment_decided keys t (change.Held key owner row custody) = refl
-moment_decided keys t (change.PeriodSet kind period) = refl
-moment_decided keys t Nothing = refl
-
--- an accepted request names a key that is there
-key_known : (view : View) (q : Request) → judge_view view q ≡ None → view.key ≡ None → named q.command ≡ None
-key_known view q accepted none = by (named q.command) refl
-  where
-    by : (n : Option ℕ) → named q.command ≡ n → n ≡ None
-    by None is = refl
-    by (Some k) is =
-        let known = (passes current view.latest view.keys (always view.period) None q
-        (ap (λ (key : Option Held). judge view.latest view.keys (always view.period) key q) (sym none)
-        ∙ accepted)).known in
-        let missing = unknown_named q.command k is in
-        absurd cc
+moment_decided keys t change = grind arith
 
 -- what is kept of a request that is accepted by a decision is in its ranges, whatever the decision rests on
 pub decided_in_range : (view : View) (q : Request) → IsRequest q → view.keys ≤ max_keys → judge_view view q ≡ None
     → IsKeptReply (kept_with q (reply_of_view view q))
-decided_in_range view q request few accepted =
-    let number : (k : ℕ) → named q.command ≡ Some k
-    → IsKeyNumber k = λ k names. named_in_range q.command k request.command names in
-    record {
-      caller = request.caller;
-      number = request.number;
-      command = request.command;
-      key = key_decided view.keys q.moment (always view.period) view.key q (subject q.command) few
-          (λ k names. (number k names).1);
-      moment = subst IsMoment
-          (sym (moment_decided view.keys q.moment (change_by_request (always view.period) view.key q)))
-          request.moment;
-      whole = whole_decided view.keys q.moment (always view.period) view.key q (subject q.command)
-          (λ k names. (number k names).0) (key_known view q accepted);
-    }
+decided_in_range view q request few accepted = grind (arith, key_decided, moment_decided, whole_decided)
 
 -- its reply is of the request's moment
 pub decided_at : (view : View) (q : Request) → (reply_of_view view q).moment ≡ q.moment

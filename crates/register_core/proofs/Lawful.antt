@@ -1,6 +1,6 @@
 -- What holds of the empty history and stays with each accepted request holds of every lawful history.
 use Rattle.std.proofs.Common.{◌≡◌, ◌+◌, ◌≤◌, Bool, true, false, cond, List, [], ◌∷◌, ◌++◌, length, None}
-use Rattle.std.proofs.Common.{Some, refl, sym, ap, subst, ◌∙◌, append_assoc, arith, ◌⊎◌, inl, inr}
+use Rattle.std.proofs.Common.{Some, refl, sym, ap, subst, ◌∙◌, append_assoc, arith}
 use Rattle.std.proofs.lemmas.List.{append-nil, length-append, map-append}
 use Rattle.std.proofs.lemmas.List.Sums.{fold-append}
 use Rattle.std.specs.List.{AllByRecursion}
@@ -8,7 +8,7 @@ use Rattle.register_requests.specs.declared.request.Request.{Request}
 use Rattle.register_requests.specs.Request.{IsRequest}
 use Rattle.register_requests.specs.declared.version.Version.{Version}
 use Rattle.register_requests.specs.Version.{current}
-use Rattle.register_core.specs.Verdict.{Verdict, Accepts, Repeats, Refuses, verdict, verdict_in, judgement, is_accepted}
+use Rattle.register_core.specs.Verdict.{Verdict, Accepts, verdict, verdict_in, judgement, is_accepted}
 use Rattle.register_core.proofs.Verdicts.{judged}
 use Rattle.register_core.specs.Fold.{history_after, history_after_in, history_in, items, IsLawful, IsLawfulIn}
 use Rattle.register_core.specs.Laws.{IsAccepted}
@@ -30,14 +30,8 @@ pub all_weaker : {X : Type 0} (P Q : X → Type 0) → ((x : X) → P x → Q x)
 all_weaker P Q weaker [] all = tt
 all_weaker P Q weaker (x ∷ xs) all = (weaker x all.0, all_weaker P Q weaker xs all.1)
 
-either : (b : Bool) → (b ≡ true) ⊎ (b ≡ false)
-either true = inl refl
-either false = inr refl
-
 from_check : (v : Verdict) → is_accepted v ≡ true → v ≡ Accepts
-from_check Accepts e = refl
-from_check (Repeats first) e = absurd cc
-from_check (Refuses refusal) e = absurd cc
+from_check v e = grind arith
 
 -- ---- in any version
 
@@ -45,24 +39,19 @@ module _ (version : Version) where
   lawful_grows : (h : List Request) (q : Request) → IsLawfulIn version h
       → history_in version [] (items (h ++ q ∷ [])) ≡ history_after_in version h (Some q)
   lawful_grows h q lawful =
-      ap (history_in version []) (map-append (λ (p : Request). Some p) h (q ∷ []))
-      ∙ fold-append (history_after_in version) [] (items h) (Some q ∷ [])
-      ∙ ap (λ (g : List Request). history_after_in version g (Some q)) lawful.accepted
+      cc (
+        map-append (λ (p : Request). Some p) h (q ∷ []),
+        fold-append (history_after_in version) [] (items h) (Some q ∷ []),
+      )
 
   pub lawful_after_in : (h : List Request) (q : Request) → IsRequest q → IsLawfulIn version h
       → IsLawfulIn version (history_after_in version h (Some q))
   lawful_after_in h q request lawful =
-      let grown = lawful_grows h q lawful in
-      elim (either (is_accepted (verdict_in version h q))) [
-        | inl accepted ↦
-            let same : history_after_in version h (Some q)
-            ≡ h ++ q ∷ [] = ap (λ (b : Bool). cond b (h ++ q ∷ []) h) accepted in
-            subst (IsLawfulIn version) (sym same)
-            (record { in_range = all_more IsRequest h q lawful.in_range request; accepted = grown ∙ same })
-        | inr refused ↦
-            let same : history_after_in version h (Some q) ≡ h = ap (λ (b : Bool). cond b (h ++ q ∷ []) h) refused in
-            subst (IsLawfulIn version) (sym same) lawful
-      ]
+      (elim (is_accepted (verdict_in version h q)) as (λ b. history_in version [] (items (h ++ q ∷ []))
+      ≡ cond b (h ++ q ∷ []) h → IsLawfulIn version (cond b (h ++ q ∷ []) h)) [
+        | true ↦ λ grown. record { in_range = all_more IsRequest h q lawful.in_range request; accepted = grown }
+        | false ↦ λ _. lawful
+      ]) (lawful_grows h q lawful)
 
   -- the history with an accepted request is lawful
   pub lawful_with_in : (h : List Request) (q : Request) → IsRequest q → IsLawfulIn version h

@@ -1,18 +1,15 @@
 -- Each need that is set is that of a key which is there.
-use Rattle.std.proofs.Common.{◌≡◌, ◌==◌, ℕ, ◌≤◌, Bool, true, false, not, cond, List, [], ◌∷◌, ◌++◌, filter, None}
-use Rattle.std.proofs.Common.{refl, sym, ap, subst, arith}
+use Rattle.std.proofs.Common.{◌≡◌, ℕ, ◌≤◌, Bool, List, [], ◌∷◌, ◌++◌, filter, None}
+use Rattle.std.proofs.Common.{arith}
 use Rattle.std.specs.List.{AllByRecursion}
 use Rattle.register_requests.specs.declared.request.Request.{Request}
 use Rattle.register_requests.specs.declared.request.Command.{Command}
-use Rattle.register_requests.specs.declared.request.Command.TheVariants.{SetQuorum}
 use Rattle.register_core.specs.Fold.{IsLawful}
 use Rattle.register_core.specs.History.{count}
 use Rattle.register_core.specs.Settings.{KeyNeed, needs_after, all_needs}
-use Rattle.register_requests.specs.Subject.{named}
 use Rattle.register_core.specs.Verdict.{judgement}
 use Rattle.register_core.proofs.Histories.{count_grows}
 use Rattle.register_core.proofs.Lawful.{all_more, all_weaker, lawful_holds}
-use Rattle.register_core.proofs.OnKey.{on_key}
 use Rattle.register_core.proofs.Settled.{needs_next}
 
 -- the key is one of so many
@@ -25,31 +22,18 @@ AreThere keys sets = AllByRecursion (IsNeedOfOne keys) sets
 
 left : (keys : ℕ) (p : KeyNeed → Bool) (sets : List KeyNeed) → AreThere keys sets → AreThere keys (filter p sets)
 left keys p [] all = tt
-left keys p (set ∷ sets) all = by (p set) (left keys p sets all.1)
-  where
-    by : (b : Bool) → AreThere keys (filter p sets) → AreThere keys (cond b (set ∷ filter p sets) (filter p sets))
-    by true rest = (all.0, rest)
-    by false rest = rest
+left keys p (set ∷ sets) all = grind (arith, left keys p sets all.1)
 
 after : (h : List Request) (q : Request) (c : Command) → q.command ≡ c → judgement h q ≡ None
     → AreThere (count h) (all_needs h)
     → AreThere (count h) (needs_after (all_needs h) c)
-after h q (SetQuorum key need) is accepted all =
-    let on = on_key h q key accepted (ap named is) in
-    all_more (IsNeedOfOne (count h)) (filter (λ (set : KeyNeed). not (set.key == key)) (all_needs h))
-    (record { key = key; need = need }) (left (count h) (λ (set : KeyNeed). not (set.key == key)) (all_needs h) all)
-    (record { low = on.low; high = on.high })
-after h q c is accepted all = all
+after h q c is accepted all = grind (arith, all_more, left)
 
 abbrev AllThere : List Request → Type 0
 AllThere h = AreThere (count h) (all_needs h)
 
 there_next : (h : List Request) (q : Request) → IsLawful h → judgement h q ≡ None → AllThere h → AllThere (h ++ q ∷ [])
-there_next h q lawful accepted all =
-    subst (AreThere (count (h ++ q ∷ []))) (sym (needs_next h q))
-    (all_weaker (IsNeedOfOne (count h)) (IsNeedOfOne (count (h ++ q ∷ [])))
-    (λ set is. record { low = is.low; high = omega (arith, is.high, count_grows h q) })
-    (needs_after (all_needs h) q.command) (after h q q.command refl accepted all))
+there_next h q lawful accepted all = grind (arith, needs_next, all_weaker, count_grows, after)
 
 pub needs_there : (h : List Request) → IsLawful h → AllByRecursion (IsNeedOfOne (count h)) (all_needs h)
 needs_there h lawful = lawful_holds AllThere there_next tt h lawful

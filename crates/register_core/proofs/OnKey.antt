@@ -1,8 +1,7 @@
 -- What is known where a request is accepted, of the key that it makes, names or leaves alone.
 use Rattle.std.proofs.Common.{◌≡◌, ◌⊎◌, inl, inr, ℕ, ◌+◌, ◌≤◌, Bool, true, false, cond, List, [], ◌∷◌, ◌++◌, Option}
-use Rattle.std.proofs.Common.{None, Some, refl, sym, ap, ◌∙◌, arith}
-use Rattle.std.specs.Option.{option_and_then}
-use Rattle.std.proofs.lemmas.Bool.{and_parts, leb-true, ltb-false}
+use Rattle.std.proofs.Common.{None, Some, refl, ap, ◌∙◌, arith}
+use Rattle.std.proofs.lemmas.Bool.{and_parts, leb-true}
 use Rattle.std.proofs.lemmas.Bool.Decides.{eqb_tells}
 use Rattle.lifecycle_core.specs.declared.dates.Dates.{Dates}
 use Rattle.lifecycle_core.specs.State.{state_at}
@@ -12,19 +11,18 @@ use Rattle.register_core.specs.declared.reply.Refusal.{Refusal}
 use Rattle.register_core.specs.declared.view.Held.{Held}
 use Rattle.register_core.specs.Effect.{given_dates}
 use Rattle.register_core.specs.History.{latest, count, period, dates}
-use Rattle.register_requests.specs.Subject.{Registration, Subject, Makes, Names, NoKey, subject, named_by, key_by}
+use Rattle.register_requests.specs.Subject.{Registration, Subject, Makes, Names, NoKey, subject, key_by}
 use Rattle.register_requests.specs.Subject.{key_of, is_key, named}
-use Rattle.register_requests.specs.Within.Subject.{count_by}
-use Rattle.register_core.specs.Custody.{held}
 use Rattle.register_requests.specs.CommandRule.{is_for}
 use Rattle.register_core.specs.Verdict.{custodian_refusal, freeze_refusal, dates_refusal, occurrence_refusal, judge}
-use Rattle.register_core.specs.Verdict.{named_key, judgement}
+use Rattle.register_core.specs.Verdict.{judgement}
 use Rattle.register_requests.specs.Version.{current}
 use Rattle.register_core.specs.CustodyRefusal.{owner_custodian, approvals_missing}
 use Rattle.register_core.proofs.Histories.{count_grows, dates_made}
-use Rattle.register_core.proofs.CustodyLeads.{not_refused, IsNew}
+use Rattle.register_core.proofs.CustodyLeads.{IsNew}
 use Rattle.register_core.proofs.Refusals.{passes}
 use Rattle.register_core.proofs.Decisions.{standing, is_there, unknown_named, new_names}
+use Rattle.std.proofs.lemmas.Bool.Decides.{nat_tests}
 
 -- ---- an accepted request that names key k
 
@@ -42,49 +40,23 @@ pub record IsOn (h : List Request) (q : Request) (k : ℕ) : Type 0 where
   pub new : IsNew h q k
 
 right_state : (b : Bool) (refusal : Refusal) → cond b None (Some refusal) ≡ None → b ≡ true
-right_state true refusal e = refl
-right_state false refusal e = absurd cc
+right_state b refusal e = grind arith
 
 abbrev judged : List Request → Request → Option Held → Option Refusal
 judged h q key = judge (latest h) (count h) (period h) key q
 
 pub not_after : (h : List Request) (q : Request) → judgement h q ≡ None → latest h ≤ q.moment
-not_after h q accepted =
-    ltb-false _ _
-    (not_refused _ _ (passes current (latest h) (count h) (period h) (named_key h q.command) q accepted).in_time)
+not_after h q accepted = grind arith
 
 on_there : (h : List Request) (q : Request) (k : ℕ) → named q.command ≡ Some k → is_there h k ≡ true
     → judged h q (Some (standing h k)) ≡ None → IsOn h q k
 on_there h q k names there accepted =
     let key : Option Held = Some (standing h k) in
     let passed = passes current (latest h) (count h) (period h) key q accepted in
-    let both = and_parts _ _ there in
-    record {
-      names = names;
-      low = leb-true _ _ both.0;
-      high = leb-true _ _ both.1;
-      fits_state = right_state _ _ passed.state;
-      not_frozen = passed.free;
-      fit = passed.fit;
-      apart = passed.apart;
-      enough = passed.approved;
-      occurred = passed.occurred;
-      custodians_own = passed.custodians;
-      new = new_names h q k passed.new_custodian passed.new_approval;
-    }
+    grind (arith, and_parts, leb-true, right_state, new_names)
 
 pub on_key : (h : List Request) (q : Request) (k : ℕ) → judgement h q ≡ None → named q.command ≡ Some k → IsOn h q k
-on_key h q k accepted names = by (is_there h k) refl (sym (ap (judged h q) shown) ∙ accepted)
-  where
-    shown : named_key h q.command ≡ held h k
-    shown = ap (λ (n : Option ℕ). option_and_then (held h) n) names
-
-    by : (b : Bool) → is_there h k ≡ b → judged h q (cond b (Some (standing h k)) None) ≡ None → IsOn h q k
-    by true there none = on_there h q k names there none
-    by false there none =
-        let missing = unknown_named q.command k names in
-        let known = (passes current (latest h) (count h) (period h) None q none).known in
-        absurd cc
+on_key h q k accepted names = grind (arith, nat_tests, is_there, standing, on_there, unknown_named)
 
 -- ---- each key
 
@@ -114,29 +86,18 @@ Concerns h q k = IsMade h q k ⊎ IsOn h q k ⊎ IsOther h q k
 -- a subject that is not key k leaves the number of keys
 apart_from : (h : List Request) (q : Request) (s : Subject) (k : ℕ) → subject q.command ≡ s
     → is_key k (key_by (count h) s) ≡ false → k ≤ count h → IsOther h q k
-apart_from h q s k is other high = record {
-  high = high;
-  other = ap (λ (x : Subject). is_key k (key_by (count h) x)) is ∙ other;
-}
+apart_from h q s k is other high = grind arith
 
 pub which : (h : List Request) (q : Request) (k : ℕ) → judgement h q ≡ None → k ≤ count (h ++ q ∷ []) → Concerns h q k
 which h q k accepted high = by (subject q.command) refl
   where
-    counted : (s : Subject) → subject q.command ≡ s → count (h ++ q ∷ []) ≡ count h + count_by s
-    counted s is = count_grows h q ∙ ap (λ (x : Subject). count h + count_by x) is
-
     by : (s : Subject) → subject q.command ≡ s → Concerns h q k
     by (Makes r) is = elim (eqb_tells (count h + 1) k) [
-      | inl both ↦
-          let shown : named_key h q.command ≡ None = ap (λ (s : Subject). option_and_then (held h) (named_by s)) is in
-          let passed = passes current (latest h) (count h) (period h) None q (sym (ap (judged h q) shown) ∙ accepted) in
-          inl (record { next = sym both.1; registration = r; makes = is; fit = passed.fit })
-      | inr apart ↦ let more = counted (Makes r) is in inr
-          (inr (apart_from h q (Makes r) k is apart.0 (omega (arith, high, more, apart.1))))
+      | inl both ↦ grind arith
+      | inr apart ↦ inr (inr (apart_from h q (Makes r) k is apart.0 (grind (arith, count_grows))))
     ]
     by (Names n) is = elim (eqb_tells n k) [
-      | inl both ↦ inr (inl (on_key h q k accepted (ap named_by is ∙ ap (λ (x : ℕ). Some x) both.1)))
-      | inr apart ↦ let more = counted (Names n) is in inr
-          (inr (apart_from h q (Names n) k is apart.0 (omega (arith, high, more))))
+      | inl both ↦ inr (inl (on_key h q k accepted (cc)))
+      | inr apart ↦ inr (inr (apart_from h q (Names n) k is apart.0 (grind (arith, count_grows))))
     ]
-    by NoKey is = let more = counted NoKey is in inr (inr (apart_from h q NoKey k is refl (omega (arith, high, more))))
+    by NoKey is = inr (inr (apart_from h q NoKey k is refl (grind (arith, count_grows))))

@@ -1,17 +1,14 @@
 -- Each accepted request takes each key along the standard's transitions.
-use Rattle.std.proofs.Common.{◌≡◌, ℕ, ◌+◌, ◌≤◌, Bool, cond, List, [], ◌∷◌, ◌++◌, Option, None, Some, sym, ap, subst}
+use Rattle.std.proofs.Common.{◌≡◌, ℕ, ◌+◌, ◌≤◌, List, [], ◌∷◌, ◌++◌, Option, None, Some, sym, subst}
 use Rattle.std.proofs.Common.{arith, inl, inr}
-use Rattle.std.specs.Prelude.{is_some}
-use Rattle.std.proofs.lemmas.Bool.{le-leb, lt-leb}
 use Rattle.lifecycle_core.specs.declared.state.State.{State}
 use Rattle.lifecycle_core.specs.declared.dates.Dates.{Dates}
 use Rattle.lifecycle_core.specs.State.{state_at}
 use Rattle.lifecycle_core.specs.Transition.{Leads}
 use Rattle.lifecycle_core.proofs.Transitions.{time_leads}
 use Rattle.period_core.specs.Period.{Period}
-use Rattle.period_core.specs.Fitting.{dates_with_defaults}
 use Rattle.register_requests.specs.declared.request.Request.{Request}
-use Rattle.register_core.specs.History.{latest, count, type, period, dates}
+use Rattle.register_core.specs.History.{latest, count, period, dates}
 use Rattle.register_core.specs.Laws.{IsAccepted, HasKey, MovesOnly, state_of_key}
 use Rattle.register_core.proofs.Verdicts.{judged}
 use Rattle.register_core.proofs.Histories.{dates_other, dates_named}
@@ -23,15 +20,11 @@ use Rattle.register_core.proofs.PathSteps.{then, path_made, path_named}
 -- key k is there: its state before is that of its dates at the latest moment
 from_there : (h : List Request) (k : ℕ) (to : Option State) → k ≤ count h
     → Leads (Some (state_at (dates h k) (latest h))) to → Leads (state_of_key h k) to
-from_there h k to high path =
-    subst (λ (b : Bool). Leads (cond b (Some (state_at (dates h k) (latest h))) None) to)
-    (sym (le-leb k (count h) high)) path
+from_there h k to high path = grind arith
 
 from_none : (h : List Request) (k : ℕ) (to : Option State) → k ≡ count h + 1 → Leads None to
     → Leads (state_of_key h k) to
-from_none h k to next path =
-    subst (λ (b : Bool). Leads (cond b (Some (state_at (dates h k) (latest h))) None) to)
-    (sym (lt-leb k (count h) (omega (arith, next)))) path
+from_none h k to next path = grind arith
 
 made_path : (h : List Request) (q : Request) (k : ℕ) → IsMade h q k
     → Leads (state_of_key h k) (Some (state_at (dates (h ++ q ∷ []) k) q.moment))
@@ -39,10 +32,7 @@ made_path h q k made =
     let given : Dates = given_to q made.registration in
     let p : Period = period h made.registration.kind in
     let its = dates_when_made h q k made in
-    let keeps = filled_keeps p given in
-    from_none h k _ made.next
-    (subst (λ (d : Dates). Leads None (Some (state_at d q.moment))) (sym its)
-    (path_made (dates_with_defaults p given) q.moment (ap is_some keeps.destroy) (ap is_some keeps.compromise)))
+    grind (arith, filled_keeps, from_none, path_made)
 
 on_path : (h : List Request) (q : Request) (k : ℕ) → IsAccepted h q → IsOn h q k
     → Leads (state_of_key h k) (Some (state_at (dates (h ++ q ∷ []) k) q.moment))
@@ -52,8 +42,7 @@ on_path h q k is on =
     let moves = subst (MovesOnly d q.moment) its (freeze h q is k (on.low, on.high)) in
     from_there h k _ on.high (then _ (Some (state_at d q.moment)) _
     (time_leads d (latest h) q.moment (not_after h q (judged h q is.accepted)))
-    (subst (λ (x : Dates). Leads (Some (state_at d q.moment)) (Some (state_at x q.moment))) (sym its)
-    (path_named (period h (type h k)) d q.moment k q.command on.names on.fits_state moves)))
+    (grind (arith, path_named)))
 
 other_path : (h : List Request) (q : Request) (k : ℕ) → IsAccepted h q → IsOther h q k
     → Leads (state_of_key h k) (Some (state_at (dates (h ++ q ∷ []) k) q.moment))

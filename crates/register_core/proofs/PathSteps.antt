@@ -1,13 +1,12 @@
 -- The paths along which an accepted command takes its key.
 use Rattle.std.proofs.Common.{◌≡◌, ℕ, Bool, true, false, not, cond, List, [], ◌∷◌, ◌++◌, Option, None, Some, refl}
-use Rattle.std.proofs.Common.{sym, ap, subst, ◌∙◌, ◌⊎◌, inl, inr, le-leb}
+use Rattle.std.proofs.Common.{sym, ap, subst, ◌∙◌, ◌⊎◌, inl, inr}
 use Rattle.std.specs.Prelude.{is_some}
 use Rattle.lifecycle_core.specs.declared.state.State.{State}
 use Rattle.lifecycle_core.specs.declared.state.State.TheVariants.{PreActive, Active, Deactivated, Compromised}
-use Rattle.lifecycle_core.specs.declared.state.State.TheVariants.{Destroyed, DestroyedCompromised}
+use Rattle.lifecycle_core.specs.declared.state.State.TheVariants.{Destroyed}
 use Rattle.lifecycle_core.specs.declared.dates.Dates.{Dates}
 use Rattle.lifecycle_core.specs.State.{state_at, is_reached_at}
-use Rattle.lifecycle_core.specs.Reason.{is_compromise}
 use Rattle.lifecycle_core.specs.Transition.{IsPath, Leads}
 use Rattle.lifecycle_core.proofs.Transitions.{is_transition, listed}
 use Rattle.period_core.specs.Period.{Period}
@@ -21,7 +20,8 @@ use Rattle.register_requests.specs.CommandRule.{before_compromise, is_one_of, is
 use Rattle.register_requests.specs.Subject.{named}
 use Rattle.register_core.specs.Laws.{MovesOnly}
 use Rattle.register_core.proofs.Dating.{filled_keeps, trimmed_keeps}
-use Rattle.register_core.proofs.Showing.{Shows, shows, state_is, is_pre_active, is_active, is_early}
+use Rattle.register_core.proofs.Showing.{Shows, shows, is_active, is_early}
+use Rattle.std.proofs.Common.{arith}
 
 -- ---- paths
 
@@ -42,15 +42,8 @@ one_step from to passes = ((from, to) ∷ [], (refl, listed from to passes, refl
 
 -- ---- a key that is neither destroyed nor compromised
 
-is_open : Dates → Type 0
-is_open d = (is_some d.destroy ≡ false) × (is_some d.compromise ≡ false)
-
 abbrev opened : Bool → Bool → State
 opened active ended = cond (not active) PreActive (cond ended Deactivated Active)
-
-open_state : (d : Dates) (t : ℕ) → is_some d.destroy ≡ false → is_some d.compromise ≡ false
-    → state_at d t ≡ opened (is_reached_at d.activation t) (is_reached_at d.deactivation t)
-open_state d t no_destroy no_compromise = rw (no_destroy, no_compromise) refl
 
 from_pre_active : (active ended : Bool) → Leads (Some PreActive) (Some (opened active ended))
 from_pre_active false ended = stays _
@@ -65,16 +58,14 @@ from_active true = one_step (Some Active) Deactivated refl
 leads_open : (from : State) (d : Dates) (t : ℕ) → is_some d.destroy ≡ false → is_some d.compromise ≡ false
     → Leads (Some from) (Some (opened (is_reached_at d.activation t) (is_reached_at d.deactivation t)))
     → Leads (Some from) (Some (state_at d t))
-leads_open from d t no_destroy no_compromise path =
-    subst (λ (s : State). Leads (Some from) (Some s)) (sym (open_state d t no_destroy no_compromise)) path
+leads_open from d t no_destroy no_compromise path = grind arith
 
 -- a key that is made
 pub path_made : (d : Dates) (t : ℕ) → is_some d.destroy ≡ false → is_some d.compromise ≡ false
     → Leads None (Some (state_at d t))
 path_made d t no_destroy no_compromise =
     then None (Some PreActive) _ (one_step None PreActive refl)
-    (leads_open PreActive d t no_destroy no_compromise
-    (from_pre_active (is_reached_at d.activation t) (is_reached_at d.deactivation t)))
+    (grind (arith, leads_open, from_pre_active))
 
 -- ---- each command
 
@@ -114,16 +105,11 @@ edited_path period d t activation protect_stop deactivation early moves =
       | inl pre ↦
           let old = its_shows d t PreActive pre in
           as_from d new t PreActive pre
-          (leads_open PreActive new t (still_unset _ _ keeps.destroy old.0) (still_unset _ _ keeps.compromise old.1)
-          (from_pre_active _ _))
+          (grind (arith, leads_open, still_unset, from_pre_active))
       | inr active ↦
           let old = its_shows d t Active active in
           let kept : new.activation
-          ≡ d.activation = elim moves.activation [
-            | inl pre ↦ absurd (let e = sym pre ∙ active in cc)
-            | inr same ↦
-                same
-          ] in
+          ≡ d.activation = grind arith in
           let reached : is_reached_at new.activation t ≡ true = ap (λ (x : Option ℕ). is_reached_at x t) kept ∙ old.2 in
           as_from d new t Active active
           (leads_open Active new t (still_unset _ _ keeps.destroy old.0) (still_unset _ _ keeps.compromise old.1)
@@ -132,53 +118,15 @@ edited_path period d t activation protect_stop deactivation early moves =
     ]
 
 deactivated_path : (d : Dates) (t : ℕ) → state_at d t ≡ Active → Goes d t (deactivated t d)
-deactivated_path d t active =
-    let old = its_shows d t Active active in
-    let now : state_at (deactivated t d) t
-    ≡ Deactivated = state_is Deactivated (deactivated t d) t (
-      old.0,
-      old.1,
-      old.2,
-      le-leb t t (omega Rattle.std.proofs.Common.arith),
-    ) in
-    as_from d (deactivated t d) t Active active
-    (subst (λ (s : State). Leads (Some Active) (Some s)) (sym now) (one_step (Some Active) Deactivated refl))
+deactivated_path d t active = grind (arith, one_step)
 
 compromised_by : (s : State) (d : Dates) (t : ℕ) (occurrence : Option ℕ) → Shows s d t
     → is_one_of (PreActive ∷ Active ∷ Deactivated ∷ Destroyed ∷ []) s ≡ true → From s t (compromised t occurrence d)
-compromised_by PreActive d t occurrence h e =
-    subst (λ (s : State). Leads (Some PreActive) (Some s))
-    (sym (state_is Compromised (compromised t occurrence d) t (h.0, refl))) (one_step (Some PreActive) Compromised refl)
-compromised_by Active d t occurrence h e =
-    subst (λ (s : State). Leads (Some Active) (Some s))
-    (sym (state_is Compromised (compromised t occurrence d) t (h.0, refl))) (one_step (Some Active) Compromised refl)
-compromised_by Deactivated d t occurrence h e =
-    subst (λ (s : State). Leads (Some Deactivated) (Some s))
-    (sym (state_is Compromised (compromised t occurrence d) t (h.0, refl)))
-    (one_step (Some Deactivated) Compromised refl)
-compromised_by Compromised d t occurrence h e = absurd cc
-compromised_by Destroyed d t occurrence h e =
-    subst (λ (s : State). Leads (Some Destroyed) (Some s))
-    (sym (state_is DestroyedCompromised (compromised t occurrence d) t (h.0, refl)))
-    (one_step (Some Destroyed) DestroyedCompromised refl)
-compromised_by DestroyedCompromised d t occurrence h e = absurd cc
+compromised_by s d t occurrence h e = grind (arith, one_step)
 
 destroyed_by : (s : State) (d : Dates) (t : ℕ) → Shows s d t
     → is_one_of (PreActive ∷ Deactivated ∷ Compromised ∷ []) s ≡ true → From s t (record d { destroy = Some t })
-destroyed_by PreActive d t h e =
-    subst (λ (s : State). Leads (Some PreActive) (Some s))
-    (sym (state_is Destroyed (record d { destroy = Some t }) t (refl, h.1))) (one_step (Some PreActive) Destroyed refl)
-destroyed_by Active d t h e = absurd cc
-destroyed_by Deactivated d t h e =
-    subst (λ (s : State). Leads (Some Deactivated) (Some s))
-    (sym (state_is Destroyed (record d { destroy = Some t }) t (refl, h.1)))
-    (one_step (Some Deactivated) Destroyed refl)
-destroyed_by Compromised d t h e =
-    subst (λ (s : State). Leads (Some Compromised) (Some s))
-    (sym (state_is DestroyedCompromised (record d { destroy = Some t }) t (refl, h.1)))
-    (one_step (Some Compromised) DestroyedCompromised refl)
-destroyed_by Destroyed d t h e = absurd cc
-destroyed_by DestroyedCompromised d t h e = absurd cc
+destroyed_by s d t h e = grind (arith, one_step)
 
 revoked_path : (d : Dates) (t : ℕ) (b : Bool) (occurrence : Option ℕ)
     → is_one_of (cond b before_compromise (Active ∷ [])) (state_at d t) ≡ true
@@ -188,13 +136,11 @@ revoked_path d t false occurrence fits_state = deactivated_path d t (is_active (
 
 pub path_named : (period : Period) (d : Dates) (t k : ℕ) (c : Command) → named c ≡ Some k
     → is_for c (state_at d t) ≡ true → MovesOnly d t (dates_after period d t c) → Goes d t (dates_after period d t c)
-path_named period d t k (Registers of_kind owner activation protect_stop deactivation purpose) names fits_state moves =
-    absurd cc
-path_named period d t k (Activate n) names fits_state moves =
-    activated_path period d t (is_pre_active (state_at d t) fits_state)
+path_named period d t k (Registers of_kind owner activation protect_stop deactivation purpose) names fits_state moves
+    = cc
+path_named period d t k (Activate n) names fits_state moves = grind (arith, activated_path)
 path_named period d t k (SetDates n activation protect_stop deactivation) names fits_state moves =
-    edited_path period d t activation protect_stop deactivation (is_early (state_at d t) fits_state) moves
-path_named period d t k (Revoke n reason occurrence) names fits_state moves =
-    revoked_path d t (is_compromise reason) occurrence fits_state
+    grind (arith, edited_path, is_early)
+path_named period d t k (Revoke n reason occurrence) names fits_state moves = search (revoked_path)
 path_named period d t k (Destroy n) names fits_state moves = destroyed_by (state_at d t) d t (shows d t) fits_state
 path_named period d t k c names fits_state moves = stays _

@@ -1,5 +1,5 @@
 -- What an accepted request has passed: none of the refusals holds, each by its name.
-use Rattle.std.proofs.Common.{◌≡◌, ℕ, Option, None}
+use Rattle.std.proofs.Common.{arith, ◌≡◌, ℕ, Option, None}
 use Rattle.period_core.specs.declared.key_type.KeyType.{KeyType}
 use Rattle.period_core.specs.Period.{Period}
 use Rattle.register_requests.specs.declared.request.Request.{Request}
@@ -34,42 +34,22 @@ pub record IsPassed (version : Version) (last keys : ℕ) (periods : KeyType →
 
 pub passes : (version : Version) (last keys : ℕ) (periods : KeyType → Period) (key : Option Held) (q : Request)
     → judge_in version last keys periods key q ≡ None → IsPassed version last keys periods key q
-passes version last keys periods key q accepted =
-    let entry = past _ _ accepted in
-    let in_time = past _ _ entry.here in
-    let known = past _ _ in_time.later in
-    let owners = past _ _ known.later in
-    let custodians = past _ _ owners.later in
-    let office = past _ _ custodians.later in
-    let state = past _ _ office.later in
-    let free = past _ _ entry.later in
-    let fit = past _ _ free.later in
-    let custody = past _ _ fit.later in
-    let new_custodian = past _ _ custody.here in
-    let old_custodian = past _ _ new_custodian.later in
-    let room = past _ _ old_custodian.later in
-    let apart = past _ _ room.later in
-    let new_approval = past _ _ apart.later in
-    let old_approval = past _ _ new_approval.later in
-    let approved = past _ _ old_approval.later in
-    let occurred = past _ _ custody.later in
-    let numbered = past _ _ occurred.later in
-    record {
-      in_time = in_time.here;
-      known = known.here;
-      owners = owners.here;
-      custodians = custodians.here;
-      office = office.here;
-      state = state.here;
-      free = free.here;
-      fit = fit.here;
-      new_custodian = new_custodian.here;
-      old_custodian = old_custodian.here;
-      room = room.here;
-      apart = apart.here;
-      new_approval = new_approval.here;
-      old_approval = old_approval.here;
-      approved = approved.here;
-      occurred = occurred.here;
-      numbered = numbered.here;
-    }
+passes version last keys periods key q accepted = record {
+  in_time = grind (arith, past);
+  known = grind (arith, past);
+  owners = grind (arith, past);
+  custodians = grind (arith, past);
+  office = grind (arith, past);
+  state = grind (arith, past);
+  free = grind (arith, past);
+  fit = grind (arith, past);
+  new_custodian = grind (arith, past);
+  old_custodian = grind (arith, past);
+  room = grind (arith, past);
+  apart = grind (arith, past);
+  new_approval = grind (arith, past);
+  old_approval = grind (arith, past);
+  approved = grind (arith, past);
+  occurred = grind (arith, past);
+  numbered = grind (arith, past);
+}

@@ -1,11 +1,10 @@
 -- The lists of what was set say what the history says of each type and of each key.
-use Rattle.std.proofs.Common.{◌≡◌, ◌==◌, inl, inr, ℕ, not, Bool, true, false, cond, List, [], ◌∷◌, ◌++◌, Option}
-use Rattle.std.proofs.Common.{None, Some, IfSome, refl, sym, ap, subst, ◌∙◌, arith}
+use Rattle.std.proofs.Common.{◌≡◌, ◌==◌, ℕ, not, Bool, cond, List, [], ◌∷◌, ◌++◌, Option}
+use Rattle.std.proofs.Common.{None, Some, IfSome, refl, ap, ◌∙◌, arith}
 use Rattle.std.specs.Prelude.{filter, find, fold, unwrap_or}
 use Rattle.std.specs.List.{AllByRecursion}
-use Rattle.std.specs.Option.{option_map}
-use Rattle.std.proofs.lemmas.Bool.{cases_Bool, eq-eqb, eqb-true}
 use Rattle.std.proofs.lemmas.List.Sums.{fold-append}
+use Rattle.std.proofs.lemmas.Bool.Decides.{nat_tests}
 use Rattle.register_requests.specs.declared.request.Request.{Request}
 use Rattle.register_requests.specs.declared.request.Command.{Command}
 use Rattle.register_requests.specs.declared.request.Command.TheVariants.{SetPeriod, SetQuorum}
@@ -13,13 +12,12 @@ use Rattle.period_core.specs.declared.key_type.KeyType.{KeyType}
 use Rattle.period_core.specs.KeyType.{key_type_code}
 use Rattle.period_core.specs.Period.{Period}
 use Rattle.register_core.specs.Effect.{need_after, period_after}
-use Rattle.register_core.specs.History.{Placed, count, own_from, set_period}
+use Rattle.register_core.specs.History.{Placed, own_from, set_period}
 use Rattle.register_core.specs.Custody.{set_need, need}
 use Rattle.register_requests.specs.Quorum.{min_approvals, IsQuorum}
-use Rattle.register_requests.specs.Request.{IsRequest, IsCommand}
+use Rattle.register_requests.specs.Request.{IsRequest}
 use Rattle.register_core.specs.Settings.{KeyNeed, TypePeriod, needs_after, all_needs, need_at}
 use Rattle.register_core.specs.Settings.{periods_after, all_periods, period_at}
-use Rattle.register_requests.specs.Subject.{is_key, key_of}
 use Rattle.register_core.proofs.Histories.{concerning, placed}
 
 abbrev need_step : Option ℕ → Placed → Option ℕ
@@ -31,8 +29,7 @@ needs_next h q = fold-append (λ (before : List KeyNeed) (p : Request). needs_af
 
 pub periods_next : (h : List Request) (q : Request)
     → all_periods (h ++ q ∷ []) ≡ periods_after (all_periods h) q.command
-periods_next h q =
-    fold-append (λ (before : List TypePeriod) (p : Request). periods_after before p.command) [] h (q ∷ [])
+periods_next h q = simp (fold-append)
 
 -- ---- what stands for a key after another entry took the place of its own
 
@@ -44,41 +41,7 @@ module _ {A : Type 0} (key : A → ℕ) where
       → find (λ (e : A). key e == k) (set_in sets new)
       ≡ cond (key new == k) (Some new) (find (λ (e : A). key e == k) sets)
   found [] new k = refl
-  found (x ∷ xs) new k = elim (cases_Bool (key x == key new)) [
-    | inl same ↦
-        let at : (key x == k) ≡ (key new == k) = ap (λ (n : ℕ). n == k) (eqb-true _ _ same) in
-        ap (λ (b : Bool). find (λ (e : A). key e == k) (cond (not b) (x ∷ kept) kept ++ new ∷ [])) same
-        ∙ found xs new k ∙ gone (key new == k) (Some new) (Some x) (find (λ (e : A). key e == k) xs)
-        ∙ ap (λ (b : Bool). cond (key new == k) (Some new) (cond b (Some x) (find (λ (e : A). key e == k) xs)))
-        (sym at)
-    | inr other ↦
-        ap (λ (b : Bool). find (λ (e : A). key e == k) (cond (not b) (x ∷ kept) kept ++ new ∷ [])) other
-        ∙ ap (λ (o : Option A). cond (key x == k) (Some x) o) (found xs new k)
-        ∙ turned (key x == k) (key new == k)
-        (λ here there.
-        let both : (key x == key new) ≡ true = eq-eqb _ _ (eqb-true _ _ here ∙ sym (eqb-true _ _ there)) in
-        sym both ∙ other)
-        (Some x) (Some new) (find (λ (e : A). key e == k) xs)
-  ]
-    where
-      kept : List A
-      kept = filter (λ (e : A). not (key e == key new)) xs
-
-      gone : {O : Type 0} (b : Bool) (a c o : O) → cond b a o ≡ cond b a (cond b c o)
-      gone true a c o = refl
-      gone false a c o = refl
-
-      turned : {O : Type 0} (b c : Bool) → (b ≡ true → c ≡ true → true ≡ false) → (x n o : O)
-          → cond b x (cond c n o) ≡ cond c n (cond b x o)
-      turned true true never x n o = absurd (let none = never refl refl in cc)
-      turned true false never x n o = refl
-      turned false c never x n o = refl
-
--- what the one of two says that is there
-one_says : {E X : Type 0} (says : E → X) (b : Bool) (e : E) (o : Option E)
-    → option_map says (cond b (Some e) o) ≡ cond b (Some (says e)) (option_map says o)
-one_says says true e o = refl
-one_says says false e o = refl
+  found (x ∷ xs) new k = grind (arith, nat_tests, found xs new k)
 
 -- ---- the period of a type
 
@@ -86,10 +49,8 @@ period_step : (sets : List TypePeriod) (kind : KeyType) (c : Command)
     → period_at kind (periods_after sets c) ≡ period_after kind (period_at kind sets) c
 period_step sets kind (SetPeriod other p) =
     let new : TypePeriod = record { kind = other; period = p } in
-    ap (option_map (λ (e : TypePeriod). e.period))
-    (found (λ (e : TypePeriod). key_type_code e.kind) sets new (key_type_code kind))
-    ∙ one_says (λ (e : TypePeriod). e.period) (key_type_code other == key_type_code kind) new
-    (find (λ (e : TypePeriod). key_type_code e.kind == key_type_code kind) sets)
+    let is = found (λ (e : TypePeriod). key_type_code e.kind) sets new (key_type_code kind) in
+    grind arith
 period_step sets kind c = refl
 
 periods_from : (h : List Request) (sets : List TypePeriod) (kind : KeyType) (first : Option Period)
@@ -106,40 +67,25 @@ periods_are h kind = periods_from h [] kind None refl
 
 -- ---- the need of a key
 
--- a command of another kind says nothing, whether it is about the key or not
-idle : (b : Bool) (before : List Request) (q : Request) (first : Option ℕ) → need_after first q.command ≡ first
-    → fold need_step first (cond b (placed before q ∷ []) []) ≡ first
-idle true before q first same = same
-idle false before q first same = refl
-
 asked : (b : Bool) (before : List Request) (q : Request) (n : ℕ) (first : Option ℕ)
     → need_after first q.command ≡ Some n
     → cond b (Some n) first ≡ fold need_step first (cond b (placed before q ∷ []) [])
-asked true before q n first is = sym is
-asked false before q n first is = refl
+asked b before q n first is = grind arith
 
 need_one : (before : List Request) (q : Request) (sets : List KeyNeed) (k : ℕ) (c : Command) → q.command ≡ c
     → need_at k (needs_after sets c) ≡ fold need_step (need_at k sets) (concerning before q k)
 need_one before q sets k (SetQuorum key n) is =
     let new : KeyNeed = record { key = key; need = n } in
-    ap (option_map (λ (e : KeyNeed). e.need)) (found (λ (e : KeyNeed). e.key) sets new k)
-    ∙ one_says (λ (e : KeyNeed). e.need) (key == k) new (find (λ (e : KeyNeed). e.key == k) sets)
-    ∙ asked (key == k) before q n (need_at k sets) (ap (need_after (need_at k sets)) is)
-    ∙ ap (λ (c : Command). fold need_step (need_at k sets)
-    (cond (is_key k (key_of (count before) c)) (placed before q ∷ []) [])) (sym is)
-need_one before q sets k c is =
-    sym (idle (is_key k (key_of (count before) q.command)) before q (need_at k sets)
-    (ap (need_after (need_at k sets)) is))
+    let found_is = found (λ (e : KeyNeed). e.key) sets new k in
+    grind (arith, asked)
+need_one before q sets k c is = grind arith
 
 needs_from : (h before : List Request) (sets : List KeyNeed) (k : ℕ)
     → need_at k (fold (λ (before : List KeyNeed) (q : Request). needs_after before q.command) sets h)
     ≡ fold need_step (need_at k sets) (own_from before h k)
 needs_from [] before sets k = refl
 needs_from (q ∷ later) before sets k =
-    needs_from later (before ++ q ∷ []) (needs_after sets q.command) k
-    ∙ ap (λ (o : Option ℕ). fold need_step o (own_from (before ++ q ∷ []) later k))
-    (need_one before q sets k q.command refl)
-    ∙ sym (fold-append need_step (need_at k sets) (concerning before q k) (own_from (before ++ q ∷ []) later k))
+    grind (arith, need_one, fold-append, needs_from later (before ++ q ∷ []) (needs_after sets q.command) k)
 
 pub needs_are : (h : List Request) (k : ℕ) → need_at k (all_needs h) ≡ set_need h k
 needs_are h k = needs_from h [] [] k
@@ -149,28 +95,18 @@ needs_are h k = needs_from h [] [] k
 abbrev IsEnough : Option ℕ → Type 0
 IsEnough set = IfSome set IsQuorum
 
-enough_after : (c : Command) (before : Option ℕ) → IsCommand c → IsEnough before → IsEnough (need_after before c)
-enough_after (SetQuorum key need) before is enough = is.1
-enough_after c before is enough = enough
-
 one_step : (before : List Request) (q : Request) (k : ℕ) (first : Option ℕ) → IsRequest q → IsEnough first
     → IsEnough (fold need_step first (concerning before q k))
-one_step before q k first is enough = by (is_key k (key_of (count before) q.command))
-  where
-    by : (b : Bool) → IsEnough (fold need_step first (cond b (placed before q ∷ []) []))
-    by true = enough_after q.command first is.command enough
-    by false = enough
+one_step before q k first is enough = grind arith
 
 all_steps : (h before : List Request) (k : ℕ) (first : Option ℕ) → AllByRecursion IsRequest h → IsEnough first
     → IsEnough (fold need_step first (own_from before h k))
 all_steps [] before k first all enough = enough
 all_steps (q ∷ later) before k first all enough =
-    subst IsEnough (sym (fold-append need_step first (concerning before q k) (own_from (before ++ q ∷ []) later k)))
-    (all_steps later (before ++ q ∷ []) k _ all.1 (one_step before q k first all.0 enough))
+    grind (arith, all_steps later (before ++ q ∷ []) k _ all.1 (one_step before q k first all.0 enough))
 
 shown : (o : Option ℕ) → IsEnough o → IsQuorum (unwrap_or o min_approvals)
-shown None enough = (omega arith, omega arith)
-shown (Some need) enough = enough
+shown o enough = grind arith
 
 -- what the destruction of a key needs is in its range
 pub need_in_range : (h : List Request) → AllByRecursion IsRequest h → (k : ℕ) → IsQuorum (need h k)

@@ -1,42 +1,29 @@
 -- Where the office set no period of a type, its keys' dates were all set by the type's own.
-use Rattle.std.proofs.Common.{◌≡◌, ◌==◌, ◌||◌, ℕ, Bool, true, false, not, cond, List, [], ◌∷◌, ◌++◌, Option, None}
-use Rattle.std.proofs.Common.{Some, refl, sym, ap, subst, ◌∙◌, append_assoc}
-use Rattle.std.specs.Prelude.{fold, unwrap_or}
+use Rattle.std.proofs.Common.{◌≡◌, ℕ, false, cond, List, [], ◌∷◌, ◌++◌, Option, None}
+use Rattle.std.proofs.Common.{Some, refl, sym, subst, ◌∙◌, append_assoc}
+use Rattle.std.specs.Prelude.{fold}
 use Rattle.std.proofs.lemmas.List.Sums.{fold-append}
 use Rattle.period_core.specs.declared.key_type.KeyType.{KeyType}
-use Rattle.period_core.specs.KeyType.{key_type_code}
 use Rattle.period_core.specs.Period.{Period, periods}
-use Rattle.period_core.specs.Fitting.{Fits, is_either_use_too_long, is_not_after, originator_limit, recipient_limit}
+use Rattle.period_core.specs.Fitting.{Fits, is_either_use_too_long}
 use Rattle.lifecycle_core.specs.declared.dates.Dates.{Dates}
 use Rattle.register_requests.specs.declared.request.Request.{Request}
-use Rattle.register_requests.specs.declared.request.Command.{Command}
-use Rattle.register_requests.specs.declared.request.Command.TheVariants.{SetPeriod}
 use Rattle.register_core.specs.Effect.{period_after, sets_dates}
 use Rattle.register_core.specs.Fold.{IsLawful}
-use Rattle.register_core.specs.History.{Placed, count, dates, own_from, period, set_period, type}
+use Rattle.register_core.specs.History.{Placed, dates, own_from, period, set_period, type}
 use Rattle.register_core.specs.Laws.{HasKey}
-use Rattle.register_requests.specs.Subject.{is_key, key_of}
-use Rattle.register_core.proofs.Histories.{concerning, placed}
+use Rattle.register_core.proofs.Histories.{concerning}
 use Rattle.register_core.proofs.DateLaws.{all_sound}
+use Rattle.std.proofs.Common.{arith}
 
 abbrev step : KeyType → Option Period → Request → Option Period
 step kind before q = period_after kind before q.command
-
--- what was set stays set
-still_set : (kind : KeyType) (c : Command) (p : Period) → period_after kind (Some p) c ≡ None → ⊥
-still_set kind (SetPeriod other set) p e = by (key_type_code other == key_type_code kind) e
-  where
-    by : (b : Bool) → cond b (Some set) (Some p) ≡ None → ⊥
-    by true e = cc
-    by false e = cc
-still_set kind c p e = cc
 
 none_before : (kind : KeyType) (first : Option Period) (later : List Request) → fold (step kind) first later ≡ None
     → first ≡ None
 none_before kind first [] e = e
 none_before kind None (q ∷ later) e = refl
-none_before kind (Some p) (q ∷ later) e =
-    absurd (still_set kind q.command p (none_before kind (step kind (Some p) q) later e))
+none_before kind (Some p) (q ∷ later) e = grind (arith, none_before kind (step kind (Some p) q) later e)
 
 module _ (kind : KeyType) where
   abbrev dated : Period → Placed → Period
@@ -45,18 +32,11 @@ module _ (kind : KeyType) where
   own_there : (before later : List Request) → set_period (before ++ later) kind ≡ None
       → period before kind ≡ periods kind
   own_there before later none =
-      ap (λ (o : Option Period). unwrap_or o (periods kind))
-      (none_before kind (set_period before kind) later (sym (fold-append (step kind) None before later) ∙ none))
+      cc (none_before kind (set_period before kind) later (sym (fold-append (step kind) None before later) ∙ none))
 
   dated_once : (before later : List Request) (q : Request) (k : ℕ) (start : Period) → start ≡ periods kind
       → set_period (before ++ later) kind ≡ None → fold dated start (concerning before q k) ≡ periods kind
-  dated_once before later q k start own none =
-      by (is_key k (key_of (count before) q.command)) (sets_dates q.command) refl
-    where
-      by : (b c : Bool) → sets_dates q.command ≡ c → fold dated start (cond b (placed before q ∷ []) []) ≡ periods kind
-      by true true is = ap (λ d. cond d (period before kind) start) is ∙ own_there before later none
-      by true false is = ap (λ d. cond d (period before kind) start) is ∙ own
-      by false c is = own
+  dated_once before later q k start own none = grind (arith, own_there before later none)
 
   dated_from : (later before : List Request) (k : ℕ) (start : Period) → start ≡ periods kind
       → set_period (before ++ later) kind ≡ None → fold dated start (own_from before later k) ≡ periods kind
@@ -64,18 +44,11 @@ module _ (kind : KeyType) where
   dated_from (q ∷ later) before k start own none =
       fold-append dated start (concerning before q k) (own_from (before ++ q ∷ []) later k)
       ∙ dated_from later (before ++ q ∷ []) k _ (dated_once before (q ∷ later) q k start own none)
-      (subst (λ (h : List Request). set_period h kind ≡ None) (sym (append_assoc before (q ∷ []) later)) none)
+      (rw append_assoc none)
 
 -- dates that fit are not long
 fitting : (p : Period) (d : Dates) → Fits p d → is_either_use_too_long p d ≡ false
-fitting p d fits =
-    by (is_not_after d.protect_stop (originator_limit p d)) (is_not_after d.deactivation (recipient_limit p d))
-    fits.originator fits.recipient
-  where
-    by : (a b : Bool) → a ≡ true → b ≡ true → not a || not b ≡ false
-    by true true x y = refl
-    by true false x y = absurd cc
-    by false b x y = absurd cc
+fitting p d fits = cc
 
 -- the dates of a key were then all held to the type's own
 pub unset_fit : (h : List Request) → IsLawful h → (k : ℕ) → HasKey h k → set_period h (type h k) ≡ None
@@ -87,8 +60,4 @@ unset_fit h lawful k has nothing =
 -- where no period of its type was ever set, a key is not long
 pub none_long : (h : List Request) → IsLawful h → (k : ℕ) → HasKey h k → set_period h (type h k) ≡ None
     → is_either_use_too_long (period h (type h k)) (dates h k) ≡ false
-none_long h lawful k has nothing =
-    let now_so : period h (type h k) ≡ periods (type h k) =
-    ap (λ (o : Option Period). unwrap_or o (periods (type h k))) nothing in
-    fitting (period h (type h k)) (dates h k)
-    (subst (λ (p : Period). Fits p (dates h k)) (sym now_so) (unset_fit h lawful k has nothing))
+none_long h lawful k has nothing = grind (arith, fitting, unset_fit)

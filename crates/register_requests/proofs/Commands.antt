@@ -1,9 +1,8 @@
 -- A command is its kind and its fields.
-use Rattle.std.proofs.Common.{◌≡◌, Some, None, refl, sym, ap, ◌∙◌}
+use Rattle.std.proofs.Common.{◌≡◌, Some, None}
 use Rattle.register_requests.specs.declared.command_fields.CommandKind.{CommandKind}
 use Rattle.register_requests.specs.declared.command_fields.CommandKind.TheVariants as kinds
 use Rattle.register_requests.specs.declared.request.Command.{Command}
-use Rattle.register_requests.specs.declared.request.Command.TheVariants.{Advance}
 use Rattle.register_requests.specs.declared.command_fields.Fields.{Fields}
 use Rattle.register_requests.specs.declared.command_fields.Fields.TheVariants.{Nothing, Key, KeyAndName, KeyAndOwner}
 use Rattle.register_requests.specs.declared.command_fields.Fields.TheVariants.{KeyAndNeed}
@@ -13,24 +12,19 @@ use Rattle.register_requests.specs.CommandKind.{command_shape}
 use Rattle.register_requests.specs.CommandRule.{kind_of}
 use Rattle.register_requests.specs.Fields.{fields_of, command_with}
 use Rattle.register_requests.specs.Within.Fields.{shape_of}
-use Rattle.register_requests.proofs.FieldReading.{some_is}
+use Rattle.std.proofs.Common.{arith}
 
 -- The last row of each has every other command.
 
 pub made_again : (c : Command) → command_with (kind_of c) (fields_of c) ≡ Some c
-made_again Advance = refl
-made_again c = refl
+made_again c = grind arith
 
 -- the fields have the shape of the kind
 pub has_shape : (c : Command) → shape_of (fields_of c) ≡ command_shape (kind_of c)
-has_shape Advance = refl
-has_shape c = refl
+has_shape c = grind arith
 
 pub same_command : (p q : Command) → kind_of p ≡ kind_of q → fields_of p ≡ fields_of q → p ≡ q
-same_command p q kinds fields =
-    some_is p q (sym (made_again p)
-    ∙ ap (λ (kind : CommandKind). command_with kind (fields_of p)) kinds
-    ∙ ap (command_with (kind_of q)) fields ∙ made_again q)
+same_command p q kinds fields = grind arith
 
 -- ---- the way back
 
@@ -55,13 +49,4 @@ made fields kind c e = record { kind_is = cc; fields_are = cc }
 -- of fields that have the shape of the kind a command is made
 pub some_made : (fields : Fields) (kind : CommandKind) → shape_of fields ≡ command_shape kind
     → command_with kind fields ≡ None → ⊥
-some_made Nothing kinds.Advance same none = cc
-some_made (Key key) kinds.Activate same none = cc
-some_made (KeyAndName key name) kinds.AddCustodian same none = cc
-some_made (KeyAndOwner key owner) kinds.Assign same none = cc
-some_made (KeyAndNeed key need) kinds.SetQuorum same none = cc
-some_made (TypeAndPeriod kind period) kinds.SetPeriod same none = cc
-some_made (Registration kind owner a p d purpose) kinds.Register same none = cc
-some_made (DateEdits key a p d) kinds.SetDates same none = cc
-some_made (Revocation key reason occurrence) kinds.Revoke same none = cc
-some_made fields kind same none = cc
+some_made fields kind same none = grind arith

@@ -1,10 +1,8 @@
 -- A field that is read is the field that was written, and what was written is read again.
-use Rattle.std.proofs.Common.{◌≡◌, ℕ, suc, ◌+◌, ◌<◌, Bool, true, false, List, [], ◌∷◌, ◌++◌, length, get_or, take}
-use Rattle.std.proofs.Common.{drop, Option, Some, None, refl, sym, ap, subst, ◌∙◌, add-one, arith}
-use Rattle.std.specs.Prelude.{IfSome, IfNone, not, nat_lt}
-use Rattle.std.specs.List.{list_all, position, position_or_len, prefix_len}
-use Rattle.std.proofs.lemmas.Bool.{and_parts, ltb-true, lt-ltb, eqb-true}
-use Rattle.std.proofs.lemmas.Option.{cond_some}
+use Rattle.std.proofs.Common.{◌≡◌, ◌≢◌, ℕ, suc, Bool, true, false, List, [], ◌∷◌, ◌++◌, length}
+use Rattle.std.proofs.Common.{drop, Option, Some, None, refl, sym, ap, ◌∙◌, arith}
+use Rattle.std.specs.Prelude.{IfSome, IfNone, not}
+use Rattle.std.specs.List.{list_all, prefix_len}
 use Rattle.std.proofs.lemmas.List.{take_at, length-append}
 use Rattle.std.proofs.lemmas.List.Sums.{split_at_first, passes_at_first}
 use Rattle.register_requests.specs.Within.RequestLine.{◌>>=◌, is_space, field_at, field_as, field_then}
@@ -13,8 +11,7 @@ use Rattle.register_requests.specs.Within.RequestLine.{◌>>=◌, is_space, fiel
 
 pub bind_some : {A B : Type 0} (o : Option A) (f : A → Option B) (y : B) → (o >>= f) ≡ Some y
     → (x : A) × (o ≡ Some x) × (f x ≡ Some y)
-bind_some (Some x) f y e = (x, refl, e)
-bind_some None f y e = absurd cc
+bind_some o f y e = grind arith
 
 abbrev given : {A : Type 0} → A → Option A
 given x = Some x
@@ -23,8 +20,7 @@ pub some_is : {A : Type 0} (x y : A) → given x ≡ given y → x ≡ y
 some_is x y e = cc
 
 pub none_from : {A : Type 0} (o : Option A) → ((x : A) → o ≡ Some x → ⊥) → o ≡ None
-none_from None h = refl
-none_from (Some x) h = absurd (h x refl)
+none_from o h = grind arith
 
 -- ---- readers
 
@@ -42,6 +38,13 @@ is_read {A} {read_by} own field None found none =
     sym (none_from (read_by field)
     (λ (x : A) (e : read_by field ≡ Some x). let taken = own.takes field x e in none x taken.0 taken.1))
 
+-- the same where each value has a text
+pub is_read_any : {A : Type 0} {read_by : List ℕ → Option A} {text : A → List ℕ}
+    → IsReader read_by text (λ _. Unit {0}) → (field : List ℕ) (o : Option A)
+    → IfSome o (λ x. field ≡ text x) → IfNone o ((x : A) → field ≢ text x) → o ≡ read_by field
+is_read_any own field (Some x) found none = is_read own field (Some x) (tt, found) tt
+is_read_any own field None found none = is_read own field None tt (λ x _ e. none x e)
+
 -- ---- the first space
 
 abbrev pub HasNoSpace : List ℕ → Type 0
@@ -50,23 +53,11 @@ HasNoSpace bytes = list_all (λ b. not (is_space b)) bytes ≡ true
 prefix_len-append : (q : ℕ → Bool) (xs : List ℕ) (b : ℕ) (rest : List ℕ) → list_all q xs ≡ true → q b ≡ false
     → prefix_len q (xs ++ (b ∷ rest)) ≡ length xs
 prefix_len-append q [] b rest all other = rw other refl
-prefix_len-append q (x ∷ xs) b rest all other =
-    let both = and_parts (q x) (list_all q xs) all in
-    rw both.0 (omega (arith, prefix_len-append q xs b rest both.1 other))
+prefix_len-append q (x ∷ xs) b rest all other = grind (arith, prefix_len-append q xs b rest)
 
 pub field_takes : (bytes : List ℕ) (x : List ℕ × List ℕ) → field_at bytes ≡ Some x → bytes ≡ x.0 ++ (32 ∷ x.1)
 unfolding field_at
-field_takes bytes x e =
-    let place = position_or_len is_space bytes in
-    let a = bind_some (position is_space bytes) (λ i. Some (take i bytes, drop (i + 1) bytes)) x e in
-    let got = cond_some (nat_lt place (length bytes)) place a.0 a.1 in
-    let lt : place < length bytes = ltb-true _ _ got.0 in
-    let space : get_or bytes place 0 ≡ 32 = eqb-true _ _ (passes_at_first is_space bytes 0 lt) in
-    let parts : bytes ≡ take place bytes ++ (32 ∷ drop (place + 1) bytes) = split_at_first is_space bytes 0 lt
-    ∙ ap (λ (b : ℕ). take place bytes ++ (b ∷ drop (place + 1) bytes)) space in
-    let made : List ℕ × List ℕ = (take place bytes, drop (place + 1) bytes) in
-    subst (λ (y : List ℕ × List ℕ). bytes ≡ y.0 ++ (32 ∷ y.1))
-    (some_is made x (ap (λ (i : ℕ). given (take i bytes, drop (i + 1) bytes)) got.1 ∙ a.2)) parts
+field_takes bytes x e = grind (arith, split_at_first is_space bytes 0, passes_at_first is_space bytes 0)
 
 drop_suc : (xs : List ℕ) (b : ℕ) (rest : List ℕ) → drop (suc (length xs)) (xs ++ (b ∷ rest)) ≡ rest
 drop_suc [] b rest = refl
@@ -74,33 +65,19 @@ drop_suc (x ∷ xs) b rest = drop_suc xs b rest
 
 pub field_again : (xs rest : List ℕ) → HasNoSpace xs → field_at (xs ++ (32 ∷ rest)) ≡ Some (xs, rest)
 unfolding field_at
-field_again xs rest solid =
-    let place : position_or_len is_space (xs ++ (32 ∷ rest))
-    ≡ length xs = prefix_len-append (λ b. not (is_space b)) xs 32 rest solid refl in
-    let lt : nat_lt (length xs) (length (xs ++ (32 ∷ rest)))
-    ≡ true = lt-ltb _ _ (omega (arith, length-append xs (32 ∷ rest))) in
-    let after : drop (length xs + 1) (xs ++ (32 ∷ rest)) ≡ rest = rw add-one (drop_suc xs 32 rest) in
-    rw (place, lt, take_at xs (32 ∷ rest) (length xs) refl, after) refl
+field_again xs rest solid = grind (arith, prefix_len-append, length-append, drop_suc, take_at)
 
 -- ---- a field and its space
 
 pub as_takes : {A : Type 0} {read_by : List ℕ → Option A} {text : A → List ℕ} {P : A → Type 0}
     → IsReader read_by text P → (bytes : List ℕ) (y : A × List ℕ)
     → field_as read_by bytes ≡ Some y → P y.0 × (bytes ≡ text y.0 ++ (32 ∷ y.1))
-as_takes {A} {read_by} {text} {P} own bytes y e =
-    let a = bind_some (field_at bytes) (λ field. read_by field.0 >>= λ value. Some (value, field.1)) y e in
-    let b = bind_some (read_by a.0.0) (λ value. Some (value, a.0.1)) y a.2 in
-    let taken = own.takes a.0.0 b.0 b.1 in
-    let parts : bytes ≡ text b.0 ++ (32 ∷ a.0.1) = field_takes bytes a.0 a.1
-    ∙ ap (λ (field : List ℕ). field ++ (32 ∷ a.0.1)) taken.1 in
-    let made : A × List ℕ = (b.0, a.0.1) in
-    subst (λ (z : A × List ℕ). P z.0 × (bytes ≡ text z.0 ++ (32 ∷ z.1))) (some_is made y b.2) (taken.0, parts)
+as_takes own bytes y e = grind (arith, field_takes)
 
 pub as_again : {A : Type 0} {read_by : List ℕ → Option A} {text : A → List ℕ} {P : A → Type 0}
     → IsReader read_by text P → (x : A) (rest : List ℕ)
     → P x → HasNoSpace (text x) → field_as read_by (text x ++ (32 ∷ rest)) ≡ Some (x, rest)
-as_again {A} {read_by} {text} {P} own x rest in_range solid =
-    rw (field_again (text x) rest solid, own.again x in_range) refl
+as_again own x rest in_range solid = grind (arith, field_again)
 
 -- a field, and what another reader reads after its space, are read exactly where they were written
 pub then_reader : {A B : Type 0} {read_by : List ℕ → Option A} {text : A → List ℕ} {P : A → Type 0} {read_after : A
@@ -109,15 +86,4 @@ pub then_reader : {A B : Type 0} {read_by : List ℕ → Option A} {text : A →
     → ((x : A) → IsReader (read_after x) text_after (Q x))
     → IsReader (field_then read_by read_after) (λ (y : A × B). text y.0 ++ (32 ∷ text_after y.1))
     (λ (y : A × B). P y.0 × Q y.0 y.1)
-then_reader {A} {B} {read_by} {text} {P} {read_after} {text_after} {Q} own solid after = record {
-  takes = λ bytes y e.
-      let a = bind_some (field_as read_by bytes)
-      (λ value. read_after value.0 value.1 >>= λ rest. Some (value.0, rest)) y e in
-      let b = bind_some (read_after a.0.0 a.0.1) (λ rest. Some (a.0.0, rest)) y a.2 in
-      let field = as_takes own bytes a.0 a.1 in
-      let rest = (after a.0.0).takes a.0.1 b.0 b.1 in
-      let made : A × B = (a.0.0, b.0) in
-      subst (λ (z : A × B). (P z.0 × Q z.0 z.1) × (bytes ≡ text z.0 ++ (32 ∷ text_after z.1))) (some_is made y b.2)
-      ((field.0, rest.0), field.1 ∙ ap (λ (r : List ℕ). text a.0.0 ++ (32 ∷ r)) rest.1);
-  again = λ y h. rw (as_again own y.0 (text_after y.1) h.0 (solid y.0 h.0), (after y.0).again y.1 h.1) refl;
-}
+then_reader own solid after = grind (arith, bind_some, as_takes, as_again)

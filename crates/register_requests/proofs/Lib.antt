@@ -5,4 +5,3 @@ pub mod FieldReading
 pub mod Commands
 pub mod Readers
 pub mod Lines
-pub mod Ranges

@@ -1,14 +1,13 @@
 -- What is read is the request whose line it is, and each line of a request is read.
-use Rattle.std.proofs.Common.{◌≡◌, ℕ, ◌<◌, ◌^◌, nat_lt, Bool, true, false, not, cond, List, [], ◌∷◌, ◌++◌, length}
+use Rattle.std.proofs.Common.{◌≡◌, ℕ, ◌<◌, ◌^◌, nat_lt, Bool, true, false, cond, List, [], ◌∷◌, ◌++◌, length}
 use Rattle.std.proofs.Common.{Option, Some, None, refl, sym, ap, subst, ◌∙◌, append_assoc, arith}
 use Rattle.std.specs.Prelude.{codes, decimal}
 use Rattle.std.specs.List.{list_all}
 use Rattle.std.specs.Str.Parse.{AllDigits}
-use Rattle.std.proofs.lemmas.Bool.{and_parts, and_from, ltb-false, le-ltb}
+use Rattle.std.proofs.lemmas.Bool.{and_parts, ltb-false}
 use Rattle.std.proofs.lemmas.Bool.Decides.{nat_tests}
 use Rattle.std.proofs.lemmas.List.{append-nil}
 use Rattle.std.proofs.lemmas.Fmt.{decimal_is_IsNumeral}
-use Rattle.std.proofs.lemmas.Str.Parse.{digit_from_value}
 use Rattle.lifecycle_core.specs.declared.reason.Reason.{Reason}
 use Rattle.lifecycle_core.specs.Reason.{reason_code}
 use Rattle.period_core.specs.declared.key_type.KeyType.{KeyType}
@@ -21,29 +20,25 @@ use Rattle.register_requests.specs.declared.command_fields.Fields.TheVariants.{T
 use Rattle.register_requests.specs.declared.command_fields.Fields.TheVariants.{Revocation}
 use Rattle.register_requests.specs.declared.command_fields.Shape.{Shape}
 use Rattle.register_requests.specs.declared.command_fields.Shape.TheVariants as shapes
-use Rattle.register_requests.specs.Fields.{fields_of, command_with}
+use Rattle.register_requests.specs.Fields.{command_with}
 use Rattle.register_requests.specs.Within.Fields.{shape_of}
 use Rattle.register_requests.specs.declared.command_fields.CommandKind.{CommandKind}
-use Rattle.register_requests.specs.declared.command_fields.CommandKind.TheVariants as kinds
 use Rattle.register_requests.specs.declared.request.Edit.{Edit}
-use Rattle.register_requests.specs.declared.request.Edit.TheVariants.{Keep, Clear, Set}
 use Rattle.moment_core.specs.Moment.{IsMoment}
 use Rattle.register_requests.specs.Name.{IsName, is_name_byte}
 use Rattle.register_requests.specs.Number.{IsNumber}
 use Rattle.register_requests.specs.Purpose.{IsPurpose}
 use Rattle.register_requests.specs.Quorum.{IsQuorum}
 use Rattle.period_core.specs.KeyType.{key_type_text}
-use Rattle.period_core.proofs.Types.{of_each_type}
 use Rattle.period_core.specs.Period.{Period}
 use Rattle.register_requests.specs.CommandKind.{command_kind_text, command_shape}
-use Rattle.register_requests.specs.CommandRule.{kind_of}
 use Rattle.register_requests.specs.Request.{max_line_length, AreFields, IsCommand, IsDate, IsEdit, IsKeyNumber}
 use Rattle.register_requests.specs.Request.{IsRequest}
 use Rattle.register_requests.specs.Request.{IsLineOf, StandsFor, IsItem, date_text, edit_text, fields_text}
 use Rattle.register_requests.specs.Request.{command_text}
 use Rattle.register_requests.specs.Request.{request_text}
 use Rattle.register_requests.specs.CommandText.{IsCommandText, IsCommandItem}
-use Rattle.register_requests.specs.Within.RequestLine.{◌>>=◌, is_space, field_at, field_then, moment_at, date_at}
+use Rattle.register_requests.specs.Within.RequestLine.{◌>>=◌, field_at, field_then, moment_at, date_at}
 use Rattle.register_requests.specs.Within.RequestLine.{edit_at}
 use Rattle.register_requests.specs.RequestLine.{key_number_at, request_number_at}
 use Rattle.register_requests.specs.Within.RequestLine.{reason_at, occurrence_at, name_at}
@@ -52,7 +47,7 @@ use Rattle.register_requests.specs.Within.RequestLine.{edits_at}
 use Rattle.register_requests.specs.Within.RequestLine.{revoked, revoke_at, key_and_name_at, key_and_need_at, quorum_at}
 use Rattle.register_requests.specs.Within.RequestLine.{type_and_period_at, originator_at, recipient_at, set_period}
 use Rattle.register_requests.specs.Within.RequestLine.{keyed_at}
-use Rattle.register_requests.specs.Within.RequestLine.{named_at, kind_at, shaped_at, after_at, split_by, word_at}
+use Rattle.register_requests.specs.Within.RequestLine.{named_at, kind_at, shaped_at, after_at, word_at}
 use Rattle.register_requests.specs.Within.RequestLine.{command_at}
 use Rattle.register_requests.specs.Within.RequestLine.{requested, fields_at, request_at}
 use Rattle.register_requests.proofs.Commands.{made, made_again, has_shape}
@@ -63,15 +58,14 @@ use Rattle.register_requests.proofs.Readers.{key_number_small, request_number_re
 use Rattle.register_requests.proofs.Readers.{quorum_reader}
 use Rattle.register_requests.proofs.Readers.{originator_reader, recipient_reader, IsMonths, months_small, name_reader}
 use Rattle.register_requests.proofs.Readers.{purpose_reader, key_type_reader, kind_reader, reason_reader, reason_text}
-use Rattle.register_requests.proofs.Readers.{reason_small, IsOccurrence, occurrence_reader, not_space}
+use Rattle.register_requests.proofs.Readers.{reason_small, IsOccurrence, occurrence_reader}
+use Rattle.std.proofs.lemmas.Grind.{common_steps}
 
 -- ---- what has no space
 
 digits_solid : (ds : List ℕ) → AllDigits 10 ds → HasNoSpace ds
 digits_solid [] h = refl
-digits_solid (c ∷ cs) h =
-    let range = digit_from_value c h.0 in
-    and_from _ _ (not_space c (λ e. omega (arith, range.0, e))) (digits_solid cs h.1)
+digits_solid (c ∷ cs) h = grind (arith, digits_solid cs h.1)
 
 decimal_solid : (n : ℕ) → n < 2 ^ 64 → HasNoSpace (decimal n)
 decimal_solid n lt = digits_solid (decimal n) ((decimal_is_IsNumeral n lt).0.1)
@@ -80,13 +74,10 @@ moment_solid : (m : ℕ) → IsMoment m → HasNoSpace (decimal m)
 moment_solid m in_range = decimal_solid m (moment_small m in_range)
 
 date_solid : (x : Option ℕ) → IsDate x → HasNoSpace (date_text x)
-date_solid None in_range = refl
-date_solid (Some m) in_range = moment_solid m in_range
+date_solid x in_range = grind (arith, moment_solid)
 
 edit_solid : (x : Edit) → IsEdit x → HasNoSpace (edit_text x)
-edit_solid Keep in_range = refl
-edit_solid Clear in_range = refl
-edit_solid (Set m) in_range = moment_solid m in_range
+edit_solid x in_range = grind (arith, moment_solid)
 
 key_number_solid : (key : ℕ) → IsKeyNumber key → HasNoSpace (decimal key)
 key_number_solid key in_range = decimal_solid key (key_number_small key in_range)
@@ -97,17 +88,12 @@ request_number_solid n in_range = decimal_solid n (request_number_small n in_ran
 reason_solid : (reason : Reason) → HasNoSpace (reason_text reason)
 reason_solid reason = decimal_solid (reason_code reason) (reason_small reason)
 
-name_byte_solid : (b : ℕ) → is_name_byte b ≡ true → not (is_space b) ≡ true
-name_byte_solid b h = grind (arith, nat_tests)
-
 name_bytes_solid : (bytes : List ℕ) → list_all is_name_byte bytes ≡ true → HasNoSpace bytes
 name_bytes_solid [] h = refl
-name_bytes_solid (b ∷ bytes) h =
-    let both = and_parts (is_name_byte b) (list_all is_name_byte bytes) h in
-    and_from _ _ (name_byte_solid b both.0) (name_bytes_solid bytes both.1)
+name_bytes_solid (b ∷ bytes) h = grind (arith, nat_tests, name_bytes_solid bytes)
 
 key_type_solid : (k : KeyType) → HasNoSpace (key_type_text k)
-key_type_solid = of_each_type (λ k. HasNoSpace (key_type_text k)) refl refl refl refl refl refl refl
+key_type_solid k = grind arith
 
 -- ---- texts, as fields with what stands after them
 
@@ -153,11 +139,7 @@ record AreRead (after : Option (List ℕ)) (f : Fields) : Type 0 where
 made_of : {A : Type 0} {read_by : List ℕ → Option A} {text : A → List ℕ} {P : A → Type 0} → IsReader read_by text P
     → (made : A → Fields) → ((x : A) → P x → AreFields (made x)) → ((x : A) → fields_text (made x) ≡ spaced (text x))
     → (bytes : List ℕ) (f : Fields) → (read_by bytes >>= λ x. Some (made x)) ≡ Some f → AreRead (Some bytes) f
-made_of {A} {read_by} own made in_range text bytes f e =
-    let x = bind_some (read_by bytes) (λ x. Some (made x)) f e in
-    let taken = own.takes bytes x.0 x.1 in
-    subst (AreRead (Some bytes)) (some_is (made x.0) f x.2)
-    (record { in_range = in_range x.0 taken.0; text = ap spaced taken.1 ∙ sym (text x.0) })
+made_of {A} {read_by} own made in_range text bytes f e = grind arith
 
 name_solid : (name : List ℕ) → IsName name → HasNoSpace name
 name_solid name in_range = name_bytes_solid name in_range.2
@@ -186,16 +168,10 @@ register_reader =
     (λ _. then_reader date_reader date_solid (λ _. then_reader date_reader date_solid (λ _. purpose_reader)))))
 
 registered_ranges : (x : Registered) → AreRegistered x → AreFields (registered x)
-registered_ranges (kind, (owner, (activation, (protect_stop, (deactivation, purpose))))) (
-  is_kind,
-  (is_owner, (is_activation, (is_protect_stop, (is_deactivation, is_purpose)))),
-) =
-    (is_owner, is_activation, is_protect_stop, is_deactivation, is_purpose)
+registered_ranges x in_range = grind arith
 
 registered_text : (x : Registered) → fields_text (registered x) ≡ spaced (text_of_registered x)
-registered_text (kind, (owner, (activation, (protect_stop, (deactivation, purpose))))) =
-    joined_register (key_type_text kind) owner (date_text activation) (date_text protect_stop)
-    (date_text deactivation) purpose
+registered_text x = grind (arith, joined_register)
 
 register_takes : (bytes : List ℕ) (f : Fields) → register_at bytes ≡ Some f → AreRead (Some bytes) f
 unfolding register_at
@@ -205,12 +181,7 @@ register_again : (k : KeyType) (o : List ℕ) (a p d : Option ℕ) (u : List ℕ
     → register_at (before (key_type_text k) (before o
     (before (date_text a) (before (date_text p) (before (date_text d) u))))) ≡ Some (Registration k o a p d u)
 unfolding register_at
-register_again k o a p d u in_range =
-    ap (λ (read : Option Registered). read >>= λ x. Some (registered x))
-    (register_reader.again (k, (o, (a, (p, (d, u))))) (
-      tt,
-      (in_range.0, (in_range.1, (in_range.2, (in_range.3, in_range.4)))),
-    ))
+register_again k o a p d u in_range = grind (arith, register_reader.again (k, (o, (a, (p, (d, u))))))
 
 abbrev Edits : Type 0
 Edits = ℕ × (Edit × (Edit × Edit))
@@ -223,17 +194,14 @@ edits_reader = then_reader key_number_reader key_number_solid
 
 edits_take : (bytes : List ℕ) (f : Fields) → edits_at bytes ≡ Some f → AreRead (Some bytes) f
 unfolding edits_at
-edits_take =
-    made_of edits_reader edits (λ x h. (h.0, h.1.0, h.1.1.0, h.1.1.1))
-    (λ x. joined_edits (decimal x.0) (edit_text x.1.0) (edit_text x.1.1.0) (edit_text x.1.1.1))
+edits_take = made_of edits_reader edits (λ x h. (h.0, h.1.0, h.1.1.0, h.1.1.1)) (λ x. grind (arith, joined_edits))
 
 edits_again : (key : ℕ) (a p d : Edit) → AreFields (DateEdits key a p d)
     → edits_at (before (decimal key) (before (edit_text a) (before (edit_text p) (edit_text d)))) ≡ Some
     (DateEdits key a p d)
 unfolding edits_at
 edits_again key a p d in_range =
-    ap (λ (read : Option Edits). read >>= λ x. Some (edits x))
-    (edits_reader.again (key, (a, (p, d))) (in_range.0, (in_range.1, (in_range.2, in_range.3))))
+    cc (edits_reader.again (key, (a, (p, d))) (in_range.0, (in_range.1, (in_range.2, in_range.3))))
 
 abbrev Revoked : Type 0
 Revoked = ℕ × (Reason × Option ℕ)
@@ -247,16 +215,12 @@ revoke_reader =
 
 revoke_takes : (bytes : List ℕ) (f : Fields) → revoke_at bytes ≡ Some f → AreRead (Some bytes) f
 unfolding revoke_at
-revoke_takes =
-    made_of revoke_reader revoked (λ x h. (h.0, h.1.1.0, h.1.1.1))
-    (λ x. joined_revoke (decimal x.0) (reason_text x.1.0) (date_text x.1.1))
+revoke_takes = made_of revoke_reader revoked (λ x h. (h.0, h.1.1.0, h.1.1.1)) (λ x. grind (arith, joined_revoke))
 
 revoke_again : (key : ℕ) (r : Reason) (o : Option ℕ) → AreFields (Revocation key r o)
     → revoke_at (before (decimal key) (before (reason_text r) (date_text o))) ≡ Some (Revocation key r o)
 unfolding revoke_at
-revoke_again key r o in_range =
-    ap (λ (read : Option Revoked). read >>= λ x. Some (revoked x))
-    (revoke_reader.again (key, (r, o)) (in_range.0, (tt, (in_range.1, in_range.2))))
+revoke_again key r o in_range = cc (revoke_reader.again (key, (r, o)) (in_range.0, (tt, (in_range.1, in_range.2))))
 
 -- ---- a key's number, alone or with a name
 
@@ -274,9 +238,7 @@ named_takes : (made : ℕ → List ℕ → Fields)
     → ((key : ℕ) (name : List ℕ) → fields_text (made key name) ≡ codes " " ++ decimal key ++ codes " " ++ name)
     → (bytes : List ℕ) (f : Fields) → named_at made bytes ≡ Some f → AreRead (Some bytes) f
 unfolding named_at
-named_takes made in_range text =
-    made_of key_and_name_reader (λ y. made y.0 y.1) (λ y. in_range y.0 y.1)
-    (λ y. text y.0 y.1 ∙ joined_named (decimal y.0) y.1)
+named_takes made in_range text = grind (arith, key_and_name_reader, joined_named)
 
 key_and_need_reader : IsReader (field_then key_number_at (λ _. quorum_at))
     (λ (y : ℕ × ℕ). before (decimal y.0) (decimal y.1))
@@ -285,8 +247,7 @@ key_and_need_reader = then_reader key_number_reader key_number_solid (λ _. quor
 
 key_and_need_takes : (bytes : List ℕ) (f : Fields) → key_and_need_at bytes ≡ Some f → AreRead (Some bytes) f
 unfolding key_and_need_at
-key_and_need_takes =
-    made_of key_and_need_reader (λ y. KeyAndNeed y.0 y.1) (λ y h. h) (λ y. joined_named (decimal y.0) (decimal y.1))
+key_and_need_takes = made_of key_and_need_reader (λ y. KeyAndNeed y.0 y.1) (λ y h. h) (λ y. grind (arith, joined_named))
 
 key_and_need_again : (key need : ℕ) → AreFields (KeyAndNeed key need)
     → key_and_need_at (before (decimal key) (decimal need)) ≡ Some (KeyAndNeed key need)
@@ -306,18 +267,14 @@ type_and_period_reader =
 type_and_period_takes : (bytes : List ℕ) (f : Fields) → type_and_period_at bytes ≡ Some f → AreRead (Some bytes) f
 unfolding type_and_period_at
 type_and_period_takes =
-    made_of type_and_period_reader set_period
-    (λ x h. record { some = h.1.0.0; originator = h.1.0.1; recipient = h.1.1.1 })
-    (λ x. joined_revoke (key_type_text x.0) (decimal x.1.0) (decimal x.1.1))
+    made_of type_and_period_reader set_period (λ x h. grind arith) (λ x. grind (arith, joined_revoke))
 
 type_and_period_again : (kind : KeyType) (p : Period) → AreFields (TypeAndPeriod kind p)
     → type_and_period_at (before (key_type_text kind) (before (decimal p.originator) (decimal p.recipient)))
     ≡ Some (TypeAndPeriod kind p)
 unfolding type_and_period_at
 type_and_period_again kind p in_range =
-    ap (λ (read : Option Months). read >>= λ x. Some (set_period x))
-    (type_and_period_reader.again (kind, (p.originator, p.recipient))
-    (tt, ((in_range.some, in_range.originator), (omega arith, in_range.recipient))))
+    grind (arith, type_and_period_reader.again (kind, (p.originator, p.recipient)))
 
 keyed_again : (key : ℕ) → IsKeyNumber key → keyed_at (decimal key) ≡ Some (Key key)
 unfolding keyed_at
@@ -357,22 +314,15 @@ no_field word solid =
 
 word_takes : (bytes : List ℕ) → bytes ≡ (word_at bytes).0 ++ after_text (word_at bytes).1
 unfolding word_at
-word_takes bytes = by (field_at bytes) refl
-  where
-    by : (o : Option (List ℕ × List ℕ)) → field_at bytes ≡ o
-        → bytes ≡ (split_by bytes o).0 ++ after_text (split_by bytes o).1
-    by (Some x) e = field_takes bytes x e
-    by None e = sym (append-nil bytes)
+word_takes bytes = grind (arith, field_takes, append-nil)
 
 word_again : (word : List ℕ) (after : Option (List ℕ)) → HasNoSpace word
     → word_at (word ++ after_text after) ≡ (word, after)
 unfolding word_at
-word_again word None solid = rw (append-nil, no_field word solid) refl
-word_again word (Some fields) solid = rw (field_again word fields solid) refl
+word_again word after solid = grind (arith, append-nil, no_field, field_again)
 
 kind_solid : (kind : CommandKind) → HasNoSpace (command_kind_text kind)
-kind_solid kinds.Advance = refl
-kind_solid kind = refl
+kind_solid kind = grind arith
 
 -- ---- fields
 
@@ -390,54 +340,29 @@ shaped_takes shapes.Revocation bytes f e = revoke_takes bytes f e
 after_takes : (shape : Shape) (after : Option (List ℕ)) (f : Fields) → after_at shape after ≡ Some f
     → AreRead after f
 after_takes shape (Some bytes) f e = shaped_takes shape bytes f e
-after_takes shapes.Nothing None f e =
-    subst (AreRead None) (some_is Nothing f e) (record { in_range = tt; text = refl })
+after_takes shapes.Nothing None f e = grind arith
 after_takes shape None f e = absurd cc
 
--- the fields are read of what stands after their word
-record AreReadAgain (f : Fields) : Type 0 where
-  after : Option (List ℕ)
-  text : fields_text f ≡ after_text after
-  read : after_at (shape_of f) after ≡ Some f
+-- what stands after the word of the fields
+abbrev after_of : Fields → Option (List ℕ)
+after_of Nothing = None
+after_of (Key key) = Some (decimal key)
+after_of (KeyAndName key name) = Some (before (decimal key) name)
+after_of (KeyAndOwner key owner) = Some (before (decimal key) owner)
+after_of (KeyAndNeed key need) = Some (before (decimal key) (decimal need))
+after_of (TypeAndPeriod kind p) =
+    Some (before (key_type_text kind) (before (decimal p.originator) (decimal p.recipient)))
+after_of (Registration k o a p d u) = Some (text_of_registered (k, (o, (a, (p, (d, u))))))
+after_of (DateEdits key a p d) = Some (before (decimal key) (before (edit_text a) (before (edit_text p) (edit_text d))))
+after_of (Revocation key r o) = Some (before (decimal key) (before (reason_text r) (date_text o)))
 
-read_again : (f : Fields) → AreFields f → AreReadAgain f
-read_again Nothing in_range = record { after = None; text = refl; read = refl }
-read_again (Key key) in_range = record { after = Some (decimal key); text = refl; read = keyed_again key in_range }
-read_again (KeyAndName key name) in_range = record {
-  after = Some (before (decimal key) name);
-  text = joined_named (decimal key) name;
-  read = named_again KeyAndName key name in_range;
-}
-read_again (KeyAndOwner key owner) in_range = record {
-  after = Some (before (decimal key) owner);
-  text = joined_named (decimal key) owner;
-  read = named_again KeyAndOwner key owner in_range;
-}
-read_again (KeyAndNeed key need) in_range = record {
-  after = Some (before (decimal key) (decimal need));
-  text = joined_named (decimal key) (decimal need);
-  read = key_and_need_again key need in_range;
-}
-read_again (TypeAndPeriod kind p) in_range = record {
-  after = Some (before (key_type_text kind) (before (decimal p.originator) (decimal p.recipient)));
-  text = joined_revoke (key_type_text kind) (decimal p.originator) (decimal p.recipient);
-  read = type_and_period_again kind p in_range;
-}
-read_again (Registration k o a p d u) in_range = record {
-  after = Some (text_of_registered (k, (o, (a, (p, (d, u))))));
-  text = joined_register (key_type_text k) o (date_text a) (date_text p) (date_text d) u;
-  read = register_again k o a p d u in_range;
-}
-read_again (DateEdits key a p d) in_range = record {
-  after = Some (before (decimal key) (before (edit_text a) (before (edit_text p) (edit_text d))));
-  text = joined_edits (decimal key) (edit_text a) (edit_text p) (edit_text d);
-  read = edits_again key a p d in_range;
-}
-read_again (Revocation key r o) in_range = record {
-  after = Some (before (decimal key) (before (reason_text r) (date_text o)));
-  text = joined_revoke (decimal key) (reason_text r) (date_text o);
-  read = revoke_again key r o in_range;
-}
+has_text : (f : Fields) → fields_text f ≡ after_text (after_of f)
+has_text f = grind (arith, joined_register, joined_edits, joined_revoke, joined_named)
+
+ruleset keyed_fields_again = (keyed_again, named_again, key_and_need_again, edits_again, revoke_again)
+
+read_again : (f : Fields) → AreFields f → after_at (shape_of f) (after_of f) ≡ Some f
+read_again f in_range = grind (arith, keyed_fields_again, type_and_period_again, register_again)
 
 -- ---- commands
 
@@ -449,26 +374,13 @@ command_takes bytes q e =
     let fields = bind_some (after_at (command_shape kind.0) word.1) (command_with kind.0) q kind.2 in
     let taken = after_takes (command_shape kind.0) word.1 fields.0 fields.1 in
     let of = made fields.0 kind.0 q fields.2 in
-    let text = command_kind_text (kind_of q) in
-    let word_is : word.0 ≡ text =
-    (kind_reader.takes word.0 kind.0 kind.1).1 ∙ ap command_kind_text (sym of.kind_is) in
-    let split : bytes ≡ text ++ after_text word.1 =
-    word_takes bytes ∙ ap (λ (w : List ℕ). w ++ after_text word.1) word_is in (
-      subst AreFields (sym of.fields_are) taken.in_range,
-      split ∙ ap (λ (after : List ℕ). text ++ after) (taken.text ∙ ap fields_text (sym of.fields_are)),
-    )
+    let text = kind_reader.takes word.0 kind.0 kind.1 in
+    (rw of.fields_are taken.in_range, cc (word_takes bytes))
 
 command_again : (q : Command) → IsCommand q → command_at (command_text q) ≡ Some q
 unfolding command_at
 command_again q in_range =
-    let again = read_again (fields_of q) in_range in
-    let word = command_kind_text (kind_of q) in
-    let split : word_at (command_text q) ≡ (word, again.after) =
-    ap (λ (fields : List ℕ). word_at (word ++ fields)) again.text
-    ∙ word_again word again.after (kind_solid (kind_of q)) in
-    let read : after_at (command_shape (kind_of q)) again.after ≡ Some (fields_of q) =
-    ap (λ (shape : Shape). after_at shape again.after) (sym (has_shape q)) ∙ again.read in
-    rw (split, kind_reader.again (kind_of q) tt, read) (made_again q)
+    grind (arith, has_text, word_again, kind_solid, kind_reader, read_again, has_shape, made_again)
 
 command_read : (bytes : List ℕ) (q : Command) → IsCommandText bytes q → command_at bytes ≡ Some q
 command_read bytes q h = ap command_at h.1 ∙ command_again q h.0
@@ -511,11 +423,7 @@ record IsFieldsOf (line : List ℕ) (q : Request) : Type 0 where
 
 requested_fields : (line : List ℕ) (x : Requested) → AreRequested x → line ≡ text_of_requested x
     → IsFieldsOf line (requested x)
-requested_fields line (moment, (caller, (number, command))) (is_moment, (is_caller, (is_number, is_command)))
-    text = record {
-      in_range = record { moment = is_moment; caller = is_caller; number = is_number; command = is_command };
-      text = text ∙ sym (joined_request (decimal moment) caller (decimal number) (command_text command));
-    }
+requested_fields line x in_range text = grind (arith, common_steps)
 
 fields_takes : (line : List ℕ) (q : Request) → fields_at line ≡ Some q → IsFieldsOf line q
 unfolding fields_at
@@ -529,16 +437,10 @@ fields_takes line q e =
 fields_again : (q : Request) → IsRequest q → fields_at (request_text q) ≡ Some q
 unfolding fields_at
 fields_again q in_range =
-    ap fields_at (joined_request (decimal q.moment) q.caller (decimal q.number) (command_text q.command))
-    ∙ ap (λ (read : Option Requested). read >>= λ x. Some (requested x))
-    (fields_reader.again (q.moment, (q.caller, (q.number, q.command))) (
-      in_range.moment,
-      (in_range.caller, (in_range.number, in_range.command)),
-    ))
+    grind (arith, joined_request, fields_reader.again (q.moment, (q.caller, (q.number, q.command))))
 
 guard_none : (b : Bool) (o : Option Request) (q : Request) → cond b None o ≡ Some q → (b ≡ false) × (o ≡ Some q)
-guard_none true o q e = absurd cc
-guard_none false o q e = (refl, e)
+guard_none b o q e = grind arith
 
 -- What is read is the request whose line it is.
 pub request_takes : (line : List ℕ) (q : Request) → request_at line ≡ Some q → IsLineOf line q
@@ -551,10 +453,7 @@ request_takes line q e =
 -- Each line of a request is read.
 pub request_again : (line : List ℕ) (q : Request) → IsLineOf line q → request_at line ≡ Some q
 unfolding request_at
-request_again line q h =
-    let short : nat_lt max_line_length (length line) ≡ false = le-ltb max_line_length (length line) h.within in
-    let fields : fields_at line ≡ Some q = ap fields_at h.text ∙ fields_again q h.request in
-    rw (short, fields) refl
+request_again line q h = grind (arith, fields_again)
 
 pub is_item : (line : List ℕ) (o : Option Request) → o ≡ request_at line → IsItem line o
 is_item = stands_for request_at IsLineOf request_takes request_again

@@ -4,7 +4,6 @@ use Rattle.std.specs.List.{list_all}
 use Rattle.std.specs.Str.{IsAscii, IsUtf8}
 use Rattle.std.proofs.lemmas.Str.{IsUtf8-from_ascii}
 use Rattle.std.proofs.lemmas.Str.Ascii.{IsAscii-nil, IsAscii-cons}
-use Rattle.std.proofs.lemmas.Bool.{and_parts}
 use Rattle.std.proofs.lemmas.Bool.Decides.{nat_tests}
 use Rattle.register_requests.specs.Name.{is_name_byte, IsName}
 
@@ -13,9 +12,7 @@ is_name_byte_ascii b h = grind (arith, nat_tests)
 
 ascii_from_name_bytes : (bytes : List ℕ) → list_all is_name_byte bytes ≡ true → IsAscii bytes
 ascii_from_name_bytes [] h = IsAscii-nil
-ascii_from_name_bytes (b ∷ bytes) h =
-    let both = and_parts _ _ h in
-    IsAscii-cons b bytes (is_name_byte_ascii b both.0) (ascii_from_name_bytes bytes both.1)
+ascii_from_name_bytes (b ∷ bytes) h = grind (arith, IsAscii-cons, is_name_byte_ascii, ascii_from_name_bytes bytes)
 
 pub ascii_from_name : (bytes : List ℕ) → IsName bytes → IsAscii bytes
 ascii_from_name bytes name = ascii_from_name_bytes bytes name.2

@@ -1,45 +1,38 @@
 -- Each field's reader reads exactly the texts of its values, and finds what the code finds.
-use Rattle.std.proofs.Common.{◌≡◌, ◌≢◌, ℕ, suc, ◌-◌, ◌<◌, ◌≤◌, ◌^◌, nat_le, Bool, true, false, not, ◌&&◌, cond, List}
-use Rattle.std.proofs.Common.{[], ◌∷◌, length, get_or, Option, Some, None, IfSome, IfNone, IsSome, ◌↔◌, ◌⊎◌, inl, inr}
-use Rattle.std.proofs.Common.{refl, sym, ap, subst, ◌∙◌, arith}
+use Rattle.std.proofs.Common.{◌≡◌, ◌≢◌, ℕ, suc, ◌<◌, ◌≤◌, ◌^◌, Bool, true, false, List}
+use Rattle.std.proofs.Common.{[], ◌∷◌, Option, Some, None, IfSome, IfNone, IsSome, ◌↔◌, ◌⊎◌}
+use Rattle.std.proofs.Common.{sym, ap, subst, ◌∙◌, arith}
 use Rattle.std.specs.Prelude.{◌==◌, decimal, find, codes}
-use Rattle.std.specs.List.{All, list_all}
-use Rattle.std.specs.Str.{bytes_eq, is_utf8}
-use Rattle.std.specs.Str.Parse.{digits_value, AllDigits}
-use Rattle.std.proofs.lemmas.Bool.{and_parts, and_from, leb-true, le-leb, eqb-true}
-use Rattle.std.proofs.lemmas.Bool.Decides.{nat_tests}
-use Rattle.std.proofs.lemmas.Option.{cond_some}
+use Rattle.std.specs.List.{All}
+use Rattle.std.specs.Str.{bytes_eq}
+use Rattle.std.specs.Str.Parse.{AllDigits}
+use Rattle.std.proofs.lemmas.Bool.{eqb-true}
 use Rattle.std.proofs.lemmas.Fmt.{decimal_is_IsNumeral, decimal_injective}
 use Rattle.std.proofs.lemmas.Slice.Eq.{bytes_eq-Decides}
 use Rattle.std.proofs.lemmas.Str.{IsUtf8-from_is_utf8, is_utf8-from_IsUtf8}
-use Rattle.moment_core.specs.Moment.{last_second, IsMoment}
+use Rattle.moment_core.specs.Moment.{IsMoment}
 use Rattle.lifecycle_core.specs.declared.reason.Reason.{Reason}
-use Rattle.lifecycle_core.specs.declared.reason.Reason.TheVariants.{Unspecified, KeyCompromise, CaCompromise}
-use Rattle.lifecycle_core.specs.declared.reason.Reason.TheVariants.{AffiliationChanged, Superseded}
-use Rattle.lifecycle_core.specs.declared.reason.Reason.TheVariants.{CessationOfOperation, PrivilegeWithdrawn}
 use Rattle.lifecycle_core.specs.Reason.{reason_code, is_compromise}
 use Rattle.period_core.specs.declared.key_type.KeyType.{KeyType}
 use Rattle.register_requests.specs.declared.command_fields.CommandKind.{CommandKind}
-use Rattle.register_requests.specs.declared.command_fields.CommandKind.TheVariants.{Advance}
 use Rattle.register_requests.specs.declared.request.Edit.{Edit}
-use Rattle.register_requests.specs.declared.request.Edit.TheVariants.{Keep, Clear, Set}
-use Rattle.register_requests.specs.Name.{is_name_byte, max_name_length, IsName}
-use Rattle.register_requests.specs.Number.{max_request_number, IsNumber}
-use Rattle.register_requests.specs.Quorum.{min_approvals, max_approvals, IsQuorum}
-use Rattle.register_requests.specs.Purpose.{is_purpose_byte, max_purpose_length, IsPurpose}
+use Rattle.register_requests.specs.Name.{IsName}
+use Rattle.register_requests.specs.Number.{IsNumber}
+use Rattle.register_requests.specs.Quorum.{IsQuorum}
+use Rattle.register_requests.specs.Purpose.{IsPurpose}
 use Rattle.period_core.specs.KeyType.{key_type_text}
-use Rattle.period_core.proofs.Types.{of_each_type}
 use Rattle.period_core.specs.Period.{max_months}
 use Rattle.register_requests.specs.CommandKind.{command_kind_text}
 use Rattle.register_requests.specs.RequestLine.{number_at, key_number_at}
-use Rattle.register_requests.specs.Within.RequestLine.{◌>>=◌, moment_at, date_at, edit_at, reasons}
+use Rattle.register_requests.specs.Within.RequestLine.{moment_at, date_at, edit_at, reasons}
 use Rattle.register_requests.specs.RequestLine.{request_number_at}
 use Rattle.register_requests.specs.Within.RequestLine.{reason_at, occurrence_at, quorum_at, originator_at}
 use Rattle.register_requests.specs.Within.RequestLine.{recipient_at, name_at, purpose_at, key_types, key_type_at}
 use Rattle.register_requests.specs.Within.RequestLine.{command_kinds}
-use Rattle.register_requests.specs.Within.RequestLine.{kind_at, is_space, is_trimmed}
+use Rattle.register_requests.specs.Within.RequestLine.{kind_at}
 use Rattle.register_requests.specs.Request.{IsDate, IsKeyNumber, IsEdit, date_text, edit_text}
 use Rattle.register_requests.proofs.FieldReading.{IsReader, is_read, bind_some, some_is}
+use Rattle.std.proofs.lemmas.Grind.{common_steps}
 
 -- ---- numbers
 
@@ -48,43 +41,19 @@ IsWithin least most n = (least ≤ n) × (n ≤ most)
 
 number_takes : (least most : ℕ) (field : List ℕ) (n : ℕ) → number_at least most field ≡ Some n
     → IsWithin least most n × (field ≡ decimal n)
-number_takes least most field n e =
-    let v = digits_value 10 field in
-    let got = cond_some (nat_le least v && nat_le v most && bytes_eq (decimal v) field) v n e in
-    let outer = and_parts (nat_le least v && nat_le v most) (bytes_eq (decimal v) field) got.0 in
-    let bounds = and_parts (nat_le least v) (nat_le v most) outer.0 in
-    let written : decimal v ≡ field = (bytes_eq-Decides (decimal v) field).0 outer.1 in
-    subst (λ (m : ℕ). IsWithin least most m × (field ≡ decimal m)) got.1
-    ((leb-true least v bounds.0, leb-true v most bounds.1), sym written)
+number_takes least most field n e = grind (arith, bytes_eq-Decides)
 
 number_again : (least most : ℕ) → most < 2 ^ 64 → (n : ℕ) → IsWithin least most n
     → number_at least most (decimal n) ≡ Some n
-number_again least most small n within =
-    let value : digits_value 10 (decimal n) ≡ n = (decimal_is_IsNumeral n (omega arith)).1 in
-    let low : nat_le least n ≡ true = le-leb least n within.0 in
-    let high : nat_le n most ≡ true = le-leb n most within.1 in
-    let written : bytes_eq (decimal n) (decimal n) ≡ true = (bytes_eq-Decides (decimal n) (decimal n)).1 refl in
-    rw (value, low, high, written) refl
+number_again least most small n within = grind (arith, common_steps, decimal_is_IsNumeral, bytes_eq-Decides)
 
 pub moment_reader : IsReader moment_at decimal IsMoment
 unfolding moment_at
-moment_reader = record {
-  takes = λ field n e. let taken = number_takes 0 last_second field n e in (taken.0.1, taken.1);
-  again = λ n in_range. number_again 0 last_second (omega arith) n (omega arith, in_range);
-}
-
-either : (b : Bool) → (b ≡ true) ⊎ (b ≡ false)
-either true = inl refl
-either false = inr refl
+moment_reader = grind (arith, number_takes, number_again)
 
 -- no number is written as a sign that is no digit
 sign_no_number : (sign : List ℕ) → (AllDigits 10 sign → ⊥) → (m : ℕ) → m < 2 ^ 64 → bytes_eq (decimal m) sign ≡ false
-sign_no_number sign no_digits m lt = elim (either (bytes_eq (decimal m) sign)) [
-  | inl same ↦
-      let text : decimal m ≡ sign = (bytes_eq-Decides (decimal m) sign).0 same in
-      absurd (no_digits (subst (AllDigits 10) text (decimal_is_IsNumeral m lt).0.1))
-  | inr other ↦ other
-]
+sign_no_number sign no_digits m lt = grind (arith, common_steps, bytes_eq-Decides, decimal_is_IsNumeral)
 
 dash_no_number : (m : ℕ) → m < 2 ^ 64 → bytes_eq (decimal m) (codes "-") ≡ false
 dash_no_number m lt = sign_no_number (codes "-") (λ digits. omega (arith, digits.0)) m lt
@@ -92,83 +61,26 @@ dash_no_number m lt = sign_no_number (codes "-") (λ digits. omega (arith, digit
 equals_no_number : (m : ℕ) → m < 2 ^ 64 → bytes_eq (decimal m) (codes "=") ≡ false
 equals_no_number m lt = sign_no_number (codes "=") (λ digits. omega (arith, digits.0)) m lt
 
-chosen : {A : Type 0} (b : Bool) (y z : Option A) (x : A) → cond b y z ≡ Some x → ((b ≡ true) × (y ≡ Some x))
-    ⊎ ((b ≡ false) × (z ≡ Some x))
-chosen true y z x e = inl (refl, e)
-chosen false y z x e = inr (refl, e)
-
-date_of_none : (field : List ℕ) (x : Option ℕ) → field ≡ codes "-" → Some None ≡ Some x
-    → IsDate x × (field ≡ date_text x)
-date_of_none field None text e = (tt, text)
-date_of_none field (Some m) text e = absurd cc
-
-date_of_moment : (field : List ℕ) (m : ℕ) (x : Option ℕ) → moment_at field ≡ Some m → Some (Some m) ≡ Some x
-    → IsDate x × (field ≡ date_text x)
-date_of_moment field m None read e = absurd cc
-date_of_moment field m (Some n) read e =
-    let same : m ≡ n = cc in
-    subst (λ (k : ℕ). IsMoment k × (field ≡ decimal k)) same (moment_reader.takes field m read)
-
 date_takes : (field : List ℕ) (x : Option ℕ) → date_at field ≡ Some x → IsDate x × (field ≡ date_text x)
-unfolding date_at
-date_takes field x e =
-    elim (chosen (bytes_eq field (codes "-")) (Some None) (moment_at field >>= λ m. Some (Some m)) x e) [
-      | inl none ↦ date_of_none field x ((bytes_eq-Decides field (codes "-")).0 none.0) none.1
-      | inr some ↦ let m =
-          bind_some (moment_at field) (λ m. Some (Some m)) x some.1 in date_of_moment field m.0 x m.1 m.2
-    ]
+unfolding date_at moment_at
+date_takes field x e = grind (arith, bytes_eq-Decides)
 
 date_again : (x : Option ℕ) → IsDate x → date_at (date_text x) ≡ Some x
 unfolding date_at
-date_again None in_range = refl
-date_again (Some m) in_range = rw (dash_no_number m (omega (arith, in_range)), moment_reader.again m in_range) refl
+date_again x in_range = grind (arith, dash_no_number, moment_reader)
 
 pub date_reader : IsReader date_at date_text IsDate
 date_reader = record { takes = date_takes; again = date_again }
 
 -- ---- edits
 
-edit_of_moment : (field : List ℕ) (m : ℕ) (x : Edit) → moment_at field ≡ Some m → Some (Set m) ≡ Some x
-    → IsEdit x × (field ≡ edit_text x)
-edit_of_moment field m x read e =
-    let same : Set m ≡ x = cc in
-    subst (λ (y : Edit). IsEdit y × (field ≡ edit_text y)) same (moment_reader.takes field m read)
-
-edit_of_sign : (field sign : List ℕ) (y x : Edit) → bytes_eq field sign ≡ true → IsEdit y → edit_text y ≡ sign
-    → Some y ≡ Some x → IsEdit x × (field ≡ edit_text x)
-edit_of_sign field sign y x here in_range text e =
-    let same : y ≡ x = cc in
-    subst (λ (z : Edit). IsEdit z × (field ≡ edit_text z)) same (
-      in_range,
-      (bytes_eq-Decides field sign).0 here ∙ sym text,
-    )
-
-abbrev set_to : List ℕ → Option Edit
-set_to field = moment_at field >>= λ m. Some (Set m)
-
 edit_takes : (field : List ℕ) (x : Edit) → edit_at field ≡ Some x → IsEdit x × (field ≡ edit_text x)
-unfolding edit_at
-edit_takes field x e =
-    elim (chosen (bytes_eq field (codes "=")) (Some Keep)
-    (cond (bytes_eq field (codes "-")) (Some Clear) (set_to field)) x e) [
-      | inl keep ↦ edit_of_sign field (codes "=") Keep x keep.0 tt refl keep.1
-      | inr other ↦ elim (chosen (bytes_eq field (codes "-")) (Some Clear) (set_to field) x other.1) [
-        | inl clear ↦ edit_of_sign field (codes "-") Clear x clear.0 tt refl clear.1
-        | inr some ↦ let m =
-            bind_some (moment_at field) (λ m. Some (Set m)) x some.1 in edit_of_moment field m.0 x m.1 m.2
-      ]
-    ]
+unfolding edit_at moment_at
+edit_takes field x e = grind (arith, bytes_eq-Decides)
 
 edit_again : (x : Edit) → IsEdit x → edit_at (edit_text x) ≡ Some x
 unfolding edit_at
-edit_again Keep in_range = refl
-edit_again Clear in_range = refl
-edit_again (Set m) in_range =
-    rw (
-      equals_no_number m (omega (arith, in_range)),
-      dash_no_number m (omega (arith, in_range)),
-      moment_reader.again m in_range,
-    ) refl
+edit_again x in_range = grind (arith, equals_no_number, dash_no_number, moment_reader)
 
 pub edit_reader : IsReader edit_at edit_text IsEdit
 edit_reader = record { takes = edit_takes; again = edit_again }
@@ -177,27 +89,18 @@ edit_reader = record { takes = edit_takes; again = edit_again }
 
 pub key_number_reader : IsReader key_number_at decimal IsKeyNumber
 unfolding key_number_at
-key_number_reader = record {
-  takes = λ field n e. number_takes 1 4_294_967_295 field n e;
-  again = λ n in_range. number_again 1 4_294_967_295 (omega arith) n in_range;
-}
+key_number_reader = grind (arith, number_takes, number_again)
 
 pub key_number_small : (n : ℕ) → IsKeyNumber n → n < 2 ^ 64
 key_number_small n in_range = omega arith
 
 pub request_number_reader : IsReader request_number_at decimal IsNumber
 unfolding request_number_at
-request_number_reader = record {
-  takes = λ field n e. number_takes 1 max_request_number field n e;
-  again = λ n in_range. number_again 1 max_request_number (omega arith) n in_range;
-}
+request_number_reader = grind (arith, number_takes, number_again)
 
 pub quorum_reader : IsReader quorum_at decimal IsQuorum
 unfolding quorum_at
-quorum_reader = record {
-  takes = λ field n e. number_takes min_approvals max_approvals field n e;
-  again = λ n in_range. number_again min_approvals max_approvals (omega arith) n in_range;
-}
+quorum_reader = grind (arith, number_takes, number_again)
 
 pub quorum_small : (n : ℕ) → IsQuorum n → n < 2 ^ 64
 quorum_small n in_range = omega arith
@@ -207,17 +110,11 @@ IsMonths least n = (least ≤ n) × (n ≤ max_months)
 
 pub originator_reader : IsReader originator_at decimal (IsMonths 1)
 unfolding originator_at
-originator_reader = record {
-  takes = λ field n e. number_takes 1 max_months field n e;
-  again = λ n in_range. number_again 1 max_months (omega arith) n in_range;
-}
+originator_reader = grind (arith, number_takes, number_again)
 
 pub recipient_reader : IsReader recipient_at decimal (IsMonths 0)
 unfolding recipient_at
-recipient_reader = record {
-  takes = λ field n e. number_takes 0 max_months field n e;
-  again = λ n in_range. number_again 0 max_months (omega arith) n in_range;
-}
+recipient_reader = grind (arith, number_takes, number_again)
 
 pub months_small : (least n : ℕ) → IsMonths least n → n < 2 ^ 64
 months_small least n in_range = omega (arith, in_range.1)
@@ -226,11 +123,9 @@ months_small least n in_range = omega (arith, in_range.1)
 pub made_of_number : {read_by : List ℕ → Option ℕ} {P : ℕ → Type 0} → IsReader read_by decimal P
     → ((x : ℕ) → P x → x < 2 ^ 64) → (field : List ℕ) (o : Option ℕ) (n : ℕ) → n < 2 ^ 64
     → field ≡ decimal n → (IsSome o ↔ P n) → IfSome o (λ m. m ≡ n) → o ≡ read_by field
-made_of_number {read_by} {P} own small field (Some m) n lt e in_range value =
-    is_read own field (Some m) (subst P (sym value) (in_range.0 refl), e ∙ ap decimal (sym value)) tt
+made_of_number {read_by} {P} own small field (Some m) n lt e in_range value = grind arith
 made_of_number {read_by} {P} own small field None n lt e in_range value =
-    is_read own field None tt (λ x px ex. let same : x
-    ≡ n = decimal_injective x n (small x px) lt (sym ex ∙ e) in absurd (cc (in_range.1 (subst P same px))))
+    is_read own field None tt (grind (arith, decimal_injective))
 
 -- no number is in the field
 pub no_number : {read_by : List ℕ → Option ℕ} {P : ℕ → Type 0} → IsReader read_by decimal P
@@ -253,98 +148,27 @@ itself bytes = bytes
 pub made_of_text : {read_by : List ℕ → Option (List ℕ)} {P : List ℕ → Type 0} → IsReader read_by itself P
     → (field : List ℕ) (o : Option (List ℕ))
     → (IsSome o ↔ P field) → IfSome o (λ n. n ≡ field) → o ≡ read_by field
-made_of_text {read_by} {P} own field (Some n) in_range value =
-    is_read own field (Some n) (subst P (sym value) (in_range.0 refl), sym value) tt
+made_of_text {read_by} {P} own field (Some n) in_range value = grind arith
 made_of_text {read_by} {P} own field None in_range value =
     is_read own field None tt (λ x px ex. absurd (cc (in_range.1 (subst P (sym ex) px))))
 
 pub name_reader : IsReader name_at itself IsName
 unfolding name_at
-name_reader = record {
-  takes = λ field x e.
-      let got = cond_some (nat_le 1 (length field) && nat_le (length field) max_name_length
-      && list_all is_name_byte field) field x e in
-      let outer = and_parts (nat_le 1 (length field) && nat_le (length field) max_name_length)
-      (list_all is_name_byte field) got.0 in
-      let bounds = and_parts (nat_le 1 (length field)) (nat_le (length field) max_name_length) outer.0 in (
-        subst IsName got.1 (
-          leb-true 1 (length field) bounds.0,
-          leb-true (length field) max_name_length bounds.1,
-          outer.1,
-        ),
-        got.1,
-      );
-  again = λ x name.
-      let low : nat_le 1 (length x) ≡ true = le-leb 1 (length x) name.0 in
-      let high : nat_le (length x) max_name_length ≡ true = le-leb (length x) max_name_length name.1 in
-      rw (low, high, name.2) refl;
-}
-
-space_not : (b : ℕ) → not (is_space b) ≡ true → b ≢ 32
-space_not b e = grind (arith, nat_tests)
-
-pub not_space : (b : ℕ) → b ≢ 32 → not (is_space b) ≡ true
-not_space b other = grind (arith, nat_tests)
-
-trimmed_ends : (bytes : List ℕ) → is_trimmed bytes ≡ true
-    → (get_or bytes 0 0 ≢ 32) × (get_or bytes (length bytes - 1) 0 ≢ 32)
-trimmed_ends bytes e =
-    let both = and_parts (not (is_space (get_or bytes 0 0))) (not (is_space (get_or bytes (length bytes - 1) 0))) e in
-    (space_not (get_or bytes 0 0) both.0, space_not (get_or bytes (length bytes - 1) 0) both.1)
-
-ends_trimmed : (bytes : List ℕ) → (get_or bytes 0 0 ≢ 32) → (get_or bytes (length bytes - 1) 0 ≢ 32)
-    → is_trimmed bytes ≡ true
-ends_trimmed bytes first last =
-    and_from _ _ (not_space (get_or bytes 0 0) first) (not_space (get_or bytes (length bytes - 1) 0) last)
+name_reader = grind arith
 
 pub purpose_reader : IsReader purpose_at itself IsPurpose
 unfolding purpose_at
-purpose_reader = record {
-  takes = λ bytes x e.
-      let n = length bytes in
-      let got = cond_some (nat_le 1 n && nat_le n max_purpose_length && is_utf8 bytes
-      && list_all is_purpose_byte bytes && is_trimmed bytes) bytes x e in
-      let p4 = and_parts (nat_le 1 n && nat_le n max_purpose_length && is_utf8 bytes
-      && list_all is_purpose_byte bytes) (is_trimmed bytes) got.0 in
-      let p3 = and_parts (nat_le 1 n && nat_le n max_purpose_length && is_utf8 bytes) (list_all is_purpose_byte bytes)
-      p4.0 in
-      let p2 = and_parts (nat_le 1 n && nat_le n max_purpose_length) (is_utf8 bytes) p3.0 in
-      let p1 = and_parts (nat_le 1 n) (nat_le n max_purpose_length) p2.0 in
-      let ends = trimmed_ends bytes p4.1 in
-      let whole : IsPurpose bytes = record {
-        some = leb-true 1 n p1.0;
-        within = leb-true n max_purpose_length p1.1;
-        utf8 = IsUtf8-from_is_utf8 bytes p2.1;
-        printable = p3.1;
-        first = ends.0;
-        last = ends.1;
-      } in
-      (subst IsPurpose got.1 whole, got.1);
-  again = λ x purpose.
-      let low : nat_le 1 (length x) ≡ true = le-leb 1 (length x) purpose.some in
-      let high : nat_le (length x) max_purpose_length ≡ true = le-leb (length x) max_purpose_length purpose.within in
-      let utf8 : is_utf8 x ≡ true = is_utf8-from_IsUtf8 x purpose.utf8 in
-      let ends : is_trimmed x ≡ true = ends_trimmed x purpose.first purpose.last in
-      rw (low, high, utf8, purpose.printable, ends) refl;
-}
+purpose_reader = grind (arith, IsUtf8-from_is_utf8, is_utf8-from_IsUtf8)
 
 -- ---- types of keys, kinds of commands and reasons
 
-found_step : {A : Type 0} (b : Bool) (x : A) (o : Option A) (k : A) → cond b (Some x) o ≡ Some k
-    → ((b ≡ true) × (x ≡ k)) ⊎ (o ≡ Some k)
-found_step true x o k e = inl (refl, cc)
-found_step false x o k e = inr e
-
 find_passes : {A : Type 0} (p : A → Bool) (ks : List A) (k : A) → find p ks ≡ Some k → p k ≡ true
 find_passes p [] k e = absurd cc
-find_passes p (x ∷ ks) k e = elim (found_step (p x) x (find p ks) k e) [
-  | inl here ↦ subst (λ y. p y ≡ true) here.1 here.0
-  | inr after ↦ find_passes p ks k after
-]
+find_passes p (x ∷ ks) k e = grind (arith, find_passes p ks k)
 
 key_type_again : (k : KeyType) → key_type_at (key_type_text k) ≡ Some k
 unfolding key_type_at
-key_type_again = of_each_type (λ k. key_type_at (key_type_text k) ≡ Some k) refl refl refl refl refl refl refl
+key_type_again k = grind arith
 
 key_type_takes : (field : List ℕ) (k : KeyType) → key_type_at field ≡ Some k → field ≡ key_type_text k
 unfolding key_type_at
@@ -357,8 +181,7 @@ key_type_reader = record { takes = λ field k e. (tt, key_type_takes field k e);
 
 kind_again : (k : CommandKind) → kind_at (command_kind_text k) ≡ Some k
 unfolding kind_at
-kind_again Advance = refl
-kind_again k = refl
+kind_again k = grind arith
 
 kind_takes : (word : List ℕ) (k : CommandKind) → kind_at word ≡ Some k → word ≡ command_kind_text k
 unfolding kind_at
@@ -377,10 +200,8 @@ same_kind j k e = some_is j k (sym (kind_again j) ∙ ap kind_at e ∙ kind_agai
 holds_of_found : {A : Type 0} (P : A → Type 0) (p : A → Bool) (xs : List A) (k : A) → All P xs → find p xs ≡ Some k
     → P k
 holds_of_found P p [] k all e = absurd cc
-holds_of_found P p (x ∷ xs) k all e = elim (found_step (p x) x (find p xs) k e) [
-  | inl here ↦ subst P here.1 (all 0 x (omega arith))
-  | inr after ↦ holds_of_found P p xs k (λ i d lt. all (suc i) d (omega arith)) after
-]
+holds_of_found P p (x ∷ xs) k all e =
+    grind (arith, all 0 x (omega arith), holds_of_found P p xs k (λ i d lt. all (suc i) d (omega arith)))
 
 -- What holds of each kind in the list holds of each kind.
 pub each_kind : (P : CommandKind → Type 0) → All P command_kinds → (k : CommandKind) → P k
@@ -393,13 +214,7 @@ abbrev pub reason_text : Reason → List ℕ
 reason_text reason = decimal (reason_code reason)
 
 reason_code_within : (r : Reason) → IsWithin 1 7 (reason_code r)
-reason_code_within Unspecified = (omega arith, omega arith)
-reason_code_within KeyCompromise = (omega arith, omega arith)
-reason_code_within CaCompromise = (omega arith, omega arith)
-reason_code_within AffiliationChanged = (omega arith, omega arith)
-reason_code_within Superseded = (omega arith, omega arith)
-reason_code_within CessationOfOperation = (omega arith, omega arith)
-reason_code_within PrivilegeWithdrawn = (omega arith, omega arith)
+reason_code_within r = grind arith
 
 pub reason_small : (r : Reason) → reason_code r < 2 ^ 64
 reason_small r = omega (arith, (reason_code_within r).1)
@@ -408,13 +223,7 @@ abbrev reason_with : ℕ → Option Reason
 reason_with code = find (λ reason. reason_code reason == code) reasons
 
 reason_found : (r : Reason) → reason_with (reason_code r) ≡ Some r
-reason_found Unspecified = refl
-reason_found KeyCompromise = refl
-reason_found CaCompromise = refl
-reason_found AffiliationChanged = refl
-reason_found Superseded = refl
-reason_found CessationOfOperation = refl
-reason_found PrivilegeWithdrawn = refl
+reason_found r = grind arith
 
 reason_again : (r : Reason) → reason_at (reason_text r) ≡ Some r
 unfolding reason_at
@@ -422,12 +231,7 @@ reason_again r = rw (number_again 1 7 (omega arith) (reason_code r) (reason_code
 
 reason_takes : (field : List ℕ) (r : Reason) → reason_at field ≡ Some r → field ≡ reason_text r
 unfolding reason_at
-reason_takes field r e =
-    let code = bind_some (number_at 1 7 field) reason_with r e in
-    let same : reason_code r
-    ≡ code.0 = eqb-true (reason_code r) code.0
-    (find_passes (λ reason. reason_code reason == code.0) reasons r code.2) in
-    (number_takes 1 7 field code.0 code.1).1 ∙ ap decimal (sym same)
+reason_takes field r e = grind (arith, bind_some, eqb-true, find_passes, number_takes)
 
 pub reason_reader : IsReader reason_at reason_text (λ _. Unit {0})
 reason_reader = record { takes = λ field r e. (tt, reason_takes field r e); again = λ r _. reason_again r }
@@ -436,10 +240,7 @@ reason_reader = record { takes = λ field r e. (tt, reason_takes field r e); aga
 pub made_of_code : (field : List ℕ) (o : Option Reason) (n : ℕ) → n < 2 ^ 64 → field ≡ decimal n
     → IfSome o (λ r. reason_code r ≡ n) → IfNone o ((n < 1) ⊎ (7 < n)) → o ≡ reason_at field
 made_of_code field (Some r) n lt e found none = is_read reason_reader field (Some r) (tt, e ∙ ap decimal (sym found)) tt
-made_of_code field None n lt e found none = is_read reason_reader field None tt (λ r _ ex.
-    let within = reason_code_within r in
-    let same : reason_code r ≡ n = decimal_injective (reason_code r) n (omega (arith, within.1)) lt (sym ex ∙ e) in
-    elim none [ inl low ↦ omega (arith, low, same, within.0) | inr high ↦ omega (arith, high, same, within.1) ])
+made_of_code field None n lt e found none = is_read reason_reader field None tt (grind (arith, decimal_injective))
 
 -- no number is in the field, and so no reason
 pub no_code : (field : List ℕ) → ((n : ℕ) → n < 2 ^ 64 → field ≢ decimal n) → None ≡ reason_at field
@@ -453,34 +254,15 @@ no_code field none =
 abbrev pub IsOccurrence : Reason → Option ℕ → Type 0
 IsOccurrence reason x = IsDate x × (is_compromise reason ≡ false → x ≡ None)
 
-no_date : (field : List ℕ) (x : Option ℕ) → cond (bytes_eq field (codes "-")) (Some None) None ≡ Some x
-    → (x ≡ None) × (field ≡ codes "-")
-no_date field x e =
-    let got = cond_some (bytes_eq field (codes "-")) None x e in
-    (sym got.1, (bytes_eq-Decides field (codes "-")).0 got.0)
-
 occurrence_takes : (reason : Reason) (field : List ℕ) (x : Option ℕ) → occurrence_at reason field ≡ Some x
     → IsOccurrence reason x × (field ≡ date_text x)
 unfolding occurrence_at
-occurrence_takes reason field x e =
-    elim (chosen (is_compromise reason) (date_at field) (cond (bytes_eq field (codes "-")) (Some None) None) x e) [
-      | inl dated ↦ let taken = date_reader.takes field x dated.1 in (
-        (taken.0, λ other. absurd (cc (dated.0, other))),
-        taken.1,
-      )
-      | inr other ↦ let none = no_date field x other.1 in
-          subst (λ (y : Option ℕ). IsOccurrence reason y × (field ≡ date_text y)) (sym none.0) ((tt, λ _. refl), none.1)
-    ]
-
-occurrence_by : (b : Bool) (x : Option ℕ) → IsDate x → (b ≡ false → x ≡ None)
-    → cond b (date_at (date_text x)) (cond (bytes_eq (date_text x) (codes "-")) (Some None) None) ≡ Some x
-occurrence_by true x in_range none = date_reader.again x in_range
-occurrence_by false x in_range none = rw (none refl) refl
+occurrence_takes reason field x e = grind (arith, bytes_eq-Decides, date_reader)
 
 occurrence_again : (reason : Reason) (x : Option ℕ) → IsOccurrence reason x
     → occurrence_at reason (date_text x) ≡ Some x
 unfolding occurrence_at
-occurrence_again reason x h = occurrence_by (is_compromise reason) x h.0 h.1
+occurrence_again reason x h = grind (arith, date_reader)
 
 pub occurrence_reader : (reason : Reason) → IsReader (occurrence_at reason) date_text (IsOccurrence reason)
 occurrence_reader reason = record { takes = occurrence_takes reason; again = occurrence_again reason }

@@ -1,5 +1,5 @@
 -- The numbers that fields of a request line write.
-use Rattle.std.specs.Prelude.{ℕ, ◌-◌, nat_le, ◌&&◌, List}
+use Rattle.std.specs.Prelude.{ℕ, nat_le, ◌&&◌, List}
 use Rattle.std.specs.Prelude.{decimal, Option, None, Some, if◌then◌else◌}
 use Rattle.std.specs.Str.{bytes_eq}
 use Rattle.std.specs.Str.Parse.{digits_value}

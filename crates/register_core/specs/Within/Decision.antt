@@ -4,7 +4,6 @@ use Rattle.lifecycle_core.specs.declared.dates.Dates.{Dates}
 use Rattle.period_core.specs.Period.{Period}
 use Rattle.register_requests.specs.declared.request.Request.{Request}
 use Rattle.register_core.specs.declared.view.Held.{Held}
-use Rattle.register_core.specs.History.{period}
 use Rattle.register_core.specs.Custody.{held}
 use Rattle.register_core.specs.Effect.{unset_dates, dates_after}
 

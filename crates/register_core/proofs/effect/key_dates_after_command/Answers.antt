@@ -1,6 +1,6 @@
-use Rattle.std.proofs.Common.{ap, ◌∙◌}
+use Rattle.std.proofs.Common.{ap, ◌∙◌, arith}
 use Rattle.register_core.specs.Verdict.{refused_dates}
-use Rattle.register_core.proofs.Filling.{is_given, refused_as}
+use Rattle.register_core.proofs.Filling.{is_given}
 use Rattle.register_core.proofs.effect.key_dates_after_command.Goals as goal
 
 pub returns-clause-dates : goal.returns-clause-dates
@@ -15,8 +15,4 @@ returns-clause-ok c there =
     ∙ ap refused_dates c.in_ok-commanded_dates_or_refusal.was
 
 pub returns-in_err-commanded_dates_or_refusal-clause-err : goal.returns-in_err-commanded_dates_or_refusal-clause-err
-returns-in_err-commanded_dates_or_refusal-clause-err c there =
-    let own = is_given c.args.period c.args.key.now c.args.at c.args.command.now
-    c.commanded_dates_or_refusal.ensures c.dates_before.ensures in
-    refused_as _ c.from_residual.result c.from_residual.ensures.1
-    (own.refusal there ∙ ap refused_dates c.in_err-commanded_dates_or_refusal.was)
+returns-in_err-commanded_dates_or_refusal-clause-err c = grind (arith, is_given)
